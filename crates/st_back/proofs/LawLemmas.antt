@@ -1,4 +1,4 @@
--- A step back just after a step forth, and what comes between.
+-- A step back right after a step forth, and changes in between.
 use Rattle.std.proofs.Common.{◌≡◌, ◌≢◌, ℕ, zero, suc, ◌+◌, ◌-◌, ◌<◌, ◌≤◌, inl, inr, true, false, List, [], ◌∷◌, ◌++◌, length, drop, Option, None, Some, refl, sym, ◌∙◌, ap, subst, arith, get_or-set_other, length-append}
 use Rattle.std.specs.Prelude.{slice_index}
 use Rattle.std.proofs.lemmas.Bool.Decides.{leb_tells}
@@ -20,16 +20,16 @@ use Rattle.st_back.specs.Steps.{Steps, IsStepKept, IsForth, IsUndone}
 use Rattle.st_back.specs.Undone.{state_with_words, restored_words, unput, with_rest, state_undone}
 use Rattle.st_back.proofs.UndoneLemmas.{restored-other, restored-size, restored-in}
 
--- ---- forth and back
+-- ---- a step forth and a step back
 
--- two lists with one last item each
+-- equal lists have equal last items
 same_last : {A : Type 0} (xs ys : List A) (x y : A) → xs ++ x ∷ [] ≡ ys ++ y ∷ [] → x ≡ y
 same_last [] [] x y e = cc
 same_last [] (b ∷ ys) x y e = let long : length (x ∷ []) ≡ length (b ∷ (ys ++ y ∷ [])) = ap length e in absurd (omega (arith, length-append ys (y ∷ [])))
 same_last (a ∷ xs) [] x y e = let long : length (a ∷ (xs ++ x ∷ [])) ≡ length (y ∷ []) = ap length e in absurd (omega (arith, length-append xs (x ∷ [])))
 same_last (a ∷ xs) (b ∷ ys) x y e = let tails : xs ++ x ∷ [] ≡ ys ++ y ∷ [] = cc in same_last xs ys x y tails
 
--- the last item stays in a ring of some places
+-- the last item stays in a ring buffer of at least one place
 keeps_last : {A : Type 0} (n : ℕ) (xs : List A) (x : A) → 1 ≤ n
     → keep_last n (xs ++ x ∷ []) ≡ drop (length (xs ++ x ∷ []) - n) xs ++ x ∷ []
 keeps_last n xs x some =
@@ -58,7 +58,7 @@ some_none i e = cc
 same_some : (i j : ℕ) → Some i ≡ Some j → i ≡ j
 same_some i j e = cc
 
--- a step from one state has one answer
+-- a step from one state has only one result
 same_step : (s t v : Machine) (r q : Step) → IsStep s t r → IsStep s v q → (q ≡ r) × (v ≡ t)
 same_step s t v Waits Waits h k = (refl, k.1 ∙ sym h.1)
 same_step s t v Waits Plain h k = absurd (true_false (sym h.0 ∙ k.0))
@@ -76,7 +76,7 @@ back-again a b c s t u v r q some made h forth k again =
     same_step s t v r q h
     (subst (λ y. IsStep y v q) (back-before a b c s t u r some made forth k) again)
 
--- ---- what comes between
+-- ---- changes in between
 
 pub above-stored : (s t : Machine) (w x : ℕ) → AreAlikeAbove s t → AreAlikeAbove (state_with_store s w x) (state_with_store t w x)
 above-stored s t w x h = record {
@@ -98,7 +98,7 @@ above-restored w zero f xs s t h = h
 above-restored w (suc n) f xs s t h =
     above-restored (w + 1) n (f + 1) xs _ _ (above-stored s t w (slice_index xs f) h)
 
--- once words 0 to 31 are put back, all words are the same
+-- after words 0 to 31 are restored, all words are equal
 same-registers : (xs : List ℕ) (s t : Machine) → AreAlikeAbove s t → 32 ≤ length s.words
     → (state_with_words 0 32 0 xs t).words ≡ (state_with_words 0 32 0 xs s).words
 same-registers xs s t h long =
@@ -142,7 +142,7 @@ above-undone k s t m h =
     (same-registers k.trail.registers (restored_words q xs a) (restored_words q xs b) alike
     (omega (arith, size, size_1, size_0, m.size, words_of_storage_is)))
 
--- whatever the indicators and the orders become
+-- the undoing does not depend on the indicators and the orders
 indicators-undone : (k : KeptStep) (s : Machine) (r q : Option Order) (x : ℕ) → IsMachine s
     → state_undone k (with_word (record s { reader = r; printer = q }) 11 x) ≡ state_undone k s
 indicators-undone k s r q x m =

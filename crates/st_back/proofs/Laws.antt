@@ -1,4 +1,4 @@
--- What holds of steps that are undone, and not of one call, proved.
+-- Proofs of the laws of undoing.
 use Rattle.st_back.proofs.LawLemmas.{back-before, back-again, above-undone, signalled-undone, printed-undone, no_card-undone}
 use Rattle.st_back.proofs.ManyLemmas.{forth-states, put-states, between-states, back-states}
 use Rattle.st_back.specs.Laws.{BackUndoesForth, UndoingPassesRegistersOver, BacksGiveTheStatesBefore}

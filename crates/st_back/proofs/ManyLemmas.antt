@@ -1,4 +1,4 @@
--- Several steps that are undone one after another.
+-- The undoing of several steps.
 use Rattle.std.proofs.Common.{◌≡◌, ◌≢◌, ℕ, zero, suc, ◌-◌, List, [], ◌∷◌, ◌++◌, length, drop, refl, sym, ◌∙◌, ap}
 use Rattle.circular_buffer.specs.Buffer.{keep_last}
 use Rattle.st_state.specs.Machine.{Machine, IsMachine}
@@ -74,7 +74,7 @@ back-states a b s t h =
     ∙ states_before-last b.kept h.last s
     ∙ ap (λ u. states_before b.kept u ++ u ∷ []) (sym h.state)
 
--- ---- what comes between
+-- ---- changes in between
 
 all_undone-above : (k : KeptStep) (ks : List KeptStep) (s t : Machine) → IsMachine s → AreAlikeAbove s t
     → all_undone (k ∷ ks) t ≡ all_undone (k ∷ ks) s

@@ -1,4 +1,4 @@
--- How the ring of steps changes.
+-- Changes of the ring buffer of steps.
 use Rattle.std.proofs.Common.{◌≡◌, ◌≢◌, ℕ, zero, suc, ◌+◌, ◌-◌, ◌<◌, ◌≤◌, inl, inr, List, [], ◌∷◌, ◌++◌, length, take, drop, true, Option, Some, refl, sym, ◌∙◌, ap, subst, arith, get_or, get_or-set_other, length-append}
 use Rattle.std.specs.Prelude.{All, slice_index, slice_set, replicate}
 use Rattle.std.proofs.lemmas.Bool.{leb-true}
@@ -32,7 +32,7 @@ snoc xs x e =
     ∙ take_more xs n x below
     ∙ ap (λ y. take n xs ++ y ∷ []) (get_or_from_slice_get xs n x x e)
 
--- a ring that is not full gives up nothing
+-- a ring buffer that is not full drops nothing
 keep-few : {A : Type 0} (n : ℕ) (xs : List A) → length xs ≤ n → keep_last n xs ≡ xs
 keep-few n xs few =
     let none : length xs - n ≡ 0 = omega arith in ap (λ k. drop k xs) none
@@ -110,7 +110,7 @@ last-sound b k h e =
 pub room-of : (r : Option KeptStep) (k : KeptStep) → r ≡ Some k → has_room r ≡ true → k.puts ≤ 7
 room-of r k e h = leb-true k.puts 7 (ap has_room (sym e) ∙ h)
 
--- ---- what the calls do
+-- ---- the effect of the calls
 
 step-kept : (b : Steps) (s t : Machine) (trail : Trail) → IsTrail s trail → CanBePutBack trail → t ≡ step s
     → IsStepKept b (steps_with trail b) s t

@@ -1,4 +1,4 @@
--- Undoing a step gives the state before it, whatever was put since.
+-- Undoing a step restores the state before it, for all puts since.
 use Rattle.std.proofs.Common.{◌≡◌, ◌≢◌, ℕ, zero, suc, ◌+◌, ◌<◌, ◌≤◌, inl, inr, Bool, true, false, if◌then◌else◌, Option, None, Some, List, length, refl, sym, ◌∙◌, ap, subst, arith, get_or-set_other}
 use Rattle.std.specs.Prelude.{IfSome, slice_index, slice_set}
 use Rattle.std.proofs.lemmas.List.{get_or-set_same, set-set, set-get_or, ext_get_or}
@@ -38,7 +38,7 @@ of_parts words ic enabled waiting done reader printer = record {
   printer = printer;
 }
 
--- a state whose words are those of another one, and all the rest
+-- a state is determined by its words and the rest of the trail
 same-machine : (s : Machine) (ws : List ℕ) (t : Trail) → ws ≡ s.words → t.ic ≡ s.ic → t.enabled ≡ s.enabled
     → t.waiting ≡ s.waiting → t.done ≡ s.done → t.reader ≡ s.reader → t.printer ≡ s.printer
     → ◌≡◌ {A = Machine} (record {
@@ -63,7 +63,8 @@ past_registers : (i : ℕ) → IsBeside i 0 32 → 32 ≤ i
 past_registers i (inl before) = absurd (omega arith)
 past_registers i (inr after) = omega arith
 
--- a state that has of another one each word that the trail does not have
+-- undoing restores state s from a state u that equals s in each word that the trail does not
+-- contain
 pub trail-undone : (s u : Machine) (k : KeptStep) → TrailKeeps s k.trail → CanBePutBack k.trail → k.puts ≡ 0
     → length u.words ≡ length s.words
     → ((w : ℕ) → 32 ≤ w → IsNotAmong w k.trail.writes → word u w ≡ word s w) → state_undone k u ≡ s
@@ -99,7 +100,7 @@ trail-undone s u k t fits none size same =
     same-machine s d.words k.trail (ext_get_or 0 d.words s.words (size_d ∙ sym m.size) (λ i h. registers i)) t.ic t.enabled
     t.waiting t.done t.reader t.printer
 
--- an entry is undone that is completed, whatever the counter is set to then
+-- undoing restores the state before a completed entry, for all values of the program counter
 pub entry-undone : (p : Prepared) (s : Machine) (ic : ℕ) (k : KeptStep) → IsPrepared p → TrailKeeps s k.trail → CanBePutBack k.trail
     → k.puts ≡ 0 → k.trail.writes ≡ p.writes → state_undone k (record (state_after_completion p s) { ic = ic }) ≡ s
 entry-undone p s ic k h t fits none writes =
@@ -108,7 +109,7 @@ entry-undone p s ic k h t fits none writes =
     trail-undone s (record (state_after_completion p s) { ic = ic }) k t fits none (n.size ∙ sym m.size)
     (λ w above apart. completed-unwritten p s w h m above (subst (IsNotAmong w) writes apart))
 
--- the interrupt that is taken is by one of 64 indicators
+-- the indicator of an interrupt is below 64
 some-below : (p : ℕ → Bool) (r : Option ℕ) → first_from p 0 64 ≡ r → IfSome r (λ i. i < 64)
 some-below p None e = tt
 some-below p (Some i) e = let below : i < 0 + 64 = (first_from-is p 0 64 i e).2 in omega arith
@@ -131,9 +132,9 @@ step-undone s k t fits none =
     trail-undone s (state_after_completion p s) k t.keeps fits none (n.size ∙ sym m.size)
     (λ w above apart. completed-unwritten p s w h m above (subst (IsNotAmong w) t.writes apart))
 
--- ---- words that are put since
+-- ---- words that were put since the step
 
--- words that are noted behind do not matter
+-- recorded puts beyond the first n do not matter
 unput-below : (n l w x : ℕ) (places contents : List ℕ) (s : Machine) → n ≤ l
     → unput n (slice_set places l w) (slice_set contents l x) s ≡ unput n places contents s
 unfolding unput
@@ -147,7 +148,7 @@ unput-below (suc n) l w x places contents s h =
     ∙ ap (λ y. unput n (slice_set places l w) (slice_set contents l x) (state_with_store s (slice_index places n) y)) content
     ∙ unput-below n l w x places contents t (omega arith)
 
--- a word that is stored and then put back stands as before
+-- a store that is followed by a store of the previous contents leaves the word unchanged
 stored-back : (s : Machine) (w x : ℕ) → IsMachine s → state_with_store (state_with_store s w x) w (word s w) ≡ s
 stored-back s w x m =
     ap (λ ws. record s { words = ws })

@@ -1,4 +1,4 @@
--- Words that are put back one after another.
+-- Words that are restored one at a time.
 use Rattle.std.proofs.Common.{◌≡◌, ℕ, zero, suc, ◌+◌, ◌-◌, ◌<◌, ◌≤◌, inl, inr, List, length, refl, sym, ◌∙◌, ap, arith}
 use Rattle.std.specs.Prelude.{slice_index}
 use Rattle.std.proofs.lemmas.Bool.Decides.{leb_tells}
@@ -10,7 +10,7 @@ use Rattle.st_exec.proofs.Unchanged.{stored-other}
 use Rattle.st_exec.proofs.UnwrittenLemmas.{IsBeside, beside-rest, beside-first}
 use Rattle.st_back.specs.Undone.{state_with_words, unput}
 
--- ---- what is left after some of them
+-- ---- the remaining words
 
 pub restored-next : (w n f k : ℕ) (xs : List ℕ) (s : Machine) → k < n
     → state_with_words (w + (k + 1)) (n - (k + 1)) (f + (k + 1)) xs (state_with_store s (w + k) (slice_index xs (f + k)))
@@ -47,7 +47,7 @@ unfolding unput
 unput-none zero places contents s e = refl
 unput-none (suc n) places contents s e = absurd (omega arith)
 
--- ---- words one by one
+-- ---- single words
 
 pub restored-other : (w n f : ℕ) (xs : List ℕ) (s : Machine) (i : ℕ) → IsBeside i w n
     → word (state_with_words w n f xs s) i ≡ word s i
@@ -86,7 +86,8 @@ restored-in w (suc n) f xs s (suc j) few inside =
     ∙ ap (λ i. register_word i (slice_index xs (f + 1 + j))) (sym place)
     ∙ ap (λ k. register_word (w + suc j) (slice_index xs k)) from
 
--- a word is that of a state where the list has that state's words and all others are its words before
+-- a restored word is that of state v if the list has the word of v, or if the word was already
+-- equal
 pub restored-back : (w n f : ℕ) (xs : List ℕ) (s v : Machine) (i : ℕ) → IsMachine s
     → (1 ≤ n → w + n ≤ length v.words) → ((j : ℕ) → j < n → slice_index xs (f + j) ≡ word s (w + j))
     → (IsBeside i w n → word v i ≡ word s i) → word (state_with_words w n f xs v) i ≡ word s i

@@ -1,8 +1,8 @@
--- What may come between a step and its undoing.
+-- The changes of a state that may occur between a step and its undoing.
 use Rattle.std.specs.Prelude.{ℕ, ◌≡◌, ◌≤◌, length}
 use Rattle.st_state.specs.Machine.{Machine, word}
 
--- the words from 32 up are the same
+-- two states have equal words from address 32
 pub record AreAlikeAbove (s t : Machine) : Type 0 where
   pub size : length t.words ≡ length s.words
   pub words : (w : ℕ) → 32 ≤ w → word t w ≡ word s w

@@ -1,4 +1,4 @@
--- What holds of steps that are undone, and not of one call.
+-- Laws of undoing that are not clauses of one call.
 use Rattle.std.specs.Prelude.{◌≡◌, ◌≢◌, ℕ, ◌≤◌, true, List, [], ◌∷◌, ◌++◌, None}
 use Rattle.circular_buffer.specs.Buffer.{keep_last}
 use Rattle.st_state.specs.Machine.{Machine, IsMachine}
@@ -12,8 +12,8 @@ use Rattle.st_back.specs.Between.{AreAlikeAbove}
 use Rattle.st_back.specs.Steps.{Steps, IsForth, IsPut, IsBack, states_before}
 use Rattle.st_back.specs.Undone.{state_undone}
 
--- A `back` just after a `forth` that makes a step gives the state before both, and a `forth` after
--- that the answer and the state that the first one gave.
+-- A `back` right after a `forth` that makes a step restores the state before both. A `forth` after
+-- that has the result and the state of the first one.
 pub record BackUndoesForth : Type 0 where
   pub before : (a b c : Steps) (s t u : Machine) (r : Answer) → 1 ≤ a.depth → r ≢ Waits
       → IsForth a b s t r → IsBack b c t u true → u ≡ s
@@ -21,9 +21,9 @@ pub record BackUndoesForth : Type 0 where
       → IsStep s t r → IsForth a b s t r → IsBack b c t u true → IsStep u v q
       → (q ≡ r) × (v ≡ t)
 
--- What a step is undone to does not depend on the words below 32, nor on the number done, the
--- counter, the marks and the orders; so neither a signal nor an order without a card that comes
--- between changes it.
+-- The state after undoing a step does not depend on the words below 32, the count of completed
+-- instructions, the program counter, the marks and the orders. So a signal or an order without a
+-- card in between has no effect on it.
 pub record UndoingPassesRegistersOver : Type 0 where
   pub above : (k : KeptStep) (s t : Machine) → IsMachine s → AreAlikeAbove s t
       → state_undone k t ≡ state_undone k s
@@ -34,8 +34,8 @@ pub record UndoingPassesRegistersOver : Type 0 where
   pub no_card : (k : KeptStep) (s : Machine) (w : ℕ) → IsMachine s
       → state_undone k (read_in s w None) ≡ state_undone k s
 
--- The states that calls of `back` give one after another are those before the steps that were made,
--- as many of the last ones as there are places, whatever was put and came between.
+-- Successive calls of `back` restore the states before the steps that were made, the last one
+-- first, as many as the depth allows, for all puts and changes in between.
 pub record BacksGiveTheStatesBefore : Type 0 where
   pub forth : (a b : Steps) (s t : Machine) (r : Answer) → r ≢ Waits → IsForth a b s t r
       → states_before b.kept t ≡ keep_last a.depth (states_before a.kept s ++ s ∷ [])

@@ -1,4 +1,4 @@
--- The steps that can be undone, and how they come and go.
+-- The recorded steps that can be undone, and how calls change them.
 use Rattle.std.specs.Prelude.{ℕ, ◌≡◌, ◌-◌, ◌<◌, ◌≤◌, Bool, true, false, nat_le, List, [], ◌∷◌, ◌++◌, length, slice_get, slice_index, All, Option, None, Some, replicate}
 use Rattle.circular_buffer.specs.Buffer.{Buffer, keep_last}
 use Rattle.st_bits.specs.Storage.{words_of_storage}
@@ -10,24 +10,24 @@ use Rattle.st_exec.specs.declared.step.Step.TheVariants.{Plain, Interrupt, Waits
 use Rattle.st_back.specs.declared.kept.KeptStep.{KeptStep}
 use Rattle.st_back.specs.Undone.{state_undone, step_with_word}
 
--- the steps that are kept, the oldest first, and how many there may be
+-- the recorded steps, the oldest first, and the depth, which is their greatest number
 pub record Steps : Type 0 where
   pub kept : List KeptStep
   pub depth : ℕ
 
--- no step is kept, of so many that may be
+-- no recorded steps, with the given depth
 abbrev pub none_of : ℕ → Steps
 none_of depth = record { kept = []; depth = depth }
 
--- what contracts see of the ring
+-- the view of the ring buffer
 abbrev pub steps : Buffer KeptStep → Steps
 steps b = record { kept = b.items; depth = b.capacity }
 
--- the last one
+-- the newest recorded step, None if there is none
 abbrev pub newest_step : List KeptStep → Option KeptStep
 newest_step ks = slice_get ks (length ks - 1)
 
--- a step that can be undone: at most eight words were put since, all of them in storage above the
+-- a valid recorded step: at most eight words were put since, all of them in storage above the
 -- registers
 pub record IsStepSound (k : KeptStep) : Type 0 where
   pub trail : CanBePutBack k.trail
@@ -37,13 +37,14 @@ pub record IsStepSound (k : KeptStep) : Type 0 where
   pub above : (n : ℕ) → n < k.puts → 32 ≤ slice_index k.places n
   pub inside : (n : ℕ) → n < k.puts → slice_index k.places n < words_of_storage
 
--- some steps may be kept, and each that is can be undone
+-- valid recorded steps: the depth is at least one, and each step can be undone
 pub record AreStepsSound (b : Steps) : Type 0 where
   pub some : 1 ≤ b.depth
   pub fits : length b.kept ≤ b.depth
   pub each : All IsStepSound b.kept
 
--- a step is kept, and undoing it gives the state before it; a full ring gives up the oldest one
+-- a step from s to t is recorded, and undoing it restores s; a full ring buffer drops the oldest
+-- step
 pub record IsStepKept (old new : Steps) (s t : Machine) : Type 0 where
   pub last : KeptStep
   pub kept : new.kept ≡ keep_last old.depth (old.kept ++ last ∷ [])
@@ -52,13 +53,13 @@ pub record IsStepKept (old new : Steps) (s t : Machine) : Type 0 where
   pub puts : last.puts ≡ 0
   pub before : state_undone last t ≡ s
 
--- what a call of `forth` keeps, by its answer
+-- the effect of a call of `forth` on the recorded steps, by its result
 abbrev pub IsForth : Steps → Steps → Machine → Machine → Step → Type 0
 IsForth old new s t Waits = new ≡ old
 IsForth old new s t Plain = IsStepKept old new s t
 IsForth old new s t (Interrupt i) = IsStepKept old new s t
 
--- a kept step since which no word was put
+-- a recorded step since which no word was put
 abbrev pub step_at : Trail → KeptStep
 step_at t = record {
   trail = t;
@@ -67,16 +68,17 @@ step_at t = record {
   puts = 0;
 }
 
--- one more step is kept, and the oldest given up where there is no room
+-- the recorded steps with one more; the oldest is dropped if there is no room
 abbrev pub steps_with : Trail → Steps → Steps
 steps_with t b = record b { kept = keep_last b.depth (b.kept ++ step_at t ∷ []) }
 
--- there is room in the newest step for one more word that is put
+-- whether one more word can be put: there is a newest step, and at most seven words were put since
 abbrev pub has_room : Option KeptStep → Bool
 has_room None = false
 has_room (Some k) = nat_le k.puts 7
 
--- a word is put, and the newest step is undone as if it were not; the others are as they were
+-- a word is put, and the undoing of the newest step also undoes the put; the other steps are
+-- unchanged
 pub record IsPut (old new : Steps) (s t : Machine) (w x : ℕ) : Type 0 where
   pub others : List KeptStep
   pub last : KeptStep
@@ -86,27 +88,27 @@ pub record IsPut (old new : Steps) (s t : Machine) (w x : ℕ) : Type 0 where
   pub state : t ≡ state_with_store s w x
   pub before : state_undone (step_with_word last w (word s w)) t ≡ state_undone last s
 
--- the newest step is undone, and kept no more
+-- the newest step is undone and removed
 pub record IsUndone (old new : Steps) (s t : Machine) : Type 0 where
   pub last : KeptStep
   pub kept : old.kept ≡ new.kept ++ last ∷ []
   pub depth : new.depth ≡ old.depth
   pub state : t ≡ state_undone last s
 
--- what a call of `back` does, by its answer
+-- the effect of a call of `back`, by its result
 abbrev pub IsBack : Steps → Steps → Machine → Machine → Bool → Type 0
 IsBack old new s t true = IsUndone old new s t
 IsBack old new s t false = (old.kept ≡ []) × (new ≡ old) × (t ≡ s)
 
 -- ---- several steps
 
--- the state after all steps are undone, the last one first
+-- the state after all recorded steps are undone, the last one first
 unfoldable pub all_undone : List KeptStep → Machine → Machine
 all_undone [] s = s
 all_undone (k ∷ ks) s = state_undone k (all_undone ks s)
 
--- the states that `back` gives, one call after another: the last of them first, that before the
--- oldest step at the front
+-- the states that successive calls of `back` restore, in reverse order: the state before the oldest
+-- step first
 unfoldable pub states_before : List KeptStep → Machine → List Machine
 states_before [] s = []
 states_before (k ∷ ks) s = all_undone (k ∷ ks) s ∷ states_before ks s

@@ -1,4 +1,4 @@
-//! The last steps of a machine, kept so that they can be undone.
+//! The last steps of a machine, recorded so that they can be undone.
 ghost use Rattle.std.specs.Prelude.{◌≡◌, ◌<◌, ◌≤◌, ◌^◌, true, length, IfOk};
 ghost use Rattle.st_bits.specs.Storage.{words_of_storage};
 ghost use Rattle.st_exec.specs.Step.{IsStep};
@@ -14,13 +14,14 @@ use st_state::State;
 use std::alloc::Global;
 use std::marker::Model;
 
-/// The last steps of a machine, as many as it is deep, each kept so that it can be undone.
+/// The last steps of a machine, recorded so that they can be undone; the depth is their greatest
+/// number.
 #[derive(Drop)]
 pub struct Back {
     ring: HeapCircularBuffer<KeptStep>,
 }
 
-// Clauses see the steps, the oldest first, and the depth.
+// Contracts see the steps, the oldest first, and the depth.
 impl Model for Back {
     ghost use Rattle.st_back.specs.Steps.{Steps, steps, AreStepsSound};
 
@@ -32,8 +33,8 @@ impl Model for Back {
 }
 
 impl Back {
-    /// A ring without steps, of `depth` places, 1 to 64. The one error is that memory ran out; no
-    /// later call takes any.
+    /// An empty ring buffer of `depth` places, 1 to 64. The only error is a failed allocation; no
+    /// later call allocates.
     pub fn new(alloc: Global, depth: u8) -> Result<Back, NoMemory>
         requires some { 1 ≤ depth }
         requires few { depth ≤ 64 }
@@ -45,8 +46,9 @@ impl Back {
         Ok(Back { ring })
     }
 
-    /// Makes the next step as `st_exec::one` does, under the same condition, and keeps it, so that
-    /// `back` undoes it. A full ring gives up its oldest step. `Waits` keeps nothing.
+    /// Makes the next step as `st_exec::one` does, under the same condition, and records it, so
+    /// that `back` undoes it. A full ring buffer drops its oldest step. If the result is `Waits`,
+    /// nothing is recorded.
     pub fn forth(&mut self, state: &mut State) -> Step
         requires { state.old.done < 2 ^ 63 }
         ensures step { IsStep state.old state.new result }
@@ -62,7 +64,7 @@ impl Back {
         step
     }
 
-    // Keeps a step, since which no word was put.
+    // Records a step, with no words put since.
     fn keep(&mut self, trail: Trail)
         requires { CanBePutBack trail }
         ensures { self.new ≡ steps_with trail self.old }
@@ -86,8 +88,8 @@ impl Back {
         }
     }
 
-    /// Stores a word that a transfer brings, at the word address `w`, and keeps with the newest
-    /// step what stood there. It can be put, as `can_put` tells.
+    /// Stores a word of a transfer at the word address `w`, and records its previous contents with
+    /// the newest step. `can_put` must hold.
     pub fn put(&mut self, state: &mut State, w: u32, word: u64)
         requires above { 32 ≤ w }
         requires inside { w < words_of_storage }
@@ -101,8 +103,8 @@ impl Back {
         state.store(w, word);
     }
 
-    /// Undoes the newest step, which is kept no more. It answers false exactly where none is kept,
-    /// and then changes nothing.
+    /// Undoes the newest step and removes it. Returns false and changes nothing if and only if
+    /// there is none.
     pub fn back(&mut self, state: &mut State) -> bool
         ensures { IsBack self.old self.new state.old state.new result }
     {
@@ -113,7 +115,7 @@ impl Back {
         true
     }
 
-    /// The number of steps that are kept.
+    /// The number of recorded steps.
     pub fn len(&self) -> usize
         ensures value { result ≡ length self.now.kept }
         ensures within { result ≤ self.now.depth }

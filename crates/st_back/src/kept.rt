@@ -1,4 +1,4 @@
-//! A step that is kept, and the words that are put behind it.
+//! A recorded step, and the words that were put after it.
 ghost use Rattle.std.specs.Prelude.{◌≡◌, ◌≤◌};
 ghost use Rattle.st_back.specs.Undone.{step_with_word as noted_of};
 
@@ -7,18 +7,17 @@ use st_exec::Trail;
 /// A step that can be undone.
 #[derive(Clone, Copy, Debug)]
 pub struct KeptStep {
-    /// What was kept of the state before it.
+    /// The trail of the state before the step.
     pub trail: Trail,
     /// The word addresses of the words that were put since, in order.
     pub places: [u32; 8],
-    /// What each of them held before it was put.
+    /// The previous contents of each of these words.
     pub contents: [u64; 8],
-    /// How many they are, at most 8.
+    /// The number of words that were put since, at most 8.
     pub puts: u8,
 }
 
-// The step with one more word that is put: the one at the word address `w`, which holds `content`
-// before.
+// The step with one more put: to the word address `w`, whose contents were `content`.
 pub(crate) fn noted(mut kept: KeptStep, w: u32, content: u64) -> KeptStep
     requires { kept.puts ≤ 7 }
     ensures { result ≡ noted_of kept w content }

@@ -1,4 +1,4 @@
-//! Steps that can be undone, the newest first. `docs/machine.md` has the rules.
+//! Recorded steps that can be undone, the newest first. `docs/machine.md` has the rules.
 #![tactic(auto, using(st_bits::specs::Storage::words_of_storage_is))]
 
 mod back;

@@ -1,4 +1,4 @@
-//! How a step is undone.
+//! The undoing of a step.
 ghost use Rattle.std.specs.Prelude.{◌≡◌, ◌+◌, ◌≤◌, ℕ};
 ghost use Rattle.st_bits.specs.Storage.{words_of_storage};
 ghost use Rattle.st_state.specs.Machine.{Machine};
@@ -13,7 +13,7 @@ use st_exec::{Trail, trail_of};
 use st_prep::{Prepared, Words};
 use st_state::State;
 
-// Stores `len` words from the word address `w` on, those of `words` from place `from` on.
+// Stores `len` words from the word address `w`, those of `words` from place `from`.
 fn restore(w: u32, len: u8, from: u8, words: &[u64; 32], state: &mut State)
     requires inside { 1 ≤ len → w + len ≤ words_of_storage }
     requires few { from + len ≤ 32 }
@@ -24,7 +24,7 @@ fn restore(w: u32, len: u8, from: u8, words: &[u64; 32], state: &mut State)
     }
 }
 
-// Puts back the words that an entry wrote.
+// Restores the words that an entry wrote.
 fn restore_written(words: Words, before: &[u64; 32], state: &mut State)
     requires runs { IsRuns words }
     requires inside { AreInside words }
@@ -34,7 +34,7 @@ fn restore_written(words: Words, before: &[u64; 32], state: &mut State)
     restore(words.first2, words.len2, words.len, before, state);
 }
 
-// Puts back the words that were put since, the last one first.
+// Undoes the puts since the step, the last one first.
 fn remove_puts(kept: &KeptStep, state: &mut State)
     requires { IsStepSound kept.now }
     ensures { state.new ≡ unput kept.now.puts kept.now.places kept.now.contents state.old }
@@ -46,7 +46,7 @@ fn remove_puts(kept: &KeptStep, state: &mut State)
     }
 }
 
-// Makes all that is no word what it was.
+// Restores everything outside storage.
 fn restore_rest(trail: &Trail, state: &mut State)
     requires { CanBePutBack trail.now }
     ensures { state.new ≡ with_rest trail.now state.old }
@@ -59,8 +59,8 @@ fn restore_rest(trail: &Trail, state: &mut State)
     state.printer = trail.printer;
 }
 
-/// Keeps of a state what is needed to undo an entry that is prepared of it: once it is completed,
-/// and the counter set or not, `undo` gives the state back.
+/// Records what is needed to undo an entry that was prepared in this state. After its completion,
+/// with or without an update of the program counter, `undo` restores the state.
 pub fn keep(p: &Prepared, state: &State) -> KeptStep
     requires prepared { IsPrepared p.now }
     ensures sound { IsStepSound result }
@@ -76,7 +76,7 @@ pub fn keep(p: &Prepared, state: &State) -> KeptStep
     }
 }
 
-/// Undoes a step or an entry that was kept.
+/// Undoes a recorded step or entry.
 #[tactic(auto, unfolding(crate::specs::Undone::state_undone), using(st_bits::specs::Storage::words_of_storage_is))]
 pub fn undo(kept: &KeptStep, state: &mut State)
     requires { IsStepSound kept.now }

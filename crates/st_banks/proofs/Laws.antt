@@ -1,4 +1,4 @@
--- What holds of delays and banks, whatever is read, proved.
+-- Proofs of the laws of delays and banks.
 use Rattle.std.proofs.Common.{◌<◌, length, get_or-set_same, arith, rules}
 use Rattle.st_banks.specs.Bank.{bank_of}
 use Rattle.st_banks.proofs.BankLemmas.{bank_of-below}

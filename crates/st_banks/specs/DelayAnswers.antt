@@ -1,12 +1,12 @@
--- What is answered of a list of delays.
+-- The result of a check of a list of delays.
 use Rattle.std.specs.Prelude.{ℕ, ◌≡◌, List, None, Some, Result, Ok, Err}
 use Rattle.st_banks.specs.Delay.{first_zero}
 use Rattle.st_banks.specs.declared.delays.Delays.{Delays}
 use Rattle.st_banks.specs.declared.delays.DelayError.{DelayError}
 use Rattle.st_banks.specs.declared.delays.DelayError.TheVariants.{ZeroDelay, NoMemory}
 
--- what is answered of a list: itself, or its first zero; want of memory comes only where no entry
--- is zero
+-- the meaning of a result: the list itself, or the place of its first zero; an allocation failure
+-- is possible only if no entry is zero
 abbrev pub IsDelayAnswer : List ℕ → Result Delays DelayError → Type 0
 IsDelayAnswer list (Ok delays) = (first_zero list ≡ None) × (delays.list ≡ list)
 IsDelayAnswer list (Err (ZeroDelay place)) = first_zero list ≡ Some place

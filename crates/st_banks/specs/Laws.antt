@@ -1,10 +1,10 @@
--- What holds of delays and banks, whatever is read.
+-- Laws of delays and banks, which hold for all reads.
 use Rattle.std.specs.Prelude.{◌≡◌, ◌≢◌, ◌<◌, ◌≤◌, ℕ, List, length, All, Some, None}
 use Rattle.st_banks.specs.Bank.{BankTimes, bank_of, last_answer, accept_tick, answer_if_accepted, after_read}
 use Rattle.st_banks.specs.Delay.{delay, answer_tick}
 use Rattle.st_banks.specs.declared.answers.TheConstants.{BANKS}
 
--- No read takes longer than the longest delay of the list.
+-- The delay of a read is at most the longest delay of the list.
 abbrev pub DelaysAreBounded : Type 0
 DelaysAreBounded = (list : List ℕ) (most tick : ℕ) → 1 ≤ length list → All (λ d. d ≤ most) list →
     delay list tick ≤ most
@@ -13,15 +13,15 @@ DelaysAreBounded = (list : List ℕ) (most tick : ℕ) → 1 ≤ length list →
 abbrev pub WordsLieInBanks : Type 0
 WordsLieInBanks = (w : ℕ) → bank_of w < BANKS
 
--- A read keeps its own bank busy until its answer, and leaves every other bank.
+-- A read keeps its own bank busy until its answer, and does not affect other banks.
 pub record ReadsKeepTheirBankBusy : Type 0 where
   pub own : (m : BankTimes) (v w answer : ℕ) → length m.answers ≡ BANKS → bank_of v ≡ bank_of w →
       last_answer (after_read m w (Some answer)) v ≡ answer
   pub others : (m : BankTimes) (v w answer : ℕ) → bank_of v ≢ bank_of w →
       last_answer (after_read m w (Some answer)) v ≡ last_answer m v
 
--- A read that can be made from a tick on and is wanted from a want on is accepted at its accept
--- tick, and at no earlier one.
+-- A read that is possible from a tick and wanted from a want is accepted at its accept tick, and
+-- not earlier.
 pub record ReadsAreAcceptedAtTheirTick : Type 0 where
   pub then : (m : BankTimes) (w tick want : ℕ) →
       answer_if_accepted m w (accept_tick m.answers w tick want)

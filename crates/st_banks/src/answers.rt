@@ -1,17 +1,18 @@
-//! The ticks at which the banks answer their last reads, apart from the delays.
+//! The ticks of the last answers of the banks, without the delays.
 ghost use Rattle.std.specs.Prelude.{◌≡◌, ◌<◌, replicate};
 ghost use Rattle.st_banks.specs.Bank.{bank_of as bank_by};
 
 /// The number of banks.
 pub const BANKS: usize = 6;
 
-/// The number of words that lie in the first four banks.
+/// The number of words in the first four banks.
 pub const LOW_WORDS: u32 = 65_536;
 
-/// The tick of each bank's last answer, 0 before its first read. Contracts see the list of them.
+/// The tick of each bank's last answer, 0 before its first read. Contracts see the list of these
+/// ticks.
 #[derive(Clone, Copy, Debug, Default, PartialEq, Eq)]
 pub struct LastAnswers {
-    /// The tick of each bank, by its number.
+    /// The tick of each bank, by bank number.
     pub ticks: [u64; BANKS],
 }
 
@@ -25,15 +26,15 @@ impl LastAnswers {
         LastAnswers { ticks: [0; BANKS] }
     }
 
-    /// The tick of the last answer of the bank that the word `w` is in.
+    /// The tick of the last answer of the bank of word `w`.
     pub fn of(&self, w: u32) -> u64
         ensures { result ≡ last_of self.now.ticks w }
     {
         self.ticks[bank_of(w)]
     }
 
-    /// The tick at which a read of the word `w` is accepted that can be made from `tick` on and is
-    /// wanted from `want` on: the greatest of these two and of its bank's last answer.
+    /// The tick at which a read of the word `w` is accepted that is possible from `tick` and wanted
+    /// from `want`: the maximum of these two and of its bank's last answer.
     pub fn accept_tick(&self, w: u32, tick: u64, want: u64) -> u64
         ensures { result ≡ accept_tick_of self.now.ticks w tick want }
     {
@@ -49,7 +50,7 @@ impl LastAnswers {
         after
     }
 
-    /// A read of the word `w` is answered at `tick`.
+    /// Records that a read of the word `w` is answered at `tick`.
     pub fn answer(&mut self, w: u32, tick: u64)
         ensures { self.new.ticks ≡ answered_at self.old.ticks w tick }
     {

@@ -7,8 +7,8 @@ use crate::answers::LastAnswers;
 use crate::delays::Delays;
 use std::marker::Model;
 
-/// The banks of storage with the delays of their reads. Contracts see the list of delays, and for
-/// each bank the tick of its last answer, 0 before its first read.
+/// The banks of storage with the delays of their reads. Contracts see the list of delays, and the
+/// tick of the last answer of each bank, 0 before its first read.
 #[derive(Drop)]
 pub struct Banks {
     delays: Delays,
@@ -41,7 +41,7 @@ impl Banks {
         }
     }
 
-    /// The tick of the last answer of the bank that the word `w` is in, 0 before its first read.
+    /// The tick of the last answer of the bank of word `w`, 0 before its first read.
     pub fn last_answer(&self, w: u32) -> u64
         ensures value { result ≡ last_answer_of self.now w }
         ensures banks { length self.now.answers ≡ BANKS }
@@ -49,9 +49,9 @@ impl Banks {
         self.answers.of(w)
     }
 
-    /// Reads the word `w`, a word address from 32 to 98,303, at `tick`, which is below 2^63. The
-    /// result is the tick at which the bank answers; it is None, and nothing changes, exactly where
-    /// the last answer of the bank is later than `tick`.
+    /// Reads the word `w`, a word address from 32 to 98,303, at `tick`, below 2^63. Returns the
+    /// tick of the answer. Returns None and changes nothing if and only if the last answer of the
+    /// bank is later than `tick`.
     pub fn accept(&mut self, w: u32, tick: u64) -> Option<u64>
         requires above_registers { 32 ≤ w }
         requires inside { w < words_of_storage }

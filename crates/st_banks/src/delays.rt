@@ -1,4 +1,4 @@
-//! Delay lists, which are gone round.
+//! Cyclic lists of delays.
 ghost use Rattle.std.specs.Prelude.{◌≡◌, ◌+◌, ◌<◌, ◌≤◌, ◌^◌, length, All, IfSome, IfNone};
 ghost use Rattle.st_bits.specs.declared.limits.TheConstants.{LONGEST_LIST, MOST_DELAY};
 ghost use Rattle.st_banks.specs.Delay.{delay, IsDelay, first_zero as first_zero_of};
@@ -7,12 +7,12 @@ ghost use Rattle.std.proofs.Props.{props};
 use std::alloc::Global;
 use std::marker::Model;
 
-/// Why a list of delays is refused.
+/// The reason why a list of delays is refused.
 #[derive(Clone, Copy, Debug, PartialEq, Eq)]
 pub enum DelayError {
-    /// The entry at this place, counted from 0, is zero; it is the first one that is.
+    /// The entry at this place, counted from 0, is the first zero.
     ZeroDelay { place: u32 },
-    /// Memory ran out.
+    /// An allocation of memory failed.
     NoMemory,
 }
 
@@ -33,7 +33,7 @@ impl Model for DelayList {
 /// The delays of reads, in ticks: one or more, each from 1 to 255.
 #[derive(Drop)]
 pub struct Delays {
-    /// The list that is gone round, one entry a tick.
+    /// The cyclic list, with one entry per tick.
     pub list: DelayList,
     pub ghost some: { 1 ≤ length list },
     pub ghost each: { All IsDelay list } by { Prim.hlevel props },
@@ -44,7 +44,7 @@ impl Delays {
     ghost use Rattle.st_banks.specs.DelayAnswers.{IsDelayAnswer};
 
     /// The delays of the list, which has 1 to 4,096 entries. A list with a zero is refused before
-    /// memory is asked for.
+    /// memory is allocated.
     pub fn new(alloc: Global, list: &[u8]) -> Result<Delays, DelayError>
         requires some { 1 ≤ length list.now }
         requires few { length list.now ≤ LONGEST_LIST }
@@ -63,21 +63,21 @@ impl Delays {
         }
     }
 
-    /// The delay, from 1 to 255 ticks, of a read that is accepted at `tick`: the list is gone
-    /// round, one entry a tick.
+    /// The delay, from 1 to 255 ticks, of a read that is accepted at `tick`: the list is cyclic,
+    /// with one entry per tick.
     pub fn at(&self, tick: u64) -> u8
         ensures value { result ≡ delay self.now.list tick }
         ensures least { 1 ≤ result }
     {
         let bytes = &self.list.bytes;
         let len = bytes.len() as u64;
-        // One delay for all is frequent, and needs no division.
+        // A list of one entry is frequent, and needs no division.
         let place = if len == 1 { 0 } else { tick % len };
         bytes[place as usize]
     }
 
-    /// The tick, 1 to 255 later, at which a read is answered that is accepted at `tick`, which is
-    /// below 2^64 - 255.
+    /// The tick, 1 to 255 later, at which a read is answered that is accepted at `tick`, below 2^64
+    /// - 255.
     pub fn answer(&self, tick: u64) -> u64
         requires early { tick + MOST_DELAY < 2 ^ 64 }
         ensures value { result ≡ answer_tick self.now.list tick }
@@ -88,7 +88,7 @@ impl Delays {
     }
 }
 
-// The place of the first entry that is zero.
+// The place of the first zero, None if there is none.
 fn first_zero(list: &[u8]) -> Option<usize>
     ensures value { result ≡ first_zero_of list.now }
     ensures bound { IfSome result (λ place. place < length list.now) }

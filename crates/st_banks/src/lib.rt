@@ -1,4 +1,4 @@
-//! The banks of storage: how long a read takes, and when a bank accepts the next one.
+//! The banks of storage: the delay of a read, and when a bank accepts the next one.
 //! `docs/timetable.md` has the rules.
 #![tactic(auto, using(st_bits::specs::Storage::words_of_storage_is))]
 

@@ -1,4 +1,4 @@
--- A machine beside a run moves as the run does, and steps back give the states before.
+-- The second machine moves as the run does, and steps back restore the previous states.
 use Rattle.std.proofs.Common.{◌≡◌, ◌≢◌, ◌≤◌, ◌<◌, ℕ, zero, suc, ◌+◌, ◌-◌, List, [], ◌∷◌, ◌++◌, true, false, nat_le, length, drop, refl, sym, ◌∙◌, ap, subst, arith, get_or-set_other, length-append}
 use Rattle.std.proofs.lemmas.Bool.Decides.{nat_tests}
 use Rattle.std.proofs.lemmas.List.{length-set, length-drop, drop-append-le}
@@ -21,21 +21,21 @@ use Rattle.st_back.proofs.ManyLemmas.{between-states, forth-states}
 use Rattle.st_beside.specs.Beside.{Beside, IsFreshStep, HasRoomForCard, IsOpen, IsKept, IsBesideReady, IsMoved, IsStepped, IsBeside}
 use Rattle.st_beside.specs.declared.second.Noted.{Noted}
 
--- ---- the words from 32 up
+-- ---- the words from address 32
 
--- whatever the indicators and the orders become
+-- changes of the indicators and the orders do not affect the words from 32
 pub alike-turned : (s : Machine) (r q : Option Order) (x : ℕ) → AreAlikeAbove s (with_word (record s { reader = r; printer = q }) 11 x)
 alike-turned s r q x = record {
   size = length-set s.words 11 x;
   words = λ w above. get_or-set_other s.words 11 w x 0 (omega arith);
 }
 
--- ---- moving without a step
+-- ---- moves without a step
 
 pub room_same : (o q : Option Order) (ks : List KeptStep) → q ≡ o → HasRoomForCard o ks → HasRoomForCard q ks
 room_same o q ks e h = subst (λ r. HasRoomForCard r ks) (sym e) h
 
--- what comes between two steps
+-- the transition between two steps
 pub moved_between : (m n : Noted) (x y : Coming) → IsOpen m → scene_at n.state y ≡ (interlude (scene_at m.state x)).scene
     → IsKept false m n → IsMoved (scene_at m.state x, m.steps) (scene_at n.state y, n.steps) (interlude (scene_at m.state x)).scene
 moved_between m n x y open_now scene kept = record { ready = kept.2 open_now; scene = scene; depth = kept.0; states = kept.1 }
@@ -52,7 +52,7 @@ depth-forth old new s t Waits h = ap (λ k. k.depth) h
 depth-forth old new s t Plain h = h.depth
 depth-forth old new s t (Interrupt i) h = h.depth
 
--- the last one of a list is its newest one
+-- the last item of a list is its newest step
 newest-last : (ks : List KeptStep) (k : KeptStep) → slice_get (ks ++ k ∷ []) (length ks) ≡ Some k
 newest-last [] k = refl
 newest-last (j ∷ ks) k = newest-last ks k
@@ -104,7 +104,7 @@ stepped_by old new c d t r h going step forth same =
     } in
     subst (λ (e : Scene). IsStepped (c, old) (e, new)) (sym same) made
 
--- ---- beside a run
+-- ---- the run of the second machine
 
 pub beside_settled : (back : ℕ) (b d : Beside) (c : Scene) (before : List Machine) → IsMoved b d c → IsBeside back b before → IsBeside back d before
 beside_settled back b d c before h k = record { some = k.some; ready = h.ready; deep = h.depth ∙ k.deep; states = h.states ∙ k.states }
@@ -182,7 +182,7 @@ read-kept (Some order) m n card some read depth states =
       },
     )
 
--- indicators and orders that come leave the states to which steps lead back
+-- changes of the indicators and the orders do not affect the states that steps back restore
 pub states_beside : (ks : List KeptStep) (s : Machine) (r q : Option Order) (x : ℕ) → IsMachine s → states_before ks (with_word (record s { reader = r; printer = q }) 11 x) ≡ states_before ks s
 states_beside ks s r q x m = between-states ks s (with_word (record s { reader = r; printer = q }) 11 x) m (alike-turned s r q x)
 

@@ -1,4 +1,4 @@
--- A run that a machine beside it makes, and stepping back from its end.
+-- The run of the second machine, and the steps back from its end.
 use Rattle.std.proofs.Common.{◌≡◌, ◌≢◌, ◌≤◌, ℕ, zero, suc, ◌+◌, ◌-◌, List, [], ◌∷◌, ◌++◌, Bool, true, false, length, take, refl, sym, ◌∙◌, ap, subst, arith, length-append, append_assoc, if◌then◌else◌, map}
 use Rattle.std.proofs.lemmas.List.{take_all}
 use Rattle.st_state.specs.Machine.{Machine}
@@ -60,15 +60,15 @@ states-goes_on (suc k) c some h =
     let same : k ≡ suc k - 1 = omega arith in
     states-some k c h ∙ ap (λ n. (interlude c).scene.machine ∷ states n (scene_after_step (interlude c).scene)) same
 
--- the moments of a run have its states
+-- the moments of a timed run have the states of the plain run
 pub states-same : (ds : List ℕ) (n left : ℕ) (m : Moment)
     → states left m.scene ≡ map next_state (moments ds n left m).before ++ next_state (moments ds n left m).last ∷ []
 unfolding states
 states-same ds n left m = scenes-same ds n left m
 
--- ---- how far the run has come
+-- ---- the progress of the run
 
--- the states so far, and those that are left
+-- the states so far, and the remaining ones
 pub record StatesSoFar (back budget : ℕ) (start : Scene) (left : ℕ) (b : Beside) : Type 0 where
   pub before : List Machine
   pub all : states budget start ≡ before ++ states left b.0
@@ -104,7 +104,7 @@ pub states_used : (back budget : ℕ) (start : Scene) (left : ℕ) (b d : Beside
 states_used back budget start left b d moved none h =
     states_end back budget start left b d moved (states-budget left b.0 none) (run-budget left b.0 none) h
 
--- the run goes on
+-- the run continues
 pub states_next : (back budget : ℕ) (start : Scene) (left : ℕ) (b d e : Beside) → left ≢ 0 → rests d.0.machine ≡ false
     → IsMoved b d (interlude b.0).scene → IsStepped d e → StatesSoFar back budget start left b → StatesSoFar back budget start (left - 1) e
 states_next back budget start left b d e some going moved step h =
@@ -130,7 +130,7 @@ states_next back budget start left b d e some going moved step h =
       beside = subst (λ (g : Scene). IsBeside back e (h.before ++ g.machine ∷ [])) same beside;
     }
 
--- how many instructions it counts
+-- the count of completed instructions
 pub states_few : (left budget : ℕ) (b d : Beside) → IsMoved b d (interlude b.0).scene → b.0.machine.done + left ≡ budget → d.0.machine.done + left ≡ budget
 states_few left budget b d moved counted =
     let same : d.0.machine.done ≡ b.0.machine.done = ap (λ (k : Scene). k.machine.done) moved.scene ∙ settled-done b.0 in
@@ -149,7 +149,7 @@ unfolding states_before
 length-states_before [] s = refl
 length-states_before (k ∷ ks) s = ap suc (length-states_before ks s)
 
--- of the states that steps back give the last ones are left
+-- the remaining states that steps back restore
 pub record LeftToUndo (all : List Machine) (kept : Steps) (m : Machine) : Type 0 where
   pub left : states_before kept.kept m ++ m ∷ [] ≡ take (length kept.kept + 1) all
 
@@ -170,7 +170,7 @@ front-of (y ∷ ys) x (suc n) (z ∷ zs) e size =
     let small : length ys ≡ n = omega arith in
     ap (λ (a : Machine). a ∷ ys) first ∙ ap (λ (bs : List Machine). z ∷ bs) (front-of ys x n zs rest small)
 
--- a step is undone
+-- one step is undone
 pub undo_next : (all : List Machine) (a b : Steps) (s t : Machine) (r : Bool) → IsBack a b s t r → length a.kept ≢ 0 → LeftToUndo all a s → LeftToUndo all b t
 undo_next all a b s t false back some h = absurd (some (ap length back.0))
 undo_next all a b s t true back some h =
@@ -185,7 +185,7 @@ pub undo_fewer : (a b : Steps) (s t : Machine) (r : Bool) → IsBack a b s t r �
 undo_fewer a b s t false back some = absurd (some (ap length back.0))
 undo_fewer a b s t true back some = sym (ap length back.kept ∙ length-append b.kept (back.last ∷ []))
 
--- all are undone
+-- all steps are undone
 undone_all_by : (ks : List KeptStep) (m : Machine) (all : List Machine) → length ks ≡ 0 → states_before ks m ++ m ∷ [] ≡ take (length ks + 1) all → m ∷ [] ≡ take 1 all
 unfolding states_before
 undone_all_by [] m all none e = e

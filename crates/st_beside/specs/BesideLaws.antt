@@ -1,5 +1,4 @@
--- What comes to a machine whose last steps can be undone leaves the same steps, one thing after
--- another.
+-- Successive external events do not change the recorded steps of a machine.
 use Rattle.std.proofs.Common.{◌≡◌, ◌||◌, ◌∙◌, Bool}
 use Rattle.st_beside.specs.declared.second.Noted.{Noted}
 use Rattle.st_beside.specs.Beside.{IsKept}

@@ -1,9 +1,9 @@
--- The states of a run, one after another.
+-- The sequence of states of a run.
 use Rattle.std.specs.Prelude.{ℕ, List, [], ◌∷◌, ◌++◌, map}
 use Rattle.st_state.specs.Machine.{Machine}
 use Rattle.st_run.specs.Run.{Scene, state_next, scenes}
 
--- the states of a run from a scene on, each after what comes before its step, up to the one in
--- which the run ends
+-- the states of a run from a scene, each before its step and after the transition that precedes it,
+-- up to the last state
 unfoldable pub states : ℕ → Scene → List Machine
 states left c = map state_next (scenes left c).before ++ state_next (scenes left c).last ∷ []

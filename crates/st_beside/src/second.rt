@@ -1,4 +1,4 @@
-//! A second machine beside a run: it makes the same run by itself, and the last steps can be
+//! A second machine that makes the same run as the first by itself, and whose last steps can be
 //! undone.
 ghost use Rattle.std.specs.Prelude.{
   ◌≡◌,
@@ -34,14 +34,14 @@ use st_run::{Coming, Outside};
 use st_state::State;
 use std::marker::Model;
 
-/// A machine, and its last steps, which can be undone. What it prints is not shown.
+/// A machine with its last steps recorded, so that they can be undone. Its prints are discarded.
 #[derive(Drop)]
 pub struct Noted {
     pub state: State,
     pub steps: Back,
 }
 
-/// A machine beside a run, and what is still to come to it: signals, and cards of the reader.
+/// A second machine with its external events: signals, and cards of the reader.
 #[derive(Drop)]
 pub struct MachineBeside<'a> {
     noted: Noted,
@@ -67,7 +67,7 @@ impl<'a> MachineBeside<'a> {
     ghost use Rattle.std.specs.List.{AllPass};
     ghost use Rattle.st_card.specs.Limits.{is_signal};
 
-    /// A machine, what comes to it, and the steps of it that are kept.
+    /// A second machine with this state, these external events, and these recorded steps.
     pub fn new(state: State, signals: &'a [Signal], cards: Hopper, steps: Back) -> MachineBeside<'a>
         requires { AllPass is_signal signals.now }
         ensures scene { result.0 ≡ record {
@@ -83,7 +83,7 @@ impl<'a> MachineBeside<'a> {
         }
     }
 
-    /// The state in which it stands.
+    /// The state of the second machine.
     pub fn state(&self) -> &State
         ensures { result.now ≡ self.now.0.machine }
     {
@@ -91,8 +91,8 @@ impl<'a> MachineBeside<'a> {
     }
 }
 
-// Puts the words of a card into the eight words from the word address `w` on, each noted with the
-// newest step.
+// Writes the words of a card to the eight words from the word address `w`, and records each with
+// the newest step.
 fn put_card(steps: &mut Back, machine: &mut State, w: u32, card: &[u64; 8])
     requires above { 32 ≤ w }
     requires inside { w + 8 ≤ words_of_storage }
@@ -108,8 +108,7 @@ fn put_card(steps: &mut Back, machine: &mut State, w: u32, card: &[u64; 8])
     }
 }
 
-// The order of the reader takes effect, as `st_exec::read_in` says, and the words of the card are
-// noted.
+// The reader's order takes effect as in `st_exec::read_in`, and the words of the card are recorded.
 fn read_noted(steps: &mut Back, machine: &mut State, card: Option<[u64; 8]>)
     requires order { IsSome machine.old.reader }
     requires fresh { IsFreshStep steps.old.kept }
@@ -165,8 +164,8 @@ impl Outside for Noted {
     fn rest(&mut self) {}
 }
 
-// What comes between two steps: signals and orders that are due, and what ends a wait. Nothing is
-// printed.
+// Makes the transition between two steps: the due signals and orders, and the events that may end a
+// wait. Prints are discarded.
 fn pass_interlude(second: &mut MachineBeside)
     requires { IsBesideReady second.old }
     ensures { IsMoved second.old second.new (run.interlude second.old.0).scene }
@@ -183,14 +182,14 @@ fn step(second: &mut MachineBeside)
     second.noted.steps.forth(&mut second.noted.state);
 }
 
-// Whether the machine waits and nothing is pending that would end it.
+// Whether the machine waits and no indicator is pending.
 fn is_resting(second: &MachineBeside) -> bool
     ensures { result ≡ rests second.now.0.machine }
 {
     is_at_rest(&second.noted.state)
 }
 
-// Makes the run to its end, at rest or with the budget used up.
+// Runs to the end: at rest, or with the budget used up.
 fn run_to_end(second: &mut MachineBeside, budget: u64)
     requires start { IsBesideAtStart second.old }
     requires limit { budget ≤ MOST_INSTRUCTIONS }
@@ -212,8 +211,7 @@ fn run_to_end(second: &mut MachineBeside, budget: u64)
     }
 }
 
-/// Makes the run to its end on the machine beside it, where there is one: at rest, or with as many
-/// steps done as the budget has.
+/// Runs the second machine to the end, if there is one: at rest, or with the budget used up.
 pub fn run_beside(second: &mut Option<MachineBeside>, budget: u64)
     requires start { IfSome second.old IsBesideAtStart }
     requires limit { budget ≤ MOST_INSTRUCTIONS }
@@ -226,7 +224,7 @@ pub fn run_beside(second: &mut Option<MachineBeside>, budget: u64)
     }
 }
 
-// Undoes all steps that are kept.
+// Undoes all recorded steps.
 fn undo_all(steps: &mut Back, machine: &mut State)
     ensures { machine.new ∷ [] ≡ take 1
         (states_before steps.old.kept machine.old ++ machine.old ∷ []) }
@@ -237,7 +235,7 @@ fn undo_all(steps: &mut Back, machine: &mut State)
     }
 }
 
-/// Undoes all steps that are kept, the newest first, and tells how many they were, 64 at most.
+/// Undoes all recorded steps, the newest first, and returns their number, at most 64.
 pub fn rewind(second: &mut MachineBeside) -> u8
     requires { IsBesideReady second.old }
     ensures count { result ≡ length second.old.1.kept }

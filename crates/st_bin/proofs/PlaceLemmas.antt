@@ -1,4 +1,4 @@
--- Numbers that are moved to a decimal place.
+-- Numbers that are shifted by decimal digits.
 use Rattle.std.proofs.Common.{leb, ◌≡◌, ℕ, ◌+◌, ◌-◌, ◌*◌, ◌%◌, ◌^◌, ◌<◌, ◌≤◌, sym, subst, arith}
 use Rattle.std.proofs.lemmas.Nat.{pow-add}
 use Rattle.std.proofs.Math.Nat.{mul-le-mul_right, mul-lt-mul_of_pos_right, mul-div_cancel, mul-mod_left}
@@ -15,7 +15,7 @@ powers_of_places place few =
 scaled_mod : (m r w : ℕ) → 0 < r → 0 < w → m % r * w ≡ m * w % (r * w)
 scaled_mod m r w some more = rw (mod-mul (m * w) some more, mul-div_cancel m more, mul-mod_left m w) (omega arith)
 
--- what stays of a number that is moved to a place, and whether digits are lost
+-- the remaining digits of a shifted number, and whether digits are lost
 pub digits_at_place : (m place : ℕ) → place < 32 → m % 10 ^ (32 - place) * 10 ^ place ≡ m * 10 ^ place % 10 ^ 32
 digits_at_place m place few =
     rw (powers_of_places place few) (scaled_mod m (10 ^ (32 - place)) (10 ^ place) (power_above_zero (32 - place)) (power_above_zero place))
@@ -29,5 +29,5 @@ scaled_le r m w some =
 pub lost_place : (m place : ℕ) → place < 32 → leb (10 ^ (32 - place)) m ≡ leb (10 ^ 32) (m * 10 ^ place)
 lost_place m place few = rw (powers_of_places place few) (scaled_le (10 ^ (32 - place)) m (10 ^ place) (power_above_zero place))
 
--- what moving to a place does
+-- the lemmas about a shift by decimal digits
 pub ruleset place_rules = (digits_at_place, lost_place)

@@ -1,4 +1,4 @@
--- What base 2 keeps in a field has room there.
+-- A magnitude that base 2 stores in a field fits it.
 use Rattle.std.proofs.Common.{Bool, true, false, ◌==◌}
 use Rattle.std.proofs.Math.Nat.{mod-lt}
 use Rattle.std.specs.Prelude.{cond}
@@ -9,7 +9,7 @@ use Rattle.st_field.specs.Fields.{magnitude_bits}
 use Rattle.st_field.proofs.ResultLaws.{IsInField, KeepsLength}
 use Rattle.st_bin.specs.BinaryResult.{base, product, product_added, quotient_result, conversion_result}
 
--- a result of two that write no field
+-- a choice of two results that write no field
 of_two : (t : Taken) (b : Bool) (d e : Done) → IsInField t d → IsInField t e → IsInField t (cond b d e)
 of_two t true d e p q = p
 of_two t false d e p q = q

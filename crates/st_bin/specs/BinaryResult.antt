@@ -1,4 +1,4 @@
--- What base 2 makes of what an operation takes, and the operations that are its own.
+-- The base-2 parts of the results of operations on fields, and the operations that only base 2 has.
 use Rattle.std.specs.Prelude.{ℕ, ◌+◌, ◌*◌, ◌/◌, ◌%◌, ◌^◌, nat_le, ◌==◌, ◌||◌, if◌then◌else◌, Some}
 use Rattle.st_bits.specs.declared.operations.VflOp.{VflOp}
 use Rattle.st_bits.specs.Indicators.{indicator}
@@ -16,25 +16,27 @@ use Rattle.st_field.specs.Numbers.{exactly_one, exceeds, sum_of}
 use Rattle.st_field.specs.Digits.{digits_of}
 use Rattle.st_field.specs.Results.{is_minus, number_in, signed_operand, number_cut, with_number, done_with, in_accumulator, load_result}
 
--- the accumulator from the offset on
+-- the accumulator from the offset
 abbrev pub from_offset : Acc → Shape → ℕ
 from_offset a h = a.mag / 2 ^ h.offset
 
--- ---- the operations of its own
+-- ---- the operations that only base 2 has
 
--- a product or quotient put into the accumulator: minus where exactly one of both is minus
+-- the result with a product or quotient m in the accumulator; it is minus if exactly one of
+-- accumulator and operand is minus
 abbrev pub product_result : Acc → Field → Shape → ℕ → ℕ → Done
 product_result a f h m on =
     in_accumulator (with_number a m (exactly_one (is_minus a)
     (signed_operand f h f.mag).negative)) m on
 
--- *: 64 bits of the accumulator times the operand
+-- the result of *: the low 64 bits of the accumulator from the offset, times the operand
 unfoldable pub product : Acc → Field → Shape → Done
 product a f h =
     product_result a f h (from_offset a h % 2 ^ 64 * f.mag)
     (flag_indicators f.flags + partial_field (exceeds (from_offset a h) 64))
 
--- *+: p is the factor register times the operand at the offset
+-- the result of *+: p, the factor register times the operand at the offset, is added to the
+-- accumulator
 abbrev pub product_summed : Acc → Field → Shape → ℕ → Done
 product_summed a f h p =
     let n : Signed = sum_of (number_in a a.mag) (signed_operand f h (p % 2 ^ 128)) in
@@ -44,8 +46,7 @@ product_summed a f h p =
 unfoldable pub product_added : Acc → Field → Shape → ℕ → Done
 product_added a f h ft = product_summed a f h (ft * f.mag * 2 ^ h.offset)
 
--- /: the quotient, and the remainder in its register; for a zero divisor ZD comes on, and that is
--- all
+-- the result of /: the quotient, and the remainder in its register; a zero divisor only turns on ZD
 unfoldable pub quotient_result : Acc → Field → Shape → Done
 quotient_result a f h =
     if f.mag == 0 then done_with a (record { on = indicator ZERO_DIVISOR; off = 0 })
@@ -53,7 +54,7 @@ quotient_result a f h =
       rm = Some (from_offset a h % f.mag);
     }
 
--- LCV: the number t in decimal, whose digits past the 32nd are lost
+-- the result of LCV for the number t: its decimal digits; digits beyond the 32nd are lost
 abbrev pub converted_number : Field → Shape → ℕ → Done
 converted_number f h t =
     load_result
@@ -63,7 +64,8 @@ converted_number f h t =
       on = flag_indicators f.flags + partial_field (nat_le (10 ^ 32) t);
     })
 
--- the last digit of the magnitude stands at digit `offset / 4`
+-- the result of LCV: the magnitude in decimal, its last digit at digit `offset / 4` of the
+-- accumulator
 unfoldable pub conversion_result : Field → Shape → Done
 conversion_result f h = converted_number f h (f.mag * 10 ^ (h.offset / 4))
 

@@ -1,4 +1,4 @@
-//! Base 2: what it makes of the accumulator and a field.
+//! Base 2: the parts of results that depend on the base.
 ghost use Rattle.std.specs.Prelude.{◌≡◌, ◌≤◌, ◌<◌, ◌%◌, ◌^◌, ℕ};
 ghost use Rattle.st_field.specs.Numbers.{exceeds as exceeds_of};
 ghost use Rattle.st_field.specs.Fields.{IsBinaryShape};
@@ -16,7 +16,7 @@ use st_field::{
     Aligned, Base, Done, Kept, Taken, cut, done_with, in_accumulator, load, shift, to_digits,
 };
 
-// Whether a sum has no room in `bits` bits.
+// Whether a sum does not fit in `bits` bits.
 #[tactic(auto, using(st_field::proofs::FieldLemmas::exceeds_kept))]
 fn is_lost(sum: Sum, bits: u8) -> bool
     requires { bits ≤ 64 }
@@ -26,8 +26,8 @@ fn is_lost(sum: Sum, bits: u8) -> bool
     sum.carry || exceeds(sum.number.mag, bits)
 }
 
-// A product or quotient goes to the accumulator: minus where exactly one of accumulator and operand
-// is minus.
+// The result with a product or quotient in the accumulator; it is minus if exactly one of
+// accumulator and operand is minus.
 fn multiplied(taken: &Taken, mag: u128, on: u64) -> Done
     requires { on < 2 ^ 63 }
     ensures { result ≡ multiplied_of taken.now.acc taken.now.field taken.now.shape mag on }

@@ -1,10 +1,10 @@
-//! Decimal numbers that are moved to a place.
+//! Decimal numbers that are shifted by digits.
 ghost use Rattle.std.specs.Prelude.{◌≡◌, ◌<◌, ◌*◌, ◌%◌, ◌^◌, nat_le};
 
 use st_field::power_of_ten;
 
-/// A number `place` decimal digits to the left, without those past the 32nd, and whether one of
-/// these is not zero.
+/// A number shifted left by `place` decimal digits, without the digits beyond the 32nd, and whether
+/// one of these is not zero.
 #[tactic(auto, using(crate::proofs::PlaceLemmas::place_rules))]
 pub fn place_digits(mag: u64, place: u8) -> (u128, bool)
     requires { place < 32 }

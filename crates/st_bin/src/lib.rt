@@ -1,5 +1,5 @@
-//! Binary operations on fields: what each makes of the accumulator, the field, the registers and
-//! the indicators. `docs/variable-fields.md` has the rules.
+//! Binary operations on fields: their results in the accumulator, the field, the registers and the
+//! indicators. `docs/variable-fields.md` has the rules.
 #![tactic(auto, unfolding(crate::specs::BinaryResult::conversion_result, crate::specs::BinaryResult::product, crate::specs::BinaryResult::product_added, crate::specs::BinaryResult::quotient_result, crate::specs::BinaryResult::result))]
 
 mod base;

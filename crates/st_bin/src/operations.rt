@@ -7,19 +7,19 @@ use crate::base::Two;
 use st_bits::VflOp;
 use st_field::{Acc, Done, Shape, operate, take};
 
-/// The registers that an operation on a field takes.
+/// The registers that an operation on a field reads.
 #[derive(Clone, Copy)]
 pub struct Registers {
     /// The accumulator with its sign byte.
     pub acc: Acc,
     /// The factor register.
     pub ft: u64,
-    /// The indicators.
+    /// The indicator register.
     pub ind: u64,
 }
 
-/// What a binary operation makes of the registers and of a field with the bits `bits`, below
-/// 2^length. The shape is that of a binary instruction.
+/// The result of a binary operation, given the registers and a field with the bits `bits`, below
+/// 2^length. The shape must be valid for a binary instruction.
 pub fn binary(op: VflOp, registers: &Registers, bits: u64, shape: &Shape) -> Done
     requires shape { IsBinaryShape shape.now }
     requires fits { bits < 2 ^ shape.now.length }

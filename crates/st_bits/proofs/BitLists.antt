@@ -1,4 +1,4 @@
--- The list of bits of a number: cut, spelled, and its fields.
+-- The list of bits of a number: parts of it, the number it encodes, and its fields.
 use Rattle.std.proofs.Common.{◌≡◌, ℕ, zero, suc, ◌+◌, ◌-◌, ◌*◌, ◌/◌, ◌%◌, ◌^◌, ◌<◌, ◌≤◌, List, [], ◌∷◌, ◌++◌, length, take, drop, refl, sym, ◌∙◌, ap, subst, arith, zero-add, add_assoc, mul_comm, length-append, append_assoc}
 use Rattle.std.specs.Int.{bit_at}
 use Rattle.std.proofs.lemmas.List.{take_at, drop_at}
@@ -17,7 +17,7 @@ unfolding bits
 length-bits zero x = refl
 length-bits (suc n) x = ap suc (length-bits n x)
 
--- the m + n lowest bits are the m that stand above the last n, and those
+-- the m + n lowest bits are the m bits above the last n, followed by the last n
 pub bits-add : (m n x : ℕ) → bits (m + n) x ≡ bits m (x / 2 ^ n) ++ bits n x
 unfolding bits
 bits-add zero n x = ap (λ k. bits k x) (zero-add n)
@@ -28,7 +28,7 @@ bits-add (suc m) n x =
     ap (λ k. x / 2 ^ k % 2) turned ∙ ap (λ y. y % 2) (sym (shr-shr x n m)) in
     ap (λ k. bits k x) more ∙ ap (λ b. b ∷ bits (m + n) x) top ∙ ap (λ bs. bit_at (x / 2 ^ n) m ∷ bs) (bits-add m n x)
 
--- what stands above the last m bits is not among the last n
+-- bits above the last m do not affect the last n
 pub bits-above : (n m h v : ℕ) → n ≤ m → bits n (h * 2 ^ m + v) ≡ bits n v
 unfolding bits
 bits-above zero m h v le = refl
@@ -36,7 +36,7 @@ bits-above (suc n) m h v le =
     let b : bit_at (h * 2 ^ m + v) n ≡ bit_at v n = bit_at_cat_low h m v n (omega arith) in
     ap (λ y. y ∷ bits n (h * 2 ^ m + v)) b ∙ ap (λ bs. bit_at v n ∷ bs) (bits-above n m h v (omega arith))
 
--- a list of bits spells the number that it was made of
+-- the number that the n lowest bits of x encode is x modulo 2 ^ n
 pub num-bits : (n x : ℕ) → num (bits n x) ≡ x % 2 ^ n
 unfolding bits num
 num-bits zero x = omega arith
@@ -66,7 +66,7 @@ field-bits x a n k =
     ∙ ap (λ bs. take n bs) (bits-add n k x)
     ∙ take_at (bits n (x / 2 ^ k)) (bits k x) n (length-bits n (x / 2 ^ k))
 
--- a field of a word is a part of it
+-- a field of a word is the list of bits of a part of the word
 pub field-word : (x a n : ℕ) → a + n ≤ 64 → field (bits 64 x) a n ≡ bits n (x / 2 ^ (64 - a - n))
 field-word x a n h =
     let whole : 64 ≡ a + (n + (64 - a - n)) = omega arith in
@@ -75,7 +75,7 @@ field-word x a n h =
 pub num-field : (x a n : ℕ) → a + n ≤ 64 → num (field (bits 64 x) a n) ≡ part x a n
 num-field x a n h = ap num (field-word x a n h) ∙ num-bits n (x / 2 ^ (64 - a - n))
 
--- the three parts of a number that is put together of a high part, n bits v and k low bits r
+-- the three parts of a number composed of a high part, n bits v and k low bits r
 parts_of : (h n v k r : ℕ) → v < 2 ^ n → r < 2 ^ k
     → (h * 2 ^ (n + k) + v * 2 ^ k + r ≡ (h * 2 ^ n + v) * 2 ^ k + r) × ((h * 2 ^ (n + k) + v * 2 ^ k + r) / 2 ^ (n + k) ≡ h)
 parts_of h n v k r fits below =
@@ -87,7 +87,7 @@ parts_of h n v k r fits below =
       ap (λ y. y / 2 ^ (n + k)) (add_assoc (h * 2 ^ (n + k)) (v * 2 ^ k) r) ∙ shr_high h (n + k) (v * 2 ^ k + r) rest,
     )
 
--- the bits of such a number
+-- the bits of a number composed of a high part, n bits v and k low bits r
 pub bits-parts : (a h n v k r : ℕ) → v < 2 ^ n → r < 2 ^ k
     → bits (a + (n + k)) (h * 2 ^ (n + k) + v * 2 ^ k + r) ≡ bits a h ++ bits n v ++ bits k r
 bits-parts a h n v k r fits below =
@@ -102,12 +102,12 @@ bits-parts a h n v k r fits below =
     ∙ ap (λ bs. bits a h ++ (bits n v ++ bs)) (bits-above k k (h * 2 ^ n + v) r (omega arith))
     ∙ sym (append_assoc (bits a h) (bits n v) (bits k r))
 
--- the low bits of a number are those of its remainder
+-- the k low bits of a number are those of its remainder modulo 2 ^ k
 pub bits-mod : (k x : ℕ) → bits k (x % 2 ^ k) ≡ bits k x
 bits-mod k x =
     sym (bits-above k k (x / 2 ^ k) (x % 2 ^ k) (omega arith)) ∙ ap (λ y. bits k y) (shr_split x k)
 
--- n bits put among those of a number of a + n + k bits
+-- n bits put into the bits of a number of a + n + k bits
 pub put-bits : (x a n k v : ℕ) → v < 2 ^ n
     → put (bits (a + (n + k)) x) a (bits n v)
     ≡ bits (a + (n + k)) (x / 2 ^ (n + k) * 2 ^ (n + k) + v * 2 ^ k + x % 2 ^ k)
@@ -131,7 +131,7 @@ put-bits x a n k v fits =
     ∙ ap (λ bs. high ++ bits n v ++ bs) (back ∙ sym (bits-mod k x))
     ∙ sym (bits-parts a (x / 2 ^ (n + k)) n v k (x % 2 ^ k) fits (mod_below _ _ (pow_pos k)))
 
--- bits put into a word make the word with that part
+-- the bits of v put into the bits of a word are the bits of the word with that part
 pub put-word : (x a n v : ℕ) → a + n ≤ 64 → v < 2 ^ n
     → put (bits 64 x) a (bits n v) ≡ bits 64 (with_part x a n v)
 put-word x a n v h fits =

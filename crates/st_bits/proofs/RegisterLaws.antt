@@ -1,10 +1,10 @@
--- What the table of register words keeps.
+-- Properties of the table of register words.
 use Rattle.std.proofs.Common.{◌≡◌, ◌≢◌, ℕ, ◌+◌, ◌*◌, ◌-◌, ◌^◌, ◌<◌, ◌≤◌, Bool, true, false, ◌==◌, if◌then◌else◌, refl, sym, subst, arith}
 use Rattle.std.proofs.lemmas.Bool.Decides.{nat_tests}
 use Rattle.st_bits.specs.Bits.{kept_bits}
 use Rattle.st_bits.specs.Registers.{register_word, reads_zero}
 
--- the table as a function of its tests
+-- the table of register words as a function of its tests
 abbrev row : Bool → Bool → Bool → Bool → Bool → Bool → ℕ → ℕ
 row zero two three seven ten twelve x =
     if zero then 0
@@ -44,17 +44,17 @@ row-zero false false false true e = refl
 row-zero false false false false true = refl
 row-zero false false false false false = refl
 
--- to write a word that was read there changes nothing
+-- a register word that is written back unchanged does not change
 pub fixed-twice : (w x : ℕ) → register_word w (register_word w x) ≡ register_word w x
 unfolding register_word
 fixed-twice w x = row-twice (reads_zero w) (w == 2) (w == 3) (w == 7) (w == 10) (w == 12) x
 
--- a word stays a word
+-- the contents of a register word are below 2 ^ 64
 pub fixed_below : (w x : ℕ) → x < 2 ^ 64 → register_word w x < 2 ^ 64
 unfolding register_word
 fixed_below w x h = row_below (reads_zero w) (w == 2) (w == 3) (w == 7) (w == 10) (w == 12) x h
 
--- the mask alone has bits that are always one
+-- after zero is written to it, every register word but the mask is zero
 pub fixed-zero : (w : ℕ) → w ≢ 12 → register_word w 0 ≡ 0
 unfolding register_word
 fixed-zero w h =
@@ -62,7 +62,7 @@ fixed-zero w h =
     let P : Bool → Type 0 = λ t. row (reads_zero w) (w == 2) (w == 3) (w == 7) (w == 10) t 0 ≡ 0 in
     subst P (sym other) (row-zero (reads_zero w) (w == 2) (w == 3) (w == 7) (w == 10))
 
--- index words and storage keep each bit
+-- index words and storage words have no fixed bits
 pub fixed-index : (w x : ℕ) → 16 ≤ w → register_word w x ≡ x
 unfolding register_word
 fixed-index w x h = grind arith

@@ -1,4 +1,4 @@
--- What the shifts and masks of the code come to in arithmetic.
+-- The shifts and masks of the code in arithmetic.
 use Rattle.std.proofs.Common.{◌≡◌, ℕ, ◌+◌, ◌-◌, ◌*◌, ◌/◌, ◌%◌, ◌^◌, ◌<◌, ◌≤◌, sym, ◌∙◌, ap, subst, arith, bit_and, bit_or, add-zero}
 use Rattle.std.proofs.lemmas.Nat.{field_of, shr-shr, shl-shr, shr_split, and_block, or_block, or_shifted, and_mask, pow-add, shl_whole, shr_below, mod_below, pow_pos}
 use Rattle.std.proofs.lemmas.Nat.Bits.{ones_shr}
@@ -16,13 +16,13 @@ regroup a b c = omega arith
 spread : (a b c d : ℕ) → (a + b) * c + d ≡ a * c + b * c + d
 spread a b c d = omega arith
 
--- a run of n bits by a shift to the left and one back
+-- n bits that a left shift and a right shift extract
 pub run_by_shifts : (x a n k : ℕ) → x * 2 ^ a % 2 ^ (n + (a + k)) / 2 ^ (a + k) ≡ x / 2 ^ k % 2 ^ n
 run_by_shifts x a n k =
     field_of (x * 2 ^ a) n (a + k)
     ∙ ap (λ y. y % 2 ^ n) (sym (shr-shr (x * 2 ^ a) a k) ∙ ap (λ y. y / 2 ^ k) (shl-shr x a))
 
--- the same in a word of 64 bits
+-- n bits of a 64-bit word that a left shift and a right shift extract
 pub run_of_word : (x a n : ℕ) → a + n ≤ 64 → x * 2 ^ a % 2 ^ 64 / 2 ^ (64 - n) ≡ x / 2 ^ (64 - a - n) % 2 ^ n
 run_of_word x a n h =
     let back : 64 - n ≡ a + (64 - a - n) = omega arith in
@@ -31,7 +31,7 @@ run_of_word x a n h =
     ∙ ap (λ m. x * 2 ^ a % 2 ^ (n + (a + (64 - a - n))) / 2 ^ m) back
     ∙ run_by_shifts x a n (64 - a - n)
 
--- a word of a + n + k bits without the n bits above its last k
+-- a number of a + n + k bits with the n bits above the last k cleared
 pub without_run : (a n k x : ℕ) → x < 2 ^ (a + (n + k))
     → bit_and x ((2 ^ a - 1) * 2 ^ (n + k) + (2 ^ k - 1)) ≡ x / 2 ^ (n + k) * 2 ^ (n + k) + x % 2 ^ k
 without_run a n k x h =
@@ -44,14 +44,14 @@ without_run a n k x h =
     ∙ ap (λ y. y * 2 ^ (n + k) + bit_and (x % 2 ^ (n + k)) (2 ^ k - 1)) (and_mask (x / 2 ^ (n + k)) a ∙ high)
     ∙ ap (λ y. x / 2 ^ (n + k) * 2 ^ (n + k) + y) (and_mask (x % 2 ^ (n + k)) k ∙ mod-mod-pow x n k)
 
--- n ones and one more
+-- 2 ^ n - 1 plus one, as multiples of m
 pub ones_and_one : (n m : ℕ) → (2 ^ n - 1) * m + m ≡ 2 ^ n * m
 ones_and_one n m =
     let some : (2 ^ n - 1) + 1 ≡ 2 ^ n = let some : 0 < 2 ^ n = pow_pos n in omega arith in
     let split : ((2 ^ n - 1) + 1) * m ≡ (2 ^ n - 1) * m + m = omega arith in
     sym split ∙ ap (λ p. p * m) some
 
--- the mask of n ones above k places, in a word of a + n + k bits, turned round
+-- the complement of the mask of n ones above k places, in a number of a + n + k bits
 pub mask_turned : (a n k : ℕ)
     → 2 ^ (a + (n + k)) - 1 - (2 ^ n - 1) * 2 ^ k ≡ (2 ^ a - 1) * 2 ^ (n + k) + (2 ^ k - 1)
 mask_turned a n k =
@@ -62,7 +62,7 @@ mask_turned a n k =
     ones_and_one a (2 ^ (n + k)) ∙ sym outer in
     mask_arith _ _ _ _ _ left right (pow_pos k)
 
--- a run of n bits replaced by v
+-- n bits of a number replaced by v
 pub run_replaced : (a n k x v : ℕ) → x < 2 ^ (a + (n + k)) → v < 2 ^ n
     → bit_or (bit_and x (2 ^ (a + (n + k)) - 1 - (2 ^ n - 1) * 2 ^ k)) (v * 2 ^ k)
     ≡ x / 2 ^ (n + k) * 2 ^ (n + k) + v * 2 ^ k + x % 2 ^ k
@@ -81,7 +81,7 @@ run_replaced a n k x v h small =
     ∙ spread (high * 2 ^ n) v (2 ^ k) low
     ∙ ap (λ y. y + v * 2 ^ k + low) (sym part)
 
--- the same as the code has it, in a word of 64 bits
+-- n bits of a 64-bit word replaced by v, with the masks of the code
 pub run_of_word_replaced : (x a n v : ℕ) → x < 2 ^ 64 → 1 ≤ n → a + n ≤ 64 → v < 2 ^ n
     → bit_or
     (bit_and x ((2 ^ 64 - 1) - (2 ^ 64 - 1) / 2 ^ (64 - n) * 2 ^ (64 - a - n) % 2 ^ 64))

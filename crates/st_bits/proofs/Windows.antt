@@ -1,4 +1,4 @@
--- Words that are read from a list, changed as a short list and stored back.
+-- Words that are read from a list, changed in a short list and stored again.
 use Rattle.std.proofs.Common.{◌≡◌, ℕ, zero, suc, ◌+◌, ◌*◌, ◌^◌, ◌<◌, ◌≤◌, List, [], ◌∷◌, ◌++◌, length, take, drop, get_or, refl, sym, ◌∙◌, ap, arith, length-append, append_assoc}
 use Rattle.std.proofs.Math.ListN.{set}
 use Rattle.std.proofs.Math.Nat.{mod-eq_of_lt}
@@ -8,7 +8,7 @@ use Rattle.st_bits.specs.Registers.{register_word, fixed_from}
 use Rattle.st_bits.proofs.BitLists.{length-bits, num-bits}
 use Rattle.st_bits.proofs.WordFields.{field-beyond, field-within, put-beyond, put-within, put-in_word, next_place}
 
--- a field of two words is that field of all
+-- a field within two consecutive words of a list is the field of these two words
 pub field-window : (ws : List ℕ) (w b n : ℕ) → suc w < length ws → b + n ≤ 128
     → field (all_bits ws) (64 * w + b) n ≡ field (all_bits (get_or ws w 0 ∷ get_or ws (suc w) 0 ∷ [])) b n
 unfolding all_bits
@@ -27,7 +27,7 @@ field-window (x ∷ x' ∷ ws) (suc w) b n h le =
     ∙ field-beyond (bits 64 x) (bits 64 x' ++ all_bits ws) (64 * w + b) n
     ∙ field-window (x' ∷ ws) w b n (omega arith) le
 
--- one word stored back, the bits put into it alone, is the put on all
+-- storing the one word that a put changes equals the put into the whole list
 pub put-stored : (ws : List ℕ) (w b : ℕ) (v : List ℕ) (y : ℕ) → w < length ws → b + length v ≤ 64
     → put (all_bits (get_or ws w 0 ∷ [])) b v ≡ all_bits (y ∷ [])
     → put (all_bits ws) (64 * w + b) v ≡ all_bits (set ws w y)
@@ -36,7 +36,7 @@ put-stored ws w b v y h le e =
     put-in_word ws w b v y h le
     (ap (λ bs. put bs b v) (sym (append-nil (bits 64 (get_or ws w 0)))) ∙ e ∙ append-nil (bits 64 y))
 
--- two words stored back, the bits put into those two alone, is the put on all
+-- storing the two words that a put changes equals the put into the whole list
 pub put-stored_two : (ws : List ℕ) (w b : ℕ) (v : List ℕ) (y z : ℕ) → suc w < length ws → b + length v ≤ 128
     → put (all_bits (get_or ws w 0 ∷ get_or ws (suc w) 0 ∷ [])) b v ≡ all_bits (y ∷ z ∷ [])
     → put (all_bits ws) (64 * w + b) v ≡ all_bits (set (set ws w y) (suc w) z)
@@ -59,7 +59,7 @@ put-stored_two (x ∷ x' ∷ ws) (suc w) b v y z h le e =
     ∙ put-beyond (bits 64 x) (bits 64 x' ++ all_bits ws) (64 * w + b) v
     ∙ ap (λ bs. bits 64 x ++ bs) (put-stored_two (x' ∷ ws) w b v y z (omega arith) le e)
 
--- the words of the bits of a list of words are that list
+-- words_of is the inverse of all_bits
 pub words_of-all_bits : (ws : List ℕ) → ((w : ℕ) → get_or ws w 0 < 2 ^ 64) → words_of (length ws) (all_bits ws) ≡ ws
 unfolding all_bits words_of
 words_of-all_bits [] below = refl
@@ -73,7 +73,7 @@ words_of-all_bits (x ∷ ws) below =
     ∙ ap (λ bs. x ∷ words_of (length ws) bs) rest
     ∙ ap (λ xs. x ∷ xs) (words_of-all_bits ws (λ w. below (suc w)))
 
--- words that have their fixed bits keep each bit
+-- words that have their fixed bits do not change when the fixed bits are applied
 pub fixed_from-kept : (k : ℕ) (ws : List ℕ) → ((w : ℕ) → register_word (k + w) (get_or ws w 0) ≡ get_or ws w 0)
     → fixed_from k ws ≡ ws
 unfolding fixed_from
@@ -87,7 +87,7 @@ fixed_from-kept k (x ∷ ws) keeps =
     let next : k + 1 + w ≡ k + suc w = omega arith in
     ap (λ m. register_word m (get_or ws w 0)) next ∙ keeps (suc w)))
 
--- the fixed bits of a list with one word changed
+-- the fixed bits of a list in which one word is changed
 pub fixed_from-set : (k : ℕ) (ws : List ℕ) (w y : ℕ)
     → fixed_from k (set ws w y) ≡ set (fixed_from k ws) w (register_word (k + w) y)
 unfolding fixed_from

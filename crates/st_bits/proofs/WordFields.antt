@@ -7,7 +7,7 @@ use Rattle.std.proofs.Math.Seq.{drop-append-add, take-append-add}
 use Rattle.st_bits.specs.Bits.{bits, num, all_bits, field, put, part, with_part}
 use Rattle.st_bits.proofs.BitLists.{length-bits, bits-add, bits-mod, num-append, num-field, field-word, put-word}
 
--- past the first bits of a list
+-- a field past the first part of a list is a field of the second part
 pub field-beyond : (xs ys : List ℕ) (b n : ℕ) → field (xs ++ ys) (length xs + b) n ≡ field ys b n
 unfolding field
 field-beyond xs ys b n = ap (λ zs. take n zs) (drop-append-add xs ys b)
@@ -21,7 +21,7 @@ put-beyond xs ys b v =
     ∙ ap (λ zs. xs ++ take b ys ++ v ++ zs) (drop-append-add xs ys (b + length v))
     ∙ simp append_assoc
 
--- within the first bits of a list
+-- a field within the first part of a list
 pub field-within : (xs ys : List ℕ) (b n : ℕ) → b + n ≤ length xs → field (xs ++ ys) b n ≡ field xs b n
 unfolding field
 field-within xs ys b n h =
@@ -36,7 +36,7 @@ put-within xs ys b v h =
     ∙ ap (λ zs. take b xs ++ v ++ zs) (drop-append-le (b + length v) xs ys h)
     ∙ simp append_assoc
 
--- over the end of the first bits of a list
+-- a field that crosses from the first part of a list into the second
 pub field-over : (xs ys : List ℕ) (b m n : ℕ) → b + m ≡ length xs
     → field (xs ++ ys) b (m + n) ≡ field xs b m ++ field ys 0 n
 unfolding field
@@ -60,11 +60,11 @@ put-over xs ys b v w h =
     (ap (λ zs. take b xs ++ v ++ zs ++ (w ++ drop (0 + length w) ys)) none
     ∙ simp (append-nil, append_assoc))
 
--- the place of the next word
+-- the bit address in the list without its first word
 pub next_place : (x w b : ℕ) → 64 * suc w + b ≡ length (bits 64 x) + (64 * w + b)
 next_place x w b = omega (arith, length-bits 64 x)
 
--- a field within word w
+-- a field within word w of a list of words
 pub field-in_word : (ws : List ℕ) (w b n : ℕ) → w < length ws → b + n ≤ 64
     → field (all_bits ws) (64 * w + b) n ≡ field (bits 64 (get_or ws w 0)) b n
 unfolding all_bits
@@ -78,7 +78,7 @@ field-in_word (x ∷ ws) (suc w) b n h le =
     ∙ field-beyond (bits 64 x) (all_bits ws) (64 * w + b) n
     ∙ field-in_word ws w b n (omega arith) le
 
--- a field of the last m bits of word w and the first n of the next
+-- a field of the last m bits of word w and the first n bits of the next word
 pub field-in_two : (ws : List ℕ) (w b m n : ℕ) → suc w < length ws → b + m ≡ 64 → n ≤ 64
     → field (all_bits ws) (64 * w + b) (m + n)
     ≡ field (bits 64 (get_or ws w 0)) b m ++ field (bits 64 (get_or ws (suc w) 0)) 0 n
@@ -94,7 +94,7 @@ field-in_two (x ∷ ws) (suc w) b m n h e le =
     ∙ field-beyond (bits 64 x) (all_bits ws) (64 * w + b) (m + n)
     ∙ field-in_two ws w b m n (omega arith) e le
 
--- bits put within word w, which becomes y
+-- bits put within word w of a list of words, where the word becomes y
 pub put-in_word : (ws : List ℕ) (w b : ℕ) (v : List ℕ) (y : ℕ) → w < length ws → b + length v ≤ 64
     → put (bits 64 (get_or ws w 0)) b v ≡ bits 64 y → put (all_bits ws) (64 * w + b) v ≡ all_bits (set ws w y)
 unfolding all_bits
@@ -109,7 +109,8 @@ put-in_word (x ∷ ws) (suc w) b v y h le e =
     ∙ put-beyond (bits 64 x) (all_bits ws) (64 * w + b) v
     ∙ ap (λ bs. bits 64 x ++ bs) (put-in_word ws w b v y (omega arith) le e)
 
--- bits put at the end of word w, which becomes y, and at the start of the next, which becomes z
+-- bits put at the end of word w, which becomes y, and at the start of the next word, which becomes
+-- z
 pub put-in_two : (ws : List ℕ) (w b : ℕ) (v u : List ℕ) (y z : ℕ) → suc w < length ws → b + length v ≡ 64
     → length u ≤ 64
     → put (bits 64 (get_or ws w 0)) b v ≡ bits 64 y
@@ -128,12 +129,12 @@ put-in_two (x ∷ ws) (suc w) b v u y z h e le f g =
     ∙ put-beyond (bits 64 x) (all_bits ws) (64 * w + b) (v ++ u)
     ∙ ap (λ bs. bits 64 x ++ bs) (put-in_two ws w b v u y z (omega arith) e le f g)
 
--- the number of a field within one word is a part of it
+-- the number of a field within word w is a part of the word
 pub num-in_word : (ws : List ℕ) (w b n : ℕ) → w < length ws → b + n ≤ 64
     → num (field (all_bits ws) (64 * w + b) n) ≡ part (get_or ws w 0) b n
 num-in_word ws w b n h le = ap num (field-in_word ws w b n h le) ∙ num-field (get_or ws w 0) b n le
 
--- the number of a field over the border of two words
+-- the number of a field that crosses from word w into the next
 pub num-in_two : (ws : List ℕ) (w b m n : ℕ) → suc w < length ws → b + m ≡ 64 → n ≤ 64
     → num (field (all_bits ws) (64 * w + b) (m + n))
     ≡ part (get_or ws w 0) b m * 2 ^ n + part (get_or ws (suc w) 0) 0 n
@@ -149,13 +150,13 @@ num-in_two ws w b m n h e le =
     ∙ ap (λ x. x * 2 ^ n + num back) (num-field (get_or ws w 0) b m (omega arith))
     ∙ ap (λ x. part (get_or ws w 0) b m * 2 ^ n + x) (num-field (get_or ws (suc w) 0) 0 n (omega arith))
 
--- n bits put within one word make it the word with that part
+-- n bits put within word w replace the part of that word
 pub put-part : (ws : List ℕ) (w b n v : ℕ) → w < length ws → b + n ≤ 64 → v < 2 ^ n
     → put (all_bits ws) (64 * w + b) (bits n v) ≡ all_bits (set ws w (with_part (get_or ws w 0) b n v))
 put-part ws w b n v h le fits =
     put-in_word ws w b (bits n v) _ h (omega (arith, length-bits n v)) (put-word (get_or ws w 0) b n v le fits)
 
--- m + n bits put over the border of two words make each the word with its part of them
+-- m + n bits put across the border of two words replace a part of each
 pub put-parts : (ws : List ℕ) (w b m n v : ℕ) → suc w < length ws → b + m ≡ 64 → n ≤ 64 → v < 2 ^ (m + n)
     → put (all_bits ws) (64 * w + b) (bits (m + n) v)
     ≡ all_bits
@@ -172,7 +173,7 @@ put-parts ws w b m n v h e le fits =
     (put-word (get_or ws w 0) b m (v / 2 ^ n) (omega arith) (shr_below v m n fits))
     (put-word (get_or ws (suc w) 0) 0 n (v % 2 ^ n) (omega arith) (mod_below _ _ (pow_pos n)))
 
--- ---- by the address of the first bit
+-- ---- fields by the address of the first bit
 
 address : (a : ℕ) → a ≡ 64 * (a / 64) + a % 64
 address a = omega arith
@@ -229,7 +230,7 @@ put-at_two ws a n v over few inside fits =
     (with_part (get_or ws k 0) 0 (n - m) (v % 2 ^ (n - m)))))
     next
 
--- two runs of bits side by side
+-- the bound of the number of two adjacent bit strings
 pub below-joined : (h l m n k : ℕ) → h < 2 ^ m → l < 2 ^ n → k ≡ m + n → h * 2 ^ n + l < 2 ^ k
 below-joined h l m n k high low size =
     let P : ℕ → Type 0 = λ y. h * 2 ^ n + l < y in
@@ -237,7 +238,7 @@ below-joined h l m n k high low size =
     mul_comm (2 ^ n) (2 ^ m) ∙ sym (pow-add 2 m n) ∙ ap (λ y. 2 ^ y) (sym size) in
     subst P whole (mul-add-lt h (2 ^ n) l (2 ^ m) high low)
 
--- the last bits of a word
+-- the last n bits of a word
 pub part-last : (x n : ℕ) → n ≤ 64 → part x (64 - n) n ≡ x % 2 ^ n
 part-last x n few =
     let none : 64 - (64 - n) - n ≡ 0 = omega arith in

@@ -3,31 +3,31 @@
 use Rattle.std.specs.Prelude.{ℕ, ◌%◌, ◌^◌, ℤ, pos, negsuc, neg_ℤ, unsigned_abs, ◌==◌, if◌then◌else◌}
 use Rattle.st_bits.specs.Bits.{part, with_part}
 
--- the value: negative where the sign bit is one
+-- the signed value of an index word; it is negative if the sign bit is one
 abbrev pub index_value : ℕ → ℤ
 index_value x = if part x 24 1 == 0 then pos (part x 0 24) else neg_ℤ (pos (part x 0 24))
 
--- the count
+-- the count of an index word
 abbrev pub count_of : ℕ → ℕ
 count_of x = part x 28 18
 
--- the refill address
+-- the refill address of an index word
 abbrev pub refill_of : ℕ → ℕ
 refill_of x = part x 46 18
 
--- the sign bit of a number: one is minus, and zero has plus
+-- the sign bit of a number: 1 for a negative number, 0 for zero and positive numbers
 abbrev pub sign_bit : ℤ → ℕ
 sign_bit (pos _) = 0
 sign_bit (negsuc _) = 1
 
--- the word with the number r as its value, the magnitude modulo 2 ^ 24
+-- the index word x with the value r: the magnitude modulo 2 ^ 24 and the sign
 abbrev pub index_word_with_value : ℕ → ℤ → ℕ
 index_word_with_value x r = with_part (with_part x 0 24 (unsigned_abs r % 2 ^ 24)) 24 1 (sign_bit r)
 
--- the word with the count c
+-- the index word x with the count c
 abbrev pub with_count : ℕ → ℕ → ℕ
 with_count x c = with_part x 28 18 c
 
--- the word with the refill address a
+-- the index word x with the refill address a
 abbrev pub with_refill : ℕ → ℕ → ℕ
 with_refill x a = with_part x 46 18 a

@@ -1,13 +1,13 @@
--- The register words, 0 to 31, and which of their bits can be one.
+-- The register words, addresses 0 to 31, and which of their bits are fixed.
 use Rattle.std.specs.Prelude.{ℕ, ◌+◌, ◌-◌, ◌*◌, ◌^◌, Bool, List, [], ◌∷◌, ◌==◌, ◌||◌, if◌then◌else◌}
 use Rattle.st_bits.specs.Bits.{kept_bits}
 use Rattle.st_bits.specs.declared.register.TheConstants.{ZERO, INTERRUPT_ADDRESS, BOUNDS, COUNTS, SIGN_BYTE, MASK}
 
--- the registers that read zero
+-- whether word w is a register that always reads zero
 abbrev pub reads_zero : ℕ → Bool
 reads_zero w = w == ZERO || w == 1 || w == 4 || w == 5 || w == 6
 
--- what stands in word w after x is written to it
+-- the contents of word w after x is written to it: fixed bits keep their value
 unfoldable pub register_word : ℕ → ℕ → ℕ
 register_word w x =
     if reads_zero w then 0
@@ -18,7 +18,7 @@ register_word w x =
     else if w == MASK then (2 ^ 20 - 1) * 2 ^ 44 + kept_bits x 20 28
     else x
 
--- what stands in the words from word w on after a list of words is written there
+-- the contents of consecutive words, the first at address w, after the list is written to them
 unfoldable pub fixed_from : ℕ → List ℕ → List ℕ
 fixed_from w [] = []
 fixed_from w (x ∷ xs) = register_word w x ∷ fixed_from (w + 1) xs

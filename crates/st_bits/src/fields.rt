@@ -1,11 +1,11 @@
-//! Fields: runs of 1 to 64 bits anywhere in a list of words, named by the address of the first bit.
+//! Fields: 1 to 64 consecutive bits anywhere in a list of words, addressed by their first bit.
 ghost use Rattle.std.specs.Prelude.{◌≡◌, ℕ, ◌+◌, ◌-◌, ◌*◌, ◌<◌, ◌≤◌, ◌^◌, length, slice_index};
 ghost use Rattle.st_bits.specs.Bits.{all_bits, bits as bits_of, field, num, put};
 
 use crate::parts::{part, with_part};
 
-/// The number of the `n` bits, 1 to 64, from the bit address `a` on, the first bit highest. All
-/// of them lie in `words`.
+/// The number in the `n` bits, 1 to 64, from the bit address `a`, the first bit highest. The field
+/// lies within `words`.
 pub fn get_field(words: &[u64], a: u32, n: u8) -> u64
     requires some { 1 ≤ n }
     requires few { n ≤ 64 }
@@ -29,8 +29,8 @@ pub fn get_field(words: &[u64], a: u32, n: u8) -> u64
     }
 }
 
-/// Puts the number `bits`, below 2^n, into the `n` bits, 1 to 64, from the bit address `a` on. All
-/// of them lie in `words`, and no other bit changes.
+/// Writes the number `bits`, below 2^n, to the `n` bits, 1 to 64, from the bit address `a`. The
+/// field lies within `words`. No other bit changes.
 pub fn put_field(words: &mut [u64], a: u32, n: u8, bits: u64)
     requires some { 1 ≤ n }
     requires few { n ≤ 64 }
@@ -38,7 +38,7 @@ pub fn put_field(words: &mut [u64], a: u32, n: u8, bits: u64)
     requires fits { bits < 2 ^ n }
     ensures put { all_bits words.new ≡ put (all_bits words.old) a (bits_of n bits) }
 
-    // A word that has no bit of the field is as it was.
+    // A word that contains no bit of the field is unchanged.
     ensures before { (w : ℕ) → 64 * w + 64 ≤ a → slice_index words.new w ≡ slice_index words.old w }
     ensures after { (w : ℕ) → a + n ≤ 64 * w → slice_index words.new w ≡ slice_index words.old w }
 {
@@ -55,7 +55,7 @@ pub fn put_field(words: &mut [u64], a: u32, n: u8, bits: u64)
     }
 }
 
-// The bits of `high` followed by the `count` bits of `low`.
+// The bits of `high` followed by the low `count` bits, those of `low`.
 fn joined(high: u64, low: u64, count: u32) -> u64
     requires few { count < 64 }
     requires high_fits { high < 2 ^ (64 - count) }

@@ -30,8 +30,8 @@ pub fn refill_of(x: u64) -> u32
     part(x, 46, 18) as u32
 }
 
-/// The index word with `r` as its value: the magnitude modulo 2^24, and the sign minus where r is
-/// below 0.
+/// The index word with `r` as its value: the magnitude modulo 2^24, and a minus sign if r is
+/// negative.
 pub fn with_value(x: u64, r: i32) -> u64
     requires { unsigned_abs r ≤ 2 ^ 28 }
     ensures { result ≡ with_value_of x r }

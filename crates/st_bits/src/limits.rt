@@ -1,17 +1,17 @@
-//! How much there is of what is counted.
+//! Limits: the size of storage and the greatest sizes and numbers that a job may use.
 
 /// The number of words of storage.
 pub const WORDS: u32 = 98_304;
 /// The address of the last word of storage.
 pub const LAST_WORD: u32 = 98_303;
-/// The most instructions that a job can ask for, and the highest number of instructions done that
-/// it can name.
+/// The greatest budget of instructions of a job, and the highest count of completed instructions
+/// that it can name.
 pub const MOST_INSTRUCTIONS: u64 = 10_000_000;
-/// The longest delay of storage, in ticks.
+/// The longest delay of a storage access, in ticks.
 pub const MOST_DELAY: u64 = 255;
-/// How long a list of delays, or of signals, can be that a job gives.
+/// The greatest length of a list of delays or of signals in a job.
 pub const LONGEST_LIST: usize = 4_096;
-/// The most bytes of a job.
+/// The greatest size of a job in bytes.
 pub const LONGEST_JOB: u32 = 2_000_000;
-/// The most cards of a deck.
+/// The greatest number of cards of a deck.
 pub const MOST_CARDS: u32 = 20_000;

@@ -1,8 +1,8 @@
-//! Runs of bits within one word, named by the first bit, 0 leftmost, and their number.
+//! Consecutive bits within one word, named by the first bit (0 is leftmost) and their number.
 ghost use Rattle.std.specs.Prelude.{◌≡◌, ◌+◌, ◌<◌, ◌≤◌, ◌^◌};
 ghost use Rattle.st_bits.specs.Bits.{bits as bits_of, field, kept_bits as kept_of, num, part as part_of, put, with_part as with_part_of};
 
-/// The number of `count` bits, 1 to 64, of a word from bit `first` on, none of them past bit 63.
+/// The number in `count` bits, 1 to 64, of a word from bit `first`. None of them is past bit 63.
 pub fn part(word: u64, first: u32, count: u32) -> u64
     requires some { 1 ≤ count }
     requires inside { first + count ≤ 64 }
@@ -13,7 +13,7 @@ pub fn part(word: u64, first: u32, count: u32) -> u64
     word << first >> (64 - count)
 }
 
-/// The word with zeros in place of all but `count` bits from bit `first` on.
+/// The word with all bits cleared except `count` bits from bit `first`.
 pub fn kept(word: u64, first: u32, count: u32) -> u64
     requires some { 1 ≤ count }
     requires inside { first + count ≤ 64 }
@@ -22,8 +22,8 @@ pub fn kept(word: u64, first: u32, count: u32) -> u64
     part(word, first, count) << (64 - first - count)
 }
 
-/// The word with `count` bits, 1 to 64, from bit `first` on replaced by `bits`, below 2^count; none
-/// of them is past bit 63.
+/// The word with `count` bits, 1 to 64, from bit `first` replaced by `bits`, below 2^count. None of
+/// them is past bit 63.
 pub fn with_part(word: u64, first: u32, count: u32, bits: u64) -> u64
     requires some { 1 ≤ count }
     requires inside { first + count ≤ 64 }

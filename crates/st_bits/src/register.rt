@@ -1,16 +1,16 @@
-//! The register words, the first words of storage: their addresses, and what is fixed in them.
+//! The register words, which are the first words of storage: their addresses and their fixed bits.
 ghost use Rattle.std.specs.Prelude.{◌≡◌, ◌<◌};
 ghost use Rattle.st_bits.specs.Registers.{register_word};
 
 use crate::parts::kept;
 
-/// The address of the register that reads zero.
+/// The address of the register that always reads zero.
 pub const ZERO: u32 = 0;
-/// The address of the interruption address.
+/// The address of the register with the interruption address.
 pub const INTERRUPT_ADDRESS: u32 = 2;
-/// The address of the upper and the lower bound with the boundary control.
+/// The address of the register with the upper bound, the lower bound and the boundary control.
 pub const BOUNDS: u32 = 3;
-/// The address of the left zeros count and the all ones count.
+/// The address of the register with the left zeros count and the all ones count.
 pub const COUNTS: u32 = 7;
 /// The address of the left half of the accumulator.
 pub const LEFT_HALF: u32 = 8;
@@ -18,25 +18,25 @@ pub const LEFT_HALF: u32 = 8;
 pub const RIGHT_HALF: u32 = 9;
 /// The address of the sign byte of the accumulator.
 pub const SIGN_BYTE: u32 = 10;
-/// The address of the indicators.
+/// The address of the indicator register.
 pub const INDICATORS: u32 = 11;
-/// The address of the mask of the indicators.
+/// The address of the mask register.
 pub const MASK: u32 = 12;
-/// The address of the remainder.
+/// The address of the remainder register.
 pub const REMAINDER: u32 = 13;
-/// The address of the factor.
+/// The address of the factor register.
 pub const FACTOR: u32 = 14;
 /// The address of the transit register.
 pub const TRANSIT: u32 = 15;
 /// The address of the first index word.
 pub const FIRST_INDEX_WORD: u32 = 16;
-/// The address of the first word that is no register.
+/// The address of the first word that is not a register.
 pub const FIRST_STORAGE_WORD: u32 = 32;
 
 // The bits of the mask register that are always one.
 const ALWAYS_MASKED: u64 = 0xFFFF_F000_0000_0000;
 
-/// What stands in register word `w`, 0 to 31, after `value` is written to it.
+/// The contents of register word `w`, 0 to 31, after `value` is written to it.
 #[tactic(auto, unfolding(crate::specs::Registers::register_word))]
 pub fn fix_register(w: u8, value: u64) -> u64
     requires { w < 32 }

@@ -1,16 +1,16 @@
-//! Storage as a whole, and the indicators as bits of a word. `docs/machine.md` has the rules.
+//! The size of storage, and the indicators as bits of a word. `docs/machine.md` has the rules.
 ghost use Rattle.std.specs.Prelude.{◌≡◌, ◌<◌};
 ghost use Rattle.st_bits.specs.Indicators.{indicator as indicator_of};
 ghost use Rattle.st_bits.specs.Storage.{words_of_storage};
 
 use crate::limits::WORDS;
 
-/// Memory ran out.
+/// An allocation of memory failed.
 #[derive(Clone, Copy, Debug, PartialEq, Eq)]
 pub struct NoMemory;
 
-/// Indicators to turn on and to turn off. Indicator n, 0 to 63, is the bit of value 2^(63 - n). One
-/// that stands in both words is turned on.
+/// Indicators to turn on and to turn off. Indicator n, 0 to 63, is the bit of value 2^(63 - n). An
+/// indicator in both words is turned on.
 #[derive(Clone, Copy, Debug, Default, PartialEq, Eq)]
 pub struct Ind {
     /// The indicators to turn on.
@@ -19,7 +19,7 @@ pub struct Ind {
     pub off: u64,
 }
 
-/// The word with indicator `n`, 0 to 63, on and no other.
+/// The word with only indicator `n`, 0 to 63, on.
 pub fn indicator(n: u8) -> u64
     requires { n < 64 }
     ensures { result ≡ indicator_of n }
@@ -27,7 +27,7 @@ pub fn indicator(n: u8) -> u64
     1 << (63 - n)
 }
 
-/// How many words storage has.
+/// The number of words of storage.
 #[tactic(auto, using(crate::specs::Storage::words_of_storage_is))]
 pub fn number_of_words() -> usize
     ensures { result ≡ words_of_storage }

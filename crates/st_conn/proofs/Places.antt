@@ -1,4 +1,4 @@
--- Bits shifted to their places, and the ones that have none.
+-- Bits shifted to their places, and ones whose place is beyond weight 127.
 use Rattle.std.proofs.Common.{◌≡◌, ℕ, suc, ◌+◌, ◌-◌, ◌*◌, ◌%◌, ◌^◌, ◌<◌, ◌≤◌, Bool, true, false, cond, ltb, Decides, refl, sym, ◌∙◌, ap, arith, inl, inr, add-zero, min, max, bit_and, bit_or}
 use Rattle.std.specs.Prelude.{◌==◌}
 use Rattle.std.specs.Int.{bit_at, w128, bit_not}
@@ -22,7 +22,7 @@ covered-inside offset n i low high = grind (arith, nat_tests)
 pub covered-above : (offset n i : ℕ) → offset + n ≤ i → is_covered offset n i ≡ false
 covered-above offset n i h = grind (arith, nat_tests)
 
--- below a number that is shifted there are zeros
+-- the bits below the shift are zeros
 pub bit_at-shifted_below : (x k w i : ℕ) → i < w → i < k → bit_at (x * 2 ^ k % 2 ^ w) i ≡ 0
 bit_at-shifted_below x k w i h below =
     bit_at-mod (x * 2 ^ k) w i h
@@ -30,14 +30,14 @@ bit_at-shifted_below x k w i h below =
     ∙ bit_at_cat_low x k 0 i below
     ∙ bit_at-zero i
 
--- and from there on its bits
+-- the bits from the shift on are those of the number
 pub bit_at-shifted : (x k w i : ℕ) → i < w → k ≤ i → bit_at (x * 2 ^ k % 2 ^ w) i ≡ bit_at x (i - k)
 bit_at-shifted x k w i h above =
     bit_at-mod (x * 2 ^ k) w i h
     ∙ ap (λ y. bit_at y i) (sym (add-zero (x * 2 ^ k)))
     ∙ bit_at_cat_high x k 0 i (pow_pos k) above
 
--- a run of n ones at its places
+-- n ones at the weights from offset
 pub bit_at-places : (offset n i : ℕ) → i < 128
     → bit_at ((2 ^ n - 1) * 2 ^ offset % 2 ^ 128) i ≡ cond (is_covered offset n i) 1 0
 bit_at-places offset n i h =
@@ -63,7 +63,7 @@ old_bit old hole new h p q = omega arith
 new_bit : (old hole new bit : ℕ) → hole ≡ 1 → new ≡ bit → max (min old (1 - hole)) new ≡ bit
 new_bit old hole new bit p q = omega arith
 
--- bits put where a mask has ones
+-- the bits of a number with bits inserted where a mask has ones
 pub bit_at-put : (acc offset bits n mask i : ℕ) → mask < 2 ^ 128 → bits < 2 ^ n → i < 128
     → bit_at mask i ≡ cond (is_covered offset n i) 1 0
     → inserted_at acc offset bits n i
@@ -108,7 +108,7 @@ top_bit x j low high =
     let parts : x ≡ 1 * 2 ^ j + (x - 2 ^ j) = omega arith in
     ap (λ y. bit_at y j) parts ∙ ap (λ y. y % 2) (shr_high 1 j (x - 2 ^ j) rest)
 
--- a one of a number whose bits are put from weight offset on that would stand past weight 127
+-- a one of a number whose place, from weight offset, is beyond weight 127
 abbrev pub LostOne : ℕ → ℕ → Type 0
 LostOne offset bits = (j : ℕ) × (127 < offset + j) × (bit_at bits j ≡ 1)
 
@@ -131,7 +131,7 @@ room_by_lost offset bits fits lost =
           absurd (omega (arith, none, lost.2))
     ]
 
--- a one is lost where there are fewer leading zeros than places to go
+-- a one is lost if and only if the number has fewer leading zeros than the shift needs
 pub Decides-room : (offset bits : ℕ) → offset ≤ 127 → bits < 2 ^ 64
     → Decides (ltb (count_leading_zeros 128 bits) offset) (LostOne offset bits)
 Decides-room offset bits place fits =
@@ -141,14 +141,14 @@ Decides-room offset bits place fits =
     (room_by_lost offset bits fits)
     (Decides-ltb (count_leading_zeros 128 bits) offset)
 
--- a bit that stands past weight 127, and one that does not
+-- bit_past of a weight whose place is beyond weight 127, and of one whose place is not
 bit_past-far : (offset bits j : ℕ) → 127 < offset + j → bit_past offset bits j ≡ bit_at bits j
 bit_past-far offset bits j h = grind (arith, nat_tests)
 
 bit_past-near : (offset bits j : ℕ) → offset + j ≤ 127 → bit_past offset bits j ≡ 0
 bit_past-near offset bits j h = grind (arith, nat_tests)
 
--- a one among those of the weights below 64
+-- a one among the weights below 64 whose place is beyond weight 127
 abbrev PastOne : ℕ → ℕ → Type 0
 PastOne offset bits = (j : ℕ) × (j < 64) × (bit_past offset bits j ≡ 1)
 

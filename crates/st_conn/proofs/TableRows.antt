@@ -1,16 +1,16 @@
--- A truth table by and, or and not over whole words.
+-- A truth table by and, or and not on whole words.
 use Rattle.std.proofs.Common.{◌≡◌, ℕ, zero, suc, ◌-◌, ◌*◌, ◌/◌, ◌%◌, ◌^◌, ◌<◌, min, max, sym, ◌∙◌, ap, arith}
 use Rattle.std.specs.Int.{bit_at}
 use Rattle.std.proofs.lemmas.Nat.{shr_split}
 use Rattle.std.proofs.lemmas.Nat.Bits.{bit_at-lt, bit_at_cat_low, bit_at-zero}
 use Rattle.st_conn.specs.Connective.{truth_bit}
 
--- the low bits of a remainder are the number's
+-- the low bits of a remainder are those of the number
 pub bit_at-mod : (x w i : ℕ) → i < w → bit_at (x % 2 ^ w) i ≡ bit_at x i
 bit_at-mod x w i h =
     sym (bit_at_cat_low (x / 2 ^ w) w (x % 2 ^ w) i h) ∙ ap (λ y. bit_at y i) (shr_split x w)
 
--- all positions or none
+-- a product with 0 or 1 has no bits or all bits
 pub bit_at-times : (t x j : ℕ) → t < 2 → bit_at (t * x) j ≡ min t (bit_at x j)
 bit_at-times zero x j h =
     let none : 0 * x ≡ 0 = omega arith in
@@ -20,7 +20,7 @@ bit_at-times (suc zero) x j h =
     omega (arith, ap (λ y. bit_at y j) one, bit_at-lt x j)
 bit_at-times (suc (suc t)) x j h = absurd (omega arith)
 
--- of the four rows the one that fits both bits
+-- of the four rows exactly one matches both bits
 pub one_row : (table f a : ℕ) → f < 2 → a < 2
     → max
     (max

@@ -1,4 +1,4 @@
--- The list of the bits of a number by weight, and what is counted in it.
+-- The list of the bits of a number by weight, with its leading zeros and ones counted.
 use Rattle.std.proofs.Common.{◌≡◌, ℕ, zero, suc, ◌+◌, ◌-◌, ◌*◌, ◌%◌, ◌^◌, ◌<◌, ◌≤◌, List, ◌∷◌, sum, refl, sym, ◌∙◌, ap, subst, arith, inl, inr}
 use Rattle.std.specs.Int.{bit_at}
 use Rattle.std.specs.Int.Count.{ones, count_leading_zeros}
@@ -11,7 +11,7 @@ use Rattle.std.proofs.Math.Pow.{pow_mono}
 use Rattle.st_bits.specs.Bits.{bits}
 use Rattle.st_conn.specs.Connective.{by_weight, leading_zeros}
 
--- bits that agree with those of a number at each weight
+-- a list by weight of bits that equal those of a number is the list of its bits
 pub by_weight-bits : (bit : ℕ → ℕ) (x n : ℕ) → ((j : ℕ) → j < n → bit j ≡ bit_at x j) → by_weight bit n ≡ bits n x
 unfolding by_weight bits
 by_weight-bits bit x zero h = refl
@@ -19,7 +19,7 @@ by_weight-bits bit x (suc n) h =
     ap (λ b. b ∷ by_weight bit n) (h n (omega arith))
     ∙ ap (λ bs. bit_at x n ∷ bs) (by_weight-bits bit x n (λ j lt. h j (omega arith)))
 
--- the suc n lowest bits of a number are its bit of weight n and the n lowest
+-- the suc n lowest bits of a number are its bit of weight n and the n lowest bits
 pub mod-pow-suc : (x n : ℕ) → x % 2 ^ suc n ≡ bit_at x n * 2 ^ n + x % 2 ^ n
 mod-pow-suc x n = let more : suc n ≡ 1 + n = omega arith in ap (λ k. x % 2 ^ k) more ∙ mod-pow-add x 1 n
 
@@ -41,7 +41,7 @@ sum-bits (suc n) x =
     ∙ sym (ones_cat n (bit_at x n) (x % 2 ^ n) (mod_below x (2 ^ n) (pow_pos n)))
     ∙ ap ones (sym (mod-pow-suc x n))
 
--- m is how many bits a number has without its leading zeros
+-- a number has m bits without its leading zeros
 pub record IsSize (x m : ℕ) : Type 0 where
   pub below : x < 2 ^ m
   pub above : 2 ^ m ≤ 2 * x + 1
@@ -58,7 +58,7 @@ one_size x m k s t =
       | inr d ↦ elim d [ inl h ↦ absurd (not_smaller x m k s t h) | inr h ↦ absurd (not_smaller x k m t s h) ]
     ]
 
--- one more bit in front
+-- one more leading bit
 size-cons : (b : ℕ) (bs : List ℕ) (n m r : ℕ) → b < 2 → leading_zeros bs + m ≡ n → r < 2 ^ n → IsSize r m
     → (k : ℕ) × (leading_zeros (b ∷ bs) + k ≡ suc n) × IsSize (b * 2 ^ n + r) k
 size-cons zero bs n m r h e fits s =
@@ -71,7 +71,7 @@ size-cons (suc zero) bs n m r h e fits s = (
 )
 size-cons (suc (suc b)) bs n m r h e fits s = absurd (omega arith)
 
--- after its leading zeros a list of bits has as many bits as the number that it spells
+-- a list of bits has as many bits after its leading zeros as its number has
 pub leading_zeros-bits : (n x : ℕ) → (m : ℕ) × (leading_zeros (bits n x) + m ≡ n) × IsSize (x % 2 ^ n) m
 unfolding bits
 leading_zeros-bits zero x = (0, refl, record { below = omega arith; above = omega arith })
@@ -81,7 +81,7 @@ leading_zeros-bits (suc n) x =
     (mod_below x (2 ^ n) (pow_pos n)) rest.2 in
     (all.0, all.1, subst (λ (y : ℕ). IsSize y all.0) (sym (mod-pow-suc x n)) all.2)
 
--- the leading zeros of a number of n bits are those of a word but for the bits that are not its own
+-- the leading zeros of a number of n bits, from those of a 64-bit word
 pub leading_zeros-word : (n x : ℕ) → n ≤ 64 → x < 2 ^ n
     → count_leading_zeros 64 x ≡ leading_zeros (bits n x) + (64 - n)
 leading_zeros-word n x few fits =

@@ -1,4 +1,4 @@
--- What a connective leaves: its result where its kind says, the counts of its bits, and the
+-- The result of a connective: its bits in the destination, the counts of its bits, and the
 -- indicators.
 use Rattle.std.specs.Prelude.{ℕ, ◌+◌, ◌*◌, ◌^◌, true, false, List, sum, Some}
 use Rattle.st_bits.specs.Bits.{num}
@@ -10,11 +10,12 @@ use Rattle.st_field.specs.Indicators.{partial_field, by_number}
 use Rattle.st_field.specs.Results.{done_with}
 use Rattle.st_conn.specs.Connective.{connective_bits, leading_zeros, accumulator_bits, is_one_lost}
 
--- the counts of leading zeros and of ones, as they stand in word 7
+-- the counts of leading zeros and of ones of a list of bits, in their places in word 7
 abbrev pub counts_of : List ℕ → ℕ
 counts_of bs = leading_zeros bs * 2 ^ 40 + sum bs * 2 ^ 13
 
--- where the n result bits go, whose number is r: into the accumulator, into the field, nowhere
+-- the result of storing n result bits with the number r in the destination: the accumulator, the
+-- field, or none
 abbrev pub put_by : ConnKind → Acc → ℕ → ℕ → ℕ → Done
 put_by C a offset n r =
     done_with (record a { mag = num (accumulator_bits a.mag offset r n) })
@@ -22,7 +23,7 @@ put_by C a offset n r =
 put_by Cm a offset n r = record (done_with a (by_number true false r 0)) { field = Some r }
 put_by Ct a offset n r = done_with a (by_number false false r 0)
 
--- a connective of the accumulator and a field x of n bits, and its counts
+-- the result of a connective of the accumulator and a field x of n bits, with its counts
 abbrev pub connection : ConnKind → ℕ → Acc → ℕ → ℕ → ℕ → Done
 connection kind table a offset x n =
     let bs : List ℕ = connective_bits table a.mag offset x n in

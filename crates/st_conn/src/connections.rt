@@ -1,4 +1,4 @@
-//! What a connective leaves.
+//! The result of a connective.
 ghost use Rattle.std.specs.Prelude.{◌≡◌, ◌<◌, ◌≤◌, ◌^◌, IfSome, false};
 ghost use Rattle.st_bits.specs.declared.operations.ConnKind.{ConnKind};
 ghost use Rattle.st_field.specs.Indicators.{partial_field as partial_field_of, by_number as by_number_of};
@@ -10,23 +10,23 @@ use st_bits::{ConnKind, Ind};
 use st_field::indicators::{by_number, partial_field};
 use st_field::{Acc, Done, Signed, done_with};
 
-/// What a connective makes of its field, and where its result goes.
+/// The parameters of a connective.
 #[derive(Clone, Copy)]
 pub struct ConnShape {
-    /// Where the result goes.
+    /// The destination of the result.
     pub kind: ConnKind,
-    /// The truth table, below 16: its bits of value 8, 4, 2 and 1 are the results where the field's
-    /// bit and the accumulator's are 00, 01, 10 and 11.
+    /// The truth table, below 16: its bits of value 8, 4, 2 and 1 are the results for the field bit
+    /// and accumulator bit 00, 01, 10 and 11.
     pub table: u8,
     /// The number of bits of the field, 1 to 64.
     pub length: u8,
-    /// The weight of the accumulator's bit that the field's bit of weight 0 meets, 0 to 127; the
-    /// bit of weight j meets that of weight `offset` + j.
+    /// The weight of the accumulator's bit that is combined with the field's bit of weight 0, 0 to
+    /// 127; the field's bit of weight j is combined with the bit of weight `offset` + j.
     pub offset: u8,
 }
 
-// What the result bits of a connective turn on and off. `wrote` says that they are put into the
-// field, and `lost` that a one of them was lost.
+// The indicators that the result bits of a connective turn on and off. `wrote` is true if they are
+// written to the field, `lost` if a one was lost.
 fn result_indicators(bits: u64, wrote: bool, lost: bool) -> Ind
     ensures { result ≡ by_number_of wrote false bits (partial_field_of lost) }
 {
@@ -37,7 +37,7 @@ fn result_indicators(bits: u64, wrote: bool, lost: bool) -> Ind
     by_number(wrote, number, partial_field(lost))
 }
 
-// The accumulator with the `n` result bits of a connective in it.
+// The result with the `n` result bits of a connective in the accumulator.
 fn put_in_accumulator(acc: &Acc, offset: u8, n: u8, bits: u64) -> Done
     requires offset { offset ≤ 127 }
     requires some { 1 ≤ n }
@@ -52,7 +52,7 @@ fn put_in_accumulator(acc: &Acc, offset: u8, n: u8, bits: u64) -> Done
     )
 }
 
-// Puts the `n` result bits of a connective where its kind says.
+// The result with the `n` result bits of a connective in their destination.
 fn put_by(kind: ConnKind, acc: &Acc, offset: u8, n: u8, bits: u64) -> Done
     requires offset { offset ≤ 127 }
     requires some { 1 ≤ n }
@@ -72,9 +72,9 @@ fn put_by(kind: ConnKind, acc: &Acc, offset: u8, n: u8, bits: u64) -> Done
     }
 }
 
-/// What a connective of a field with the bits `field`, below 2^length, and the accumulator leaves:
-/// the result goes where its kind says, and the counts of its leading zeros and of its ones to
-/// their register.
+/// The result of a connective of a field with the bits `field`, below 2^length, and the
+/// accumulator: the result bits go to their destination, and the counts of their leading zeros and
+/// ones to the counts register.
 pub fn connective(shape: &ConnShape, acc: &Acc, field: u64) -> Done
     requires table { shape.now.table < 16 }
     requires offset { shape.now.offset ≤ 127 }

@@ -1,5 +1,5 @@
-//! Connectives: logic on a field and the accumulator, and what it leaves. `docs/connectives.md` has
-//! the rules.
+//! Connectives: bitwise logic on a field and the accumulator, and its result. `docs/connectives.md`
+//! has the rules.
 #![tactic(auto)]
 
 mod connections;

@@ -1,24 +1,24 @@
-//! The result of a connective, and the counts of its bits.
+//! The result bits of a connective, and their counts.
 ghost use Rattle.std.specs.Prelude.{◌≡◌, ℕ, ◌+◌, ◌*◌, ◌%◌, ◌<◌, ◌≤◌, ◌^◌, sum};
 ghost use Rattle.std.specs.Int.{bit_at};
 ghost use Rattle.st_bits.specs.Bits.{bits as bits_of, num};
 ghost use Rattle.st_conn.specs.Connective.{connective_bits, truth_bit, leading_zeros};
 
-/// The result of a connective on n positions.
+/// The result bits of a connective on n positions, with their counts.
 #[derive(Clone, Copy, Debug, PartialEq, Eq)]
 pub struct Conn {
     /// The n result bits as a number, below 2^n.
     pub bits: u64,
-    /// How many zeros the n result bits begin with: n where all are zero.
+    /// The number of leading zeros of the n result bits: n if all are zero.
     pub lzc: u8,
-    /// How many of the n result bits are ones.
+    /// The number of ones among the n result bits.
     pub aoc: u8,
 }
 
 /// The connective `table` of a field of `n` bits, 1 to 64, and the accumulator. The bits of value
-/// 8, 4, 2 and 1 of `table`, below 16, are the results where the field's bit and the accumulator's
-/// are 00, 01, 10 and 11. The field's bit of weight j meets the accumulator's bit of weight
-/// `offset` + j, which is zero past weight 127. `offset` is 0 to 127, and `field` below 2^n.
+/// 8, 4, 2 and 1 of `table`, below 16, are the results for the field bit and accumulator bit 00,
+/// 01, 10 and 11. The field's bit of weight j is combined with the accumulator's bit of weight
+/// `offset` + j, which is zero beyond weight 127. `offset` is 0 to 127, and `field` below 2^n.
 pub fn connect(table: u8, acc: u128, offset: u8, field: u64, n: u8) -> Conn
     requires table { table < 16 }
     requires offset { offset ≤ 127 }
@@ -52,7 +52,7 @@ fn results(table: u8, acc: u128, offset: u8, field: u64, n: u8) -> u64
     low_bits(combined(table, field, bits_from(acc, offset)), n)
 }
 
-// The 64 bits of the accumulator from weight `offset` on.
+// The 64 bits of the accumulator from weight `offset`.
 fn bits_from(acc: u128, offset: u8) -> u64
     requires { offset ≤ 127 }
     ensures { (j : ℕ) → j < 64 → bit_at result j ≡ bit_at acc (offset + j) }
@@ -60,7 +60,8 @@ fn bits_from(acc: u128, offset: u8) -> u64
     (acc >> offset & u128::from(u64::MAX)) as u64
 }
 
-// The results of a truth table at 64 positions, one row of the table for each pair of bits.
+// The results of a truth table at 64 positions: the combination of one row of the table for each
+// pair of bits.
 fn combined(table: u8, field: u64, acc: u64) -> u64
     ensures { (j : ℕ) → j < 64 → bit_at result j ≡ truth_bit table (bit_at field j) (bit_at acc j) }
 {
@@ -70,7 +71,7 @@ fn combined(table: u8, field: u64, acc: u64) -> u64
         | selected(table, 0, field & acc)
 }
 
-// All the positions where the table's bit of weight `row` is a one, else none of them.
+// The given positions if the table's bit of weight `row` is one, otherwise 0.
 fn selected(table: u8, row: u8, positions: u64) -> u64
     requires { row < 8 }
     ensures { result ≡ bit_at table row * positions }
@@ -78,7 +79,7 @@ fn selected(table: u8, row: u8, positions: u64) -> u64
     u64::from(table >> row & 1) * positions
 }
 
-// The `n` bits of lowest weight.
+// The low `n` bits.
 fn low_bits(bits: u64, n: u8) -> u64
     requires some { 1 ≤ n }
     requires few { n ≤ 64 }
@@ -88,7 +89,7 @@ fn low_bits(bits: u64, n: u8) -> u64
     bits & u64::MAX >> (64 - n)
 }
 
-// How many zeros a number of `n` bits begins with.
+// The number of leading zeros of a number of `n` bits.
 fn zeros_of(bits: u64, n: u8) -> u8
     requires few { n ≤ 64 }
     requires fits { bits < 2 ^ n }
@@ -98,7 +99,7 @@ fn zeros_of(bits: u64, n: u8) -> u8
     (bits.leading_zeros() - (64 - u32::from(n))) as u8
 }
 
-// How many ones a number of `n` bits has.
+// The number of ones of a number of `n` bits.
 fn ones_of(bits: u64, n: u8) -> u8
     requires few { n ≤ 64 }
     requires fits { bits < 2 ^ n }

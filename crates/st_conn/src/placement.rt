@@ -1,11 +1,11 @@
-//! Bits that are put into the accumulator.
+//! The insertion of bits into the accumulator.
 ghost use Rattle.std.specs.Prelude.{◌≡◌, ℕ, ◌+◌, ◌<◌, ◌≤◌, ◌^◌, ◌↔◌, IsTrue, if◌then◌else◌};
 ghost use Rattle.std.specs.Int.{bit_at};
 ghost use Rattle.st_bits.specs.Bits.{num};
 ghost use Rattle.st_conn.specs.Connective.{is_covered, is_one_lost, accumulator_bits};
 
-/// The accumulator with the `n` bits, 1 to 64, of the number `bits`, below 2^n, in place of its own
-/// from weight `offset` on, 0 to 127; and whether a one was lost, since its place would be past
+/// The accumulator with its bits from weight `offset`, 0 to 127, replaced by the `n` bits, 1 to 64,
+/// of the number `bits`, below 2^n; and whether a one was lost because its place would be beyond
 /// weight 127. Lost zeros do not count.
 pub fn put_acc(acc: u128, offset: u8, bits: u64, n: u8) -> (u128, bool)
     requires offset { offset ≤ 127 }
@@ -15,14 +15,14 @@ pub fn put_acc(acc: u128, offset: u8, bits: u64, n: u8) -> (u128, bool)
     ensures acc { result.0 ≡ num (accumulator_bits acc offset bits n) }
     ensures lost { result.1 ≡ is_one_lost offset bits }
 
-    // The same, by the weight that the lost one has in `bits`.
+    // A one is lost if and only if a bit of `bits` that is one has its place beyond weight 127.
     ensures lost_where { IsTrue result.1 ↔ ((j : ℕ) × (127 < offset + j) × (bit_at bits j ≡ 1)) }
 {
     let kept = acc & !places(offset, n);
     (kept | u128::from(bits) << offset, loses_one(offset, bits))
 }
 
-// Ones at the `n` weights from `offset` on, as far as there are places for them.
+// Ones at the `n` weights from `offset`, up to weight 127.
 fn places(offset: u8, n: u8) -> u128
     requires offset { offset ≤ 127 }
     requires some { 1 ≤ n }
@@ -32,8 +32,7 @@ fn places(offset: u8, n: u8) -> u128
     u128::MAX >> (128 - n) << offset
 }
 
-// Whether a one of `bits` would stand past weight 127 if they were inserted from weight `offset`
-// on.
+// Whether a one of `bits` would be beyond weight 127 if inserted from weight `offset`.
 fn loses_one(offset: u8, bits: u64) -> bool
     requires { offset ≤ 127 }
     ensures lost { result ≡ is_one_lost offset bits }

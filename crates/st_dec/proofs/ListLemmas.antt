@@ -1,4 +1,4 @@
--- Parts of lists of digits, and the numbers that they make.
+-- Parts of lists of digits, and their numbers.
 use Rattle.std.proofs.Common.{◌≡◌, ℕ, zero, suc, ◌+◌, ◌*◌, ◌/◌, ◌%◌, ◌^◌, ◌<◌, ◌≤◌, List, [], ◌∷◌, ◌++◌, length, map, take, drop, replicate, ◌||◌, refl, sym, ap, arith, ltb, leb}
 use native.Mathlib.Numerals.{unary_clauses}
 use Rattle.std.proofs.Math.Nat.{mod-eq_of_lt, div-div-eq-div-mul, div-eq_of_lt}
@@ -10,7 +10,7 @@ use Rattle.st_dec.specs.DigitLists.{bytes, number_of_bytes, codes_value, decimal
 use Rattle.st_dec.specs.DecimalOperand.{any_code}
 use Rattle.st_dec.proofs.DigitLemmas.{AllBelow, next_power, digit_and_rest, value_of-first}
 
--- how many digits there are
+-- the number of bytes in the list
 pub length-bytes : (b n x : ℕ) → length (bytes b n x) ≡ n
 unfolding bytes
 length-bytes b zero x = refl
@@ -21,7 +21,7 @@ unfolding decimal
 length-decimal zero v = refl
 length-decimal (suc n) v = ap suc (length-decimal n (v / 10))
 
--- that they have room
+-- the bytes of a number fit in b bits
 pub bytes-below : (b n x : ℕ) → AllBelow b (bytes b n x)
 unfolding bytes
 bytes-below b zero x = tt
@@ -62,7 +62,7 @@ unfolding bytes codes_value value_of_digits
 value-bytes zero x = refl
 value-bytes (suc n) x = rw (value-bytes n (x / 16)) (sym (value_of-first n x))
 
--- the numbers that parts make
+-- the number of a part of a list
 first_mod : (c r w p : ℕ) → c < w → 0 < p → c + w * (r % p) ≡ (c + w * r) % (p * w)
 first_mod c r w p small some =
     let front : (c + w * r) % w ≡ c = grind arith in
@@ -106,7 +106,7 @@ unfolding number_of_bytes
 joined-append-zeros b n [] = joined-zeros b n
 joined-append-zeros b n (x ∷ xs) = rw (joined-append-zeros b n xs) refl
 
--- the number of digits is their list again
+-- the list of digits of the number of a list is that list
 first_of : (c r w : ℕ) → c < w → (c + w * r) % w ≡ c
 first_of c r w small = grind arith
 
@@ -121,7 +121,7 @@ bytes-joined b zero (x ∷ xs) all is = absurd (omega arith)
 bytes-joined b (suc n) (x ∷ xs) all is =
     rw (first_of x (number_of_bytes b xs) (2 ^ b) all.0, rest_of x (number_of_bytes b xs) (2 ^ b) all.0, bytes-joined b n xs all.1 (omega arith)) refl
 
--- a code that is not zero makes the number so
+-- a list has a nonzero code if and only if its number is not zero
 any_first : (c r : ℕ) → (ltb 0 c || ltb 0 r) ≡ ltb 0 (c + 16 * r)
 any_first c r = grind (arith, nat_tests)
 
@@ -130,7 +130,7 @@ unfolding number_of_bytes
 any_code-joined [] = refl
 any_code-joined (c ∷ cs) = rw (any_code-joined cs) (any_first c (number_of_bytes 4 cs))
 
--- codes behind a place that are not zero
+-- the codes past a place are nonzero if and only if the number is at least the power of that place
 quotient_some : (x w : ℕ) → 0 < w → ltb 0 (x / w) ≡ leb w x
 quotient_some x w some =
     let up : w ≤ x → 1 ≤ x / w = λ h. le-div 1 x w some (omega arith) in

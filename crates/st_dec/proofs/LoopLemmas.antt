@@ -1,4 +1,4 @@
--- The loops over digits: a digit is put to its place, from the right, before those that are there.
+-- The loops over digits, which add each digit at its place, from the right.
 use Rattle.std.proofs.Common.{◌≡◌, ℕ, suc, ◌+◌, ◌-◌, ◌*◌, ◌/◌, ◌%◌, ◌^◌, ◌<◌, ◌≤◌, map, refl, ap, subst, ◌∙◌, arith, add-one}
 use Rattle.std.proofs.Math.Nat.{mod-eq_of_lt}
 use Rattle.std.proofs.Math.Pow.{pow_pos, pow_mono, mod-mod-pow}
@@ -10,11 +10,11 @@ use Rattle.st_dec.proofs.DigitLemmas.{next_power}
 digit_in_place : (d w x p : ℕ) → d < w → x < p → x + d * p < p * w
 digit_in_place d w x p digit below = grind arith
 
--- one digit more
+-- the bound of a number with one more digit
 more_below : (b p d x : ℕ) → d < 2 ^ b → x < 2 ^ (b * p) → x + d * 2 ^ (b * p) < 2 ^ (b * (p + 1))
 more_below b p d x digit below = rw (add-one, next_power b p) (digit_in_place d (2 ^ b) x (2 ^ (b * p)) digit below)
 
--- it is shifted whole
+-- the shift of a digit to its place loses no bits
 whole : (b p d : ℕ) → d < 2 ^ b → b * (p + 1) ≤ 64 → d * 2 ^ (b * p) % 2 ^ 64 ≡ d * 2 ^ (b * p)
 whole b p d digit room =
     let below : 0 + d * 2 ^ (b * p) < 2 ^ (b * (p + 1)) = more_below b p d 0 digit (pow_pos (b * p)) in
@@ -30,11 +30,11 @@ digit_fits b p d x digit room below =
     let more : x + d * 2 ^ (b * p) % 2 ^ 64 < 2 ^ (b * (p + 1)) = digit_below b p d x digit room below in
     omega arith
 
--- the digits that are left, after one more is in its place
+-- the sum of the digits so far and the remaining digits is unchanged after one more digit
 digit_moved : (b p d x rest total : ℕ) → d < 2 ^ b → b * (p + 1) ≤ 64 → x + 2 ^ (b * p) * (d + 2 ^ b * rest) ≡ total → x + d * 2 ^ (b * p) % 2 ^ 64 + 2 ^ (b * (p + 1)) * rest ≡ total
 digit_moved b p d x rest total digit room before = rw (whole b p d digit room, add-one, next_power b p) (omega (arith, before))
 
--- the codes of n bytes
+-- the number of the codes of n bytes
 abbrev pub codes_left : ℕ → ℕ → ℕ → ℕ
 codes_left b n x = number_of_bytes 4 (map (λ d. d % 16) (bytes b n x))
 
@@ -53,7 +53,7 @@ codes_next b n p codes rest total wide more room before =
     digit_moved 4 p (rest % 16) codes (codes_left b (n - (p + 1)) (rest / 2 ^ b)) total (omega arith) room
     (rw (one_more, codes_left-first b (n - (p + 1)) rest wide) at before)
 
--- n codes, with a zone before each
+-- the number of n codes, each with the zone
 abbrev pub spread_left : ℕ → ℕ → ℕ → ℕ → ℕ
 spread_left b zone n x = number_of_bytes b (codes_with_zones zone (bytes 4 n x))
 
@@ -67,7 +67,7 @@ spread_next b zone n p mag rest total digit more room before =
     digit_moved b p (zone * 16 + rest % 16) mag (spread_left b zone (n - (p + 1)) (rest / 16)) total digit room
     (rw (one_more, spread_left-first b zone (n - (p + 1)) rest) at before)
 
--- nothing is left in the end
+-- after the last digit, nothing remains
 pub codes_done : (b n p w codes rest total : ℕ) → n ≤ p → codes + w * codes_left b (n - p) rest ≡ total → codes ≡ total
 unfolding bytes number_of_bytes
 codes_done b n p w codes rest total done all =
@@ -82,17 +82,17 @@ spread_done b zone n p w mag rest total done all =
     let left : mag + w * 0 ≡ total = rw none at all in
     omega (arith, left)
 
--- all is left at first
+-- before the first digit, everything remains
 pub all_left : (f : ℕ → ℕ) (n k : ℕ) → n ≡ k → 0 + 1 * f (n - 0) ≡ f k
 all_left f n k is = rw is (let none : k - 0 ≡ k = omega arith in rw none (omega arith))
 
--- a zone and a code have room in a byte
+-- a zone and a code fit in a byte
 pub byte_below : (b zone code : ℕ) → 4 ≤ b → zone < 2 ^ (b - 4) → code < 16 → zone * 16 + code < 2 ^ b
 byte_below b zone code wide room small =
     let whole : b ≡ b - 4 + 4 = omega arith in
     let power : 2 ^ b ≡ 2 ^ (b - 4) * 16 = ap (λ k. 2 ^ k) whole ∙ pow-add 2 (b - 4) 4 in
     rw power (omega arith)
 
--- a digit of a field has room in a word
+-- a digit of a field fits in a word at its place
 pub digit_room : (b n p : ℕ) → p < n → b * n ≤ 64 → b * (p + 1) ≤ 64
 digit_room b n p inside room = grind arith

@@ -1,4 +1,5 @@
--- The digits of fields and of the accumulator, as the code keeps them: four bits each in one number.
+-- The digits of fields and of the accumulator as the code stores them: four bits each, in one
+-- number.
 use Rattle.std.proofs.Common.{◌≡◌, ℕ, ◌+◌, ◌*◌, ◌/◌, ◌%◌, ◌^◌, ◌<◌, ◌≤◌, List, [], ◌∷◌, ◌++◌, length, map, take, drop, replicate, refl, sym, subst, ◌∙◌, arith, lit≤, leb}
 use Rattle.std.proofs.lemmas.List.{length-map, length-append, length-replicate, length-take, length-drop}
 use Rattle.std.proofs.Math.Nat.{mod-eq_of_lt, mul-le-mul_right}
@@ -14,11 +15,11 @@ use Rattle.st_dec.proofs.ShapeLemmas.{digits-whole}
 use Rattle.st_dec.proofs.DigitLemmas.{AllBelow, joined-below, joined-bytes, value-joined}
 use Rattle.st_dec.proofs.ListLemmas.{length-bytes, bytes-below, codes-below, zeros-below, append-below, take-below, drop-below, joined-take, joined-drop, joined-zeros-append, joined-append-zeros, any_code-drop}
 
--- the value of 32 digits is small
+-- the bound of the value of 32 digits
 pub value_small : (d : ℕ) → value_of_digits 32 d < 2 ^ 127
 value_small d = let bound : 3 * value_of_digits 32 d + 5 ≤ 5 * 10 ^ 32 = value_of-bound 32 d in omega arith
 
--- the accumulator from a place on
+-- the digits of the accumulator from a place
 from-below : (p m : ℕ) → AllBelow 4 (drop p (bytes 4 32 m))
 from-below p m = drop-below 4 p (bytes 4 32 m) (bytes-below 4 32 m)
 
@@ -33,7 +34,7 @@ from_few p m = rw (length-drop, length-bytes) (omega arith)
 pub value-from : (p m d : ℕ) → d ≡ number_of_bytes 4 (drop p (bytes 4 32 m)) → value_of_digits 32 d ≡ codes_value (drop p (bytes 4 32 m))
 value-from p m d is = rw is (value-joined 32 (drop p (bytes 4 32 m)) (from-below p m) (from_few p m))
 
--- as many of its digits as a field has
+-- the first n digits of a list, with zeros if it is shorter
 abbrev pub padded : ℕ → List ℕ → List ℕ
 padded n xs = take n (xs ++ replicate n 0)
 
@@ -53,7 +54,7 @@ joined-field n p m = joined-padded n (drop p (bytes 4 32 m)) (from-below p m)
 pub field-below : (n p m : ℕ) → AllBelow 4 (padded n (drop p (bytes 4 32 m)))
 field-below n p m = padded-below n (drop p (bytes 4 32 m)) (from-below p m)
 
--- the codes of a field
+-- the number of codes of a field
 pub length-codes : (b n m : ℕ) → length (map (λ d. d % 16) (bytes b n m)) ≡ n
 length-codes b n m = rw (length-map, length-bytes) refl
 
@@ -62,7 +63,7 @@ value-codes b n m d few is =
     let short : length (map (λ d. d % 16) (bytes b n m)) ≤ 32 = rw (length-codes b n m) few in
     rw is (value-joined 32 (map (λ d. d % 16) (bytes b n m)) (codes-below (bytes b n m)) short)
 
--- the value of codes is at most the number that they make
+-- the value of a list of codes is at most its number
 value_le : (cs : List ℕ) → codes_value cs ≤ number_of_bytes 4 cs
 unfolding codes_value number_of_bytes
 value_le [] = lit≤ tt
@@ -93,13 +94,13 @@ pub any_code-lost : (p : ℕ) (ds : List ℕ) → any_code (drop 32 (replicate p
 any_code-lost p ds =
     rw (any_code-drop 32 (replicate p 0 ++ map (λ d. d % 16) ds) (moved-below p (map (λ d. d % 16) ds) (codes-below ds)), joined-zeros-append 4 p (map (λ d. d % 16) ds)) refl
 
--- the codes of the accumulator behind those that a field takes
+-- the codes of the accumulator to the left of those that a field stores
 pub any_code-left : (n p m : ℕ) → any_code (drop n (drop p (bytes 4 32 m))) ≡ leb (2 ^ (4 * n)) (number_of_bytes 4 (drop p (bytes 4 32 m)))
 any_code-left n p m = any_code-drop n (drop p (bytes 4 32 m)) (from-below p m)
 
 pub field_value-fits : (f : Field) (h : Shape) → IsDecimalShape h → field_value f h < 2 ^ magnitude_bits h
 field_value-fits f h is = subst (λ k. field_value f h < 2 ^ k) (digits-whole h is) (value_fits h.byte (digit_count h) f.mag is.code)
 
--- a magnitude that has room in its shape has room in its digits
+-- a magnitude that fits its shape fits its digits
 pub magnitude-room : (m : ℕ) (h : Shape) → IsDecimalShape h → m < 2 ^ magnitude_bits h → m < 2 ^ (h.byte * digit_count h)
 magnitude-room m h is below = subst (λ k. m < 2 ^ k) (sym (digits-whole h is)) below

@@ -1,4 +1,4 @@
--- Other codes in the bytes of a field, and numbers in decimal digits.
+-- The codes in the bytes of a field replaced, and numbers in decimal digits.
 use Rattle.std.proofs.Common.{◌≡◌, ℕ, zero, suc, ◌+◌, ◌-◌, ◌*◌, ◌/◌, ◌%◌, ◌^◌, ◌<◌, ◌≤◌, List, [], ◌∷◌, length, map, refl, sym, ap, subst, ◌∙◌, arith, lit<, lit≤}
 use Rattle.std.proofs.lemmas.List.{length-map}
 use Rattle.std.proofs.Math.Nat.{mod-eq_of_lt, mul-le-mul_left, pow-suc, mod-lt, pow-le-pow_right}
@@ -12,17 +12,17 @@ use Rattle.st_dec.proofs.ListLemmas.{length-bytes, length-decimal, bytes-below, 
 use Rattle.st_dec.proofs.LoopLemmas.{byte_below}
 use Rattle.st_dec.proofs.PartLemmas.{length-codes}
 
--- a number that is spread over bytes is the list that it was made of
+-- spreading the number of a list of codes over bytes gives the number of these codes with zones
 pub spread-joined : (b zone n x : ℕ) (cs : List ℕ) → AllBelow 4 cs → length cs ≡ n → x ≡ number_of_bytes 4 cs → number_of_bytes b (codes_with_zones zone (bytes 4 n x)) ≡ number_of_bytes b (codes_with_zones zone cs)
 spread-joined b zone n x cs all is made = rw (made, bytes-joined 4 n cs all is) refl
 
--- one byte with another code
+-- a byte with its code replaced
 recode_first : (w r z j n d c : ℕ) → r + z ≡ j + n → d / 16 * 16 + c + w * r + (0 * 16 + d % 16 + w * z) ≡ d + w * j + (0 * 16 + c + w * n)
 recode_first w r z j n d c rest =
     let scaled : w * (r + z) ≡ w * (j + n) = ap (λ k. w * k) rest in
     omega (arith, scaled)
 
--- the old codes are taken away and the new ones added
+-- the old codes are subtracted and the new ones added
 recode_sum : (b : ℕ) (ds cs : List ℕ) → length ds ≡ length cs → number_of_bytes b (bytes_with_codes ds cs) + number_of_bytes b (codes_with_zones 0 (map (λ d. d % 16) ds)) ≡ number_of_bytes b ds + number_of_bytes b (codes_with_zones 0 cs)
 unfolding number_of_bytes bytes_with_codes
 recode_sum b [] [] same = refl
@@ -38,7 +38,7 @@ unfolding number_of_bytes
 codes_le b [] = lit≤ tt
 codes_le b (d ∷ ds) = codes_first_le (2 ^ b) _ _ d (codes_le b ds)
 
--- the parts of a field's magnitude: its codes are in it, and they can be exchanged
+-- the parts of a field's magnitude: it contains its codes, and they can be replaced
 whole_magnitude : (b n m : ℕ) → m < 2 ^ (b * n) → number_of_bytes b (bytes b n m) ≡ m
 whole_magnitude b n m room = joined-bytes b n m ∙ mod-eq_of_lt room
 
@@ -61,7 +61,7 @@ codes_exchanged b n m o x s t room codes is new =
     let both : number_of_bytes b (bytes_with_codes (bytes b n m) (bytes 4 n x)) + number_of_bytes b (codes_with_zones 0 (map (λ d. d % 16) (bytes b n m))) ≡ number_of_bytes b (bytes b n m) + number_of_bytes b (codes_with_zones 0 (bytes 4 n x)) = recode_sum b (bytes b n m) (bytes 4 n x) same in
     omega arith
 
--- they have room
+-- bytes with replaced codes fit
 code_in_byte : (b d c : ℕ) → 4 ≤ b → d < 2 ^ b → c < 16 → d / 16 * 16 + c < 2 ^ b
 code_in_byte b d c wide digit code =
     let whole : b ≡ b - 4 + 4 = omega arith in
@@ -97,14 +97,14 @@ zoned_fits b zone n cs wide small codes count =
     let all : length (codes_with_zones zone cs) ≡ n = length-map cs (λ c. zone * 16 + c) ∙ count in
     subst (λ k. number_of_bytes b (codes_with_zones zone cs) < 2 ^ (b * k)) all (joined-below b (codes_with_zones zone cs) (zoned-below b zone cs wide small codes))
 
--- decimal digits are a list of codes
+-- the bytes of the number of decimal digits are these digits
 pub bytes-decimal : (n t x : ℕ) → x ≡ number_of_bytes 4 (decimal n t) → bytes 4 n x ≡ decimal n t
 bytes-decimal n t x is = rw is (bytes-joined 4 n (decimal n t) (decimal-below n t) (length-decimal n t))
 
 pub decimal_fits : (n t : ℕ) → number_of_bytes 4 (decimal n t) < 2 ^ (4 * n)
 decimal_fits n t = subst (λ k. number_of_bytes 4 (decimal n t) < 2 ^ (4 * k)) (length-decimal n t) (joined-below 4 (decimal n t) (decimal-below n t))
 
--- the digits of a number that is cut to n digits
+-- the digits of a number that is reduced to n digits
 decimal-zero : (k : ℕ) → number_of_bytes 4 (decimal k 0) ≡ 0
 unfolding number_of_bytes decimal
 decimal-zero zero = refl

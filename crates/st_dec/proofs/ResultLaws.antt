@@ -1,4 +1,4 @@
--- What base 10 keeps in a field has room there.
+-- A magnitude that base 10 stores in a field fits it.
 use Rattle.std.proofs.Common.{◌≡◌, ℕ, ◌-◌, ◌*◌, ◌%◌, ◌^◌, ◌<◌, refl, subst}
 use Rattle.std.proofs.Math.Nat.{mod-lt}
 use Rattle.std.proofs.Math.Pow.{pow_pos}

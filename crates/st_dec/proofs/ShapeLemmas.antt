@@ -1,4 +1,4 @@
--- How many digits a field has.
+-- The number of digits of a field.
 use Rattle.std.proofs.Common.{◌≡◌, ℕ, ◌-◌, ◌*◌, ◌/◌, ◌%◌, ◌≤◌, arith, Bool, true, false, if◌then◌else◌}
 use Rattle.st_field.specs.declared.fields.Shape.{Shape}
 use Rattle.st_field.specs.Fields.{magnitude_bits}
@@ -33,7 +33,7 @@ bits_whole : (u : Bool) (n b : ℕ) → 1 ≤ b → b ≤ 8 → n % b ≡ 0 → 
 bits_whole true n b some small = whole n b some small
 bits_whole false n b some small = whole_front n b some small
 
--- the digits of a field make its magnitude
+-- the size of the magnitude by the number of digits
 pub magnitude-small : (h : Shape) → IsDecimalShape h → magnitude_bits h ≤ 64
 magnitude-small h is = bits_small h.unsigned h.length h.byte is.shape.few
 

@@ -1,4 +1,5 @@
--- The digits of a decimal field, each a byte of a zone and a code, and those of the accumulator.
+-- The digits of a decimal field, each a byte with a zone and a code, and the digits of the
+-- accumulator.
 use Rattle.std.specs.Prelude.{ℕ, ◌≡◌, ◌+◌, ◌*◌, ◌/◌, ◌%◌, ◌≤◌, nat_lt, Bool, List, [], ◌∷◌, ◌++◌, map, take, drop, replicate}
 use Rattle.std.specs.List.{list_any}
 use Rattle.st_field.specs.declared.accumulator.Acc.{Acc}
@@ -7,61 +8,62 @@ use Rattle.st_field.specs.declared.fields.Shape.{Shape}
 use Rattle.st_field.specs.Fields.{IsBinaryShape, magnitude_bits}
 use Rattle.st_dec.specs.DigitLists.{bytes, codes_value}
 
--- a shape that a decimal operation can have: whole bytes, each with room for a code
+-- a shape that is valid for a decimal operation: whole bytes, each with room for a code
 pub record IsDecimalShape (h : Shape) : Type 0 where
   pub shape : IsBinaryShape h
   pub code : 4 ≤ h.byte
   pub whole : h.length % h.byte ≡ 0
 
--- how many digits a field has
+-- the number of digits of a field
 abbrev pub digit_count : Shape → ℕ
 digit_count h = magnitude_bits h / h.byte
 
--- its bytes, and the code of each: the last four bits
+-- the bytes of a field's magnitude; the code of each is its last four bits
 abbrev pub digit_bytes : Field → Shape → List ℕ
 digit_bytes f h = bytes h.byte (digit_count h) f.mag
 
 abbrev pub codes : Field → Shape → List ℕ
 codes f h = map (λ d. d % 16) (digit_bytes f h)
 
--- its value without the sign; codes 10 to 15 count as such
+-- the value of a field without its sign; the codes 10 to 15 have these values
 abbrev pub field_value : Field → Shape → ℕ
 field_value f h = codes_value (codes f h)
 
--- bytes with other codes; their zones stay
+-- the bytes ds with the codes cs; their zones do not change
 unfoldable pub bytes_with_codes : List ℕ → List ℕ → List ℕ
 bytes_with_codes [] cs = []
 bytes_with_codes (d ∷ ds) [] = []
 bytes_with_codes (d ∷ ds) (c ∷ cs) = (d / 16 * 16 + c) ∷ bytes_with_codes ds cs
 
--- codes with one zone before each
+-- the codes as bytes, each with the same zone
 abbrev pub codes_with_zones : ℕ → List ℕ → List ℕ
 codes_with_zones zone cs = map (λ c. zone * 16 + c) cs
 
--- the digit of the accumulator at which the last digit of the field stands
+-- the digit of the accumulator at which the last digit of the field is placed
 abbrev pub last_digit_place : Shape → ℕ
 last_digit_place h = h.offset / 4
 
--- the 32 codes of the accumulator, and those from that digit on
+-- the 32 codes of the accumulator
 abbrev pub acc_codes : Acc → List ℕ
 acc_codes a = bytes 4 32 a.mag
 
 abbrev pub codes_from_place : Acc → Shape → List ℕ
 codes_from_place a h = drop (last_digit_place h) (acc_codes a)
 
--- as many of these as the field has digits; past the 32nd digit there are zeros
+-- the codes of the accumulator from the digit place, as many as the field has digits; beyond the
+-- 32nd digit they are zeros
 abbrev pub field_codes : Acc → Shape → List ℕ
 field_codes a h = take (digit_count h) (codes_from_place a h ++ replicate (digit_count h) 0)
 
--- those that it leaves out at the left
+-- the codes of the accumulator to the left of those that the field stores
 abbrev pub codes_left_out : Acc → Shape → List ℕ
 codes_left_out a h = drop (digit_count h) (codes_from_place a h)
 
--- the codes of the operand with its last digit at that place, and zeros below
+-- the codes of the operand with its last digit at the digit place, and zeros below
 abbrev pub codes_at_place : Field → Shape → List ℕ
 codes_at_place f h = replicate (last_digit_place h) 0 ++ codes f h
 
--- those that the accumulator has room for, and those that are lost
+-- the codes of the aligned operand that fit in the accumulator
 abbrev pub codes_kept : Field → Shape → List ℕ
 codes_kept f h = take 32 (codes_at_place f h)
 

@@ -1,4 +1,4 @@
--- What base 10 makes of what an operation takes.
+-- The base-10 parts of the results of operations on fields.
 use Rattle.std.specs.Prelude.{ℕ, ◌+◌, ◌-◌, ◌*◌, ◌%◌, ◌^◌, nat_le, Bool}
 use Rattle.st_bits.specs.declared.operations.VflOp.{VflOp}
 use Rattle.st_bits.specs.Indicators.{indicator}
@@ -16,9 +16,9 @@ use Rattle.st_field.specs.Results.{signed_operand, number_cut, aligned_operand, 
 use Rattle.st_dec.specs.DigitLists.{bytes, number_of_bytes, codes_value, decimal}
 use Rattle.st_dec.specs.DecimalOperand.{digit_count, digit_bytes, codes, field_value, bytes_with_codes, codes_with_zones, acc_codes, codes_from_place, field_codes, codes_left_out, codes_kept, codes_lost, any_code}
 
--- ---- what is kept
+-- ---- stored numbers
 
--- the codes of the operand at the digit place
+-- the operand aligned with the digit place of the accumulator
 abbrev pub at_place : Field → Shape → Kept
 at_place f h = record {
   bits = number_of_bytes 4 (codes_kept f h);
@@ -26,7 +26,7 @@ at_place f h = record {
   is_lost = any_code (codes_lost f h);
 }
 
--- the accumulator with the 32 lowest decimal digits of a number
+-- the 32 lowest decimal digits of a number as they are stored in the accumulator
 abbrev pub sum_digits : ℕ → Kept
 sum_digits n = record {
   bits = number_of_bytes 4 (decimal 32 n);
@@ -34,7 +34,7 @@ sum_digits n = record {
   is_lost = nat_le (10 ^ 32) n;
 }
 
--- a field with the magnitude m
+-- the magnitude m as it is stored in a field
 abbrev pub digits_in_field : Field → Shape → ℕ → Bool → Kept
 digits_in_field f h m lost = record {
   bits = m;
@@ -42,15 +42,16 @@ digits_in_field f h m lost = record {
   is_lost = lost;
 }
 
--- a field with the decimal digits of a number for its codes; all zones stay
+-- the decimal digits of a number as they are stored as the codes of a field; the zones do not
+-- change
 abbrev pub field_with_digits : Field → Shape → ℕ → Kept
 field_with_digits f h n =
     digits_in_field f h (number_of_bytes h.byte (bytes_with_codes (digit_bytes f h)
     (decimal (digit_count h) n)))
     (nat_le (10 ^ digit_count h) n)
 
--- ST: as many codes of the accumulator from the digit place on as the field has digits, its zone
--- before each
+-- the magnitude that ST stores: the codes of the accumulator from the digit place, each with the
+-- zone of the accumulator
 abbrev pub stored_magnitude : Acc → Shape → ℕ
 stored_magnitude a h = number_of_bytes h.byte (codes_with_zones (zone_of a.sb % 2 ^ (h.byte - 4))
     (field_codes a h))
@@ -59,15 +60,16 @@ abbrev pub field_of_digits : Taken → Kept
 field_of_digits t = digits_in_field t.field t.shape (stored_magnitude t.acc t.shape)
     (any_code (codes_left_out t.acc t.shape))
 
--- ---- the operations of its own
+-- ---- the operations that only base 10 has
 
--- LTRS, *, *+ and /: the codes go to the transit register, for a routine that computes with them
+-- the result of LTRS, *, *+ and /: the codes are loaded into the transit register, for a routine
+-- that computes with them
 abbrev pub transit_set : Acc → Field → Shape → Done
 transit_set a f h =
     transit_loaded a (signed_operand f h (field_value f h)) (number_of_bytes 4 (codes f h))
     (flag_indicators f.flags + indicator DECIMAL_TRANSIT)
 
--- LCV: the value of the field, loaded as a binary number
+-- the result of LCV: the value of the field is loaded as a binary number
 unfoldable pub binary_value : Field → Shape → Done
 binary_value f h = load_result (aligned_operand f h (number_cut 128
     (field_value f h * 2 ^ h.offset)))
@@ -91,6 +93,6 @@ base t = record {
   converted = binary_value t.field t.shape;
 }
 
--- the result of a decimal operation on a field with the bits x; no factor register is looked at
+-- the result of a decimal operation on a field with the bits x; it does not use the factor register
 unfoldable pub result : VflOp → Acc → ℕ → Shape → ℕ → Done
 result op a x h ind = result_of op (base (operand_taken a x h)) (operand_taken a x h) 0 ind

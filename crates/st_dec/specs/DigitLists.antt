@@ -1,12 +1,12 @@
--- Digits as lists, that of place 0 first.
+-- Digits as lists, the digit in place 0 first.
 use Rattle.std.specs.Prelude.{ℕ, zero, suc, ◌+◌, ◌*◌, ◌/◌, ◌%◌, ◌^◌, List, [], ◌∷◌}
 
--- the n lowest bytes, b bits each, of a number
+-- the n lowest bytes of b bits of a number, the lowest first
 unfoldable pub bytes : ℕ → ℕ → ℕ → List ℕ
 bytes b zero x = []
 bytes b (suc n) x = (x % 2 ^ b) ∷ bytes b n (x / 2 ^ b)
 
--- the number that has these bytes
+-- the number with these bytes of b bits
 unfoldable pub number_of_bytes : ℕ → List ℕ → ℕ
 number_of_bytes b [] = 0
 number_of_bytes b (d ∷ ds) = d + 2 ^ b * number_of_bytes b ds
@@ -16,7 +16,7 @@ unfoldable pub codes_value : List ℕ → ℕ
 codes_value [] = 0
 codes_value (c ∷ cs) = c + 10 * codes_value cs
 
--- the n lowest decimal digits of a number
+-- the n lowest decimal digits of a number, the lowest first
 unfoldable pub decimal : ℕ → ℕ → List ℕ
 decimal zero v = []
 decimal (suc n) v = (v % 10) ∷ decimal n (v / 10)

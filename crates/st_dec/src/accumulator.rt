@@ -16,7 +16,7 @@ pub fn whole_value(mag: u128) -> u128
     digits_value(mag)
 }
 
-/// The digit of the accumulator, 0 to 31, at which the last digit of a field stands.
+/// The digit of the accumulator, 0 to 31, at which the last digit of a field is placed.
 pub fn digit_place(shape: &Shape) -> u8
     requires { IsDecimalShape shape.now }
     ensures value { result ≡ last_digit_place shape.now }
@@ -25,7 +25,7 @@ pub fn digit_place(shape: &Shape) -> u8
     shape.offset / 4
 }
 
-/// The codes of the accumulator from the digit place on.
+/// The codes of the accumulator from the digit place.
 pub fn codes_from_place(acc: &Acc, shape: &Shape) -> u128
     requires { IsDecimalShape shape.now }
     ensures { result ≡ number_of_bytes 4 (codes_from_place_of acc.now shape.now) }
@@ -33,7 +33,7 @@ pub fn codes_from_place(acc: &Acc, shape: &Shape) -> u128
     acc.mag >> (4 * digit_place(shape))
 }
 
-/// Of these as many as the field has digits.
+/// The codes of the accumulator from the digit place, as many as the field has digits.
 pub fn field_codes(acc: &Acc, shape: &Shape) -> u64
     requires { IsDecimalShape shape.now }
     ensures { result ≡ number_of_bytes 4 (field_codes_of acc.now shape.now) }
@@ -41,7 +41,7 @@ pub fn field_codes(acc: &Acc, shape: &Shape) -> u64
     low_bits(codes_from_place(acc, shape), 4 * digit_count(shape))
 }
 
-/// The value of the digits of the accumulator from the digit place on.
+/// The value of the digits of the accumulator from the digit place.
 pub fn value_from_place(acc: &Acc, shape: &Shape) -> u128
     requires { IsDecimalShape shape.now }
     ensures value { result ≡ codes_value (codes_from_place_of acc.now shape.now) }

@@ -1,4 +1,4 @@
-//! Base 10: what it makes of the accumulator and a field.
+//! Base 10: the parts of results that depend on the base.
 ghost use Rattle.std.specs.Prelude.{◌^◌};
 ghost use Rattle.st_dec.specs.DecimalOperand.{IsDecimalShape};
 ghost use Rattle.st_dec.specs.DecimalResult.{base as base_ten};

@@ -1,5 +1,5 @@
-//! Digits. Each byte of a decimal field is one, a zone and a code; in the accumulator, as in
-//! `codes`, a digit is a code.
+//! Digits. A digit of a decimal field is a byte with a zone and a code; a digit of the accumulator,
+//! or of `codes`, is a code only.
 //!
 //! ```text
 //! field, byte of 8   zzzzcccc zzzzcccc zzzzcccc
@@ -15,7 +15,7 @@ ghost use Rattle.st_dec.specs.DecimalOperand.{codes_with_zones, bytes_with_codes
 use st_field::fields::{Field, Shape, magnitude_bits};
 use st_field::{power_of_ten, to_digits};
 
-/// How many digits a field has.
+/// The number of digits of a field.
 #[tactic(auto, using(crate::proofs::ShapeLemmas::count_rules))]
 pub fn digit_count(shape: &Shape) -> u8
     requires { IsDecimalShape shape.now }
@@ -41,8 +41,7 @@ pub fn codes(f: &Field, shape: &Shape) -> u64
     codes
 }
 
-/// The magnitude of a field whose digits have these codes, four bits each, with one zone before
-/// each of them.
+/// The magnitude of a field whose digits have these codes, four bits each, and the given zone.
 pub fn spread(codes: u64, zone: u64, shape: &Shape) -> u64
     requires shape { IsDecimalShape shape.now }
     requires zone { zone < 2 ^ (shape.now.byte - 4) }
@@ -59,7 +58,8 @@ pub fn spread(codes: u64, zone: u64, shape: &Shape) -> u64
     mag
 }
 
-/// The magnitude of a field whose digits get other codes, four bits each; the zones stay.
+/// The magnitude of a field after its codes are replaced by others, four bits each; the zones do
+/// not change.
 pub fn recoded(f: &Field, new_codes: u64, shape: &Shape) -> u64
     requires shape { IsDecimalShape shape.now }
     requires room { HasRoom f.now shape.now }
@@ -71,7 +71,8 @@ pub fn recoded(f: &Field, new_codes: u64, shape: &Shape) -> u64
     zones + spread(new_codes, 0, shape)
 }
 
-/// The `count` lowest decimal digits of a number, four bits each, and whether it has more.
+/// The `count` lowest decimal digits of a number, four bits each, and whether it has further
+/// digits.
 pub fn to_decimal(mag: u128, count: u8) -> (u128, bool)
     requires { count ≤ 32 }
     ensures digits { result.0 ≡ number_of_bytes 4 (decimal_of count mag) }

@@ -1,5 +1,5 @@
-//! Decimal operations on fields: what each makes of the accumulator, the field, the registers and
-//! the indicators. `docs/variable-fields.md` has the rules.
+//! Decimal operations on fields: their results in the accumulator, the field, the registers and the
+//! indicators. `docs/variable-fields.md` has the rules.
 #![tactic(auto, unfolding(crate::specs::DecimalResult::binary_value, crate::specs::DecimalResult::result))]
 
 mod accumulator;

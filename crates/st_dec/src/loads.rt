@@ -1,4 +1,4 @@
-//! A decimal field in the transit register.
+//! Loads of a decimal field into the transit register.
 ghost use Rattle.std.specs.Prelude.{◌≡◌};
 ghost use Rattle.st_field.specs.Fields.{HasRoom};
 ghost use Rattle.st_dec.specs.DecimalOperand.{IsDecimalShape};
@@ -13,7 +13,7 @@ use st_field::indicators::flag_indicators;
 use st_field::operand::operand;
 use st_field::{Acc, Done, load_transit as load_in_transit};
 
-/// What stands for multiply and divide: the codes go to the transit register.
+/// The result of a decimal multiply or divide: the codes are loaded into the transit register.
 pub fn load_transit(acc: &Acc, f: &Field, shape: &Shape) -> Done
     requires shape { IsDecimalShape shape.now }
     requires room { HasRoom f.now shape.now }

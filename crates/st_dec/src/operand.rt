@@ -1,4 +1,4 @@
-//! A decimal field: its value, and other digits in it.
+//! The value of a decimal field, and digits stored in it.
 ghost use Rattle.std.specs.Prelude.{◌≡◌, ◌<◌, ◌^◌};
 ghost use Rattle.st_field.specs.Fields.{HasRoom, magnitude_bits as magnitude_bits_of};
 ghost use Rattle.st_dec.specs.DecimalOperand.{IsDecimalShape, field_value as field_value_of};
@@ -17,7 +17,7 @@ pub fn field_value(f: &Field, shape: &Shape) -> u64
     digits_value(u128::from(codes(f, shape))) as u64
 }
 
-/// A field with the magnitude `mag`, which has room.
+/// The magnitude `mag`, which must fit, as it is stored in a field.
 pub fn in_field(f: &Field, shape: &Shape, mag: u64, is_lost: bool) -> Kept
     requires shape { IsDecimalShape shape.now }
     requires room { mag < 2 ^ magnitude_bits_of shape.now }
@@ -32,7 +32,8 @@ pub fn in_field(f: &Field, shape: &Shape, mag: u64, is_lost: bool) -> Kept
     }
 }
 
-/// A field with decimal digits of a number, as many as there is room for. The zones stay.
+/// The decimal digits of a number as they are stored in a field, as many as fit. The zones do not
+/// change.
 pub fn with_digits(f: &Field, shape: &Shape, number: u128) -> Kept
     requires shape { IsDecimalShape shape.now }
     requires room { HasRoom f.now shape.now }

@@ -7,10 +7,10 @@ use crate::base::Ten;
 use st_bits::VflOp;
 use st_field::{Acc, Done, Shape, operate, take};
 
-/// What a decimal operation makes of the accumulator, of a field with the bits `bits`, below
-/// 2^length, and of the indicators `ind`. The shape is that of a decimal instruction: its bytes
-/// have 4 to 8 bits, and the field is a whole number of them. Multiply, multiply and add, and
-/// divide load the transit register, for the program to go on with.
+/// The result of a decimal operation, given the accumulator, a field with the bits `bits`, below
+/// 2^length, and the indicator register `ind`. The shape must be valid for a decimal instruction:
+/// its bytes have 4 to 8 bits, and the field is a whole number of bytes. Multiply, multiply and
+/// add, and divide only load the transit register; the program completes them.
 pub fn decimal(op: VflOp, acc: &Acc, bits: u64, shape: &Shape, ind: u64) -> Done
     requires shape { IsDecimalShape shape.now }
     requires fits { bits < 2 ^ shape.now.length }

@@ -10,7 +10,7 @@ use st_field::Acc;
 use st_field::fields::Shape;
 use st_field::signed::exceeds;
 
-// The zone of the accumulator, as much of it as a byte has room for.
+// The zone of the accumulator, with as many bits as a byte has room for.
 fn stored_zone(acc: &Acc, shape: &Shape) -> u64
     requires { IsDecimalShape shape.now }
     ensures value { result ≡ zone_of acc.now.sb % 2 ^ (shape.now.byte - 4) }
@@ -19,7 +19,7 @@ fn stored_zone(acc: &Acc, shape: &Shape) -> u64
     u64::from(acc.sb / 16 % (1 << (shape.byte - 4)))
 }
 
-/// The magnitude of the field that the accumulator makes from the digit place on.
+/// The magnitude of the field that stores the accumulator from the digit place.
 pub fn stored_magnitude(acc: &Acc, shape: &Shape) -> u64
     requires { IsDecimalShape shape.now }
     ensures value { result ≡ stored_magnitude_of acc.now shape.now }
@@ -28,7 +28,7 @@ pub fn stored_magnitude(acc: &Acc, shape: &Shape) -> u64
     spread(field_codes(acc, shape), stored_zone(acc, shape), shape)
 }
 
-/// Whether the accumulator has a code that is not zero before those that the field takes.
+/// Whether the accumulator has a nonzero code to the left of those that the field stores.
 pub fn is_code_lost(acc: &Acc, shape: &Shape) -> bool
     requires { IsDecimalShape shape.now }
     ensures { result ≡ any_code (codes_left_out acc.now shape.now) }

@@ -1,4 +1,4 @@
--- Each card of the reader is eight words.
+-- Each card of the reader has eight words.
 use Rattle.std.specs.Prelude.{All, map, filter, slice_index_or}
 use Rattle.std.proofs.Common.{◌≡◌, ℕ, zero, suc, ◌+◌, ◌<◌, ◌^◌, List, [], ◌∷◌, length, take, drop, refl, arith}
 use Rattle.std.proofs.lemmas.List.Elements.{All-nil, All-cons, All-head, All-tail}

@@ -1,4 +1,4 @@
--- What holds of the cards that the reader holds of a job, proved.
+-- Proof of the law of the cards in the reader.
 use Rattle.st_exch.proofs.CardLemmas.{cards-size, cards-below}
 use Rattle.st_exch.specs.Laws.{CardsAreEightWords}
 

@@ -6,7 +6,7 @@ use Rattle.std.specs.List.{flat_map, suffix_len}
 use Rattle.st_text.specs.Bytes.{is_printable}
 use Rattle.st_exch.specs.Printer.{bytes_of, character, characters_of, line_of_words}
 
--- each character can be printed
+-- each character is printable
 character-printable : (b : ℕ) → (nat_le 32 (character b) && nat_le (character b) 126) ≡ true
 character-printable b =
     let P : Bool → Type 0 = λ v. (nat_le 32 b && nat_le b 126) ≡ v →
@@ -32,7 +32,7 @@ take-printable (suc n) (c ∷ cs) all =
     let P : Bool → Type 0 = λ v. (v && is_printable cs) ≡ true → (v && is_printable (take n cs)) ≡ true in
     (elim test as P [ true ↦ λ rest. take-printable n cs rest | false ↦ λ no. no ]) all
 
--- printed text can be printed
+-- the printed text is printable
 pub printed-printable : (words : List ℕ) → is_printable (line_of_words words) ≡ true
 unfolding line_of_words
 printed-printable words =

@@ -10,7 +10,7 @@ or-true : (b : Bool) → (b || true) ≡ true
 or-true true = refl
 or-true false = refl
 
--- what is read of cards, one list behind another
+-- the words of the cards of two lists in sequence
 texts-append : (job : List ℕ) (cards more : List Card) → texts_in job (cards ++ more) ≡ texts_in job cards ++ texts_in job more
 unfolding texts_in
 texts-append job cards more =
@@ -18,23 +18,23 @@ texts-append job cards more =
     let text = λ (c : Card). card_words (text_in job c) in
     ap (λ (x : List Card). map text x) (filter-append test cards more) ∙ map-append text (filter test cards) (filter test more)
 
--- what is read of one card more
+-- the words of one more card
 pub texts-more : (job : List ℕ) (cards : List Card) (card : Card) (now new : List (List ℕ)) → now ≡ texts_in job cards
     → new ≡ now ++ texts_in job (card ∷ []) → new ≡ texts_in job (cards ++ card ∷ [])
 texts-more job cards card now new here further = rw (further, here) (sym (texts-append job cards (card ∷ [])))
 
--- a card in its place among those from there on
+-- the item in place n is the first of the list from place n
 drop-one : (cards : List Card) (n : ℕ) (default : Card) → n < length cards → drop n cards ≡ get_or cards n default ∷ drop (suc n) cards
 drop-one [] n default below = let no : ⊥ = omega (arith, below) in absurd no
 drop-one (card ∷ cards) zero default below = refl
 drop-one (card ∷ cards) (suc n) default below = drop-one cards n default (omega (arith, below))
 
--- no statement card is behind the last card
+-- after the last card there is no statement card
 pub none-behind : (cards : List Card) → has_statement (drop (length cards) cards) ≡ false
 none-behind [] = refl
 none-behind (card ∷ cards) = none-behind cards
 
--- nor from a place on, where none is behind it and none in it
+-- there is no statement card from place n - 1 if there is none from place n and none in place n - 1
 pub none-from : (cards : List Card) (n : ℕ) (default : Card) → 0 < n → n ≤ length cards
     → is_statement (get_or cards (n - 1) default).kind ≡ false → has_statement (drop n cards) ≡ false
     → has_statement (drop (n - 1) cards) ≡ false
@@ -45,7 +45,7 @@ none-from cards (suc n) default some within kind none =
     ∙ (ap (λ (x : List Card). has_statement x) (drop-one cards n default (omega (arith, within)))
     ∙ (ap (λ v. v || has_statement (drop (suc n) cards)) (sym (ap (λ (k : ℕ). is_statement (get_or cards k default).kind) same) ∙ kind) ∙ none))
 
--- where there is no statement card, all cards are behind the last one
+-- without a statement card, all cards are after the last one
 pub behind-none : (cards : List Card) → has_statement cards ≡ false → behind_statements cards ≡ cards
 unfolding behind_statements
 behind-none [] none = refl
@@ -68,7 +68,7 @@ behind-at (card ∷ cards) (suc n) default below kind none =
     ap (λ v. if v then behind_statements cards else card ∷ cards) (has-at (card ∷ cards) (suc n) default below kind)
     ∙ behind-at cards n default (omega (arith, below)) kind none
 
--- the cards behind the statement card in place n - 1, where none is behind that
+-- the cards after the statement card in place n - 1, if there is none after it
 pub behind-last : (cards : List Card) (n : ℕ) (default : Card) → 0 < n → n ≤ length cards
     → is_statement (get_or cards (n - 1) default).kind ≡ true → has_statement (drop n cards) ≡ false
     → drop n cards ≡ behind_statements cards
@@ -77,7 +77,7 @@ behind-last cards (suc n) default some within kind none =
     let same : suc n - 1 ≡ n = omega arith in
     sym (behind-at cards n default (omega (arith, within)) (sym (ap (λ (k : ℕ). is_statement (get_or cards k default).kind) same) ∙ kind) none)
 
--- what holds of each card holds of those behind the last statement card
+-- a property of each card is a property of those after the last statement card
 pub behind-all : (P : Card → Type 0) (cards : List Card) → All P cards → All P (behind_statements cards)
 unfolding behind_statements
 behind-all P [] all = all

@@ -1,4 +1,4 @@
--- The cards that stand in the card reader, and the words that it reads of each.
+-- The cards in the card reader, and the words that it reads from each.
 use Rattle.std.specs.Prelude.{ℕ, ◌+◌, ◌-◌, ◌*◌, ◌^◌, Bool, true, false, List, [], ◌∷◌, map, filter, slice_index_or, if◌then◌else◌}
 use Rattle.std.specs.List.{list_any}
 use Rattle.st_text.specs.Bytes.{blank}
@@ -7,11 +7,11 @@ use Rattle.st_card.specs.declared.cards.CardKind.{CardKind}
 use Rattle.st_card.specs.declared.cards.CardKind.TheVariants.{Comment, Control, Statement}
 use Rattle.st_card.specs.declared.cards.Card.{Card}
 
--- column c of a card, counted from 1, a blank where the card has none
+-- column c of a card, counted from 1; a blank if the card has no such column
 abbrev pub column_of_card : List ℕ → ℕ → ℕ
 column_of_card text c = slice_index_or text (c - 1) blank
 
--- the word that eight columns make from column c on, eight bits each
+-- the word in the eight columns from column c, eight bits each
 unfoldable pub word_from : List ℕ → ℕ → ℕ
 word_from text c =
     column_of_card text c * 2 ^ 56 + column_of_card text (c + 1) * 2 ^ 48
@@ -19,7 +19,7 @@ word_from text c =
     + column_of_card text (c + 4) * 2 ^ 24 + column_of_card text (c + 5) * 2 ^ 16
     + column_of_card text (c + 6) * 2 ^ 8 + column_of_card text (c + 7)
 
--- the words that the reader reads of a card: its columns 2 to 65
+-- the words that the reader reads from a card: its columns 2 to 65
 unfoldable pub card_words : List ℕ → List ℕ
 card_words text =
     word_from text 2 ∷ word_from text 10 ∷ word_from text 18 ∷ word_from text 26
@@ -41,17 +41,17 @@ is_statement Statement = true
 abbrev pub has_statement : List Card → Bool
 has_statement cards = list_any (λ card. is_statement card.kind) cards
 
--- the cards behind the last statement card
+-- the cards after the last statement card
 unfoldable pub behind_statements : List Card → List Card
 behind_statements [] = []
 behind_statements (card ∷ cards) =
     if has_statement (card ∷ cards) then behind_statements cards else card ∷ cards
 
--- what is read of the comment cards among cards
+-- the words of the comment cards among these cards
 unfoldable pub texts_in : List ℕ → List Card → List (List ℕ)
 texts_in job cards = map (λ card. card_words (text_in job card))
     (filter (λ card. is_comment card.kind) cards)
 
--- the cards that the reader holds of a job: the comment cards behind the last statement card
+-- the cards in the reader of a job: the comment cards after the last statement card
 unfoldable pub reader_cards : List ℕ → List (List ℕ)
 reader_cards job = texts_in job (behind_statements (cards_of job))

@@ -1,4 +1,4 @@
-//! The cards that stand in the card reader.
+//! The cards in the card reader.
 
 ghost use Rattle.std.specs.Prelude.{◌≡◌, ◌^◌, ◌<◌, ◌≤◌, [], ◌∷◌, ◌++◌, length, MatchOption, IfOk, OnOk};
 ghost use Rattle.st_card.specs.Cards.{IsCardOf, cards_of};
@@ -10,16 +10,16 @@ use std::alloc::Global;
 use std::collections::VecDeque;
 use std::marker::Model;
 
-/// The cards that stand in the card reader, the next one first.
+/// The cards in the card reader, the next one first.
 ///
-/// A card is eight words: its columns 2 to 65, eight characters a word, eight bits each, with
-/// blanks in place of columns that it has not.
+/// A card has eight words: its columns 2 to 65, eight characters a word, eight bits each, with
+/// blanks for missing columns.
 #[derive(Drop)]
 pub struct Hopper {
     cards: Option<VecDeque<[u64; 8]>>,
 }
 
-// Clauses see the cards that are left.
+// Contracts see the remaining cards.
 impl Model for Hopper {
     ghost use Rattle.std.specs.Prelude.{ℕ, List, []};
     ghost use Rattle.std.specs.Option.{option_map_or};
@@ -37,11 +37,11 @@ impl Hopper {
         Hopper { cards: None }
     }
 
-    /// The reader with the comment cards that stand behind the last statement card of a job, in
-    /// order. Blank cards are comment cards.
+    /// The reader with the comment cards after the last statement card of a job, in order. Blank
+    /// cards are comment cards.
     ///
-    /// The job has fewer than 2^32 bytes. The one error is that memory ran out; no later call takes
-    /// any.
+    /// The job must have fewer than 2^32 bytes. The only error is a failed allocation; no later
+    /// call allocates.
     pub fn new(alloc: Global, job: &[u8]) -> Result<Hopper, NoMemory>
         requires { length job.now < 2 ^ 32 }
         ensures { IfOk result (λ hopper. hopper ≡ spec.reader_cards job.now) }
@@ -50,10 +50,10 @@ impl Hopper {
         Hopper::of_cards(alloc, job, cards.as_slice())
     }
 
-    /// The same reader, of a job whose cards are cut already: `cards` are those of `job`, all of
-    /// them and in order.
+    /// As `new`, for a job that is already split into cards: `cards` are all cards of `job`, in
+    /// order.
     ///
-    /// The one error is that memory ran out; no later call takes any.
+    /// The only error is a failed allocation; no later call allocates.
     pub fn of_cards(alloc: Global, job: &[u8], cards: &[Card]) -> Result<Hopper, NoMemory>
         requires { cards.now ≡ cards_of job.now }
         ensures { IfOk result (λ hopper. hopper ≡ spec.reader_cards job.now) }
@@ -68,7 +68,7 @@ impl Hopper {
         })
     }
 
-    /// The next card, which leaves the reader. `None` exactly where no card is left.
+    /// Removes the next card and returns it; `None` if and only if no card remains.
     pub fn next(&mut self) -> Option<[u64; 8]>
         ensures { MatchOption result ((self.old ≡ []) × (self.new ≡ []))
             (λ card. self.old ≡ card ∷ self.new) }
@@ -77,7 +77,7 @@ impl Hopper {
     }
 }
 
-// The cards behind the last statement card. None of those before it is left to the reader.
+// The cards after the last statement card.
 fn behind_statements(cards: &[Card]) -> &[Card]
     ensures { result.now ≡ spec.behind_statements cards.now }
 {
@@ -101,7 +101,7 @@ fn is_statement(kind: CardKind) -> bool
     }
 }
 
-// Goes on by a card: a comment card waits behind the others.
+// Appends a card to the waiting ones if it is a comment card.
 #[tactic(auto, unfolding(crate::specs::Reader::texts_in))]
 fn stack(waiting: &mut VecDeque<[u64; 8]>, job: &[u8], card: Card) -> Result<(), NoMemory>
     requires { IsCardOf job.now card }
@@ -121,7 +121,7 @@ fn push_card(cards: &mut VecDeque<[u64; 8]>, card: [u64; 8]) -> Result<(), NoMem
     cards.push_back(card).map_err(|_| NoMemory)
 }
 
-// The eight words that the reader reads of a card's text.
+// The eight words that the reader reads from a card's text.
 #[tactic(auto, unfolding(crate::specs::Reader::card_words))]
 fn card_words(text: &[u8]) -> [u64; 8]
     ensures { result ≡ spec.card_words text.now }
@@ -138,7 +138,7 @@ fn card_words(text: &[u8]) -> [u64; 8]
     ]
 }
 
-// The word that eight columns make from column c on.
+// The word in the eight columns from column c.
 #[tactic(auto, unfolding(crate::specs::Reader::word_from))]
 fn word_from(text: &[u8], c: usize) -> u64
     requires first { 1 ≤ c }
@@ -157,7 +157,7 @@ fn word_from(text: &[u8], c: usize) -> u64
     ])
 }
 
-// Column c of a card, counted from 1, a blank where the card has none.
+// Column c of a card, counted from 1; a blank if the card has no such column.
 fn column(text: &[u8], c: usize) -> u8
     requires { 1 ≤ c }
     ensures { result ≡ spec.column_of_card text.now c }

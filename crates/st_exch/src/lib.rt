@@ -1,5 +1,5 @@
-//! The exchange's devices, by the rules of `docs/machine.md`: the cards that stand in the card
-//! reader, and the text that the printer prints of eight words.
+//! The devices of the exchange, by the rules of `docs/machine.md`: the cards in the card reader,
+//! and the text that the printer prints of eight words.
 #![tactic(auto)]
 
 mod hopper;

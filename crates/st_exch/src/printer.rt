@@ -9,8 +9,7 @@ use arrayvec::ArrayString;
 use st_text::{drop_end_blanks, is_printable_byte};
 
 /// The text that the printer prints of eight words: their 64 bytes, the leftmost first, with a
-/// blank in place of each byte outside 32 to 126, and without the blanks at the end. It may be
-/// empty.
+/// blank for each byte outside 32 to 126, and without trailing blanks. It may be empty.
 pub fn print_text(words: &[u64; 8]) -> ArrayString<64>
     ensures text { result.bytes ≡ spec.line_of_words words.now }
     ensures printable { IsTrue (is_printable result.bytes) }
@@ -34,7 +33,7 @@ fn push_word(text: &mut ArrayString<64>, word: u64)
     }
 }
 
-// A byte that is no character of the printer is a blank.
+// The character of a byte, a blank if the byte is not printable.
 fn character(byte: u8) -> u8
     ensures value { result ≡ spec.character byte }
     ensures ascii { result < 128 }

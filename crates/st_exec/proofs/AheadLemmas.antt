@@ -1,4 +1,4 @@
--- What an entry that is not done alone leaves of a state, and which of them the guess is wrong of.
+-- The state after a non-serializing entry, and the entries that can be mispredicted.
 use Rattle.std.proofs.Common.{◌≡◌, ◌≢◌, ℕ, ◌+◌, ◌^◌, ◌<◌, ◌≤◌, ◌⊎◌, inl, inr, Bool, true, false, not, ◌&&◌, if◌then◌else◌, Option, None, Some, List, length, refl, sym, ◌∙◌, ap, subst, arith, get_or, get_or-set_other, drop}
 use Rattle.std.specs.Prelude.{IfSome}
 use Rattle.std.proofs.Math.ListN.{set}
@@ -47,7 +47,7 @@ unfolding state_with_early_changes
 early-low p s i h other =
     get_or-set_other (with_change p.index s).words 11 i _ 0 other ∙ change-low p.index s i h
 
--- an index word is that of the list after the change
+-- the list of index words has word 16 + k of the state in place k
 pub index-at : (s : Machine) (k : ℕ) → k < 16 → get_or (index_words s) k 0 ≡ word s (16 + k)
 unfolding index_words
 index-at s k h = get_or-take 16 (drop 16 s.words) k 0 h ∙ get_or-drop 16 s.words k 0
@@ -105,7 +105,7 @@ index-below (Some c) s k m few h =
           (sym (get_or-set_other x c.number k c.word 0 q.1 ∙ index-at s k few)) (m.below (16 + k))
     ]
 
--- ---- the words of a state after the early change, in their places
+-- ---- the words of a state after the early change, by address
 
 stands-low : (p : Prepared) (s : Machine) (i : ℕ) → IsMachine s → i < 16 → i ≢ 11 → Stands (state_with_early_changes p s) i (word s i)
 stands-low p s i m h other =
@@ -124,15 +124,15 @@ stands-index p s k m h few = record {
   fits = fixed-index (16 + k) (get_or (words_after (index_words s) p.index) k 0) (omega arith);
 }
 
--- ---- the effect of an entry that is not done alone
+-- ---- the effect of a non-serializing entry
 
--- an entry with its effect, or suppressed
+-- the state u after the effect of entry p, or without it if p is suppressed
 pub record Late (p : Prepared) (t u : Machine) : Type 0 where
   pub marks : HasMarks t u
   pub done : u.done ≡ t.done
   pub words : (i x : ℕ) → IsKept i → IsNotAmong i p.writes → Stands t i x → word u i ≡ x
 
--- a state between the early change and the counting of the instruction
+-- the state between the early change and the update of the counter
 abbrev pub late : Bool → Prepared → Machine → Machine
 late true p t = t
 late false p t = carried_out (effect p t) t
@@ -165,9 +165,9 @@ unfolding state_after_completion state_after_effect
 completed-late p s e =
     ap (λ table. state_after_effect p (state_with_early_changes p (state_at_entry table s))) e ∙ finished-late p.suppressed p (state_with_early_changes p s)
 
--- ---- all of it
+-- ---- the whole entry
 
--- a register is not among words above the registers
+-- a register is not in a range of words above the registers
 apart-low : (first len i : ℕ) → (1 ≤ len → 32 ≤ first) → i < 32 → (i < first) ⊎ (first + len ≤ i)
 apart-low first len i above low =
     elim (leb_tells 1 len) [
@@ -184,7 +184,7 @@ above-apart : (w : Words) (i : ℕ) → AreAbove w → i < 32 → IsNotAmong i w
 above-apart w i h low =
     record { first = apart-low w.first w.len i h.above low; second = apart-low w.first2 w.len2 i h.above2 low }
 
--- a state after its counting
+-- the state after the update of the counter satisfies `IsPast`
 past : (p : Prepared) (s u : Machine) (c : ℕ) → IsMachine s → IsPrepared p → p.serial ≡ false → Late p (state_with_early_changes p s) u
     → IsPast p s (state_counted_on u c)
 past p s u c m h free k =
@@ -228,9 +228,9 @@ completed-past p s h m free =
     subst (IsPast p s) (sym (completed-late p s (h.ahead free).table))
     (past p s (late p.suppressed p t) (if p.suppressed then p.following else counter p t) m h free k)
 
--- ---- the guess
+-- ---- the prediction
 
--- of the branches that are decided late, only BI runs ahead
+-- of the branches that are decided late, only BI is non-serializing
 taken-ahead : (instr : Instr) (e : ℕ) (t : Machine) → acts_alone instr ≡ false → is_taken instr e t ≡ true
     → is_indicator_branch instr ≡ true
 unfolding acts_alone is_taken
@@ -246,7 +246,7 @@ taken-ahead (StoreCounter a i second) e t hazard_free h = absurd (cc)
 taken-ahead (Transfer w a i n) e t hazard_free h = absurd (cc)
 taken-ahead (Invalid first second full) e t hazard_free h = absurd (cc)
 
--- three tests that all hold
+-- three tests that all hold, by their conjunction
 all_three : (a b c : Bool) → (not a && not b && c) ≡ true → (a ≡ false) × (b ≡ false) × (c ≡ true)
 all_three false false true h = (refl, refl, refl)
 all_three true b c h = absurd (cc)

@@ -1,4 +1,5 @@
--- The effect of an entry that is not done alone is the same, but for indicators, to states that differ in them alone.
+-- In states that differ only in indicators, a non-serializing entry has the same effect except on
+-- indicators.
 use Rattle.std.proofs.Common.{◌≡◌, ℕ, ◌+◌, ◌*◌, ◌/◌, ◌%◌, ◌≤◌, Bool, true, false, ◌==◌, if◌then◌else◌, Option, None, Some, length, refl, sym, ◌∙◌, ap, subst, arith}
 use Rattle.std.specs.Prelude.{IfSome, nat_le}
 use Rattle.st_bits.specs.Bits.{bits, part}
@@ -44,7 +45,7 @@ use Rattle.st_exec.proofs.AheadLemmas.{late, completed-late, early-marks, guesse
 
 -- ---- results
 
--- two results that differ in indicators alone
+-- two results that differ only in indicators
 pub record SameButIndicators (d e : Done) : Type 0 where
   pub acc : e.acc ≡ d.acc
   pub field : e.field ≡ d.field
@@ -69,7 +70,7 @@ unfolding binary.result decimal.result
 same-result false op a x h ft i j = same-based op _ _ ft i j
 same-result true op a x h ft i j = same-based op _ _ 0 i j
 
--- ---- what is read
+-- ---- reads
 
 operand_by : (b : Bool) (e n x : ℕ) (s t : Machine) → AreAlike s t → n ≤ 64 → length s.words ≡ words_of_storage
     → AreInside (if b then no_words else field_words e n) → AreAbove (if b then no_words else field_words e n)
@@ -116,7 +117,7 @@ same-connects kind table p e offset n s t h same =
     (ap (λ a. connection kind table a offset (operand_bits p e n t) n) (alike-accumulator s t h)
     ∙ ap (λ x. connection kind table (accumulator s) offset x n) same)
 
--- ---- what they leave
+-- ---- states after the results are written
 
 alike-register : (w : ℕ) (x : Option ℕ) (s t : Machine) → AreAlike s t → AreAlike (with_register w x s) (with_register w x t)
 alike-register w None s t h = h
@@ -194,7 +195,7 @@ unfolding carried_out
 alike-indicator false e s t h = h
 alike-indicator true e s t h = alike-indicators s t _ _ h
 
--- a field that is left only where its words are written
+-- a field that is written only if its words are among the written ones lies in storage
 inside-left : (f : Option ℕ) (b : Bool) (e n m : ℕ) → m ≡ words_of_storage → n ≤ 64 → IfSome f (λ _. b ≡ true)
     → AreInside (if b then field_words e n else no_words) → IfSome f (λ _. e + n ≤ 64 * m)
 inside-left None b e n m size few only h = tt

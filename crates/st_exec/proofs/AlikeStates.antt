@@ -1,4 +1,4 @@
--- States that differ in their indicators alone, and what is done to both.
+-- States that differ only in their indicators, and changes of both.
 use Rattle.std.proofs.Common.{◌≡◌, ◌≢◌, ℕ, ◌+◌, ◌-◌, ◌*◌, ◌/◌, ◌%◌, ◌^◌, ◌<◌, ◌≤◌, inl, inr, List, length, take, drop, ◌++◌, sym, ◌∙◌, ap, arith, get_or, get_or-set_other, length-append}
 use Rattle.std.proofs.Math.ListN.{set}
 use Rattle.std.proofs.lemmas.List.{length-set, get_or-set_same, get_or_past, length-take, length-drop, get_or-take, get_or-drop, get_or_append_left, get_or-append_right, ext_get_or}
@@ -11,7 +11,7 @@ use Rattle.st_prep.specs.Alike.{AreAlike}
 use Rattle.st_exec.specs.Operand.{field_at, accumulator}
 use Rattle.st_exec.proofs.ApartLemmas.{length-all_bits, length-placed, word-placed_by}
 
--- ---- lists of bits that are the same in places
+-- ---- lists of bits with equal parts
 
 same-put : (s t v : List ℕ) (a i : ℕ) → length t ≡ length s → a + length v ≤ length s → get_or t i 0 ≡ get_or s i 0
     → get_or (put t a v) i 0 ≡ get_or (put s a v) i 0
@@ -76,7 +76,7 @@ same-in_field s t c n k e near =
     ∙ get_or-take n (drop c s) k 0 near
     ∙ get_or-drop c s k 0
 
--- a bit of storage is one of its word
+-- a bit of storage is a bit of its word
 same-bit : (ws vs : List ℕ) (j : ℕ) → length vs ≡ length ws → j / 64 < length ws
     → get_or vs (j / 64) 0 ≡ get_or ws (j / 64) 0 → get_or (all_bits vs) j 0 ≡ get_or (all_bits ws) j 0
 same-bit ws vs j size here e =
@@ -90,7 +90,7 @@ same-bit ws vs j size here e =
     ∙ same-in_field (all_bits ws) (all_bits vs) c 64 (j % 64) same (omega arith)
     ∙ ap (λ i. get_or (all_bits ws) i 0) place
 
--- ---- what is done to both
+-- ---- changes of both states
 
 pub alike-words : (s t : Machine) (vs ws : List ℕ) → AreAlike s t → length ws ≡ length vs
     → ((w : ℕ) → w ≢ 11 → get_or ws w 0 ≡ get_or vs w 0) → AreAlike (record s { words = vs }) (record t { words = ws })
@@ -130,7 +130,7 @@ alike-stored s t w x h =
     alike-words s t _ _ h (length-set t.words w (register_word w x) ∙ h.size ∙ sym (length-set s.words w (register_word w x)))
     (λ i other. same-set s.words t.words w (register_word w x) i h.size (h.words i other))
 
--- whatever the indicators become
+-- setting the indicators of both states to any values keeps them alike
 pub alike-indicators : (s t : Machine) (x y : ℕ) → AreAlike s t → AreAlike (with_word s 11 x) (with_word t 11 y)
 alike-indicators s t x y h =
     alike-words s t _ _ h (length-set t.words 11 y ∙ h.size ∙ sym (length-set s.words 11 x))
@@ -165,9 +165,9 @@ alike-placed s t a v h inside =
           ∙ sym (word-placed_by s a v i here)
     ])
 
--- ---- what is read of both
+-- ---- reads of both states
 
--- a field above the registers
+-- a field above the registers is equal in both states
 pub alike-field_at : (s t : Machine) (e n : ℕ) → AreAlike s t → 32 ≤ e / 64 → e + n ≤ 64 * length s.words
     → field_at t e n ≡ field_at s e n
 alike-field_at s t e n h above inside =

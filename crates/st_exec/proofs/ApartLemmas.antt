@@ -1,4 +1,4 @@
--- A field that is put into storage leaves each word that has no bit of it.
+-- A field write to storage leaves each word unchanged that has no bit of the field.
 use Rattle.std.proofs.Common.{◌≡◌, ℕ, zero, suc, ◌+◌, ◌-◌, ◌*◌, ◌/◌, ◌%◌, ◌^◌, ◌<◌, ◌≤◌, ◌⊎◌, inl, inr, List, [], ◌∷◌, ◌++◌, length, take, drop, refl, sym, ◌∙◌, ap, arith, get_or, append_assoc, length-append, zero-add}
 use Rattle.std.proofs.lemmas.List.{drop-drop, take-append-drop, length-take}
 use Rattle.st_bits.specs.Bits.{bits, num, all_bits, field, put, words_of}
@@ -30,7 +30,7 @@ length-placed s a v =
     length-fixed_from 0 (words_of (length s.words) (put (all_bits s.words) a v))
     ∙ length-words_of (length s.words) (put (all_bits s.words) a v)
 
--- ---- words one by one
+-- ---- single words
 
 get_or-words_of : (n i : ℕ) (s : List ℕ) → i < n → get_or (words_of n s) i 0 ≡ num (field s (64 * i) 64)
 unfolding words_of field
@@ -51,7 +51,7 @@ get_or-fixed_from k (suc i) (x ∷ ws) h =
     let place : k + 1 + i ≡ k + suc i = omega arith in
     get_or-fixed_from (k + 1) i ws (omega arith) ∙ ap (λ j. register_word j (get_or ws i 0)) place
 
--- a word of storage after bits are put into it
+-- a word of storage after bits are written
 pub word-placed_by : (s : Machine) (a : ℕ) (v : List ℕ) (i : ℕ) → i < length s.words
     → word (state_with_bits s a v) i ≡ register_word i (num (field (put (all_bits s.words) a v) (64 * i) 64))
 word-placed_by s a v i here =
@@ -61,7 +61,7 @@ word-placed_by s a v i here =
     ∙ ap (λ k. register_word k (get_or ws i 0)) (zero-add i)
     ∙ ap (register_word i) (get_or-words_of (length s.words) i bs here)
 
--- ---- fields apart from what is put
+-- ---- fields disjoint from the written one
 
 field-put_after : (s v : List ℕ) (a c n : ℕ) → a + length v ≤ length s → c + n ≤ a → field (put s a v) c n ≡ field s c n
 unfolding put
@@ -96,7 +96,8 @@ field-put_apart s v a c n inside (inr after) =
 
 -- ---- words of storage
 
--- a word of storage without a bit of what is put; a register stands with its fixed bits
+-- a word of storage that has no bit of the written field is unchanged; a register has its fixed
+-- bits
 pub word-placed : (s : Machine) (a : ℕ) (v : List ℕ) (i : ℕ) → i < length s.words → a + length v ≤ 64 * length s.words
     → (64 * i + 64 ≤ a) ⊎ (a + length v ≤ 64 * i) → word (state_with_bits s a v) i ≡ register_word i (word s i % 2 ^ 64)
 word-placed s a v i here inside apart =

@@ -1,4 +1,4 @@
--- The guess of an entry that is not done alone passes the orders over.
+-- The predicted state after a non-serializing entry does not depend on the orders.
 use Rattle.std.proofs.Common.{◌≡◌, ℕ, Bool, true, false, if◌then◌else◌, Option, None, Some, refl, sym, ◌∙◌, ap, subst, get_or-set_other}
 use Rattle.std.proofs.lemmas.List.{length-set}
 use Rattle.st_format.specs.declared.instruction.Instr.{Instr}
@@ -24,7 +24,7 @@ use Rattle.st_exec.proofs.SparedLemmas.{IsQuiet, quiet-effect}
 use Rattle.st_exec.proofs.AheadLemmas.{late}
 use Rattle.st_exec.proofs.AlikeEffects.{guessed-late, guessed-alike}
 
--- ---- what is done to a state with other orders
+-- ---- changes of a state with other orders
 
 change-orders : (r q : Option Order) (c : Option IndexChange) (s : Machine)
     → with_change c (with_orders r q s) ≡ with_orders r q (with_change c s)
@@ -102,9 +102,9 @@ late-orders r q false p t e h free =
     ap (λ d. carried_out d (with_orders r q t)) (effect-orders r q p.instr p.e p.value t)
     ∙ done-orders r q (effect p t) t (quiet-effect p.instr p.e p.value t hazard_free)
 
--- ---- the guess
+-- ---- the predicted state
 
--- whatever the counter is before the guess sets it
+-- the predicted state does not depend on the counter before it is set
 counted-orders : (r q : Option Order) (u : Machine) (c d f : ℕ)
     → record (state_counted_on (with_orders r q u) c) { ic = f } ≡ with_orders r q (record (state_counted_on u d) { ic = f })
 counted-orders r q u c d f = refl
@@ -123,7 +123,7 @@ guessed-orders r q p s h free =
     ∙ counted-orders r q (late p.suppressed p t) c d p.following
     ∙ ap (with_orders r q) (sym (guessed-late p s h free))
 
--- states that are alike but for the orders of one of them
+-- two states that are alike except for the orders of one of them
 beside-orders : (s t : Machine) (r q : Option Order) → AreAlike s (with_orders r q t) → AreAlikeBesideOrders s t
 beside-orders s t r q h = record {
   size = h.size;
@@ -141,7 +141,7 @@ guessed-beside p s t h m k free =
     beside-orders (guessed_state p s) (guessed_state p t) s.reader s.printer
     (subst (AreAlike (guessed_state p s)) (guessed-orders s.reader s.printer p t h free) alike)
 
--- ---- which states differ so
+-- ---- pairs of states that differ only in indicators and orders
 
 pub beside-same : (s : Machine) → AreAlikeBesideOrders s s
 beside-same s = record {
@@ -163,7 +163,7 @@ beside-then s t u h k = record {
   done = k.done ∙ h.done;
 }
 
--- whatever the indicators and the orders become
+-- setting the indicators and the orders to any values keeps the states alike
 beside-indicators : (r q : Option Order) (x : ℕ) (s : Machine)
     → AreAlikeBesideOrders s (with_word (with_orders r q s) 11 x)
 beside-indicators r q x s = record {

@@ -1,4 +1,4 @@
--- Lists of bits, and what numbers they can spell.
+-- Bounds of the numbers that lists of bits encode.
 use Rattle.std.proofs.Common.{◌≡◌, ℕ, zero, suc, ◌+◌, ◌^◌, ◌<◌, ◌≤◌, List, [], ◌∷◌, ◌++◌, length, take, drop, get_or, refl, sym, ap, subst, arith}
 use Rattle.std.specs.Int.{bit_at}
 use Rattle.std.proofs.lemmas.Nat.Bits.{bit_at-lt}
@@ -8,7 +8,7 @@ use Rattle.st_bits.specs.Bits.{bits, num, all_bits, field, put}
 use Rattle.st_state.proofs.TurnedLemmas.{one_more as one_digit}
 use Rattle.st_conn.specs.Connective.{by_weight}
 
--- each item is zero or one
+-- each item of a list is zero or one
 pub record AreBits (xs : List ℕ) : Type 0 where
   pub each : (k : ℕ) → get_or xs k 0 < 2
 
@@ -69,15 +69,15 @@ unfolding field
 num-field s c n h =
     num-few (take n (drop c s)) n (bits-take n (drop c s) (bits-drop c s h)) (omega (arith, length-take n (drop c s)))
 
--- a field of storage
+-- the number in a field of n bits of storage is below 2 ^ n
 pub field-below : (ws : List ℕ) (c n : ℕ) → num (field (all_bits ws) c n) < 2 ^ n
 field-below ws c n = num-field (all_bits ws) c n (bits-all ws)
 
--- and one after a number is put into it
+-- the number in a field of n bits is below 2 ^ n also after a field write
 pub field-put_below : (ws : List ℕ) (a m v c n : ℕ) → num (field (put (all_bits ws) a (bits m v)) c n) < 2 ^ n
 field-put_below ws a m v c n = num-field _ c n (bits-put (all_bits ws) (bits m v) a (bits-all ws) (are_bits m v))
 
--- bits by their weights
+-- a list of bits by their weights
 length-by_weight : (bit : ℕ → ℕ) (n : ℕ) → length (by_weight bit n) ≡ n
 unfolding by_weight
 length-by_weight bit zero = refl

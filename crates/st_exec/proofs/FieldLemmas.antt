@@ -1,4 +1,4 @@
--- An operation that leaves a field is one that writes it.
+-- An operation that returns a field is one that writes it.
 use Rattle.std.proofs.Common.{◌≡◌, ℕ, ◌^◌, ◌<◌, ◌≤◌, Bool, true, false, ◌==◌, if◌then◌else◌, Option, None, Some, refl}
 use Rattle.std.specs.Prelude.{IfSome}
 use Rattle.st_bits.specs.declared.operations.ConnKind.{ConnKind}
@@ -22,11 +22,11 @@ use Rattle.st_exec.specs.Outcome.{result_by}
 use Rattle.st_exec.specs.Effect.{IsField}
 use Rattle.st_exec.proofs.InsideLemmas.{inside-field_if}
 
--- a field is left only where the test holds
+-- a result contains a field only if the test holds
 abbrev pub OnlyIf : Bool → Done → Type 0
 OnlyIf b d = IfSome d.field (λ _. b ≡ true)
 
--- the operations that are a base's own leave no field
+-- the operations that are specific to a base return no field
 record OwnLeaveNone (b : InBase) : Type 0 where
   product : OnlyIf false b.product
   product_added : (ft : ℕ) → OnlyIf false (b.product_added ft)
@@ -82,7 +82,7 @@ connection-field C table a offset x n = tt
 connection-field Cm table a offset x n = refl
 connection-field Ct table a offset x n = tt
 
--- a field that is left lies in storage, since the words that are written do
+-- a field in a result lies in storage, since the words that are written do
 pub is_field-left : (f : Option ℕ) (b : Bool) (e n : ℕ) → 1 ≤ n → n ≤ 64 → IfSome f (λ v. v < 2 ^ n)
     → IfSome f (λ _. b ≡ true) → AreInside (if b then field_words e n else no_words) → IfSome f (IsField e n)
 is_field-left None b e n some few fits only h = tt

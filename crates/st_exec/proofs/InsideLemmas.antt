@@ -1,4 +1,4 @@
--- What an instruction's effect needs to be in storage is there where its words are.
+-- The storage that an effect needs lies within the words of the instruction.
 use Rattle.std.proofs.Common.{◌≡◌, ◌≢◌, ℕ, ◌+◌, ◌*◌, ◌/◌, ◌%◌, ◌^◌, ◌<◌, ◌≤◌, Bool, true, false, ◌==◌, if◌then◌else◌, refl, sym, ap, subst, arith}
 use Rattle.std.specs.Prelude.{nat_le, List}
 use Rattle.std.proofs.lemmas.Bool.{leb-true, leb-false, eqb-true}
@@ -12,7 +12,7 @@ use Rattle.st_prep.specs.Ranges.{AreInside}
 use Rattle.st_exec.specs.Operand.{AreRead}
 use Rattle.st_exec.specs.Effect.{IsField, AreRuns}
 
--- words that stand where a test holds
+-- words that are chosen by a test, when the test holds
 inside_if : (b : Bool) (w : Words) → AreInside (if b then w else no_words) → b ≡ true → AreInside w
 inside_if true w h t = h
 inside_if false w h t = absurd (cc)
@@ -73,7 +73,7 @@ inside-counter a i second e v h fits =
     let w : e / 64 + 1 ≤ words_of_storage = h.inside (omega arith) in
     record { some = omega arith; few = omega arith; inside = omega arith; fits = fits }
 
--- a bit stands in one word
+-- a bit lies in one word
 one_of_two : (b : Bool) (m : ℕ) → nat_le m 64 ≡ b → m ≤ 64 → ◌≡◌ {A = ℕ} (if b then 1 else 2) 1
 one_of_two true m t le = refl
 one_of_two false m t le = absurd (omega (arith, leb-false m 64 t))

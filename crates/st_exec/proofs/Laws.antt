@@ -1,4 +1,4 @@
--- What holds of completion itself, and not of one call, proved.
+-- Proofs of the laws of completion.
 use Rattle.st_exec.proofs.Unchanged.{completed-done}
 use Rattle.st_exec.proofs.AheadLemmas.{completed-past, missed-branch, guessed-right}
 use Rattle.st_exec.proofs.AlikeEffects.{guessed-alike, completed-alike}

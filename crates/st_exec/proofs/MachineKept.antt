@@ -1,4 +1,4 @@
--- An entry that is completed keeps what each state keeps.
+-- The completion of an entry keeps the invariant of the state.
 use Rattle.std.proofs.Common.{◌≡◌, ℕ, zero, suc, ◌+◌, ◌*◌, ◌/◌, ◌%◌, ◌^◌, ◌<◌, ◌≤◌, inl, inr, Bool, true, false, ◌==◌, if◌then◌else◌, Option, None, Some, length, refl, sym, ◌∙◌, ap, subst, arith}
 use Rattle.std.specs.Prelude.{IfSome, is_some}
 use Rattle.std.proofs.lemmas.List.{get_or_past}
@@ -133,7 +133,7 @@ unfolding with_result
 kept-with_result o a n s m h =
     kept-field o.field a n _ (kept-applied (with_registers o s) o.ind.on o.ind.off (kept-registers o s m h))
 
--- ---- runs of words
+-- ---- ranges of words
 
 kept-copied : (from to n : ℕ) (s : Machine) → IsMachine s → to + n ≤ words_of_storage → IsMachine (state_with_copy from to n s)
 unfolding state_with_copy
@@ -177,7 +177,7 @@ kept-given write order s m h =
 
 -- ---- effects
 
--- the words and the numbers that a effect leaves have room
+-- the words and numbers of an effect fit their places
 abbrev pub HasPlace : Effect → Type 0
 HasPlace (Copy from to n) = AreRuns from to n
 HasPlace (Exchange from to n) = AreRuns from to n

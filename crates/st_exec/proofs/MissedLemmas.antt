@@ -1,4 +1,4 @@
--- When the guess of an entry is wrong, by its instruction and the indicators.
+-- When an entry is mispredicted, by its instruction and the indicators.
 use Rattle.std.proofs.Common.{◌≡◌, ℕ, Bool, false, not, ◌&&◌, ◌==◌, ◌%◌, refl, ◌∙◌, ap, arith, get_or-set_same}
 use Rattle.st_bits.specs.Bits.{part}
 use Rattle.st_bits.specs.Storage.{words_of_storage_is}
@@ -15,7 +15,7 @@ use Rattle.st_exec.specs.Ahead.{is_indicator_branch}
 use Rattle.st_exec.specs.Completion.{with_change, state_with_early_changes, is_taken, is_missed}
 use Rattle.st_exec.proofs.AheadLemmas.{change-low, change-marks}
 
--- the indicators after the early change
+-- the indicator register after the early change
 early-indicators : (p : Prepared) (s : Machine) → IsMachine s → word (state_with_early_changes p s) 11 ≡ indicator_word 64 p.ind.on p.ind.off (word s 11)
 unfolding state_with_early_changes
 early-indicators p s m =
@@ -23,7 +23,7 @@ early-indicators p s m =
     get_or-set_same u.words 11 _ 0 (omega (arith, (change-marks p.index s).size, m.size, words_of_storage_is))
     ∙ ap (λ x. indicator_word 64 p.ind.on p.ind.off x) (change-low p.index s 11 (omega arith))
 
--- of an entry that is neither done alone nor suppressed
+-- a non-serializing entry that is not suppressed is mispredicted if and only if it is taken
 missed-taken : (p : Prepared) (s : Machine) → IsPrepared p → p.serial ≡ false → p.suppressed ≡ false
     → is_missed p s ≡ is_taken p.instr p.e (state_with_early_changes p s)
 unfolding is_missed
@@ -41,7 +41,7 @@ missed-branch p s sense off address i second h m free whole is =
     ∙ ap (λ (instr : Instr). is_taken instr p.e (state_with_early_changes p s)) is
     ∙ ap (λ x. part x (p.e % 64) 1 == bit_of sense) (early-indicators p s m)
 
--- another one that is not done alone branches on nothing
+-- a non-serializing entry other than BI is not a taken branch
 not-taken : (instr : Instr) (e : ℕ) (t : Machine) → acts_alone instr ≡ false → is_indicator_branch instr ≡ false
     → is_taken instr e t ≡ false
 unfolding is_taken acts_alone

@@ -1,13 +1,13 @@
--- Words that are copied or exchanged one after the other: what is left to be done after k of n.
+-- Words that are copied or exchanged one at a time: the rest of the move after k of n words.
 use Rattle.std.proofs.Common.{◌≡◌, ℕ, zero, suc, ◌+◌, ◌-◌, ◌<◌, ◌≤◌, refl, sym, ◌∙◌, ap, arith}
 use Rattle.st_state.specs.Machine.{Machine, word, state_with_store}
 use Rattle.st_exec.specs.Effect.{state_with_copy, state_with_exchange}
 
--- a move from and to word addresses, of so many words
+-- a move between two word addresses, with the number of words
 abbrev pub Move : Type 0
 Move = ℕ → ℕ → ℕ → Machine → Machine
 
--- the rest of a move
+-- the rest of a move after k words
 abbrev pub rest : Move → ℕ → ℕ → ℕ → ℕ → Machine → Machine
 rest move from to n k t = move (from + k) (to + k) (n - k) t
 
@@ -35,7 +35,7 @@ rest-exchanged from to n k t h =
     sym (rest-next state_with_exchange from to n k (state_with_store (state_with_store t (from + k) (word t (to + k))) (to + k) (word t (from + k))))
     ∙ ap (λ m. state_with_exchange (from + k) (to + k) m t) size
 
--- nothing is left at the end
+-- after the last word, nothing remains
 copied-none : (from to m : ℕ) (t : Machine) → m ≡ 0 → state_with_copy from to m t ≡ t
 unfolding state_with_copy
 copied-none from to zero t e = refl

@@ -1,4 +1,4 @@
--- Operands: the words that were read hold the field that stands in storage.
+-- The operand words contain the field of storage.
 use Rattle.std.proofs.Common.{◌≡◌, ℕ, zero, suc, ◌+◌, ◌-◌, ◌*◌, ◌/◌, ◌%◌, ◌<◌, ◌≤◌, ◌^◌, List, [], ◌∷◌, length, Bool, true, false, if◌then◌else◌, refl, sym, ◌∙◌, ap, arith, get_or}
 use Rattle.std.specs.Prelude.{nat_le}
 use Rattle.std.proofs.lemmas.Bool.{leb-true}
@@ -11,7 +11,7 @@ use Rattle.st_exec.specs.Operand.{AreOperands, AreFirstOperands, AreRead}
 
 -- ---- windows
 
--- a field of storage within one word, which is x
+-- a field of storage within one word x
 pub field-one : (ws : List ℕ) (a n x : ℕ) → 1 ≤ n → a % 64 + n ≤ 64 → a + n ≤ 64 * length ws → x ≡ get_or ws (a / 64) 0
     → num (field (all_bits (x ∷ [])) (a % 64) n) ≡ num (field (all_bits ws) a n)
 field-one ws a n x some le inside read =
@@ -23,7 +23,7 @@ field-one ws a n x some le inside read =
     ∙ ap (λ y. part y (a % 64) n) read
     ∙ sym (num-at_word ws a n some le inside)
 
--- a field of storage over the border of two words, which are x and y
+-- a field of storage that crosses from word x into word y
 pub field-two : (ws : List ℕ) (a n x y : ℕ) → 64 < a % 64 + n → n ≤ 64 → a + n ≤ 64 * length ws
     → x ≡ get_or ws (a / 64) 0 → y ≡ get_or ws (a / 64 + 1) 0
     → num (field (all_bits (x ∷ y ∷ [])) (a % 64) n) ≡ num (field (all_bits ws) a n)

@@ -1,4 +1,4 @@
--- What operations on fields leave fits the registers.
+-- The results of operations on fields fit the registers.
 use Rattle.std.proofs.Common.{◌≡◌, ◌≢◌, ℕ, ◌-◌, ◌*◌, ◌/◌, ◌%◌, ◌^◌, ◌<◌, ◌≤◌, Bool, true, false, not, ◌&&◌, ◌||◌, ◌==◌, Option, None, length, refl, sym, subst, arith}
 use Rattle.std.specs.Prelude.{IfSome, nat_lt}
 use Rattle.std.proofs.lemmas.Bool.{ltb-false, eqb-true, eqb-false, not-false as not-not}
@@ -37,14 +37,14 @@ use Rattle.st_prep.proofs.Choices.{of_choice}
 use Rattle.st_exec.specs.Outcome.{result_by, shape_of}
 use Rattle.st_exec.proofs.BitBounds.{num-by_weight}
 
--- the magnitude of the accumulator has 128 bits, and each register that is left has 64
+-- the magnitude of the accumulator has at most 128 bits, and each register of the result at most 64
 pub record FitsRegisters (d : Done) : Type 0 where
   pub acc : d.acc.mag < 2 ^ 128
   pub rm : IfSome d.rm (λ x. x < 2 ^ 64)
   pub ft : IfSome d.ft (λ x. x < 2 ^ 64)
   pub tr : IfSome d.tr (λ x. x < 2 ^ 64)
 
--- the accumulator alone is left
+-- a result that changes only the accumulator fits the registers
 fits_alone : (d : Done) → d.acc.mag < 2 ^ 128 → d.rm ≡ None → d.ft ≡ None → d.tr ≡ None → FitsRegisters d
 fits_alone d h rm ft tr =
     let P : Option ℕ → Type 0 = λ o. IfSome o (λ x. x < 2 ^ 64) in
@@ -87,7 +87,7 @@ is_decimal_shape d u n p l b o f h e =
 
 -- ---- operations in any base
 
--- what a base leaves fits the registers
+-- the results of a base fit the registers
 record FitsBase (b : InBase) : Type 0 where
   content : b.content < 2 ^ 64
   at_place : b.at_place.bits < 2 ^ 128

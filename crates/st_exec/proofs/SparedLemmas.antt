@@ -1,4 +1,4 @@
--- What the effect of an operation that is not done alone leaves as it was.
+-- The parts of the state that the effect of a non-serializing operation leaves unchanged.
 use Rattle.std.proofs.Common.{◌≡◌, ◌≢◌, ℕ, ◌+◌, ◌*◌, ◌/◌, ◌%◌, ◌^◌, ◌<◌, ◌≤◌, ◌⊎◌, inl, inr, Bool, true, false, if◌then◌else◌, Option, None, Some, List, length, refl, sym, ◌∙◌, ap, subst, arith, get_or-set_other}
 use Rattle.std.specs.Prelude.{IfSome, nat_le}
 use Rattle.std.proofs.lemmas.Bool.{leb-true}
@@ -32,14 +32,14 @@ use Rattle.st_exec.proofs.ApartLemmas.{length-placed, word-placed}
 use Rattle.st_exec.proofs.FieldLemmas.{result-field, connection-field}
 use Rattle.st_exec.proofs.Unchanged.{stored-other}
 
--- ---- which effects
+-- ---- predicates on effects
 
 -- a field in storage that has no bit of word i
 pub record IsApart (a n i : ℕ) : Type 0 where
   pub inside : a + n ≤ 64 * words_of_storage
   pub apart : (64 * i + 64 ≤ a) ⊎ (a + n ≤ 64 * i)
 
--- a effect that leaves the marks and the orders
+-- an effect that leaves the marks and the orders unchanged
 abbrev pub IsQuiet : Effect → Type 0
 IsQuiet Rest = Unit {0}
 IsQuiet (Put a n v) = Unit {0}
@@ -47,7 +47,7 @@ IsQuiet (TurnOff k) = Unit {0}
 IsQuiet (Leave o a n) = Unit {0}
 IsQuiet _ = ⊥
 
--- and word i, unless it is one of the registers
+-- an effect that leaves word i unchanged, unless it is one of the registers of operations on fields
 abbrev pub Spares : Effect → ℕ → Type 0
 Spares Rest i = Unit {0}
 Spares (Put a n v) i = IsApart a n i
@@ -55,7 +55,7 @@ Spares (TurnOff k) i = Unit {0}
 Spares (Leave o a n) i = IfSome o.field (λ _. IsApart a n i)
 Spares _ i = ⊥
 
--- ---- the effects of operations that are not done alone
+-- ---- the effects of non-serializing operations
 
 apart-by : (w m a n i : ℕ) → w + m ≤ words_of_storage → 64 * w ≤ a → a + n ≤ 64 * (w + m) → (i < w) ⊎ (w + m ≤ i)
     → IsApart a n i
@@ -80,7 +80,7 @@ apart-field : (e n i : ℕ) → n ≤ 64 → AreInside (field_words e n) → IsN
 unfolding field_words
 apart-field e n i few h k = apart-words (nat_le (e % 64 + n) 64) e n i refl few h k
 
--- a field that is left only where its words are written
+-- a field that is written only if its words are among the written ones has no bit of word i
 apart-left : (f : Option ℕ) (b : Bool) (e n i : ℕ) → n ≤ 64 → IfSome f (λ _. b ≡ true)
     → AreInside (if b then field_words e n else no_words) → IsNotAmong i (if b then field_words e n else no_words)
     → IfSome f (λ _. IsApart e n i)
@@ -224,7 +224,7 @@ marks-done (Leave o a n) t k = marks-with_result o a n t
 
 -- ---- words
 
--- none of the registers that operations on fields leave: 7 to 11 and 13 to 15
+-- word i is none of the registers that operations on fields write: 7 to 11 and 13 to 15
 pub record IsKept (i : ℕ) : Type 0 where
   pub other : (k : ℕ) → 7 ≤ k → k < 16 → k ≢ 12 → i ≢ k
 
@@ -237,7 +237,7 @@ kept-above i h = record { other = λ k low high not. omega arith }
 pub kept-mask : IsKept 12
 kept-mask = record { other = λ k low high not e. not (sym e) }
 
--- a word in its place
+-- word i of state t is x
 pub record Stands (t : Machine) (i x : ℕ) : Type 0 where
   pub is : word t i ≡ x
   pub below : x < 2 ^ 64
@@ -264,7 +264,7 @@ with_registers-keeps o t i k =
     ∙ with_register-keeps 13 o.rm _ i (k.other 13 (omega arith) (omega arith) (omega arith))
     ∙ with_accumulator-keeps o.acc t i k
 
--- a word without a bit of what is put
+-- a word that has no bit of a written field is unchanged
 placed-keeps : (t : Machine) (a n v i x : ℕ) → length t.words ≡ words_of_storage → IsApart a n i → Stands t i x
     → word (state_with_bits t a (bits n v)) i ≡ x
 placed-keeps t a n v i x size k h =

@@ -1,10 +1,11 @@
--- The words of a card go into storage one after the other, and the words of a line are taken from it.
+-- The words of a card are written to storage one at a time, and the words of a line are read from
+-- it.
 use Rattle.std.proofs.Common.{◌≡◌, ℕ, zero, suc, ◌+◌, ◌<◌, ◌≤◌, List, [], ◌∷◌, length, get_or, drop, refl, sym, ◌∙◌, ap, arith}
 use Rattle.std.proofs.lemmas.List.{drop_more, length-drop}
 use Rattle.st_state.specs.Machine.{Machine, word, state_with_store}
 use Rattle.st_exec.specs.Transfer.{all_stored, words_from}
 
--- what is left of a card after k words
+-- the rest of a card after k words
 pub all_stored-next : (s : Machine) (w k : ℕ) (xs : List ℕ) → k < length xs
     → all_stored (state_with_store s (w + k) (get_or xs k 0)) (w + (k + 1)) (drop (k + 1) xs) ≡ all_stored s (w + k) (drop k xs)
 unfolding all_stored
@@ -18,11 +19,11 @@ unfolding all_stored
 all_stored-none s w [] e = refl
 all_stored-none s w (x ∷ xs) e = absurd (omega arith)
 
--- nothing is left at the end
+-- after the last word of the card, nothing remains
 pub all_stored-all : (s : Machine) (w k : ℕ) (xs : List ℕ) → length xs ≤ k → all_stored s (w + k) (drop k xs) ≡ s
 all_stored-all s w k xs h = all_stored-none s (w + k) (drop k xs) (length-drop k xs ∙ omega arith)
 
--- a list of n items, each of them a word, is the words
+-- a list of n items, each equal to its word of storage, is the list of the words
 pub words_from-each : (s : Machine) (w n : ℕ) (xs : List ℕ) → length xs ≡ n
     → ((k : ℕ) → k < n → get_or xs k 0 ≡ word s (w + k)) → xs ≡ words_from s w n
 unfolding words_from

@@ -1,4 +1,5 @@
--- What the parts of a step leave as it was: the number done, and words that they do not name.
+-- The parts of the state that a step leaves unchanged: the count of completed instructions, and
+-- words that it does not name.
 use Rattle.std.proofs.Common.{◌≡◌, ◌≢◌, ℕ, zero, suc, ◌+◌, ◌<◌, ◌≤◌, Bool, true, false, if◌then◌else◌, List, Option, None, Some, refl, sym, ◌∙◌, ap, arith, get_or-set_other}
 use Rattle.std.specs.Prelude.{IfSome}
 use Rattle.st_bits.specs.Registers.{register_word}
@@ -17,7 +18,7 @@ use Rattle.st_exec.specs.Completion.{with_change, state_with_early_changes, coun
 use Rattle.st_exec.specs.declared.effects.Effect.{Effect}
 use Rattle.st_exec.specs.declared.effects.Effect.TheVariants.{Rest, Put, Copy, Exchange, TurnOff, Enable, Wait, Give, Leave}
 
--- ---- the number done
+-- ---- the count of completed instructions
 
 pub opened-done : (table : Option ℕ) (s : Machine) → (state_at_entry table s).done ≡ s.done
 opened-done None s = refl
@@ -86,7 +87,7 @@ finished-done : (b : Bool) (p : Prepared) (t : Machine)
 finished-done true p t = refl
 finished-done false p t = ap (λ n. n + 1) (done-done (effect p t) t)
 
--- each entry is one instruction
+-- the completion of an entry counts one instruction
 pub completed-done : (p : Prepared) (s : Machine) → (state_after_completion p s).done ≡ s.done + 1
 unfolding state_after_completion state_after_effect
 completed-done p s =
@@ -114,7 +115,7 @@ unfolding state_with_early_changes
 early-above p s i h above =
     get_or-set_other (with_change p.index s).words 11 i _ 0 (omega arith) ∙ with_change-above p.index s i h above
 
--- the operands are those of the state that the early change leaves, but for registers
+-- the operands are the words of the state after the early change, except registers
 pub operands-read : (p : Prepared) (operands : List ℕ) (s : Machine) → IsPrepared p → AreFirstOperands p.reads operands s
     → AreRead p.reads operands (state_with_early_changes p (state_at_entry p.place.table s))
 operands-read p operands s h r =

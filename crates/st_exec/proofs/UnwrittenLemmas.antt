@@ -1,4 +1,4 @@
--- What an entry leaves as it was, also where it is done alone: words that it does not write, and the guess.
+-- The words that an entry, serializing or not, leaves unchanged, also in the predicted state.
 use Rattle.std.proofs.Common.{◌≡◌, ◌≢◌, ℕ, zero, suc, ◌+◌, ◌*◌, ◌/◌, ◌^◌, ◌<◌, ◌≤◌, ◌⊎◌, inl, inr, Bool, true, false, ◌==◌, if◌then◌else◌, Option, None, Some, length, refl, sym, ◌∙◌, ap, subst, arith, get_or-set_other}
 use Rattle.std.specs.Prelude.{IfSome, is_some}
 use Rattle.std.proofs.lemmas.Bool.Decides.{nat_tests}
@@ -29,9 +29,9 @@ use Rattle.st_exec.proofs.MachineKept.{kept-early, kept-completed}
 use Rattle.st_exec.proofs.SparedLemmas.{IsApart, Spares, apart-word, spares-effect, kept-above, Stands, done-keeps}
 use Rattle.st_exec.proofs.Unchanged.{stored-other, opened-above, early-above, completed-done}
 
--- ---- words that a effect does not write
+-- ---- words that an effect does not write
 
--- word i is none of the n words from word w on
+-- word i is not among the n words from word w
 abbrev pub IsBeside : ℕ → ℕ → ℕ → Type 0
 IsBeside i w n = (i < w) ⊎ (w + n ≤ i)
 
@@ -69,7 +69,7 @@ given-other write order t i other =
     of_choice (λ (u : Machine). word u i ≡ word t i) (is_some (order_standing write t)) _ _
     (get_or-set_other t.words 11 i _ 0 other) (with_order-other write order t i)
 
--- a effect that leaves word i, which is no register
+-- an effect that leaves word i unchanged, which is not a register
 abbrev pub SparesAbove : Effect → ℕ → Type 0
 SparesAbove Rest i = Unit {0}
 SparesAbove (Put a n v) i = IsApart a n i
@@ -199,7 +199,7 @@ early-index_words p s table h m =
     (λ k few. sym (early-index p u k long' few h.change)) in
     sym after ∙ ap (λ y. words_after y p.index) (sym same)
 
--- ---- the guess
+-- ---- the predicted state
 
 kept-counter : (s : Machine) (c : ℕ) → IsMachine s → c < 2 ^ 19 → IsMachine (record s { ic = c })
 kept-counter s c m h = record {
@@ -216,7 +216,7 @@ guessed-rest_by : (b : Bool) (u : Machine) (c : ℕ)
 guessed-rest_by true u c = refl
 guessed-rest_by false u c = refl
 
--- it is the entry itself, but for the counter
+-- the predicted state is the completed state except for the program counter
 pub guessed-rest : (p : Prepared) (s : Machine) → guessed_state p s ≡ record (state_after_completion p s) { ic = (guessed_state p s).ic }
 unfolding guessed_state
 guessed-rest p s = guessed-rest_by p.serial (state_after_completion p s) p.following

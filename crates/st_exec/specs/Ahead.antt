@@ -1,5 +1,5 @@
--- What an entry that is not done alone leaves of a state, so that entries behind it can be prepared
--- before it is done.
+-- The parts of the state that a non-serializing entry leaves unchanged, so that later entries can
+-- be prepared before it completes.
 use Rattle.std.specs.Prelude.{ℕ, ◌≡◌, ◌+◌, ◌<◌, ◌≤◌, ◌⊎◌, Bool, true, false, length}
 use Rattle.st_bits.specs.declared.register.TheConstants.{COUNTS, MASK, FIRST_STORAGE_WORD}
 use Rattle.st_format.specs.declared.instruction.Instr.{Instr}
@@ -10,13 +10,14 @@ use Rattle.st_prep.specs.declared.entries.Prepared.{Prepared}
 use Rattle.st_prep.specs.EarlyChange.{words_after}
 use Rattle.st_prep.specs.Fetch.{index_words}
 
--- word i is none of the words
+-- word i is not in either range of the words w
 pub record IsNotAmong (i : ℕ) (w : Words) : Type 0 where
   pub first : (i < w.first) ⊎ (w.first + w.len ≤ i)
   pub second : (i < w.first2) ⊎ (w.first2 + w.len2 ≤ i)
 
--- a state after an entry: the index words of its early change, each word from 32 up that it does
--- not write, the boundary register and the mask, the marks and the orders, and one more done
+-- state t after a non-serializing entry p in state s: the index words have the early change; each
+-- word from 32 that p does not write, the boundary register, the mask, the marks and the orders are
+-- unchanged; one more instruction is completed
 pub record IsPast (p : Prepared) (s t : Machine) : Type 0 where
   pub size : length t.words ≡ length s.words
   pub index : index_words t ≡ words_after (index_words s) p.index
@@ -29,7 +30,7 @@ pub record IsPast (p : Prepared) (s t : Machine) : Type 0 where
   pub printer : t.printer ≡ s.printer
   pub done : t.done ≡ s.done + 1
 
--- BI
+-- whether the instruction is BI, a branch on an indicator
 abbrev pub is_indicator_branch : Instr → Bool
 is_indicator_branch (IndBranch sense off address i second) = true
 is_indicator_branch _ = false

@@ -1,5 +1,5 @@
--- What an entry that is prepared makes of a state: its early change, its effect, and the counter
--- after it.
+-- The completion of a prepared entry: its early change, its effect, and the program counter after
+-- it.
 use Rattle.std.specs.Prelude.{ℕ, ◌+◌, ◌%◌, Bool, false, not, ◌&&◌, ◌==◌, if◌then◌else◌, Option, None, Some}
 use Rattle.st_bits.specs.declared.register.TheConstants.{FIRST_INDEX_WORD, INDICATORS}
 use Rattle.st_bits.specs.Bits.{part}
@@ -14,27 +14,29 @@ use Rattle.st_prep.specs.Plan.{state_at_entry, plan}
 use Rattle.st_exec.specs.Operand.{field_at}
 use Rattle.st_exec.specs.Effect.{effect, carried_out}
 
--- ---- before the operands are read
+-- ---- changes before the operands are read
 
--- an index word is changed
+-- the state after a change of an index word, if there is one
 abbrev pub with_change : Option IndexChange → Machine → Machine
 with_change None s = s
 with_change (Some c) s = state_with_store s (FIRST_INDEX_WORD + c.number) c.word
 
--- and then the indicators, or the one of a fault
+-- the state after the early changes of an entry: the index word, and then the indicators or the one
+-- indicator of a fault
 unfoldable pub state_with_early_changes : Prepared → Machine → Machine
 state_with_early_changes p s = state_with_indicators p.ind (with_change p.index s)
 
--- ---- the counter
+-- ---- the program counter
 
--- whether a branch on a bit or on an indicator is taken: where what it tests equals its sense
+-- whether a branch on a bit or on an indicator is taken: the tested bit equals its sense; false for
+-- other instructions
 unfoldable pub is_taken : Instr → ℕ → Machine → Bool
 is_taken (BitBranch sense change address i second) e t = field_at t e 1 == bit_of sense
 is_taken (IndBranch sense off address i second) e t =
     part (word t INDICATORS) (e % 64) 1 == bit_of sense
 is_taken _ e t = false
 
--- where it branches to
+-- the target of a branch on a bit or on an indicator; for other instructions, the following address
 unfoldable pub target : Instr → ℕ → ℕ
 target (BitBranch sense change address i second) following = second
 target (IndBranch sense off address i second) following = second
@@ -43,30 +45,32 @@ target _ following = following
 abbrev pub counter : Prepared → Machine → ℕ
 counter p t = if is_taken p.instr p.e t then target p.instr p.following else p.following
 
--- an instruction is done, and the counter is h
+-- the state with one more completed instruction and the program counter h
 abbrev pub state_counted_on : Machine → ℕ → Machine
 state_counted_on s h = record s { ic = h; done = s.done + 1 }
 
--- ---- the whole
+-- ---- the whole completion
 
--- the effect, and then the counter; of a suppressed entry the counter alone
+-- the state after the effect of an entry and the update of the program counter; a suppressed entry
+-- only updates the counter
 unfoldable pub state_after_effect : Prepared → Machine → Machine
 state_after_effect p t =
     if p.suppressed then state_counted_on t p.following
     else state_counted_on (carried_out (effect p t) t) (counter p t)
 
--- an entry is completed; where it is a table instruction, its interrupt is taken first
+-- the state after the completion of an entry; the interrupt of a table instruction is taken first
 unfoldable pub state_after_completion : Prepared → Machine → Machine
 state_after_completion p s = state_after_effect p (state_with_early_changes p
     (state_at_entry p.place.table s))
 
--- the next entry of a state, or its table instruction, is executed
+-- the state after the execution of the next entry, or of the table instruction of an interrupt
 abbrev pub state_after_execution : Option ℕ → Machine → Machine
 state_after_execution table s = state_after_completion (plan s table) s
 
--- ---- the guess that the next entry is prepared by
+-- ---- the prediction along which the next entry is prepared
 
--- a branch on an indicator is not taken; entries that are done alone need no guess
+-- the state after an entry if its branch is predicted not taken; a serializing entry is not
+-- predicted, so for it this is the completed state
 unfoldable pub guessed_state : Prepared → Machine → Machine
 guessed_state p s = if p.serial then state_after_completion p s
     else record (state_after_completion p s) { ic = p.following }
@@ -74,7 +78,8 @@ guessed_state p s = if p.serial then state_after_completion p s
 abbrev pub guess : Option ℕ → Machine → Machine
 guess table s = guessed_state (plan s table) s
 
--- whether the guess was wrong
+-- whether an entry is mispredicted: it is neither serializing nor suppressed, and its branch is
+-- taken
 unfoldable pub is_missed : Prepared → Machine → Bool
 is_missed p s =
     not p.serial && not p.suppressed && is_taken p.instr p.e

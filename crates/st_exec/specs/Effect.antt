@@ -1,4 +1,4 @@
--- What an operation does once its operands are there.
+-- The effect of an operation, given its operands.
 use Rattle.std.specs.Prelude.{ℕ, zero, suc, ◌+◌, ◌*◌, ◌/◌, ◌%◌, ◌≤◌, ◌<◌, ◌^◌, ◌==◌, Bool, true, false, if◌then◌else◌, Option, Some, is_some, IfSome}
 use Rattle.st_bits.specs.declared.indicators.TheConstants.{CHANNEL_BUSY_REJECT}
 use Rattle.st_bits.specs.Bits.{bits}
@@ -21,8 +21,8 @@ use Rattle.st_exec.specs.declared.effects.Effect.TheVariants.{Rest, Put, Copy, E
 
 -- ---- the effect of each operation
 
--- index stores put index word J or a part of it into the word at e; SVA puts its part into the
--- half-word there
+-- the effect of an index store: index word J or a part of it is stored in the word at e; SVA stores
+-- its part in the half-word at e
 abbrev pub index_effect : HalfOp → ℕ → ℕ → Effect
 index_effect Sx e v = Put (64 * (e / 64)) 64 v
 index_effect Sv e v = Put (64 * (e / 64)) 25 v
@@ -31,35 +31,38 @@ index_effect Sr e v = Put (64 * (e / 64) + 46) 18 v
 index_effect Sva e v = Put (32 * (e / 32)) 19 v
 index_effect _ e v = Rest
 
--- BE and BEW enable interrupts, BD disables them, and BEW waits
+-- the effect of a branch instruction: BE and BEW enable interrupts, BD disables them, BEW also
+-- waits
 abbrev pub branch_effect : BranchOp → Effect
 branch_effect Be = Enable true
 branch_effect Bd = Enable false
 branch_effect Bew = Wait
 branch_effect _ = Rest
 
--- T copies words, SWAP exchanges them
+-- the effect of a transmission: T copies n words, SWAP exchanges them
 abbrev pub move_effect : Bool → ℕ → ℕ → ℕ → Effect
 move_effect false from to n = Copy from to n
 move_effect true from to n = Exchange from to n
 
--- BB leaves its bit, which is b, makes it zero, makes it one, or inverts it
+-- the effect of BB on its bit, whose value is b: the bit is left unchanged, cleared, set or
+-- inverted
 abbrev pub bit_effect : ℕ → ℕ → ℕ → Effect
 bit_effect zero e b = Rest
 bit_effect (suc zero) e b = Put e 1 0
 bit_effect (suc (suc zero)) e b = Put e 1 1
 bit_effect (suc (suc (suc _))) e b = Put e 1 (if b == 0 then 1 else 0)
 
--- BI turns its indicator off, where it is to
+-- the effect of BI on its indicator: the indicator is turned off if the instruction says so
 abbrev pub indicator_effect : Bool → ℕ → Effect
 indicator_effect false e = Rest
 indicator_effect true e = TurnOff (e % 64)
 
--- RD and WR give an order, which is due so many instructions after this one
+-- the effect of RD and WR: an order that is due n instructions after this one
 abbrev pub order_effect : Bool → ℕ → ℕ → ℕ → Effect
 order_effect write e n done = Give write (record { word = e / 64; due = done + 1 + n })
 
--- the effect of an instruction with the effective address e, which stores the value v
+-- the effect of an instruction with the effective address e in state t, where v is the value that
+-- an index store or SIC stores
 unfoldable pub effect_of : Instr → ℕ → ℕ → Machine → Effect
 effect_of (Half op address j i) e v t = index_effect op e v
 effect_of (Branch op address i) e v t = branch_effect op
@@ -78,22 +81,23 @@ effect_of (Invalid first second full) e v t = Rest
 abbrev pub effect : Prepared → Machine → Effect
 effect p t = effect_of p.instr p.e p.value t
 
--- ---- what each effect makes of a state
+-- ---- the application of each effect to a state
 
--- n words from one word on are copied to those from another word on, one after the other
+-- the state after n words from one address are copied to another, one word at a time
 unfoldable pub state_with_copy : ℕ → ℕ → ℕ → Machine → Machine
 state_with_copy from to zero t = t
 state_with_copy from to (suc n) t = state_with_copy (from + 1) (to + 1) n
     (state_with_store t to (word t from))
 
--- they are exchanged, one after the other
+-- the state after n words from one address are exchanged with those from another, one word at a
+-- time
 unfoldable pub state_with_exchange : ℕ → ℕ → ℕ → Machine → Machine
 state_with_exchange from to zero t = t
 state_with_exchange from to (suc n) t =
     state_with_exchange (from + 1) (to + 1) n
     (state_with_store (state_with_store t from (word t to)) to (word t from))
 
--- the order that the reader, or the printer, has
+-- the order of the printer if the argument is true, of the reader otherwise
 abbrev pub order_standing : Bool → Machine → Option Order
 order_standing false t = t.reader
 order_standing true t = t.printer
@@ -102,7 +106,8 @@ abbrev pub machine_with_order : Bool → Order → Machine → Machine
 machine_with_order false order t = record t { reader = Some order }
 machine_with_order true order t = record t { printer = Some order }
 
--- a device that has an order takes no other: CBJ comes on
+-- the state after an order is given; a device that already has an order keeps it, and CBJ is turned
+-- on
 abbrev pub state_with_order : Bool → Order → Machine → Machine
 state_with_order write order t =
     if is_some (order_standing write t) then state_with_signal t CHANNEL_BUSY_REJECT
@@ -119,16 +124,16 @@ carried_out Wait t = record t { enabled = true; waiting = true }
 carried_out (Give write order) t = state_with_order write order t
 carried_out (Leave result a n) t = with_result result a n t
 
--- ---- effects that can be done
+-- ---- effects that can be applied
 
--- a field in storage, and a number that it holds
+-- a field of n bits in storage at bit address a, and a number v that fits
 pub record IsField (a n v : ℕ) : Type 0 where
   pub some : 1 ≤ n
   pub few : n ≤ 64
   pub inside : a + n ≤ 64 * words_of_storage
   pub fits : v < 2 ^ n
 
--- two runs of n words in storage
+-- two ranges of n words in storage
 pub record AreRuns (from to n : ℕ) : Type 0 where
   pub from_inside : from + n ≤ words_of_storage
   pub to_inside : to + n ≤ words_of_storage

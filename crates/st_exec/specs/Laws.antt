@@ -1,4 +1,4 @@
--- What holds of completion itself, and not of one call.
+-- Laws of completion that are not clauses of one call.
 use Rattle.std.specs.Prelude.{◌≡◌, ◌+◌, ◌≤◌, true, false, ℕ, Option, None}
 use Rattle.st_state.specs.Machine.{Machine, IsMachine, word}
 use Rattle.st_prep.specs.declared.entries.Prepared.{Prepared}
@@ -19,28 +19,29 @@ pub record EntriesAreBounded : Type 0 where
   pub cost : (p : Prepared) → IsPrepared p → p.cost ≤ 24
   pub reads : (p : Prepared) → IsPrepared p → p.reads.len + p.reads.len2 ≤ 32
 
--- Each entry counts as one instruction.
+-- Each entry counts as one completed instruction.
 abbrev pub EntriesCountAsOne : Type 0
 EntriesCountAsOne = (p : Prepared) (s : Machine) → (state_after_completion p s).done ≡ s.done + 1
 
--- An entry that is not done alone leaves of a state what the entries behind it were prepared by:
--- the index words of its early change, each word above the registers that it does not name, and the
+-- A non-serializing entry leaves unchanged everything by which later entries were prepared: the
+-- index words after its early change, each word above the registers that it does not write, and the
 -- rest of `IsPast`.
 abbrev pub EntriesAheadLeaveTheRest : Type 0
 EntriesAheadLeaveTheRest = (p : Prepared) (s : Machine) → IsPrepared p → IsMachine s → p.serial
     ≡ false
     → IsPast p s (state_after_completion p s)
 
--- The guess is right but where a branch is missed, and only a branch on an indicator can be.
+-- The predicted state is the completed state unless the entry is mispredicted, and only a branch on
+-- an indicator can be mispredicted.
 pub record OnlyIndicatorBranchesAreMissed : Type 0 where
   pub right : (p : Prepared) (s : Machine) → IsPrepared p → is_missed p s ≡ false
       → guessed_state p s ≡ state_after_completion p s
   pub missed : (p : Prepared) (s : Machine) → IsPrepared p → is_missed p s ≡ true
       → is_indicator_branch p.instr ≡ true
 
--- Two states that differ in word 11 alone differ in no more after the guess of an entry that is not
--- done alone, nor after the entry itself where the guess is right of both: a branch on an indicator
--- that only one of them takes parts their counters.
+-- If two states differ only in word 11, so do their predicted states after a non-serializing entry,
+-- and their completed states if the entry is mispredicted in neither. A branch on an indicator that
+-- is taken in only one of them makes their program counters differ.
 pub record IndicatorsArePassedOver : Type 0 where
   pub guessed : (p : Prepared) (s u : Machine) → IsPrepared p → IsMachine s → AreAlike s u
       → p.serial ≡ false → AreAlike (guessed_state p s) (guessed_state p u)
@@ -48,30 +49,31 @@ pub record IndicatorsArePassedOver : Type 0 where
       → p.serial ≡ false → is_missed p s ≡ false → is_missed p u ≡ false
       → AreAlike (state_after_completion p s) (state_after_completion p u)
 
--- An entry of a state leaves a state: storage whole, each word in its bits, the fixed bits of the
--- registers, the counter below 2^19, and each order with its area in storage.
+-- The completion of an entry keeps the invariant of the state: the size of storage, the range of
+-- each word, the fixed bits of the registers, the range of the program counter, and the area of
+-- each order.
 abbrev pub EntriesLeaveStates : Type 0
 EntriesLeaveStates = (p : Prepared) (s : Machine) → IsPrepared p → IsMachine s
     → IsMachine (state_after_completion p s)
 
--- The index words after the early change of any entry are those of that change: of one that is done
--- alone and of a table instruction, whose interrupt is taken first, too.
+-- The index words after the early change of an entry are the result of that change. This includes
+-- serializing entries and table instructions, whose interrupt is taken first.
 abbrev pub EarlyChangesLeaveTheirIndexWords : Type 0
 EarlyChangesLeaveTheirIndexWords = (p : Prepared) (s : Machine) (t : Option ℕ) → IsPrepared p →
     IsMachine s
     → index_words (state_with_early_changes p (state_at_entry t s))
     ≡ words_after (index_words s) p.index
 
--- Any entry, also one that is done alone, leaves each word from 32 up that it does not write, and
--- so does its guess.
+-- An entry, serializing or not, leaves each word from 32 that it does not write unchanged, in its
+-- completed state and in its predicted state.
 pub record EntriesLeaveWhatTheyDoNotWrite : Type 0 where
   pub completed : (p : Prepared) (s : Machine) (w : ℕ) → IsPrepared p → IsMachine s → 32 ≤ w
       → IsNotAmong w p.writes → word (state_after_completion p s) w ≡ word s w
   pub guessed : (p : Prepared) (s : Machine) (w : ℕ) → IsPrepared p → IsMachine s → 32 ≤ w
       → IsNotAmong w p.writes → word (guessed_state p s) w ≡ word s w
 
--- A guess leaves a state. It is the entry itself but for the counter, which is the following one;
--- of an entry that is done alone it is the entry.
+-- The predicted state of an entry keeps the invariant. It is the completed state with the following
+-- address as program counter; for a serializing entry it is the completed state.
 pub record GuessesLeaveStates : Type 0 where
   pub machine : (p : Prepared) (s : Machine) → IsPrepared p → IsMachine s
       → IsMachine (guessed_state p s)
@@ -85,9 +87,9 @@ pub record GuessesLeaveStates : Type 0 where
   pub past : (p : Prepared) (s : Machine) → IsPrepared p → IsMachine s → p.serial ≡ false
       → IsPast p s (guessed_state p s)
 
--- States that differ in word 11 and in orders alone differ in no more after the guess of an entry
--- that is not done alone. Such states come of a signal, of a printer order that took effect, and of
--- a reader order without a card.
+-- If two states differ only in word 11 and in orders, so do their predicted states after a
+-- non-serializing entry. Such pairs of states result from a signal, from a printer order that took
+-- effect, and from a reader order without a card.
 pub record OrdersArePassedOver : Type 0 where
   pub guessed : (p : Prepared) (s u : Machine) → IsPrepared p → IsMachine s
       → AreAlikeBesideOrders s u → p.serial ≡ false

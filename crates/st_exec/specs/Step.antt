@@ -1,4 +1,4 @@
--- One step of the machine: the instruction at the counter, or the interrupt that comes before it.
+-- One step of the machine: the instruction at the program counter, or an interrupt.
 use Rattle.std.specs.Prelude.{ℕ, ◌≡◌, Bool, true, false, ◌&&◌, is_none, if◌then◌else◌, Option, None, Some}
 use Rattle.st_state.specs.Machine.{Machine}
 use Rattle.st_state.specs.Interrupts.{pending}
@@ -7,11 +7,12 @@ use Rattle.st_exec.specs.Completion.{state_after_execution}
 use Rattle.st_exec.specs.declared.step.Step.{Step}
 use Rattle.st_exec.specs.declared.step.Step.TheVariants.{Plain, Interrupt, Waits}
 
--- the indicator that interrupts before the next instruction
+-- the indicator that interrupts before the next instruction, None if there is none
 abbrev pub interrupt : Machine → Option ℕ
 interrupt s = if s.enabled then pending s else None
 
--- the next step: the instruction at the counter, or the table instruction of an interrupt
+-- the state after the next step: the instruction at the program counter, or the table instruction
+-- of an interrupt
 unfoldable pub step : Machine → Machine
 step s = state_after_execution (interrupt s) s
 
@@ -19,11 +20,11 @@ step s = state_after_execution (interrupt s) s
 unfoldable pub address : Machine → ℕ
 address s = address_by (interrupt s) s
 
--- the machine waits, and nothing is pending that would end it
+-- whether the machine waits and no indicator is pending
 abbrev pub rests : Machine → Bool
 rests s = s.waiting && is_none (pending s)
 
--- what a call of `one` did, by its answer
+-- the meaning of each result of a call of `one`, by the states before and after it
 abbrev pub IsStep : Machine → Machine → Step → Type 0
 IsStep old new Waits = (rests old ≡ true) × (new ≡ old)
 IsStep old new Plain = (rests old ≡ false) × (interrupt old ≡ None) × (new ≡ step old)

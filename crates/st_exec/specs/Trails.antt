@@ -1,4 +1,4 @@
--- What is kept of a state before a step, so that the step can be undone.
+-- The record of a state before a step, from which the step can be undone.
 use Rattle.std.specs.Prelude.{ℕ, ◌≡◌, ◌<◌, ◌^◌, slice_index}
 use Rattle.st_state.specs.Machine.{Machine, IsMachine, HasArea, word}
 use Rattle.st_prep.specs.Fetch.{place_of}
@@ -10,8 +10,8 @@ use Rattle.st_exec.specs.declared.kept.Trail.{Trail}
 use Rattle.st_exec.specs.declared.step.Step.{Step}
 use Rattle.st_exec.specs.declared.step.Step.TheVariants.{Plain, Interrupt, Waits}
 
--- a trail keeps of a state what stands in the words that it names, the registers, and all that is
--- no word
+-- trail t records state s: the contents of the words that it names, the registers, and everything
+-- outside storage
 pub record TrailKeeps (s : Machine) (t : Trail) : Type 0 where
   pub machine : IsMachine s
   pub before : AreOperands t.writes t.before s
@@ -23,15 +23,15 @@ pub record TrailKeeps (s : Machine) (t : Trail) : Type 0 where
   pub reader : t.reader ≡ s.reader
   pub printer : t.printer ≡ s.printer
 
--- a trail of the next step of a state: what the entry reads and writes, and what the trail keeps
+-- trail t records state s and the words that the next step of s reads and writes
 pub record IsTrail (s : Machine) (t : Trail) : Type 0 where
   pub keeps : TrailKeeps s t
   pub index_read : t.index_read ≡ (needs (sight s (place_of s (interrupt s)))).index_read
   pub reads : t.reads ≡ (plan s (interrupt s)).reads
   pub writes : t.writes ≡ (plan s (interrupt s)).writes
 
--- what can be put back: the words lie in storage, the counter is one, and the areas of orders lie
--- in storage
+-- a trail that can be restored: its words lie in storage, its counter is in range, and the areas of
+-- its orders lie in storage
 pub record CanBePutBack (t : Trail) : Type 0 where
   pub runs : IsRuns t.writes
   pub inside : AreInside t.writes
@@ -39,7 +39,7 @@ pub record CanBePutBack (t : Trail) : Type 0 where
   pub reader_area : HasArea t.reader
   pub printer_area : HasArea t.printer
 
--- what a call of `one_kept` kept, by its answer
+-- the meaning of each result of a call of `one_kept` for the trail
 abbrev pub IsKeptStep : Machine → Trail → Trail → Step → Type 0
 IsKeptStep s old new Waits = new ≡ old
 IsKeptStep s old new Plain = IsTrail s new × CanBePutBack new

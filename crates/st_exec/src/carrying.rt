@@ -1,4 +1,4 @@
-//! What an effect makes of a state.
+//! The application of an effect to a state.
 ghost use Rattle.std.specs.Prelude.{◌≡◌, ◌<◌, IfSome};
 ghost use Rattle.st_field.specs.declared.accumulator.Acc.{Acc};
 ghost use Rattle.st_state.specs.Machine.{HasArea};
@@ -13,14 +13,14 @@ use st_bits::{Ind, indicator};
 use st_field::{Acc, Done};
 use st_state::{Order, State};
 
-// The order that a device has: the printer where `write` says so.
+// The order of the printer if `write` is true, of the reader otherwise.
 fn order_of(write: bool, state: &State) -> Option<Order>
     ensures { result ≡ order_by write state.now }
 {
     if write { state.printer } else { state.reader }
 }
 
-// Gives a device an order, in place of any that it had.
+// Sets the order of a device and replaces any order that it has.
 fn put_order(write: bool, order: Order, state: &mut State)
     requires { HasArea (Some order) }
     ensures { state.new ≡ machine_with_order write order state.old }
@@ -32,7 +32,7 @@ fn put_order(write: bool, order: Order, state: &mut State)
     }
 }
 
-// Gives a device an order, unless it has one.
+// Gives a device an order. If it already has one, turns on CBJ instead.
 fn give(write: bool, order: Order, state: &mut State)
     requires { HasArea (Some order) }
     ensures { state.new ≡ state_with_order write order state.old }
@@ -44,7 +44,7 @@ fn give(write: bool, order: Order, state: &mut State)
     }
 }
 
-// Writes a register, where something is left for it.
+// Writes a register, if there is a value for it.
 fn put_register(w: u32, value: Option<u64>, state: &mut State)
     requires { w < 32 }
     ensures { state.new ≡ with_register w value state.old }
@@ -54,7 +54,7 @@ fn put_register(w: u32, value: Option<u64>, state: &mut State)
     }
 }
 
-// Writes the accumulator and its sign byte.
+// Writes the accumulator and its sign byte to their registers.
 fn put_accumulator(acc: &Acc, state: &mut State)
     ensures { state.new ≡ with_accumulator acc.now state.old }
 {
@@ -63,7 +63,7 @@ fn put_accumulator(acc: &Acc, state: &mut State)
     state.store(SIGN_BYTE, u64::from(acc.sb) * (1 << 56));
 }
 
-// Writes the registers.
+// Writes the registers of a result.
 fn put_registers(left: &Done, state: &mut State)
     ensures { state.new ≡ with_registers left.now state.old }
 {
@@ -74,7 +74,7 @@ fn put_registers(left: &Done, state: &mut State)
     put_register(COUNTS, left.counts, state);
 }
 
-// Writes the `n` bits of the field at the bit address `a`, where it is written.
+// Writes the `n` bits of the field at the bit address `a`, if there are bits to write.
 fn put_field(field: Option<u64>, a: u32, n: u8, state: &mut State)
     requires { IfSome field (IsField a n) }
     ensures { state.new ≡ with_field field a n state.old }
@@ -84,7 +84,8 @@ fn put_field(field: Option<u64>, a: u32, n: u8, state: &mut State)
     }
 }
 
-// Leaves what an operation on a field makes: registers and indicators first, and then the field.
+// Writes the result of an operation on a field: registers first, then the indicators, then the
+// field.
 fn leave(left: &Done, a: u32, n: u8, state: &mut State)
     requires { IfSome left.now.field (IsField a n) }
     ensures { state.new ≡ with_result left.now a n state.old }
@@ -94,7 +95,7 @@ fn leave(left: &Done, a: u32, n: u8, state: &mut State)
     put_field(left.field, a, n, state);
 }
 
-/// Does an effect.
+/// Applies an effect to the state.
 pub fn carry_out(effect: &Effect, state: &mut State)
     requires { CanBeDone effect.now }
     ensures { state.new ≡ carried_out effect.now state.old }

@@ -1,4 +1,4 @@
-//! The second half of an instruction: what it does once its operands are there.
+//! The second half of an instruction: its effect, given its operands.
 ghost use Rattle.std.specs.Prelude.{◌≡◌, ℕ, ◌<◌, ◌^◌, false, Option};
 ghost use Rattle.st_prep.specs.Entry.{reads};
 ghost use Rattle.st_prep.specs.Plan.{plan};
@@ -16,7 +16,7 @@ use st_format::Instr;
 use st_prep::{Prepared, Words};
 use st_state::State;
 
-// Whether a branch on a bit or on an indicator is taken.
+// Whether a branch on a bit or on an indicator is taken; false for other instructions.
 fn is_taken(instr: &Instr, e: u32, operands: &[u64; 2], state: &State) -> bool
     requires inside { AreInside (reads instr.now e) }
     requires read { AreRead (reads instr.now e) operands.now state.now }
@@ -33,7 +33,7 @@ fn is_taken(instr: &Instr, e: u32, operands: &[u64; 2], state: &State) -> bool
     }
 }
 
-// Where it branches to; another instruction goes on at `following`.
+// The target of a branch on a bit or on an indicator; `following` for other instructions.
 fn target(instr: &Instr, following: u32) -> u32
     requires fields { HasFields instr.now }
     requires following { following < 2 ^ 19 }
@@ -46,7 +46,7 @@ fn target(instr: &Instr, following: u32) -> u32
     }
 }
 
-// The counter after an entry that is not suppressed.
+// The program counter after an entry that is not suppressed.
 fn counter(p: &Prepared, operands: &[u64; 2], state: &State) -> u32
     requires prepared { IsPrepared p.now }
     requires executed { p.now.suppressed ≡ false }
@@ -61,7 +61,7 @@ fn counter(p: &Prepared, operands: &[u64; 2], state: &State) -> u32
     }
 }
 
-// Counts an instruction as done, the counter being the half-word address `h` after it.
+// Counts one more completed instruction and sets the program counter to the half-word address `h`.
 fn count(state: &mut State, h: u32)
     requires counter { h < 2 ^ 19 }
     requires few { state.old.done < 2 ^ 63 }
@@ -71,7 +71,7 @@ fn count(state: &mut State, h: u32)
     state.done += 1;
 }
 
-// Does what an entry does once its operands are there.
+// Applies the effect of an entry, given its operands, and updates the program counter.
 fn finish(p: &Prepared, operands: &[u64; 2], state: &mut State)
     requires prepared { IsPrepared p.now }
     requires read { AreRead p.now.reads operands.now state.old }
@@ -88,8 +88,8 @@ fn finish(p: &Prepared, operands: &[u64; 2], state: &mut State)
     count(state, counter);
 }
 
-/// Completes an entry that is prepared, of which the first two operands are given: its early
-/// change, then what it does, then the counter.
+/// Completes a prepared entry, given its first two operands: applies its early change, then its
+/// effect, then updates the program counter.
 #[inline(never)]
 pub fn complete_with(p: &Prepared, operands: &[u64; 2], state: &mut State)
     requires prepared { IsPrepared p.now }
@@ -102,10 +102,10 @@ pub fn complete_with(p: &Prepared, operands: &[u64; 2], state: &mut State)
     finish(p, operands, state);
 }
 
-/// Completes an entry that is prepared: its early change, then what it does, then the counter. The
-/// first `p.reads.len` operands, and the `p.reads.len2` behind them, are the words that `p` says it
-/// reads, as they stand in the state; where one of them is a register that the entry itself has
-/// changed, it is taken as that change leaves it. It gives the words that are written.
+/// Completes a prepared entry: applies its early change, then its effect, then updates the program
+/// counter. The first `p.reads.len` operands, and the next `p.reads.len2`, are the words of the
+/// state that `p` reads. If the early change of the entry writes a register that is an operand, the
+/// new contents are used. Returns the words that are written.
 #[inline(always)]
 pub fn complete(p: &Prepared, operands: &[u64; 32], state: &mut State) -> Words
     requires prepared { IsPrepared p.now }
@@ -114,7 +114,7 @@ pub fn complete(p: &Prepared, operands: &[u64; 32], state: &mut State) -> Words
     ensures state { state.new ≡ state_after_completion p.now state.old }
     ensures written { result ≡ p.now.writes }
 
-    // The next entry of the state, or its table instruction, is executed by it.
+    // If `p` is the next entry of the state, or its table instruction, this is its execution.
     ensures step { (t : Option ℕ) → p.now ≡ plan state.old t → state.new
         ≡ state_after_execution t state.old }
 {
@@ -122,14 +122,14 @@ pub fn complete(p: &Prepared, operands: &[u64; 32], state: &mut State) -> Words
     p.writes
 }
 
-/// Executes an entry that is prepared, by its operands as they stand in the state.
+/// Completes a prepared entry with its operands from the state.
 #[inline(always)]
 pub fn complete_in(p: &Prepared, state: &mut State)
     requires prepared { IsPrepared p.now }
     requires few { state.old.done < 2 ^ 63 }
     ensures state { state.new ≡ state_after_completion p.now state.old }
 
-    // The next entry of the state, or its table instruction, is executed by it.
+    // If `p` is the next entry of the state, or its table instruction, this is its execution.
     ensures step { (t : Option ℕ) → p.now ≡ plan state.old t → state.new
         ≡ state_after_execution t state.old }
 {

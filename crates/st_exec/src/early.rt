@@ -1,4 +1,4 @@
-//! What is done before the operands of an entry are read.
+//! The changes that an entry makes before its operands are read.
 ghost use Rattle.std.specs.Prelude.{◌≡◌, ◌<◌, IfSome};
 ghost use Rattle.st_bits.specs.Indicators.{IsIndicatorIfAny};
 ghost use Rattle.st_prep.specs.Plan.{state_at_entry};
@@ -10,7 +10,7 @@ use st_bits::{Ind, indicator};
 use st_prep::{IndexChange, Prepared};
 use st_state::State;
 
-/// Takes the interrupt that executes a table instruction: its indicator goes off, and a wait ends.
+/// Takes the interrupt of a table instruction: its indicator is turned off, and a wait ends.
 pub fn take(table: Option<u8>, state: &mut State)
     requires { IsIndicatorIfAny table }
     ensures { state.new ≡ state_at_entry table state.old }
@@ -25,7 +25,7 @@ pub fn take(table: Option<u8>, state: &mut State)
     state.waiting = false;
 }
 
-// Changes an index word, if one is to be changed.
+// Changes an index word, if there is a change.
 fn change_index(index: Option<IndexChange>, state: &mut State)
     requires { IfSome index (λ c. c.number < 16) }
     ensures { state.new ≡ with_change index state.old }
@@ -35,7 +35,7 @@ fn change_index(index: Option<IndexChange>, state: &mut State)
     }
 }
 
-/// Makes the early change of an entry.
+/// Applies the early change of an entry.
 pub fn change_early(p: &Prepared, state: &mut State)
     requires { IsPrepared p.now }
     ensures { state.new ≡ early_of p.now state.old }

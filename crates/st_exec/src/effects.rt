@@ -1,4 +1,4 @@
-//! What an operation does once its operands are there.
+//! The effect of an operation, given its operands.
 ghost use Rattle.std.specs.Prelude.{◌≡◌, ◌+◌, ◌*◌, ◌/◌, ◌<◌, ◌≤◌, ◌^◌, true};
 ghost use Rattle.st_bits.specs.Storage.{words_of_storage};
 ghost use Rattle.st_state.specs.declared.devices.Order.{Order};
@@ -15,34 +15,35 @@ use st_field::{Done, Shape};
 use st_format::Instr;
 use st_state::{Order, State};
 
-/// What an operation does once its operands are there.
+/// The effect of an operation, given its operands.
 #[derive(Clone, Copy, Debug, PartialEq, Eq)]
 pub enum Effect {
-    /// Nothing.
+    /// No effect.
     Rest,
-    /// The number `bits`, below 2^length, is put into the `length` bits, 1 to 64, from the bit
-    /// address `at` on.
-    Put { at: u32, length: u8, bits: u64 },
-    /// `count` words from one word address on are copied to those from another on, one after the
-    /// other.
-    Copy { from: u32, to: u32, count: u8 },
-    /// They are exchanged, one after the other.
-    Exchange { from: u32, to: u32, count: u8 },
-    /// An indicator, 0 to 63, goes off.
-    TurnOff { indicator: u8 },
-    /// Interrupts are enabled, or disabled.
-    Enable { enabled: bool },
-    /// Interrupts are enabled, and the machine waits.
-    Wait,
-    /// The reader, or the printer where `write` says so, is given an order.
-    Give { write: bool, order: Order },
-    /// An operation on a field leaves its result in registers, indicators, and the field at the bit
+    /// The number `bits`, below 2^length, is written to the `length` bits, 1 to 64, from the bit
     /// address `at`.
+    Put { at: u32, length: u8, bits: u64 },
+    /// `count` words from the word address `from` are copied to those from `to`, one word at a
+    /// time.
+    Copy { from: u32, to: u32, count: u8 },
+    /// `count` words from the word address `from` are exchanged with those from `to`, one word at a
+    /// time.
+    Exchange { from: u32, to: u32, count: u8 },
+    /// An indicator, 0 to 63, is turned off.
+    TurnOff { indicator: u8 },
+    /// Interrupts are enabled or disabled.
+    Enable { enabled: bool },
+    /// Interrupts are enabled and the machine waits.
+    Wait,
+    /// An order is given to the reader, or to the printer if `write` is true.
+    Give { write: bool, order: Order },
+    /// The result of an operation on a field is written to registers, indicators, and the field at
+    /// the bit address `at`.
     Leave { left: Done, at: u32, length: u8 },
 }
 
-// An index store puts `value`, an index word or a part of it, into the word or the half-word at the
-// address `e`.
+// The effect of an index store: `value`, an index word or a part of it, is stored in the word or
+// the half-word at the address `e`.
 fn index_effect(op: HalfOp, e: u32, value: u64) -> Effect
     requires address { e < 2 ^ 24 }
     requires part { FitsPart op value }
@@ -66,7 +67,7 @@ fn index_effect(op: HalfOp, e: u32, value: u64) -> Effect
     }
 }
 
-// A branch enables or disables interrupts, or waits.
+// The effect of a branch instruction: it enables or disables interrupts, or waits.
 fn branch_effect(op: BranchOp) -> Effect
     ensures value { result ≡ branch_effect_of op }
     ensures can { CanBeDone result }
@@ -79,7 +80,7 @@ fn branch_effect(op: BranchOp) -> Effect
     }
 }
 
-// Words are copied or exchanged.
+// The effect of a transmission: words are copied or exchanged.
 fn move_effect(swap: bool, from: u32, to: u32, count: u8) -> Effect
     requires { AreRuns from to count }
     ensures value { result ≡ move_effect_of swap from to count }
@@ -92,7 +93,8 @@ fn move_effect(swap: bool, from: u32, to: u32, count: u8) -> Effect
     }
 }
 
-// A bit, which is `bit`, is left, becomes zero, becomes one, or is inverted.
+// The effect of BB on its bit, whose value is `bit`: the bit is left unchanged, cleared, set or
+// inverted.
 fn bit_effect(change: u8, e: u32, bit: u64) -> Effect
     requires change { change < 4 }
     requires inside { e + 1 ≤ 64 * words_of_storage }
@@ -114,7 +116,7 @@ fn bit_effect(change: u8, e: u32, bit: u64) -> Effect
     }
 }
 
-// An indicator is turned off, where it is to be.
+// The effect of BI on its indicator: it is turned off if `off` is true.
 fn indicator_effect(off: bool, e: u32) -> Effect
     ensures value { result ≡ indicator_effect_of off e }
     ensures can { CanBeDone result }
@@ -128,8 +130,8 @@ fn indicator_effect(off: bool, e: u32) -> Effect
     }
 }
 
-// An order is given, which is due `count` instructions after this one, when `done` were done before
-// it.
+// The effect of RD and WR: an order that is due `count` instructions after this one, where `done`
+// instructions completed before it.
 fn order_effect(write: bool, e: u32, count: u32, done: u64) -> Effect
     requires above { 32 ≤ e / 64 }
     requires inside { e / 64 + 8 ≤ words_of_storage }
@@ -146,9 +148,9 @@ fn order_effect(write: bool, e: u32, count: u32, done: u64) -> Effect
     }
 }
 
-/// What an instruction with the effective address `e` does, which stores `value` where it is an
-/// index store or SIC. The operands are the words that it reads; a register among them is read
-/// anew.
+/// The effect of an instruction with the effective address `e`, where `value` is what an index
+/// store or SIC stores. The operands are the words that it reads; a register among them is read
+/// from the state instead.
 pub fn effect_by(instr: &Instr, e: u32, value: u64, operands: &[u64; 2], state: &State) -> Effect
     requires fields { HasFields instr.now }
     requires address { e < 2 ^ 24 }

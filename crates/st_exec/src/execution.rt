@@ -1,4 +1,4 @@
-//! One entry from its preparation to its completion.
+//! The execution of one entry, from its preparation to its completion.
 ghost use Rattle.std.specs.Prelude.{◌≡◌, ℕ, ◌+◌, ◌-◌, ◌<◌, ◌≤◌, ◌^◌, slice_index};
 ghost use Rattle.st_bits.specs.Indicators.{IsIndicatorIfAny};
 ghost use Rattle.st_state.specs.Machine.{word as word_of};
@@ -10,7 +10,7 @@ use crate::completing::complete_in;
 use st_prep::{Prepared, Words, plan_in};
 use st_state::State;
 
-// The operand in place `k`, which is 0 where there is none.
+// The operand in place `k`, 0 if there is none.
 fn operand_at(words: Words, k: u8, state: &State) -> u64
     requires runs { IsRuns words }
     requires inside { AreInside words }
@@ -30,8 +30,7 @@ fn operand_at(words: Words, k: u8, state: &State) -> u64
     }
 }
 
-/// The operand words that are named, in order, as they stand in the state. The places behind them
-/// hold 0.
+/// The operand words, in order, read from the state. The remaining places are 0.
 pub fn read_operands(words: Words, state: &State) -> [u64; 32]
     requires runs { IsRuns words }
     requires inside { AreInside words }
@@ -45,8 +44,8 @@ pub fn read_operands(words: Words, state: &State) -> [u64; 32]
     operands
 }
 
-/// Executes the next entry of a state, or the table instruction of an interrupt by the indicator in
-/// `table`.
+/// Executes the next entry of a state, or the table instruction of the interrupt whose indicator is
+/// in `table`.
 pub fn execute(table: Option<u8>, state: &mut State)
     requires indicator { IsIndicatorIfAny table }
     requires few { state.old.done < 2 ^ 63 }

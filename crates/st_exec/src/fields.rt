@@ -21,20 +21,20 @@ use st_field::{Acc, Done, Shape};
 use st_prep::reads_field;
 use st_state::State;
 
-/// A field that an instruction addresses.
+/// A field addressed by an instruction.
 #[derive(Clone, Copy)]
 pub struct Addressed<'a> {
-    /// The form of the instruction: in form 1 the field is the first bits of the address itself.
+    /// The progressive form; in form 1 the field is the first bits of the address itself.
     pub p: u8,
     /// The bit address, of 24 bits.
     pub e: u32,
-    /// The words that were read of the field.
+    /// The operand words of the field.
     pub operands: &'a [u64; 2],
-    /// The state, of whose registers the field is read anew.
+    /// The state, from which operands that are registers are read.
     pub state: &'a State,
 }
 
-// The operand of `n` bits. In form 1 it is the first `n` of the 24 bits of the address itself.
+// The operand of `n` bits. In form 1 it is the first `n` of the 24 bits of the address.
 fn operand(at: &Addressed<'_>, n: u8) -> u64
     requires some { 1 ≤ n }
     requires few { n ≤ 64 }
@@ -53,7 +53,7 @@ fn operand(at: &Addressed<'_>, n: u8) -> u64
     }
 }
 
-// The accumulator and its sign byte.
+// The accumulator of a state, with its sign byte.
 fn accumulator(state: &State) -> Acc
     ensures { result ≡ accumulator_of state.now }
 {
@@ -63,7 +63,7 @@ fn accumulator(state: &State) -> Acc
     }
 }
 
-// The registers that an operation takes.
+// The registers that an operation reads.
 fn registers(state: &State) -> Registers
     ensures { result ≡ record {
       acc = accumulator_of state.now;
@@ -78,7 +78,7 @@ fn registers(state: &State) -> Registers
     }
 }
 
-// What an operation reads of its field: nothing where it is ST.
+// The bits of the field that an operation reads; 0 for ST, which does not read its field.
 fn taken(op: VflOp, at: &Addressed<'_>, n: u8) -> u64
     requires some { 1 ≤ n }
     requires few { n ≤ 64 }
@@ -93,7 +93,7 @@ fn taken(op: VflOp, at: &Addressed<'_>, n: u8) -> u64
     if reads_field(op) { operand(at, n) } else { 0 }
 }
 
-// The result of an operation on a field with the bits `bits`, decimal or binary.
+// The result of an operation, decimal or binary, on a field with the bits `bits`.
 fn result_by(is_decimal: bool, op: VflOp, registers: &Registers, bits: u64, shape: &Shape) -> Done
     requires shape { IsBinaryShape shape.now }
     requires decimal { is_decimal ≡ true → IsDecimalShape shape.now }
@@ -109,7 +109,7 @@ fn result_by(is_decimal: bool, op: VflOp, registers: &Registers, bits: u64, shap
     }
 }
 
-/// An operation on a field.
+/// The result of an operation on a field.
 pub fn operate(is_decimal: bool, op: VflOp, shape: &Shape, at: &Addressed<'_>) -> Done
     requires shape { IsBinaryShape shape.now }
     requires decimal { is_decimal ≡ true → IsDecimalShape shape.now }
@@ -129,7 +129,7 @@ pub fn operate(is_decimal: bool, op: VflOp, shape: &Shape, at: &Addressed<'_>) -
     result_by(is_decimal, op, &registers, bits, shape)
 }
 
-/// A connective of the accumulator and a field.
+/// The result of a connective of the accumulator and a field.
 pub fn connect_field(shape: &ConnShape, at: &Addressed<'_>) -> Done
     requires table { shape.now.table < 16 }
     requires offset { shape.now.offset ≤ 127 }

@@ -1,4 +1,4 @@
-//! A step of which everything is kept that is needed to undo it.
+//! A step with a record of everything that is needed to undo it.
 ghost use Rattle.std.specs.Prelude.{◌≡◌, ℕ, ◌<◌, ◌^◌, slice_index};
 ghost use Rattle.st_state.specs.Machine.{word as word_of};
 ghost use Rattle.st_prep.specs.Ranges.{IsPrepared};
@@ -11,34 +11,34 @@ use crate::step::{Step, interrupt, is_at_rest};
 use st_prep::{Prepared, Words, plan_in};
 use st_state::{Order, State};
 
-/// What is kept of a state before a step, and what the step reads and writes.
+/// A record of a state before a step, and of the words that the step reads and writes.
 #[derive(Clone, Copy, Debug, Default, PartialEq, Eq)]
 pub struct Trail {
-    /// The word address of the index-side word.
+    /// The word address of the index-side word, if there is one.
     pub index_read: Option<u32>,
-    /// The operand words that are read.
+    /// The operand words that the step reads.
     pub reads: Words,
-    /// The words that are written.
+    /// The words that the step writes.
     pub writes: Words,
-    /// What the words that are written held before, in order; the places behind them hold 0.
+    /// The previous contents of the written words, in order; the remaining places are 0.
     pub before: [u64; 32],
-    /// Words 0 to 31 before.
+    /// The previous contents of words 0 to 31.
     pub registers: [u64; 32],
-    /// The number of instructions done before.
+    /// The previous count of completed instructions.
     pub done: u64,
-    /// The counter before, a half-word address below 2^19.
+    /// The previous program counter, a half-word address below 2^19.
     pub ic: u32,
-    /// Whether interrupts were enabled.
+    /// Whether interrupts were enabled before the step.
     pub enabled: bool,
-    /// Whether the machine waited.
+    /// Whether the machine waited before the step.
     pub waiting: bool,
-    /// The order that the card reader had.
+    /// The previous order of the card reader.
     pub reader: Option<Order>,
-    /// The order that the line printer had.
+    /// The previous order of the line printer.
     pub printer: Option<Order>,
 }
 
-// Words 0 to 31.
+// Words 0 to 31 of a state.
 fn registers(state: &State) -> [u64; 32]
     ensures { (w : ℕ) → w < 32 → slice_index result w ≡ word_of state.now w }
 {
@@ -49,8 +49,8 @@ fn registers(state: &State) -> [u64; 32]
     registers
 }
 
-/// What is kept of a state before an entry is completed that is prepared, whose index-side word is
-/// `side`.
+/// The trail of a state before a prepared entry completes; `side` is the address of the entry's
+/// index-side word.
 pub fn trail_of(side: Option<u32>, p: &Prepared, state: &State) -> Trail
     requires prepared { IsPrepared p.now }
     ensures keeps { TrailKeeps state.now result }
@@ -74,8 +74,8 @@ pub fn trail_of(side: Option<u32>, p: &Prepared, state: &State) -> Trail
     }
 }
 
-/// Makes the next step as `one` does, under the same condition, and keeps in `trail` what is needed
-/// to undo it. Where it answers `Waits`, nothing was done and `trail` is as it was.
+/// Makes the next step as `one` does, under the same condition, and records in `trail` what is
+/// needed to undo it. If the result is `Waits`, the state and `trail` are unchanged.
 pub fn one_kept(state: &mut State, trail: &mut Trail) -> Step
     requires { state.old.done < 2 ^ 63 }
     ensures step { IsStep state.old state.new result }

@@ -1,4 +1,4 @@
-//! Whether the guess by which an entry was prepared is wrong.
+//! The test whether a prepared entry is mispredicted.
 ghost use Rattle.std.specs.Prelude.{◌≡◌};
 ghost use Rattle.st_prep.specs.Ranges.{IsPrepared};
 ghost use Rattle.st_exec.specs.Completion.{is_missed as is_missed_of};
@@ -9,8 +9,8 @@ use st_format::Instr;
 use st_prep::Prepared;
 use st_state::{State, turned};
 
-/// Whether the guess of an entry that is prepared of this state is wrong: it is of a branch on an
-/// indicator that is taken, wherever it leads to.
+/// Whether an entry that was prepared in this state is mispredicted: it is a branch on an indicator
+/// that is taken. Its target does not matter.
 pub fn is_missed(p: &Prepared, state: &State) -> bool
     requires { IsPrepared p.now }
     ensures { result ≡ is_missed_of p.now state.now }

@@ -1,4 +1,4 @@
-//! Operands: fields of the words that were read, and the accumulator.
+//! Operands: fields of the operand words, and the accumulator.
 ghost use Rattle.std.specs.Prelude.{◌≡◌, ◌+◌, ◌*◌, ◌<◌, ◌≤◌, ◌^◌, length, slice_index};
 ghost use Rattle.st_bits.specs.Storage.{words_of_storage};
 ghost use Rattle.st_state.specs.Machine.{word as word_of};
@@ -11,7 +11,7 @@ use st_bits::register::FIRST_STORAGE_WORD;
 use st_prep::Words;
 use st_state::State;
 
-// The operand in place `k` of the first run, which is 0 where there is none.
+// The operand in place `k` of the first range, 0 if there is none.
 fn operand_in_run(words: &Words, k: u8, state: &State) -> u64
     requires runs { IsRuns words.now }
     requires inside { AreInside words.now }
@@ -24,7 +24,7 @@ fn operand_in_run(words: &Words, k: u8, state: &State) -> u64
     }
 }
 
-/// The first two operand words, as they stand in the state.
+/// The first two operand words, read from the state.
 pub fn first_operands(words: &Words, state: &State) -> [u64; 2]
     requires runs { IsRuns words.now }
     requires inside { AreInside words.now }
@@ -36,8 +36,8 @@ pub fn first_operands(words: &Words, state: &State) -> [u64; 2]
     ]
 }
 
-// The word at the address `w` of storage, which is in place `k` of the operands. A register is read
-// anew, since the entry itself may have changed it before its operands are read.
+// The word at the address `w` of storage, which is operand number `k`. A register is read from
+// `words` instead, since the entry itself can change it before its operands are read.
 fn operand_word(operands: &[u64; 2], k: usize, w: u32, words: &[u64]) -> u64
     requires place { k < 2 }
     requires inside { w < length words.now }
@@ -51,7 +51,7 @@ fn operand_word(operands: &[u64; 2], k: usize, w: u32, words: &[u64]) -> u64
     }
 }
 
-/// The number of the `n` bits, 1 to 64, from the bit address `a` on, whose words are the operands.
+/// The number in the `n` bits, 1 to 64, from the bit address `a`, whose words are the operands.
 pub fn operand_field(operands: &[u64; 2], a: u32, n: u8, state: &State) -> u64
     requires some { 1 ≤ n }
     requires few { n ≤ 64 }

@@ -1,4 +1,4 @@
-//! One step of the machine: the instruction at the counter, or the interrupt that comes before it.
+//! One step of the machine: the instruction at the program counter, or an interrupt.
 ghost use Rattle.std.specs.Prelude.{◌≡◌, ◌<◌, ◌^◌};
 ghost use Rattle.st_bits.specs.Indicators.{IsIndicatorIfAny};
 ghost use Rattle.st_exec.specs.Step.{interrupt as interrupt_of, address as address_of, rests, IsStep};
@@ -7,19 +7,19 @@ use crate::execution::execute;
 use st_prep::place_of;
 use st_state::State;
 
-/// What a call of `one` did.
+/// The result of a call of `one`.
 #[derive(Clone, Copy, Debug, PartialEq, Eq)]
 pub enum Step {
-    /// The instruction at the counter was executed, or suppressed.
+    /// The instruction at the program counter was executed or suppressed.
     Plain,
-    /// An interrupt by this indicator, 0 to 63, was taken, and its one instruction executed or
-    /// suppressed.
+    /// An interrupt by this indicator, 0 to 63, was taken, and its table instruction was executed
+    /// or suppressed.
     Interrupt { indicator: u8 },
-    /// The machine waits and nothing is pending: nothing was done.
+    /// The machine waits and no indicator is pending: the state is unchanged.
     Waits,
 }
 
-/// The indicator that interrupts before the next instruction, 0 to 63.
+/// The indicator that interrupts before the next instruction, 0 to 63; None if there is none.
 pub fn interrupt(state: &State) -> Option<u8>
     ensures value { result ≡ interrupt_of state.now }
     ensures bound { IsIndicatorIfAny result }
@@ -27,8 +27,8 @@ pub fn interrupt(state: &State) -> Option<u8>
     if state.enabled { state.pending() } else { None }
 }
 
-/// The half-word address of the instruction that the next step executes: the counter, or the left
-/// half of the word of the interrupt table.
+/// The half-word address of the instruction that the next step executes: the program counter, or
+/// the left half of the word of the interrupt table.
 pub fn next_address(state: &State) -> u32
     ensures value { result ≡ address_of state.now }
     ensures bound { result < 2 ^ 19 }
@@ -36,16 +36,17 @@ pub fn next_address(state: &State) -> u32
     place_of(state, interrupt(state)).address
 }
 
-/// Whether the machine waits and nothing is pending that would end it.
+/// Whether the machine waits and no indicator is pending.
 pub fn is_at_rest(state: &State) -> bool
     ensures { result ≡ rests state.now }
 {
     state.waiting && state.pending().is_none()
 }
 
-/// Makes the next step: an interrupt where one is due, else the instruction at the counter. It is
-/// counted as one instruction. `Waits` changes nothing. Fewer than 2^63 instructions are done.
-/// `docs/machine.md` has the rules.
+/// Makes the next step: an interrupt if one is pending, otherwise the instruction at the program
+/// counter. It counts as one completed instruction. If the result is `Waits`, the state is
+/// unchanged. The count of completed instructions must be below 2^63. `docs/machine.md` has the
+/// rules.
 pub fn one(state: &mut State) -> Step
     requires { state.old.done < 2 ^ 63 }
     ensures { IsStep state.old state.new result }

@@ -1,4 +1,4 @@
-//! What the reader and the printer do between two instructions.
+//! The transfers of the reader and the printer between two instructions.
 ghost use Rattle.std.specs.Prelude.{◌≡◌, ◌+◌, ◌≤◌, IsSome, IfSome};
 ghost use Rattle.st_bits.specs.Storage.{words_of_storage};
 ghost use Rattle.st_state.specs.Machine.{IsMachine};
@@ -7,7 +7,7 @@ ghost use Rattle.st_exec.specs.Transfer.{all_stored, words_from, read_in as read
 use st_bits::indicators::{END_EXCEPTION, END_OF_OPERATION};
 use st_state::State;
 
-// Writes the words of a card to the eight words from the word address `w` on.
+// Writes the words of a card to the eight words from the word address `w`.
 fn store_card(w: u32, card: &[u64; 8], state: &mut State)
     requires { w + 8 ≤ words_of_storage }
     ensures { state.new ≡ all_stored state.old w card.now }
@@ -17,7 +17,7 @@ fn store_card(w: u32, card: &[u64; 8], state: &mut State)
     }
 }
 
-// The eight words from the word address `w` on.
+// The eight words from the word address `w`.
 fn words_at(w: u32, state: &State) -> [u64; 8]
     requires { w + 8 ≤ words_of_storage }
     ensures { result ≡ words_from state.now w 8 }
@@ -29,9 +29,9 @@ fn words_at(w: u32, state: &State) -> [u64; 8]
     words
 }
 
-/// The order of the reader takes effect: the words of its next card come into its area, and EOP
-/// comes on; or EE, where there is no card. The reader is free then. `docs/machine.md`, "Orders of
-/// the reader and of the printer", has the rule.
+/// The reader's order takes effect: the words of the next card are written to its area, and EOP is
+/// turned on; without a card, EE is turned on. The reader then has no order. `docs/machine.md`,
+/// "Orders of the reader and of the printer", has the rule.
 pub fn read_in(state: &mut State, card: Option<[u64; 8]>)
     requires { IsSome state.old.reader }
     ensures state { IfSome state.old.reader
@@ -48,8 +48,8 @@ pub fn read_in(state: &mut State, card: Option<[u64; 8]>)
     state.signal(END_OF_OPERATION);
 }
 
-/// The order of the printer takes effect: the eight words of its area are what is printed, and EOP
-/// comes on. The printer is free then. `docs/machine.md`, "Orders of the reader and of the
+/// The printer's order takes effect: returns the eight words of its area, which are printed, and
+/// turns on EOP. The printer then has no order. `docs/machine.md`, "Orders of the reader and of the
 /// printer", has the rule.
 pub fn print_out(state: &mut State) -> [u64; 8]
     requires { IsSome state.old.printer }

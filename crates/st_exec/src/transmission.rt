@@ -1,11 +1,11 @@
-//! Words that are copied or exchanged one after the other, so that one that was moved can be moved
-//! again.
+//! Copies and exchanges of words, one word at a time: if the areas overlap, a moved word can be
+//! moved again.
 ghost use Rattle.std.specs.Prelude.{◌≡◌};
 ghost use Rattle.st_exec.specs.Effect.{AreRuns, state_with_copy, state_with_exchange};
 
 use st_state::State;
 
-/// Copies `count` words from the word address `from` on to those from `to` on.
+/// Copies `count` words from the word address `from` to those from `to`.
 pub fn copy(from: u32, to: u32, count: u8, state: &mut State)
     requires { AreRuns from to count }
     ensures { state.new ≡ state_with_copy from to count state.old }
@@ -16,7 +16,7 @@ pub fn copy(from: u32, to: u32, count: u8, state: &mut State)
     }
 }
 
-/// Exchanges them.
+/// Exchanges `count` words from the word address `from` with those from `to`.
 pub fn exchange(from: u32, to: u32, count: u8, state: &mut State)
     requires { AreRuns from to count }
     ensures { state.new ≡ state_with_exchange from to count state.old }

@@ -1,4 +1,4 @@
--- What is found among held words after one of them has changed.
+-- Lookups among held words after one of them has changed.
 use Rattle.std.specs.Prelude.{◌==◌, option_and_then}
 use Rattle.std.specs.Option.{option_map}
 use Rattle.std.proofs.Common.{◌≡◌, ◌≢◌, ℕ, true, false, List, [], ◌∷◌, map, Option, None, Some, refl, sym, ◌∙◌, inl, inr}
@@ -8,16 +8,16 @@ use Rattle.st_fetch.specs.HeldWords.{is_held, found, changed_at, with_content, a
 use Rattle.st_fetch.specs.declared.held.Held.{Held}
 
 module _ (w : ℕ) (f : Held → Held) (keeps : (h : Held) → (f h).w ≡ h.w) where
-  -- a change keeps the address
+  -- a change keeps the address of a held word
   w-changed_at : (h : Held) → (changed_at w f h).w ≡ h.w
   w-changed_at h = elim (cases_Bool (h.w == w)) [ inl t ↦ rw t (keeps h) | inr n ↦ rw n refl ]
 
-  -- so the same words are held
+  -- a change does not affect which words are held
   pub is_held-changed : (hold : List Held) (v : ℕ) → is_held (map (changed_at w f) hold) v ≡ is_held hold v
   is_held-changed [] v = refl
   is_held-changed (h ∷ hold) v = rw (w-changed_at h, is_held-changed hold v) refl
 
-  -- the word itself is found changed
+  -- a lookup of w after a change of w
   pub found-changed_here : (hold : List Held) → found (map (changed_at w f) hold) w ≡ option_map f (found hold w)
   found-changed_here [] = refl
   found-changed_here (h ∷ hold) = elim (cases_Bool (h.w == w)) [
@@ -25,7 +25,7 @@ module _ (w : ℕ) (f : Held → Held) (keeps : (h : Held) → (f h).w ≡ h.w) 
     | inr n ↦ rw (w-changed_at h, n) (found-changed_here hold)
   ]
 
-  -- another word is found as it was
+  -- a lookup of another word after a change of w
   pub found-changed_other : (hold : List Held) (v : ℕ) → v ≢ w → found (map (changed_at w f) hold) v ≡ found hold v
   found-changed_other [] v ne = refl
   found-changed_other (h ∷ hold) v ne = elim (eqb_tells h.w v) [
@@ -35,7 +35,7 @@ module _ (w : ℕ) (f : Held → Held) (keeps : (h : Held) → (f h).w ≡ h.w) 
     | inr n ↦ rw (w-changed_at h, n.0) (found-changed_other hold v ne)
   ]
 
--- the answer of the word itself after a store
+-- the answer of w after a store to w
 pub answer_of-patched : (hold : List Held) (w word : ℕ)
     → answer_of (words_after_store hold w word) w ≡ option_map (λ a. (word, a.1)) (answer_of hold w)
 answer_of-patched hold w word =
@@ -44,7 +44,7 @@ answer_of-patched hold w word =
     (elim (found hold w) as (λ (o : Option Held). option_and_then (λ (h : Held). h.answer) (option_map (with_content word) o)
     ≡ option_map (λ a. (word, a.1)) (option_and_then (λ (h : Held). h.answer) o)) [ None ↦ refl | Some h ↦ refl ])
 
--- and the answer of a held word after it is answered
+-- the answer of a held word after it is answered
 pub answer_of-answered : (hold : List Held) (w word tick : ℕ) → is_held hold w ≡ true
     → answer_of (words_after_answer hold w word tick) w ≡ Some (word, tick)
 answer_of-answered [] w word tick there = absurd (cc)

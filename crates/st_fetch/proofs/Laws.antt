@@ -1,4 +1,4 @@
--- What requests, answers and stores make of the held words, proved.
+-- Proofs of the laws of held words.
 use Rattle.std.specs.Prelude.{option_and_then}
 use Rattle.std.proofs.Common.{◌≡◌, ◌≤◌, ℕ, List, ◌∷◌, [], ◌++◌, length, drop, None, Option, refl, ap, arith}
 use Rattle.st_fetch.specs.HeldWords.{words_after_request, with_content, with_answer}

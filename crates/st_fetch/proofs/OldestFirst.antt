@@ -1,4 +1,4 @@
--- The held words with their contents, as a list with the oldest request first.
+-- The held words combined with their contents, as a list with the oldest request first.
 use Rattle.std.specs.Prelude.{◌==◌, if◌then◌else◌, min, is_some, zip}
 use Rattle.std.proofs.Common.{◌≡◌, ℕ, zero, suc, ◌+◌, ◌<◌, ◌≤◌, List, [], ◌∷◌, length, get_or, take, map, Option, None, Some, refl, ap, add-one, inl, inr, arith}
 use Rattle.std.proofs.lemmas.Bool.{cases_Bool}
@@ -7,7 +7,7 @@ use Rattle.st_fetch.specs.Planned.{no_word, word_with_answer, asked_for, content
 use Rattle.st_fetch.specs.declared.fetched.AskedWord.{AskedWord}
 use Rattle.st_fetch.specs.declared.held.Held.{Held}
 
--- what holds of any four items holds of a list of four
+-- a property of any four items is a property of a list of four
 at_four : {A : Type 0} (P : List A → Type 0) → ((a b c d : A) → P (a ∷ b ∷ c ∷ d ∷ [])) → (xs : List A) → length xs ≡ 4 → P xs
 at_four P all [] is = let no : ⊥ = omega arith in absurd no
 at_four P all (a ∷ []) is = let no : ⊥ = omega arith in absurd no
@@ -16,7 +16,7 @@ at_four P all (a ∷ b ∷ c ∷ []) is = let no : ⊥ = omega arith in absurd n
 at_four P all (a ∷ b ∷ c ∷ d ∷ []) is = all a b c d
 at_four P all (a ∷ b ∷ c ∷ d ∷ e ∷ xs) is = let no : ⊥ = omega arith in absurd no
 
--- there are n of them
+-- the length of the combined list
 pub length-oldest_first : (n : ℕ) (ws : List AskedWord) (cs : List (Option ℕ)) → length (oldest_first n ws cs) ≡ n
 unfolding oldest_first
 length-oldest_first zero ws cs = refl
@@ -34,7 +34,7 @@ asked_four w tick (suc (suc (suc zero))) few a b c d e f g h = refl
 asked_four w tick (suc (suc (suc (suc zero)))) few a b c d e f g h = refl
 asked_four w tick (suc (suc (suc (suc (suc n))))) few a b c d e f g h = let no : ⊥ = omega arith in absurd no
 
--- a request: the newest word comes in, without a content, and of five the oldest goes
+-- a request adds the newest word without contents; the oldest of five is dropped
 pub oldest_first-asked : (w tick : ℕ) (n : ℕ) (ws : List AskedWord) (cs : List (Option ℕ)) → n ≤ 4
     → length ws ≡ 4 → length cs ≡ 4
     → oldest_first (min (n + 1) 4) (asked_for ws w tick) (None ∷ take 3 cs) ≡ words_after_request (oldest_first n ws cs) w
@@ -47,7 +47,7 @@ oldest_first-asked w tick n ws cs few four fours =
     cs fours)
     ws four
 
--- the word w with its new tick and content, and any other word as it was
+-- the word w with its new tick and contents, and any other word unchanged
 slot-answered : (w word tick : ℕ) (f : AskedWord) (content : Option ℕ)
     → with_its_content (word_with_answer w tick f, content_answered w word (word_with_answer w tick f, content))
     ≡ changed_at w (with_answer word tick) (with_its_content (f, content))
@@ -59,7 +59,7 @@ slot-patched : (w word : ℕ) (f : AskedWord) (content : Option ℕ)
 slot-patched w word f (Some was) = elim (cases_Bool (f.w == w)) [ inl t ↦ rw t refl | inr n ↦ rw n refl ]
 slot-patched w word f None = elim (cases_Bool (f.w == w)) [ inl t ↦ rw t refl | inr n ↦ rw n refl ]
 
--- where each slot is changed so, the list is
+-- the list after a change of each slot
 module _ (F : Held → Held) (ws vs : List AskedWord) (cs ds : List (Option ℕ)) where
   changed-each :
       ((i : ℕ) → i < 4 → with_its_content (get_or vs i no_word, get_or ds i None) ≡ F (with_its_content (get_or ws i no_word, get_or cs i None)))
@@ -68,7 +68,7 @@ module _ (F : Held → Held) (ws vs : List AskedWord) (cs ds : List (Option ℕ)
   changed-each each zero few = refl
   changed-each each (suc n) few = rw (each n (omega arith), changed-each each n (omega arith)) refl
 
--- the slots after the answer of w, and after a store into it
+-- the slots after the answer of w and after a store to w
 each_answered : (w word tick : ℕ) (a b c d : AskedWord) (e f g h : Option ℕ) (i : ℕ) → i < 4
     → with_its_content (get_or (map (word_with_answer w tick) (a ∷ b ∷ c ∷ d ∷ [])) i no_word, get_or (map (content_answered w word) (zip (map (word_with_answer w tick) (a ∷ b ∷ c ∷ d ∷ [])) (e ∷ f ∷ g ∷ h ∷ []))) i None)
     ≡ changed_at w (with_answer word tick) (with_its_content (get_or (a ∷ b ∷ c ∷ d ∷ []) i no_word, get_or (e ∷ f ∷ g ∷ h ∷ []) i None))
@@ -100,7 +100,7 @@ oldest_first-answered w word tick n ws cs few four fours =
     cs fours)
     ws four
 
--- the list after a store into w
+-- the list after a store to w
 pub oldest_first-patched : (w word n : ℕ) (ws : List AskedWord) (cs : List (Option ℕ)) → n ≤ 4 → length ws ≡ 4 → length cs ≡ 4
     → oldest_first n ws (map (content_patched w word) (zip ws cs)) ≡ words_after_store (oldest_first n ws cs) w word
 oldest_first-patched w word n ws cs few four fours =
@@ -113,7 +113,7 @@ oldest_first-patched w word n ws cs few four fours =
     cs fours)
     ws four
 
--- the search goes from the newest to the oldest, and the last find counts
+-- the search runs from the newest word to the oldest, and the last find is the result
 pub found-next : (w i : ℕ) (ws : List AskedWord) (cs : List (Option ℕ)) (here next : Option Held)
     → next ≡ (if (get_or ws i no_word).w == w then Some (with_its_content (get_or ws i no_word, get_or cs i None)) else here)
     → here ≡ found (oldest_first i ws cs) w
@@ -121,7 +121,7 @@ pub found-next : (w i : ℕ) (ws : List AskedWord) (cs : List (Option ℕ)) (her
 unfolding oldest_first
 found-next w i ws cs here next is before = rw (is, before, add-one) refl
 
--- a word is held where it is found
+-- a word is held if and only if the lookup finds it
 pub is_held-found : (hold : List Held) (w : ℕ) → is_held hold w ≡ is_some (found hold w)
 is_held-found [] w = refl
 is_held-found (h ∷ hold) w = elim (cases_Bool (h.w == w)) [ inl t ↦ rw t refl | inr n ↦ rw n (is_held-found hold w) ]

@@ -1,9 +1,9 @@
--- Four held words, moved one place on.
+-- Four held words, shifted by one place.
 use Rattle.std.specs.Prelude.{slice_set, slice_index_or}
 use Rattle.std.proofs.Common.{◌≡◌, ℕ, ◌+◌, List, [], ◌∷◌, length, take, refl, arith}
 use Rattle.st_fetch.specs.declared.fetched.AskedWord.{AskedWord}
 
--- the word at a place becomes that before it
+-- the word at a place after the shift, which is the one before it
 abbrev pub moved : ℕ → List AskedWord → List AskedWord
 moved i xs = slice_set xs (i + 1) (slice_index_or xs i (record { w = 0; tick = 0 }))
 

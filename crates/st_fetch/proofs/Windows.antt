@@ -1,4 +1,4 @@
--- The slots of a list that wraps round: what is read of them, and what a push, a write and a pop do to them.
+-- The slots of a ring buffer: lookups, and the effect of a push, a write and a pop.
 use Rattle.std.proofs.Common.{◌≡◌, ℕ, ◌+◌, ◌-◌, ◌%◌, ◌<◌, ◌≤◌, ◌⊎◌, List, [], ◌∷◌, ◌++◌, length, get_or, drop, set, ap, sym, ◌∙◌, inl, inr, mod-eq_of_lt, arith, length-append, length-drop, length-set, length-take-le, get_or-drop, get_or-take}
 use native.Mathlib.Nat.{mod-eq-sub-mod, mod-add-mod}
 use Rattle.std.proofs.lemmas.List.{same_lists, drop_more, get_or_append_left, get_or-append_right, set-get_or}
@@ -6,7 +6,7 @@ use Rattle.std.proofs.lemmas.Bool.{cases_lt}
 use Rattle.std.proofs.lemmas.Grind.{common_steps}
 use Rattle.st_fetch.specs.Queue.{window}
 
--- a place below 2 N wraps once at most
+-- an index below 2 N wraps at most once
 mod_wraps_once : (N j : ℕ) → j < N + N → ((j < N) × (j % N ≡ j)) ⊎ ((N ≤ j) × (j % N ≡ j - N))
 mod_wraps_once N j below = elim (cases_lt j N) [
   | inl low ↦ inl (low, mod-eq_of_lt low)
@@ -27,9 +27,9 @@ module _ {A : Type 0} (N k n : ℕ) (xs : List A) (first_in_range : k < N) (len_
         | inr wrapped ↦ get_or-append_right _ _ (N - k) i d (omega arith) (omega arith) ∙ get_or-take k xs _ d (omega arith) ∙ ap (λ j. get_or xs j d) (omega arith)
       ]
 
--- these use the lemmas above at other windows
+-- the following lemmas use those above for other windows
 module _ {A : Type 0} (N k n : ℕ) (xs : List A) (first_in_range : k < N) (len_fits : n ≤ N) (length_xs : length xs ≡ N) where
-  -- a write behind the last item adds it at the end; the lists are compared item by item
+  -- a write after the last item adds it at the end; the lists are compared item by item
   pub window-push : (x : A) → n < N → window k (n + 1) (set xs ((k + n) % N) x) ≡ window k n xs ++ x ∷ []
   window-push x has_room =
       let ys = set xs ((k + n) % N) x in
@@ -45,7 +45,7 @@ module _ {A : Type 0} (N k n : ℕ) (xs : List A) (first_in_range : k < N) (len_
         get_or-window N k (n + 1) ys first_in_range (omega arith) length_ys i d,
       ))
 
-  -- a write over item i changes item i alone
+  -- a write to item i changes only item i
   pub window-set : (i : ℕ) (x : A) → i < n → window k n (set xs ((k + i) % N) x) ≡ set (window k n xs) i x
   window-set i x in_window =
       let ys = set xs ((k + i) % N) x in
@@ -84,7 +84,7 @@ module _ {A : Type 0} (N k n : ℕ) (xs : List A) (first_in_range : k < N) (len_
       ∙ ap (λ x. x ∷ drop 1 (window k n xs))
       (get_or-window N k n xs first_in_range len_fits length_xs 0 d nonempty ∙ ap (λ j. get_or xs j d) (mod-eq_of_lt (omega arith) ∙ omega arith))
 
-  -- the last item is that of slot (k + n) % N: it is written over itself
+  -- the last item is that of slot (k + n) % N, which is written to itself
   pub window-youngest : (d : A) → n < N → window k (n + 1) xs ≡ window k n xs ++ get_or xs ((k + n) % N) d ∷ []
   window-youngest d has_room =
       ap (window k (n + 1)) (sym (set-get_or xs ((k + n) % N) d)) ∙ window-push (get_or xs ((k + n) % N) d) has_room

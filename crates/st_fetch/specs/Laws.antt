@@ -1,10 +1,10 @@
--- What requests, answers and stores make of the held words.
+-- Laws of held words after requests, answers and stores.
 use Rattle.std.specs.Prelude.{◌≡◌, ◌≢◌, ◌≤◌, ℕ, List, ◌∷◌, [], ◌++◌, length, drop, true, Some, None}
 use Rattle.std.specs.Option.{option_map}
 use Rattle.st_fetch.specs.HeldWords.{is_held, words_after_request, words_after_answer, words_after_store, answer_of}
 use Rattle.st_fetch.specs.declared.held.Held.{Held}
 
--- A store changes the content of an answered word, and neither its tick nor any other word.
+-- A store changes the contents of an answered word, but neither its tick nor any other word.
 pub record StoresChangeContentAlone : Type 0 where
   pub here : (hold : List Held) (w word : ℕ) →
       answer_of (words_after_store hold w word) w ≡ option_map (λ a. (word, a.1)) (answer_of hold w)
@@ -13,7 +13,7 @@ pub record StoresChangeContentAlone : Type 0 where
   pub held : (hold : List Held) (v w word : ℕ) →
       is_held (words_after_store hold w word) v ≡ is_held hold v
 
--- The word that is answered is known by that answer from then on, and no other word is touched.
+-- After an answer, the word has that answer, and no other word has changed.
 pub record AnswersAreKnown : Type 0 where
   pub here : (hold : List Held) (w word tick : ℕ) → is_held hold w ≡ true →
       answer_of (words_after_answer hold w word tick) w ≡ Some (word, tick)
@@ -22,7 +22,7 @@ pub record AnswersAreKnown : Type 0 where
   pub held : (hold : List Held) (v w word tick : ℕ) →
       is_held (words_after_answer hold w word tick) v ≡ is_held hold v
 
--- A request drops no word while there is room, and the oldest one where there are four.
+-- A request drops the oldest word if four are held, and otherwise none.
 pub record RequestsHoldFour : Type 0 where
   pub room : (hold : List Held) (w : ℕ) → length hold ≤ 3 →
       words_after_request hold w ≡ hold ++ record { w = w; answer = None } ∷ []

@@ -1,11 +1,11 @@
-//! The contents of held words, beside their plan.
+//! The contents of held words, stored separately from their plan.
 ghost use Rattle.std.specs.Prelude.{◌≡◌, None, Some, if◌then◌else◌, ◌∷◌, replicate, take, map, zip};
 ghost use Rattle.std.specs.Option.{option_map};
 ghost use Rattle.st_fetch.specs.Planned.{content_answered, content_patched};
 
 use crate::fetched::HeldWords;
 
-/// What stands in held words, each content beside its word; None until the word is answered.
+/// The contents of held words, by the place of the word; None until the word is answered.
 #[derive(Clone, Copy, Debug, Default, PartialEq, Eq)]
 pub struct Contents {
     /// The contents, in the order of the words.
@@ -13,14 +13,14 @@ pub struct Contents {
 }
 
 impl Contents {
-    /// No word is answered.
+    /// The contents before any word is answered.
     pub fn new() -> Contents
         ensures { result.of ≡ replicate 4 None }
     {
         Contents { of: [None; 4] }
     }
 
-    /// A word was asked for: beside the newest one stands nothing yet.
+    /// The contents after a request: the newest word has none yet.
     pub fn requested(self) -> Contents
         ensures { result.of ≡ None ∷ take 3 self.of }
     {
@@ -30,7 +30,7 @@ impl Contents {
         }
     }
 
-    /// The word `w` of these held words is answered with the content `word`.
+    /// The contents after the word `w` of these held words is answered with `word`.
     pub fn answered(self, held: HeldWords, w: u32, word: u64) -> Contents
         ensures { result.of ≡ map (content_answered w word) (zip held.words self.of) }
     {
@@ -45,8 +45,8 @@ impl Contents {
         }
     }
 
-    /// The content `word` is stored into the word `w` of these held words, which changes it where
-    /// it is answered.
+    /// The contents after `word` is stored in the word `w` of these held words; they change only if
+    /// the word is answered.
     pub fn patched(self, held: HeldWords, w: u32, word: u64) -> Contents
         ensures { result.of ≡ map (content_patched w word) (zip held.words self.of) }
     {
@@ -62,14 +62,14 @@ impl Contents {
     }
 }
 
-// A content after an answer, which may be that of its word.
+// The contents of a held word after an answer; `here` is true if the answer is for this word.
 fn answered(here: bool, word: u64, content: Option<u64>) -> Option<u64>
     ensures { result ≡ (if here then Some word else content) }
 {
     if here { Some(word) } else { content }
 }
 
-// A content after a store, which may be into its word.
+// The contents of a held word after a store; `here` is true if the store is to this word.
 fn patched(here: bool, word: u64, content: Option<u64>) -> Option<u64>
     ensures { result ≡ (if here then option_map (λ _. word) content else content) }
 {

@@ -1,8 +1,8 @@
-//! Held words as a plan knows them: words and the ticks of their answers.
+//! The held words of a plan: words and the ticks of their answers.
 ghost use Rattle.std.specs.Prelude.{◌≡◌, replicate};
 ghost use Rattle.st_fetch.specs.Planned.{no_word, tick_of as tick_by, asked_for, word_with_answer};
 
-/// An instruction word that was asked for.
+/// A requested instruction word.
 #[derive(Clone, Copy, Debug, Default, PartialEq, Eq)]
 pub struct AskedWord {
     /// Its word address.
@@ -11,17 +11,17 @@ pub struct AskedWord {
     pub tick: u64,
 }
 
-/// The four instruction words that were asked for last, the newest one first, as a plan knows them:
-/// no contents, and each with the tick of its answer, which may still come. Where fewer were asked
-/// for, the word 0 fills the list up.
+/// The last four requested instruction words, the newest first, for a plan: without contents, each
+/// with the tick of its answer, which may be in the future. If fewer were requested, the rest of
+/// the list is the word 0.
 #[derive(Clone, Copy, Debug, Default, PartialEq, Eq)]
 pub struct HeldWords {
-    /// The words, the newest one first.
+    /// The words, the newest first.
     pub words: [AskedWord; 4],
 }
 
 impl AskedWord {
-    // The same with the tick of its answer, if it is the word `w`.
+    // This word, with the tick of its answer if it is the word `w`.
     fn told(self, w: u32, tick: u64) -> AskedWord
         ensures { result ≡ word_with_answer w tick self }
     {
@@ -36,7 +36,7 @@ impl AskedWord {
 impl HeldWords {
     ghost use Rattle.std.specs.Prelude.{map};
 
-    /// No word is held.
+    /// The list without held words.
     pub fn new() -> HeldWords
         ensures { result.words ≡ replicate 4 no_word }
     {
@@ -45,7 +45,7 @@ impl HeldWords {
         }
     }
 
-    /// The tick at which the word `w`, which is not 0, is answered; None exactly where it is not
+    /// The tick at which the word `w`, which is not 0, is answered; None if and only if it is not
     /// held.
     pub fn tick_of(&self, w: u32) -> Option<u64>
         ensures { result ≡ tick_by self.now.words w }
@@ -54,8 +54,7 @@ impl HeldWords {
         Some(found.tick)
     }
 
-    /// Holds the word `w` from now on, which is answered at `tick`, in place of the one that was
-    /// asked for longest ago.
+    /// Adds the word `w`, which is answered at `tick`, in place of the oldest request.
     pub fn request(&mut self, w: u32, tick: u64)
         ensures { self.new.words ≡ asked_for self.old.words w tick }
     {
@@ -65,7 +64,7 @@ impl HeldWords {
         self.words[0] = AskedWord { w, tick };
     }
 
-    // The word `w` is answered at `tick`.
+    // The held words after the word `w` is answered at `tick`.
     pub(crate) fn answered(self, w: u32, tick: u64) -> HeldWords
         ensures value { result.words ≡ map (word_with_answer w tick) self.words }
     {

@@ -12,12 +12,12 @@ use std::marker::Model;
 pub struct Held {
     /// Its word address.
     pub w: u32,
-    /// Its content and the tick at which it was answered, once it is.
+    /// Its contents and the tick of its answer, None until it is answered.
     pub answer: Option<(u64, u64)>,
 }
 
-/// The instruction words that were asked for last, at most four. Contracts see their list, the
-/// oldest request first.
+/// The last requested instruction words, at most four. Contracts see their list, the oldest request
+/// first.
 #[derive(Drop)]
 pub struct Hold {
     words: HeldWords,
@@ -39,7 +39,7 @@ impl Model for Hold {
 }
 
 impl Hold {
-    /// No word is held.
+    /// The list without held words.
     #[tactic(auto, unfolding(crate::specs::Planned::oldest_first))]
     pub fn new() -> Hold
         ensures { result ≡ [] }
@@ -59,8 +59,8 @@ impl Hold {
         self.find(w).is_some()
     }
 
-    /// Holds the word `w`, which is not held, from now on, without an answer. The word that was
-    /// asked for longest ago is dropped where there are four.
+    /// Adds the word `w`, which is not held, without an answer. If four words are held, drops the
+    /// oldest request.
     pub fn request(&mut self, w: u32)
         requires { is_held self.old w ≡ false }
         ensures { self.new ≡ words_after_request self.old w }
@@ -70,7 +70,7 @@ impl Hold {
         self.len = (self.len + 1).min(4);
     }
 
-    /// The held word `w` is answered at `tick` with the content `word`.
+    /// Records that the held word `w` is answered at `tick` with the contents `word`.
     pub fn answer(&mut self, w: u32, word: u64, tick: u64)
         requires { is_held self.old w ≡ true }
         ensures { self.new ≡ words_after_answer self.old w word tick }
@@ -79,15 +79,15 @@ impl Hold {
         self.contents = self.contents.answered(self.words, w, word);
     }
 
-    /// The content of the word `w` and the tick of its answer; None exactly where it is not held or
-    /// not answered yet.
+    /// The contents of the word `w` and the tick of its answer; None if and only if it is not held
+    /// or not answered yet.
     pub fn word(&self, w: u32) -> Option<(u64, u64)>
         ensures { result ≡ answer_of self.now w }
     {
         self.find(w)?.answer
     }
 
-    // The word `w` with its answer, if it is held.
+    // The held word `w`, None if it is not held.
     fn find(&self, w: u32) -> Option<Held>
         ensures value { result ≡ found self.now w }
         ensures few { length self.now ≤ 4 }
@@ -99,16 +99,16 @@ impl Hold {
         here
     }
 
-    /// The content `word` is stored into the word `w`: where `w` is held and answered, that is its
-    /// content from now on. The tick of its answer stays, and so do the other words; nothing
-    /// changes where it is not held, or not answered yet.
+    /// Stores `word` to the word `w`: if `w` is held and answered, its contents change. The tick of
+    /// its answer and the other words do not change. If it is not held or not answered yet, nothing
+    /// changes.
     pub fn patch(&mut self, w: u32, word: u64)
         ensures { self.new ≡ words_after_store self.old w word }
     {
         self.contents = self.contents.patched(self.words, w, word);
     }
 
-    /// Holds no word any more.
+    /// Removes all held words.
     #[tactic(auto, unfolding(crate::specs::Planned::oldest_first))]
     pub fn forget(&mut self)
         ensures { self.new ≡ [] }
@@ -117,7 +117,7 @@ impl Hold {
     }
 }
 
-// The word with the content beside it, if it is the word `w`, else what was found before.
+// The word combined with its contents if it is the word `w`, otherwise the previous find.
 fn found_next(
     w: u32,
     fetched: AskedWord,

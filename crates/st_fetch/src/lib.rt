@@ -1,5 +1,5 @@
-//! What the machine keeps of the words that it asks for: the four instruction words that were asked
-//! for last, and the reads that are still to be made. `docs/timetable.md` has the rules.
+//! The state of storage accesses: the last four requested instruction words, and the queue of
+//! pending reads. `docs/timetable.md` has the rules.
 #![tactic(auto)]
 
 mod contents;

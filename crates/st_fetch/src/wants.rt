@@ -1,24 +1,24 @@
-//! The reads that are still to be made, first in, first out.
+//! The queue of pending reads, first in, first out.
 ghost use Rattle.std.specs.Prelude.{◌≡◌, ◌≤◌, ◌<◌, ◌*◌, ◌%◌, [], ◌∷◌, ◌++◌, length, drop, slice_get, ◌==◌};
 
 use std::marker::Model;
 
-/// A read that is still to be made.
+/// A pending read.
 #[derive(Clone, Copy, Debug, Default, PartialEq, Eq)]
 pub struct Want {
-    /// The first tick at which the read may be made.
+    /// The earliest tick at which the read is possible.
     pub tick: u64,
     /// The word address.
     pub w: u32,
-    /// What the read is for: a number that the machine chooses and the list keeps as it is.
+    /// The purpose of the read: a number that the machine chooses and the queue does not interpret.
     pub purpose: u8,
 }
 
-/// The number of reads that can be wanted at once.
+/// The greatest number of pending reads.
 pub const WANTS: usize = 40;
 
-/// The reads that are still to be made, at most WANTS, first in first out. Contracts see their
-/// list, the first one first.
+/// The queue of pending reads, at most WANTS, first in, first out. Contracts see their list, the
+/// first one first.
 #[derive(Drop)]
 pub struct Wants {
     slots: [Want; WANTS],
@@ -40,7 +40,7 @@ impl Model for Wants {
 }
 
 impl Wants {
-    /// No read is wanted.
+    /// The empty queue.
     pub fn new() -> Wants
         ensures { result ≡ [] }
     {
@@ -51,7 +51,7 @@ impl Wants {
         }
     }
 
-    /// The number of reads that are wanted.
+    /// The number of pending reads.
     pub fn len(&self) -> usize
         ensures value { result ≡ length self.now }
         ensures bound { result ≤ WANTS }
@@ -59,14 +59,14 @@ impl Wants {
         self.len
     }
 
-    /// Whether no read is wanted.
+    /// Whether the queue is empty.
     pub fn is_empty(&self) -> bool
         ensures { result ≡ (length self.now == 0) }
     {
         self.len() == 0
     }
 
-    /// Wants one more read, after all others. There is room: fewer than WANTS are wanted before.
+    /// Adds a read at the end. The queue must have fewer than WANTS reads.
     pub fn push(&mut self, want: Want)
         requires { length self.old < WANTS }
         ensures { self.new ≡ self.old ++ want ∷ [] }
@@ -75,7 +75,7 @@ impl Wants {
         self.len += 1;
     }
 
-    /// The read that was wanted first; None exactly where none is wanted.
+    /// The first pending read; None if and only if the queue is empty.
     pub fn front(&self) -> Option<Want>
         ensures { result ≡ slice_get self.now 0 }
     {
@@ -86,7 +86,7 @@ impl Wants {
         }
     }
 
-    /// Takes the read that was wanted first from the list. There is one.
+    /// Removes the first pending read. The queue must not be empty.
     pub fn pop(&mut self)
         requires { 0 < length self.old }
         ensures { self.new ≡ drop 1 self.old }
@@ -95,7 +95,7 @@ impl Wants {
         self.len -= 1;
     }
 
-    /// Wants no read any more.
+    /// Removes all pending reads.
     pub fn clear(&mut self)
         ensures { self.new ≡ [] }
     {
@@ -103,7 +103,7 @@ impl Wants {
     }
 }
 
-// The slot `i` places behind the slot 0, where the first one comes behind the last one.
+// The slot `i` places after the slot 0, with wraparound.
 fn slot(i: usize) -> usize
     requires { i < 2 * WANTS }
     ensures { result ≡ i % WANTS }

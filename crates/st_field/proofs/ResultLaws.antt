@@ -1,4 +1,4 @@
--- What every result keeps: the bits of a field that is written have room in it.
+-- The bits of a field that is written fit its length.
 use Rattle.std.proofs.Common.{ℕ, ◌^◌, ◌<◌, arith}
 use Rattle.std.specs.Prelude.{IfSome}
 use Rattle.st_bits.specs.declared.operations.VflOp.{VflOp}
@@ -10,11 +10,11 @@ use Rattle.st_field.specs.Results.{stored_field}
 use Rattle.st_field.specs.Bases.{InBase, result_of, store_result}
 use Rattle.st_field.proofs.FieldLemmas.{field_bits-below}
 
--- the bits of a field that is written are its length
+-- if a result writes the field, the bits fit its length
 abbrev pub IsInField : Taken → Done → Type 0
 IsInField t d = IfSome d.field (λ x. x < 2 ^ t.shape.length)
 
--- what a base keeps in a field has room there
+-- a magnitude that a base stores in a field fits it
 pub record KeepsLength (b : InBase) (t : Taken) : Type 0 where
   pub stored : b.stored.bits < 2 ^ magnitude_bits t.shape
   pub replaced : (n : ℕ) → (b.replaced n).bits < 2 ^ magnitude_bits t.shape

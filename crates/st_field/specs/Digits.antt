@@ -1,7 +1,7 @@
--- Decimal digits: codes of four bits, the digit of place 0 rightmost.
+-- Decimal digits: codes of four bits, the digit in place 0 rightmost.
 use Rattle.std.specs.Prelude.{ℕ, zero, suc, ◌+◌, ◌*◌, ◌/◌, ◌%◌, ◌^◌}
 
--- the code of the digit at a place
+-- the code of the digit in the given place
 abbrev pub code_at : ℕ → ℕ → ℕ
 code_at digits place = digits / 16 ^ place % 16
 
@@ -10,7 +10,7 @@ unfoldable pub value_of_digits : ℕ → ℕ → ℕ
 value_of_digits zero digits = 0
 value_of_digits (suc n) digits = code_at digits n * 10 ^ n + value_of_digits n digits
 
--- the n lowest decimal digits of a number
+-- the codes of the n lowest decimal digits of a number
 unfoldable pub digits_of : ℕ → ℕ → ℕ
 digits_of zero number = 0
 digits_of (suc n) number = number / 10 ^ n % 10 * 16 ^ n + digits_of n number

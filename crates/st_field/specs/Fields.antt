@@ -1,9 +1,9 @@
--- The parts of a binary field: magnitude, sign, flags and zone, as whole numbers.
+-- The parts of a binary field as natural numbers: magnitude, sign, flags and zone.
 use Rattle.std.specs.Prelude.{ℕ, ◌≡◌, ◌+◌, ◌-◌, ◌*◌, ◌/◌, ◌%◌, ◌^◌, ◌<◌, ◌≤◌, Bool, false, ◌==◌, if◌then◌else◌}
 use Rattle.st_field.specs.declared.fields.Field.{Field}
 use Rattle.st_field.specs.declared.fields.Shape.{Shape}
 
--- a shape that a binary operation can have
+-- a shape that is valid for a binary operation
 pub record IsBinaryShape (h : Shape) : Type 0 where
   pub some : 1 ≤ h.length
   pub few : h.length ≤ 64
@@ -12,11 +12,12 @@ pub record IsBinaryShape (h : Shape) : Type 0 where
   pub room : h.unsigned ≡ false → h.byte ≤ h.length
   pub near : h.offset ≤ 127
 
--- the bits of the magnitude: all of an unsigned field, all but the last byte of a signed one
+-- the number of magnitude bits: all bits of an unsigned field, all but the last byte of a signed
+-- one
 abbrev pub magnitude_bits : Shape → ℕ
 magnitude_bits h = if h.unsigned then h.length else h.length - h.byte
 
--- the parts of a sign byte, from the left: zone, sign, and the flags T, U and V
+-- the zone of a sign byte, whose parts are from the left: zone, sign, and the flags T, U and V
 abbrev pub zone_of : ℕ → ℕ
 zone_of s = s / 16
 
@@ -26,15 +27,16 @@ sign_of s = s / 8 % 2 == 1
 abbrev pub flags_of : ℕ → ℕ
 flags_of s = s % 8
 
--- the sign byte of these parts; the sign is minus where it is true
+-- the sign byte with these parts; the Boolean is true for minus
 abbrev pub sign_byte : ℕ → Bool → ℕ → ℕ
 sign_byte zone minus flags = zone * 16 + (if minus then 8 else 0) + flags
 
--- the last b bits of a field as a sign byte; what fewer than four lack on the right is 0
+-- the last b bits of a field as a sign byte; if b is less than 4, the missing bits on the right are
+-- 0
 abbrev pub last_byte : ℕ → ℕ → ℕ
 last_byte x b = x % 2 ^ b * 2 ^ (4 - b)
 
--- the parts of a field; an unsigned one has plus, no flags and no zone
+-- the parts of a field with the bits x; an unsigned field has plus, no flags and no zone
 abbrev pub field_of : ℕ → Shape → Field
 field_of x h =
     if h.unsigned then record { mag = x; negative = false; flags = 0; zone = 0 }
@@ -45,15 +47,16 @@ field_of x h =
       zone = zone_of (last_byte x h.byte);
     }
 
--- the b bits of a sign byte: the low zone bits that have room, and of a short one the left bits
+-- the b bits of the last byte of a signed field: the low zone bits that fit, and the left bits of a
+-- short byte
 abbrev pub byte_bits : Field → ℕ → ℕ
 byte_bits f b = sign_byte (f.zone % 2 ^ (b - 4)) f.negative f.flags / 2 ^ (4 - b)
 
--- the bits of a field
+-- the bits of a field with the given parts and shape
 abbrev pub field_bits : Field → Shape → ℕ
 field_bits f h = if h.unsigned then f.mag else f.mag * 2 ^ h.byte + byte_bits f h.byte
 
--- a field that has room in its shape
+-- a field whose parts fit its shape
 pub record HasRoom (f : Field) (h : Shape) : Type 0 where
   pub below : f.mag < 2 ^ magnitude_bits h
   pub three_flags : f.flags < 8

@@ -6,37 +6,39 @@ use Rattle.st_bits.specs.declared.storage.Ind.{Ind}
 use Rattle.st_bits.specs.Indicators.{indicator, indicators, is_on}
 use Rattle.st_bits.specs.declared.indicators.TheConstants.{LOST_CARRY, PARTIAL_FIELD, FLAG_T, FLAG_U, FLAG_V, TO_MEMORY_OPERATION, RESULT_LESS, RESULT_ZERO, RESULT_GREATER, RESULT_NEGATIVE, ACCUMULATOR_LOW, ACCUMULATOR_EQUAL, ACCUMULATOR_HIGH}
 
--- indicator n, where b holds
+-- the word with only indicator n on if b is true, otherwise 0
 abbrev pub on_if : Bool → ℕ → ℕ
 on_if b n = if b then indicator n else 0
 
--- LC, where a carry is lost
+-- LC if a carry is lost
 abbrev pub lost_carry : Bool → ℕ
 lost_carry b = on_if b LOST_CARRY
 
--- PF, where a part of a field is lost
+-- PF if a part of a field is lost
 abbrev pub partial_field : Bool → ℕ
 partial_field b = on_if b PARTIAL_FIELD
 
--- TF, UF and VF, by the flags T, U and V
+-- TF, UF and VF according to the flags T, U and V
 abbrev pub flag_indicators : ℕ → ℕ
 flag_indicators flags =
     on_if (flags / 4 == 1) FLAG_T + on_if (flags / 2 % 2 == 1) FLAG_U
     + on_if (flags % 2 == 1) FLAG_V
 
--- RLZ, RZ or RGZ, by a result number, and RN where its sign is minus
+-- RLZ, RZ or RGZ according to a result number, and RN if its sign is minus
 abbrev pub number_indicators : Bool → ℕ → ℕ
 number_indicators minus m =
     (if m == 0 then indicator RESULT_ZERO else if minus then indicator RESULT_LESS
     else indicator RESULT_GREATER) + on_if minus RESULT_NEGATIVE
 
--- AL, AE or AH: the side of the accumulator is below, equal, above
+-- the indicator of a comparison of the accumulator with the operand: AL for less, AE for equal, AH
+-- for greater
 abbrev pub order_indicator : Ordering → ℕ
 order_indicator Less = indicator ACCUMULATOR_LOW
 order_indicator Equal = indicator ACCUMULATOR_EQUAL
 order_indicator Greater = indicator ACCUMULATOR_HIGH
 
--- what a result number turns on and off, besides `on`; MOP is on where it stands in the field
+-- the indicators that a result number turns on and off, with the further indicators on; MOP is on
+-- if the result was written to the field
 abbrev pub by_number : Bool → Bool → ℕ → ℕ → Ind
 by_number wrote minus m on = record {
   on = on + (on_if wrote TO_MEMORY_OPERATION + number_indicators minus m);
@@ -44,11 +46,11 @@ by_number wrote minus m on = record {
       ∷ RESULT_NEGATIVE ∷ []);
 }
 
--- what an operation without a result number turns on and off; it writes no field
+-- the indicators that an operation without a result number turns on and off; it writes no field
 abbrev pub without_number : ℕ → Ind
 without_number on = record { on = on; off = indicator TO_MEMORY_OPERATION }
 
--- what a comparison turns on and off
+-- the indicators that a comparison turns on and off, with the further indicators on
 abbrev pub by_order : Ordering → ℕ → Ind
 by_order order on = record {
   on = on + order_indicator order;
@@ -56,18 +58,20 @@ by_order order on = record {
       ∷ []);
 }
 
--- what a comparison turns on and off where it acts only if AE is on
+-- the indicators that a comparison turns on and off if it has an effect only if AE is on
 abbrev pub by_order_if_equal : ℕ → Ordering → ℕ → Ind
 by_order_if_equal ind order on = if is_on ind ACCUMULATOR_EQUAL then by_order order on
     else without_number on
 
--- the side of a range: AE below its upper end, else AH
+-- the indicator of a comparison with the upper end of a range: AE if the accumulator is below it,
+-- otherwise AH
 abbrev pub range_indicator : Ordering → ℕ
 range_indicator Less = indicator ACCUMULATOR_EQUAL
 range_indicator Equal = indicator ACCUMULATOR_HIGH
 range_indicator Greater = indicator ACCUMULATOR_HIGH
 
--- what a comparison with the upper end of a range turns on and off; it acts only if AL is off
+-- the indicators that a comparison with the upper end of a range turns on and off; it has an effect
+-- only if AL is off
 abbrev pub by_range : ℕ → Ordering → ℕ → Ind
 by_range ind order on =
     if is_on ind ACCUMULATOR_LOW then without_number on

@@ -1,42 +1,42 @@
--- Whole numbers as sign and magnitude.
+-- Integers as sign and magnitude.
 use Rattle.std.specs.Prelude.{ℕ, zero, suc, ◌^◌, ℤ, pos, negsuc, neg_ℤ, ◌+ℤ◌, unsigned_abs, Bool, true, false, not, nat_le, if◌then◌else◌}
 use Rattle.st_field.specs.declared.signed.Signed.{Signed}
 
--- a magnitude with a sign, which is minus where it is true
+-- the integer with a magnitude and a sign; the Boolean is true for minus
 abbrev pub signed_magnitude : Bool → ℕ → ℤ
 signed_magnitude false m = pos m
 signed_magnitude true m = neg_ℤ (pos m)
 
--- the sign of a number; zero has the sign that stood before
+-- the sign of an integer, true for minus; zero keeps the previous sign
 abbrev pub sign_after : Bool → ℤ → Bool
 sign_after before (pos zero) = before
 sign_after before (pos (suc _)) = false
 sign_after before (negsuc _) = true
 
--- whether exactly one of both holds: the sign of a product, and of a number that is negated
+-- exclusive or: the sign of a product, or of a number that may be negated
 abbrev pub exactly_one : Bool → Bool → Bool
 exactly_one a b = if a then not b else b
 
--- whether a number has no room in n bits
+-- whether a number does not fit in n bits
 abbrev pub exceeds : ℕ → ℕ → Bool
 exceeds r n = nat_le (2 ^ n) r
 
--- a number of the code
+-- the integer of a signed number of the code
 abbrev pub number_of : Signed → ℤ
 number_of n = signed_magnitude n.negative n.mag
 
--- the sum of two numbers; where it is zero the sign of the first one stays
+-- the sum of two signed numbers; a sum of zero has the sign of the first
 abbrev pub sum_of : Signed → Signed → Signed
 sum_of a b = record {
   negative = sign_after a.negative (number_of a +ℤ number_of b);
   mag = unsigned_abs (number_of a +ℤ number_of b);
 }
 
--- a magnitude, 0 where the number is below 0
+-- the magnitude of an integer, or 0 if it is negative
 abbrev pub magnitude_above : ℤ → ℕ
 magnitude_above (pos m) = m
 magnitude_above (negsuc _) = 0
 
--- the first number with the second one added to its magnitude; the sign stays
+-- the first number with the second added to its magnitude, at least 0; its sign does not change
 abbrev pub magnitude_sum : Signed → Signed → Signed
 magnitude_sum a b = record a { mag = magnitude_above (pos a.mag +ℤ number_of b) }

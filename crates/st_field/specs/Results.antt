@@ -1,4 +1,4 @@
--- What operations on fields have in common: their numbers, and what they leave.
+-- Common parts of operations on fields: their numbers and their results.
 use Rattle.std.specs.Prelude.{ℕ, ◌+◌, ◌%◌, ◌^◌, Bool, true, false, if◌then◌else◌, None, Some}
 use Rattle.st_bits.specs.declared.storage.Ind.{Ind}
 use Rattle.st_field.specs.declared.accumulator.Acc.{Acc}
@@ -14,30 +14,29 @@ use Rattle.st_field.specs.Numbers.{exactly_one, exceeds}
 
 -- ---- numbers
 
--- the sign of the accumulator
+-- whether the sign of the accumulator is minus
 abbrev pub is_minus : Acc → Bool
 is_minus a = sign_of a.sb
 
--- the magnitude m with the sign of the accumulator, and with that of a field
+-- the signed number with the magnitude m and the sign of the accumulator
 abbrev pub number_in : Acc → ℕ → Signed
 number_in a m = record { negative = is_minus a; mag = m }
 
 abbrev pub number_of_field : Field → ℕ → Signed
 number_of_field f m = record { negative = f.negative; mag = m }
 
--- the operand, and what is added to a field: the same with that sign inverted, where the operation
--- is negated
+-- the operand: the magnitude m with the sign of the field, inverted if the operation is negated
 abbrev pub signed_operand : Field → Shape → ℕ → Signed
 signed_operand f h m = record { negative = exactly_one f.negative h.negated; mag = m }
 
 abbrev pub addend_from : Acc → Shape → ℕ → Signed
 addend_from a h m = record { negative = exactly_one (is_minus a) h.negated; mag = m }
 
--- as much of a number as n bits hold
+-- a number stored in n bits
 abbrev pub number_cut : ℕ → ℕ → Kept
 number_cut n m = record { bits = m % 2 ^ n; value = m % 2 ^ n; is_lost = exceeds m n }
 
--- the operand at its place in the accumulator, where k is kept of it
+-- the operand at its place in the accumulator, where k is its shifted magnitude
 abbrev pub aligned_operand : Field → Shape → Kept → Aligned
 aligned_operand f h k = record {
   bits = k.bits;
@@ -45,11 +44,11 @@ aligned_operand f h k = record {
   on = flag_indicators f.flags + partial_field k.is_lost;
 }
 
--- the accumulator with another magnitude and sign; zone and flags stay
+-- the accumulator with another magnitude and sign; zone and flags do not change
 abbrev pub with_number : Acc → ℕ → Bool → Acc
 with_number a m minus = record { mag = m; sb = sign_byte (zone_of a.sb) minus (flags_of a.sb) }
 
--- the field that the accumulator makes, with the magnitude m; an unsigned one has plus
+-- the field that stores the accumulator with the magnitude m; an unsigned field has plus
 abbrev pub stored_field : Acc → Shape → ℕ → Field
 stored_field a h m = record {
   mag = m;
@@ -58,9 +57,9 @@ stored_field a h m = record {
   zone = zone_of a.sb;
 }
 
--- ---- what operations leave
+-- ---- results of operations
 
--- an operation that leaves the accumulator a and writes no field and no register
+-- a result with the accumulator a that writes no field and no other register
 abbrev pub done_with : Acc → Ind → Done
 done_with a ind = record {
   acc = a;
@@ -72,31 +71,31 @@ done_with a ind = record {
   ind = ind;
 }
 
--- the accumulator becomes a, whose value m is the result number
+-- a result with the accumulator a, whose value m is the result number
 abbrev pub in_accumulator : Acc → ℕ → ℕ → Done
 in_accumulator a m on = done_with a (by_number false (is_minus a) m on)
 
--- the field becomes f, whose value m is the result number
+-- a result that writes the field f, whose value m is the result number
 abbrev pub in_field : Acc → Field → Shape → ℕ → ℕ → Done
 in_field a f h m on =
     record (done_with a (by_number true f.negative m on)) { field = Some (field_bits f h) }
 
--- L: the operand, with no zone and no flags
+-- the result of L: the operand without zone and flags is loaded
 abbrev pub load_result : Aligned → Done
 load_result x =
     in_accumulator (record { mag = x.bits; sb = sign_byte 0 x.number.negative 0 }) x.number.mag x.on
 
--- LWF: the operand, with the zone and flags of its field
+-- the result of LWF: the operand with the zone and flags of its field is loaded
 abbrev pub loaded_with_flags : Field → Aligned → Done
 loaded_with_flags f x =
     in_accumulator
     (record { mag = x.bits; sb = sign_byte f.zone x.number.negative f.flags }) x.number.mag x.on
 
--- the operand n is the result number, and the accumulator stays
+-- a result with the operand n as result number and an unchanged accumulator
 abbrev pub operand_kept : Acc → Signed → ℕ → Done
 operand_kept a n on = done_with a (by_number false n.negative n.mag on)
 
--- LTRS: the bits x of the field go to the transit register, and LFT: to the factor register
+-- the result of LTRS: the bits x of the field are loaded into the transit register
 abbrev pub transit_loaded : Acc → Signed → ℕ → ℕ → Done
 transit_loaded a n x on = record (operand_kept a n on) { tr = Some x }
 

@@ -16,7 +16,7 @@ pub struct Acc {
     pub sb: u8,
 }
 
-/// The number with the sign of the accumulator and the magnitude `mag`.
+/// The signed number with the sign of the accumulator and the magnitude `mag`.
 pub fn signed_as(acc: &Acc, mag: u128) -> Signed
     ensures { result ≡ number_in acc.now mag }
 {
@@ -26,7 +26,7 @@ pub fn signed_as(acc: &Acc, mag: u128) -> Signed
     }
 }
 
-/// The accumulator with another number; zone and flags stay.
+/// The accumulator with another number; zone and flags do not change.
 pub fn with_number(acc: &Acc, number: Signed) -> Acc
     ensures { result ≡ with_number_of acc.now number.mag number.negative }
 {
@@ -36,8 +36,8 @@ pub fn with_number(acc: &Acc, number: Signed) -> Acc
     }
 }
 
-/// What is added to a field: `mag` with the sign of the accumulator, inverted where the operation
-/// is negated.
+/// The number that is added to a field: `mag` with the sign of the accumulator, inverted if the
+/// operation is negated.
 pub fn addend(acc: &Acc, shape: &Shape, mag: u128) -> Signed
     ensures { result ≡ addend_of acc.now shape.now mag }
 {
@@ -47,8 +47,8 @@ pub fn addend(acc: &Acc, shape: &Shape, mag: u128) -> Signed
     }
 }
 
-/// The field that the accumulator makes, with the magnitude `mag`, which has room; an unsigned one
-/// has plus.
+/// The field that stores the accumulator with the magnitude `mag`, which must fit; an unsigned
+/// field has plus.
 pub fn stored_field(acc: &Acc, shape: &Shape, mag: u64) -> Field
     requires { mag < 2 ^ magnitude_bits shape.now }
     ensures value { result ≡ stored_field_of acc.now shape.now mag }

@@ -1,5 +1,4 @@
-//! What an operation on a field takes, and what the base of the numbers there, 2 or 10, makes of
-//! it.
+//! The inputs of an operation on a field, and the operations that depend on the base, 2 or 10.
 ghost use Rattle.std.specs.Prelude.{◌≡◌, ◌<◌, ◌%◌, ◌^◌, ℕ, true};
 ghost use Rattle.st_field.specs.Fields.{IsBinaryShape, HasRoom, magnitude_bits};
 ghost use Rattle.st_field.specs.Numbers.{exceeds};
@@ -13,18 +12,18 @@ use crate::operand::Kept;
 use crate::outcome::Done;
 use crate::signed::Sum;
 
-/// What an operation takes.
+/// The inputs of an operation on a field.
 #[derive(Clone, Copy)]
 pub struct Taken {
     /// The accumulator.
     pub acc: Acc,
-    /// What the field holds.
+    /// The parts of the field.
     pub field: Field,
-    /// How the instruction sees it.
+    /// The shape of the field.
     pub shape: Shape,
 }
 
-/// What an operation takes of a field with the bits `bits`, below 2^length.
+/// The inputs of an operation on a field with the bits `bits`, below 2^length.
 pub fn take(acc: &Acc, bits: u64, shape: &Shape) -> Taken
     requires shape { IsBinaryShape shape.now }
     requires fits { bits < 2 ^ shape.now.length }
@@ -40,13 +39,13 @@ pub fn take(acc: &Acc, bits: u64, shape: &Shape) -> Taken
 
 /// The base of the numbers in a field and in the accumulator.
 pub trait Base {
-    /// What the base makes of what an operation takes.
+    /// The parts of a result that depend on the base, for given inputs.
     ghost base: { Taken → InBase };
 
-    /// The shapes that an operation in this base can have.
+    /// The shapes that are valid in this base.
     ghost Allows: { Shape → Type 0 };
 
-    /// What the values of the accumulator and of a field are below.
+    /// An upper bound that the values of the accumulator and of a field are below.
     ghost limit: { ℕ };
 
     /// The value of the accumulator.
@@ -55,7 +54,7 @@ pub trait Base {
         ensures value { result ≡ (base taken.now).whole }
         ensures bound { result < limit };
 
-    /// The value of the accumulator from the offset on.
+    /// The value of the accumulator from the offset.
     fn part(taken: &Taken) -> u128
         requires { IsTaken Allows taken.now }
         ensures value { result ≡ (base taken.now).part }
@@ -67,37 +66,37 @@ pub trait Base {
         ensures value { result ≡ (base taken.now).value }
         ensures bound { result < limit };
 
-    /// The bits of the field as a register takes them.
+    /// The bits of the field as the transit register and the factor register store them.
     fn content(taken: &Taken) -> u64
         requires { IsTaken Allows taken.now }
         ensures { result ≡ (base taken.now).content };
 
-    /// The indicators that the transit register turns on.
+    /// The indicators that are turned on by a load of the transit register.
     fn transit(taken: &Taken) -> u64
         requires { IsTaken Allows taken.now }
         ensures value { result ≡ (base taken.now).transit }
         ensures few { result < 2 ^ 42 };
 
-    /// The field at its place in the accumulator.
+    /// The field shifted to its place in the accumulator.
     fn at_place(taken: &Taken) -> Kept
         requires { IsTaken Allows taken.now }
         ensures value { result ≡ (base taken.now).at_place }
         ensures bound { result.value < limit };
 
-    /// The accumulator from the offset on as the field stores it.
+    /// The accumulator from the offset as it is stored in the field.
     fn stored(taken: &Taken) -> Kept
         requires { IsTaken Allows taken.now }
         ensures value { result ≡ (base taken.now).stored }
         ensures room { result.bits < 2 ^ magnitude_bits taken.now.shape };
 
-    /// What a sum makes of the accumulator.
+    /// The magnitude of a sum as it is stored in the accumulator.
     fn summed(taken: &Taken, sum: Sum) -> Kept
         requires fits { IsTaken Allows taken.now }
         requires large { sum.carry ≡ true → 2 ^ 127 < limit }
         ensures { (n : ℕ) → sum.number.mag ≡ n % 2 ^ 128 → sum.carry ≡ exceeds n 128 →
             result ≡ (base taken.now).summed n };
 
-    /// What a sum makes of the field.
+    /// The magnitude of a sum as it is stored in the field.
     fn replaced(taken: &Taken, sum: Sum) -> Kept
         requires fits { IsTaken Allows taken.now }
         requires large { sum.carry ≡ true → 2 ^ 127 < limit }
@@ -110,7 +109,7 @@ pub trait Base {
         requires { IsTaken Allows taken.now }
         ensures { result ≡ (base taken.now).product };
 
-    /// Multiply with the factor register, and add.
+    /// Multiply by the factor register, and add.
     fn multiply_and_add(taken: &Taken, ft: u64) -> Done
         requires { IsTaken Allows taken.now }
         ensures { result ≡ (base taken.now).product_added ft };

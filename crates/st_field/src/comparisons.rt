@@ -1,4 +1,4 @@
-//! Comparisons of the accumulator with a field, of which the two sides are taken as numbers.
+//! Comparisons of the accumulator with a field, given their order as numbers.
 ghost use Rattle.std.specs.Prelude.{◌≡◌, ◌<◌, ◌^◌};
 ghost use Rattle.st_field.specs.Comparisons.{comparison_result, compared_if_equal, compared_for_range};
 
@@ -7,16 +7,16 @@ use crate::indicators::{by_order, by_order_if_equal, by_range};
 use crate::outcome::{Done, done_with};
 use std::cmp::Ordering;
 
-/// The two sides of a comparison.
+/// The order of the two sides of a comparison.
 #[derive(Clone, Copy)]
 pub struct Compared {
-    /// How the side of the accumulator stands to the operand.
+    /// The order of the accumulator relative to the operand.
     pub order: Ordering,
     /// The indicators of the operand, below 2^63.
     pub on: u64,
 }
 
-/// Compare: exactly one of AL, AE and AH comes on.
+/// Compare: exactly one of AL, AE and AH is turned on.
 pub fn compare(acc: &Acc, sides: Compared) -> Done
     requires { sides.on < 2 ^ 63 }
     ensures { result ≡ comparison_result acc.now sides }
@@ -24,7 +24,7 @@ pub fn compare(acc: &Acc, sides: Compared) -> Done
     done_with(acc, by_order(sides.order, sides.on))
 }
 
-/// Compare if equal: as `compare`, only where AE is on in `ind`.
+/// Compare if equal: as `compare`, but compares only if AE is on in `ind`.
 pub fn compare_if_equal(acc: &Acc, sides: Compared, ind: u64) -> Done
     requires { sides.on < 2 ^ 63 }
     ensures { result ≡ compared_if_equal acc.now sides ind }
@@ -32,7 +32,7 @@ pub fn compare_if_equal(acc: &Acc, sides: Compared, ind: u64) -> Done
     done_with(acc, by_order_if_equal(ind, sides.order, sides.on))
 }
 
-/// Compare for range: the operand is the upper end of a range; acts only where AL is off in `ind`.
+/// Compare for range: the operand is the upper end of a range. Compares only if AL is off in `ind`.
 pub fn compare_for_range(acc: &Acc, sides: Compared, ind: u64) -> Done
     requires { sides.on < 2 ^ 63 }
     ensures { result ≡ compared_for_range acc.now sides ind }

@@ -1,8 +1,8 @@
-//! Thirty-two decimal digits as a number, and powers of ten.
+//! Conversion between 32 decimal digits and numbers, and powers of ten.
 ghost use Rattle.std.specs.Prelude.{◌≡◌, ◌<◌, ◌≤◌, ◌^◌};
 ghost use Rattle.st_field.specs.Digits.{value_of_digits, digits_of};
 
-/// The value of 32 decimal digits of four bits each, codes 10 to 15 counted as such.
+/// The value of 32 decimal digits of four bits each. The codes 10 to 15 have these values.
 pub fn digits_value(digits: u128) -> u128
     ensures value { result ≡ value_of_digits 32 digits }
 {

@@ -1,4 +1,4 @@
-//! Binary fields: their magnitude, sign, flags and zone.
+//! Binary fields: magnitude, sign, flags and zone.
 //!
 //! ```text
 //! unsigned   mmmmmmmm mmmmmmmm
@@ -10,7 +10,7 @@ ghost use Rattle.st_field.specs.Fields.{IsBinaryShape, HasRoom, magnitude_bits a
 ghost use Rattle.st_field.specs.Fields.{sign_of, sign_byte as sign_byte_of, last_byte as last_byte_of};
 ghost use Rattle.st_field.specs.Fields.{byte_bits as byte_bits_of, field_of, field_bits};
 
-/// What a field holds.
+/// The parts of a field.
 #[derive(Clone, Copy, Debug, PartialEq, Eq)]
 pub struct Field {
     /// The magnitude.
@@ -23,22 +23,22 @@ pub struct Field {
     pub zone: u8,
 }
 
-/// How an instruction sees its field.
+/// The shape of a field: how an instruction interprets it.
 #[derive(Clone, Copy, Debug, PartialEq, Eq)]
 pub struct Shape {
-    /// The bits of the field, 1 to 64.
+    /// The number of bits of the field, 1 to 64.
     pub length: u8,
-    /// The bits of a byte, 1 to 8; a signed field has at least one byte.
+    /// The number of bits of a byte, 1 to 8; a signed field has at least one byte.
     pub byte: u8,
-    /// Whether all bits are magnitude.
+    /// Whether all bits are magnitude bits.
     pub unsigned: bool,
     /// Whether the operation inverts a sign.
     pub negated: bool,
-    /// Where the field's last bit meets the accumulator: at its bit of value 2^offset, 0 to 127.
+    /// The place of the field's last bit in the accumulator: the bit of value 2^offset, 0 to 127.
     pub offset: u8,
 }
 
-/// How many bits of a field are its magnitude.
+/// The number of magnitude bits of a field.
 pub fn magnitude_bits(shape: &Shape) -> u8
     requires { IsBinaryShape shape.now }
     ensures value { result ≡ magnitude_bits_of shape.now }
@@ -51,14 +51,14 @@ pub fn magnitude_bits(shape: &Shape) -> u8
     }
 }
 
-/// Whether a sign byte has the sign minus.
+/// Whether the sign in a sign byte is minus.
 pub fn is_minus(sign_byte: u8) -> bool
     ensures { result ≡ sign_of sign_byte }
 {
     sign_byte / 8 % 2 == 1
 }
 
-/// The sign byte of a zone, 0 to 15, a sign and flags, 0 to 7.
+/// The sign byte with a zone, 0 to 15, a sign and flags, 0 to 7.
 pub fn sign_byte(zone: u8, negative: bool, flags: u8) -> u8
     requires zone { zone < 16 }
     requires flags { flags < 8 }
@@ -67,7 +67,7 @@ pub fn sign_byte(zone: u8, negative: bool, flags: u8) -> u8
     zone * 16 + if negative { 8 } else { 0 } + flags
 }
 
-// The last byte of a field as a sign byte: what a short one lacks on the right is 0.
+// The last byte of a field as a sign byte. The missing bits on the right of a short byte are 0.
 fn last_byte(bits: u64, byte: u8) -> u8
     requires some { 1 ≤ byte }
     requires small { byte ≤ 8 }
@@ -77,7 +77,7 @@ fn last_byte(bits: u64, byte: u8) -> u8
     last << 4u8.saturating_sub(byte)
 }
 
-/// What the bits of a field, below 2^length, hold.
+/// The parts of a field with the bits `bits`, below 2^length.
 pub fn read_field(bits: u64, shape: &Shape) -> Field
     requires shape { IsBinaryShape shape.now }
     requires fits { bits < 2 ^ shape.now.length }
@@ -102,8 +102,8 @@ pub fn read_field(bits: u64, shape: &Shape) -> Field
     }
 }
 
-// The bits of the last byte of a signed field: what has no room is dropped, zone bits at the left
-// and, of a short byte, flags at the right.
+// The bits of the last byte of a signed field. Bits that do not fit are dropped: zone bits on the
+// left, and flags on the right of a short byte.
 fn byte_bits(f: &Field, byte: u8) -> u64
     requires some { 1 ≤ byte }
     requires small { byte ≤ 8 }
@@ -117,9 +117,9 @@ fn byte_bits(f: &Field, byte: u8) -> u64
     u64::from(sign_byte(zone, f.negative, f.flags) >> 4u8.saturating_sub(byte))
 }
 
-/// The bits of the field that holds `f`. The magnitude has room: it is below 2^length, or 2^(length
-/// - byte) where the field is signed; flags are below 8 and the zone below 16. An unsigned field
-/// keeps the magnitude alone.
+/// The bits of the field with the parts `f`. The magnitude must fit: below 2^length, or 2^(length -
+/// byte) if the field is signed. Flags are below 8 and the zone below 16. An unsigned field stores
+/// only the magnitude.
 pub fn write_field(f: &Field, shape: &Shape) -> u64
     requires shape { IsBinaryShape shape.now }
     requires room { HasRoom f.now shape.now }

@@ -1,4 +1,4 @@
-//! The indicators that an operation on a field sets, and what it turns on and off in the end.
+//! The indicators that an operation on a field turns on and off.
 ghost use Rattle.std.specs.Prelude.{◌≡◌, ◌<◌, ◌≤◌, ◌^◌};
 ghost use Rattle.st_field.specs.Indicators.{flag_indicators as flag_indicators_of, number_indicators as number_indicators_of};
 ghost use Rattle.st_field.specs.Indicators.{by_number as by_number_of, without_number as without_number_of, by_order as by_order_of};
@@ -13,7 +13,7 @@ use st_bits::indicators::{
 use st_bits::{Ind, indicator};
 use std::cmp::Ordering;
 
-// The bits of the indicators that several functions name.
+// The bits of the indicators that more than one function uses.
 const TO_MEMORY: u64 = 1 << (63 - TO_MEMORY_OPERATION);
 
 const LESS: u64 = 1 << (63 - RESULT_LESS);
@@ -30,7 +30,7 @@ const EQUAL: u64 = 1 << (63 - ACCUMULATOR_EQUAL);
 
 const HIGH: u64 = 1 << (63 - ACCUMULATOR_HIGH);
 
-/// LC, where a carry is lost.
+/// LC if a carry is lost, otherwise 0.
 pub fn lost_carry(is_lost: bool) -> u64
     ensures value { result ≡ lost_carry_of is_lost }
     ensures bound { result ≤ 2 ^ 41 }
@@ -38,7 +38,7 @@ pub fn lost_carry(is_lost: bool) -> u64
     if is_lost { indicator(LOST_CARRY) } else { 0 }
 }
 
-/// PF, where a part of a field is lost.
+/// PF if a part of a field is lost, otherwise 0.
 pub fn partial_field(is_lost: bool) -> u64
     ensures value { result ≡ partial_field_of is_lost }
     ensures bound { result ≤ 2 ^ 40 }
@@ -46,7 +46,7 @@ pub fn partial_field(is_lost: bool) -> u64
     if is_lost { indicator(PARTIAL_FIELD) } else { 0 }
 }
 
-/// TF, UF and VF, by the flags T, U and V.
+/// TF, UF and VF according to the flags T, U and V.
 pub fn flag_indicators(flags: u8) -> u64
     requires { flags < 8 }
     ensures value { result ≡ flag_indicators_of flags }
@@ -55,7 +55,7 @@ pub fn flag_indicators(flags: u8) -> u64
     u64::from(flags) << (63 - FLAG_V)
 }
 
-// RLZ, RZ or RGZ, by a result number, and RN where its sign is minus.
+// RLZ, RZ or RGZ according to a result number, and RN if its sign is minus.
 fn number_indicators(number: Signed) -> u64
     ensures value { result ≡ number_indicators_of number.negative number.mag }
     ensures bound { result < 2 ^ 8 }
@@ -68,8 +68,8 @@ fn number_indicators(number: Signed) -> u64
     }
 }
 
-/// What a result number turns on and off, together with the indicators `on`. `wrote` says that it
-/// stands in the field.
+/// The indicators that a result number turns on and off, with the further indicators `on`. `wrote`
+/// is true if the result was written to the field.
 pub fn by_number(wrote: bool, number: Signed, on: u64) -> Ind
     requires { on < 2 ^ 63 }
     ensures { result ≡ by_number_of wrote number.negative number.mag on }
@@ -81,15 +81,16 @@ pub fn by_number(wrote: bool, number: Signed, on: u64) -> Ind
     }
 }
 
-// What an operation without a result number turns on and off, together with the indicators `on`.
+// The indicators that an operation without a result number turns on and off, with the further
+// indicators `on`.
 fn without_number(on: u64) -> Ind
     ensures { result ≡ without_number_of on }
 {
     Ind { on, off: TO_MEMORY }
 }
 
-/// What a comparison turns on and off, together with the indicators `on`: exactly one of AL, AE and
-/// AH is on after it.
+/// The indicators that a comparison turns on and off, with the further indicators `on`: exactly one
+/// of AL, AE and AH is on after it.
 pub fn by_order(order: Ordering, on: u64) -> Ind
     requires { on < 2 ^ 63 }
     ensures { result ≡ by_order_of order on }
@@ -105,7 +106,7 @@ pub fn by_order(order: Ordering, on: u64) -> Ind
     }
 }
 
-/// The same, where the comparison acts only if AE is on in `ind`.
+/// As `by_order`, if AE is on in `ind`; otherwise the comparison has no effect.
 pub fn by_order_if_equal(ind: u64, order: Ordering, on: u64) -> Ind
     requires { on < 2 ^ 63 }
     ensures { result ≡ by_order_if_equal_of ind order on }
@@ -117,9 +118,9 @@ pub fn by_order_if_equal(ind: u64, order: Ordering, on: u64) -> Ind
     }
 }
 
-/// What a comparison with the upper end of a range turns on and off, together with the indicators
-/// `on`. It acts only if AL is off in `ind`: AE is on after it where the accumulator is below that
-/// end, else AH.
+/// The indicators that a comparison with the upper end of a range turns on and off, with the
+/// further indicators `on`. It has an effect only if AL is off in `ind`: AE is then on if the
+/// accumulator is below the upper end, otherwise AH.
 pub fn by_range(ind: u64, order: Ordering, on: u64) -> Ind
     requires { on < 2 ^ 63 }
     ensures { result ≡ by_range_of ind order on }

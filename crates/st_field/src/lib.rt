@@ -1,5 +1,5 @@
-//! Fields of storage, the accumulator, signed numbers and result indicators: what operations on
-//! fields have in common. `docs/variable-fields.md` has the rules.
+//! Common parts of operations on fields: fields of storage, the accumulator, signed numbers and
+//! result indicators. `docs/variable-fields.md` has the rules.
 #![tactic(auto, unfolding(crate::specs::Bases::fields, crate::specs::Bases::numbers_compared, crate::specs::Bases::store_result))]
 
 pub mod accumulator;

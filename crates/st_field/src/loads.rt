@@ -9,7 +9,7 @@ use crate::operand::Aligned;
 use crate::outcome::{Done, done_with, in_accumulator};
 use crate::signed::Signed;
 
-/// Load: the aligned operand, with no zone and no flags.
+/// Load: the aligned operand without zone and flags.
 pub fn load(operand: Aligned) -> Done
     requires { operand.on < 2 ^ 63 }
     ensures { result ≡ load_result operand }
@@ -21,7 +21,7 @@ pub fn load(operand: Aligned) -> Done
     in_accumulator(acc, operand.number.mag, operand.on)
 }
 
-/// Load with flags: the aligned operand, with the zone and flags of its field.
+/// Load with flags: the aligned operand with the zone and flags of its field.
 pub fn load_with_flags(f: &Field, operand: Aligned) -> Done
     requires zone { f.now.zone < 16 }
     requires flags { f.now.flags < 8 }
@@ -35,8 +35,8 @@ pub fn load_with_flags(f: &Field, operand: Aligned) -> Done
     in_accumulator(acc, operand.number.mag, operand.on)
 }
 
-/// Load transit and set: `bits`, which the field holds, go to the transit register. The operand is
-/// the result number; the indicators `on` go on too.
+/// Load transit and set: `bits`, the contents of the field, are loaded into the transit register.
+/// The operand is the result number; the indicators `on` are also turned on.
 pub fn load_transit(acc: &Acc, operand: Signed, bits: u64, on: u64) -> Done
     requires { on < 2 ^ 63 }
     ensures { result ≡ transit_loaded acc.now operand bits on }
@@ -47,8 +47,8 @@ pub fn load_transit(acc: &Acc, operand: Signed, bits: u64, on: u64) -> Done
     }
 }
 
-/// Load factor: `bits`, which the field holds, go to the factor register. The operand is the result
-/// number; the indicators `on` go on too.
+/// Load factor: `bits`, the contents of the field, are loaded into the factor register. The operand
+/// is the result number; the indicators `on` are also turned on.
 pub fn load_factor(acc: &Acc, operand: Signed, bits: u64, on: u64) -> Done
     requires { on < 2 ^ 63 }
     ensures { result ≡ factor_loaded acc.now operand bits on }

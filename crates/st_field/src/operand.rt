@@ -1,5 +1,4 @@
-//! The operand of an operation, what is kept of a number, and the operand aligned with the
-//! accumulator.
+//! The operand of an operation, stored numbers, and the operand aligned with the accumulator.
 ghost use Rattle.std.specs.Prelude.{◌≡◌, ◌<◌, ◌≤◌, ◌^◌, ◌*◌};
 ghost use Rattle.st_field.specs.Results.{signed_operand as operand_of, number_of_field, number_cut as cut_of, aligned_operand};
 
@@ -7,7 +6,7 @@ use crate::fields::{Field, Shape};
 use crate::indicators::{flag_indicators, partial_field};
 use crate::signed::{Signed, exactly_one, exceeds, low_bits};
 
-/// The operand of an operation: `mag` with the sign of the field, inverted where the operation is
+/// The operand of an operation: `mag` with the sign of the field, inverted if the operation is
 /// negated.
 pub fn operand(f: &Field, shape: &Shape, mag: u128) -> Signed
     ensures { result ≡ operand_of f.now shape.now mag }
@@ -18,7 +17,7 @@ pub fn operand(f: &Field, shape: &Shape, mag: u128) -> Signed
     }
 }
 
-/// The number with the sign of a field and the magnitude `mag`.
+/// The signed number with the sign of a field and the magnitude `mag`.
 pub fn signed_as(f: &Field, mag: u128) -> Signed
     ensures { result ≡ number_of_field f.now mag }
 {
@@ -28,18 +27,18 @@ pub fn signed_as(f: &Field, mag: u128) -> Signed
     }
 }
 
-/// A number as it is put into the accumulator or into a field.
+/// A number as it is stored in the accumulator or in a field.
 #[derive(Clone, Copy)]
 pub struct Kept {
-    /// The bits that stand there.
+    /// The stored bits.
     pub bits: u128,
-    /// Their value.
+    /// The value of the stored bits.
     pub value: u128,
     /// Whether a part of the number is lost.
     pub is_lost: bool,
 }
 
-/// A magnitude `offset` bits to the left, without what is lost past the 128th bit.
+/// A magnitude shifted left by `offset` bits; bits beyond the 128th are lost.
 pub fn shift(mag: u128, offset: u8) -> Kept
     requires { offset < 128 }
     ensures { result ≡ cut_of 128 (mag * 2 ^ offset) }
@@ -52,7 +51,7 @@ pub fn shift(mag: u128, offset: u8) -> Kept
     }
 }
 
-/// As much of a magnitude as `bits` bits hold, at most 64.
+/// The low `bits` bits, at most 64, of a magnitude.
 pub fn cut(mag: u128, bits: u8) -> Kept
     requires { bits ≤ 64 }
     ensures value { result ≡ cut_of bits mag }
@@ -66,18 +65,18 @@ pub fn cut(mag: u128, bits: u8) -> Kept
     }
 }
 
-/// An operand as it meets the accumulator.
+/// An operand aligned with the accumulator.
 #[derive(Clone, Copy)]
 pub struct Aligned {
-    /// Its bits at their place in the accumulator, without those that are lost past the 128th.
+    /// The bits at their place in the accumulator; bits beyond the 128th are lost.
     pub bits: u128,
-    /// The number that these bits make, with its sign.
+    /// The signed number of these bits.
     pub number: Signed,
-    /// The indicators of the operand's flags and of that loss.
+    /// The indicators of the operand's flags and of lost bits.
     pub on: u64,
 }
 
-/// The operand of a field at its place in the accumulator, where `kept` is kept of it.
+/// The operand of a field at its place in the accumulator, where `kept` is its shifted magnitude.
 pub fn align(f: &Field, shape: &Shape, kept: Kept) -> Aligned
     requires { f.now.flags < 8 }
     ensures value { result ≡ aligned_operand f.now shape.now kept }

@@ -1,4 +1,4 @@
-//! The operations on fields, in any base.
+//! The operations on fields, for any base.
 ghost use Rattle.std.specs.Prelude.{◌≡◌, ◌<◌, ◌%◌, ◌^◌, ℕ, true};
 ghost use Rattle.st_field.specs.Fields.{IsBinaryShape, magnitude_bits};
 ghost use Rattle.st_field.specs.Numbers.{exceeds};
@@ -18,7 +18,7 @@ use crate::outcome::{Done, in_accumulator, in_field};
 use crate::signed::{Signed, Sum, add, add_to_magnitude, order};
 use st_bits::VflOp;
 
-// The accumulator as a number.
+// The accumulator as a signed number.
 fn number<B: Base>(taken: &Taken) -> Signed
     requires { IsTaken B.Allows taken.now }
     ensures value { result ≡ number_of (B.base taken.now) taken.now }
@@ -27,7 +27,7 @@ fn number<B: Base>(taken: &Taken) -> Signed
     signed_as(&taken.acc, B::whole(taken))
 }
 
-// The operand as its field holds it.
+// The operand as a signed number, from the field.
 fn operand_in<B: Base>(taken: &Taken) -> Signed
     requires { IsTaken B.Allows taken.now }
     ensures { result ≡ operand_of (B.base taken.now) taken.now }
@@ -45,7 +45,7 @@ fn aligned<B: Base>(taken: &Taken) -> Aligned
     align(&taken.field, &taken.shape, B::at_place(taken))
 }
 
-// The field as a number.
+// The field as a signed number.
 fn number_in_field<B: Base>(taken: &Taken) -> Signed
     requires { IsTaken B.Allows taken.now }
     ensures value { result ≡ field_number (B.base taken.now) taken.now }
@@ -54,7 +54,7 @@ fn number_in_field<B: Base>(taken: &Taken) -> Signed
     field_as(&taken.field, u128::from(B::value(taken)))
 }
 
-// What is added to the field: the accumulator from the offset on.
+// The number that is added to the field: the accumulator from the offset.
 fn part_added<B: Base>(taken: &Taken) -> Signed
     requires { IsTaken B.Allows taken.now }
     ensures value { result ≡ addend_of (B.base taken.now) taken.now }
@@ -63,7 +63,7 @@ fn part_added<B: Base>(taken: &Taken) -> Signed
     addend(&taken.acc, &taken.shape, B::part(taken))
 }
 
-// The accumulator, and the operand at its place.
+// The comparison of the accumulator with the operand at its place.
 fn numbers<B: Base>(taken: &Taken) -> Compared
     requires { IsTaken B.Allows taken.now }
     ensures sides { result ≡ numbers_of (B.base taken.now) taken.now }
@@ -76,7 +76,8 @@ fn numbers<B: Base>(taken: &Taken) -> Compared
     }
 }
 
-// The accumulator from the offset on as the field would store it, and the operand.
+// The comparison of the accumulator from the offset, as it would be stored in the field, with the
+// operand.
 fn fields<B: Base>(taken: &Taken) -> Compared
     requires { IsTaken B.Allows taken.now }
     ensures sides { result ≡ fields_of (B.base taken.now) taken.now }
@@ -89,8 +90,8 @@ fn fields<B: Base>(taken: &Taken) -> Compared
     }
 }
 
-// A sum goes to the accumulator: its sign, and what the base keeps of its magnitude. The indicators
-// `on` go on too.
+// The result of storing a sum in the accumulator: its sign, and its magnitude as the base stores
+// it. The indicators `on` are also turned on.
 fn put_in_accumulator<B: Base>(taken: &Taken, sum: Sum, on: u64) -> Done
     requires taken { IsTaken B.Allows taken.now }
     requires large { sum.carry ≡ true → 2 ^ 127 < B.limit }
@@ -111,7 +112,7 @@ fn put_in_accumulator<B: Base>(taken: &Taken, sum: Sum, on: u64) -> Done
     )
 }
 
-// What a field keeps, as its magnitude.
+// A stored number as the magnitude of a field.
 fn magnitude(kept: Kept, shape: &Shape) -> u64
     requires shape { IsBinaryShape shape.now }
     requires room { kept.bits < 2 ^ magnitude_bits shape.now }
@@ -120,8 +121,8 @@ fn magnitude(kept: Kept, shape: &Shape) -> u64
     kept.bits as u64
 }
 
-// A sum goes to the field: its sign, and what the base keeps of its magnitude. Flags and zones
-// stay.
+// The result of storing a sum in the field: its sign, and its magnitude as the base stores it.
+// Flags and zone do not change.
 fn put_in_field<B: Base>(taken: &Taken, sum: Sum) -> Done
     requires taken { IsTaken B.Allows taken.now }
     requires large { sum.carry ≡ true → 2 ^ 127 < B.limit }
@@ -139,7 +140,7 @@ fn put_in_field<B: Base>(taken: &Taken, sum: Sum) -> Done
     in_field(&taken.acc, &field, &taken.shape, kept.value, on)
 }
 
-// Store: the accumulator from the offset on goes to the field.
+// Store: the accumulator from the offset is stored in the field.
 fn store<B: Base>(taken: &Taken) -> Done
     requires { IsTaken B.Allows taken.now }
     ensures { result ≡ store_result (B.base taken.now) taken.now }
@@ -155,7 +156,7 @@ fn store<B: Base>(taken: &Taken) -> Done
     )
 }
 
-// One, which is minus where the operation is negated.
+// The number one, negated if the operation is negated.
 fn one(shape: &Shape) -> Signed
     ensures { result ≡ one_of shape.now }
 {
@@ -165,7 +166,7 @@ fn one(shape: &Shape) -> Signed
     }
 }
 
-/// What an operation leaves, with the factor register `ft` and the indicators `ind`.
+/// The result of an operation, with the factor register `ft` and the indicator register `ind`.
 pub fn operate<B: Base>(op: VflOp, taken: &Taken, ft: u64, ind: u64) -> Done
     requires { IsTaken B.Allows taken.now }
     ensures { result ≡ result_of op (B.base taken.now) taken.now ft ind }

@@ -1,4 +1,4 @@
-//! What an operation on a field leaves.
+//! The result of an operation on a field.
 ghost use Rattle.std.specs.Prelude.{◌≡◌, ◌<◌, ◌^◌};
 ghost use Rattle.st_field.specs.Fields.{IsBinaryShape, HasRoom};
 ghost use Rattle.st_field.specs.Results.{done_with as done_with_of, in_accumulator as in_accumulator_of, in_field as in_field_of};
@@ -9,26 +9,26 @@ use crate::indicators::by_number;
 use crate::signed::Signed;
 use st_bits::Ind;
 
-/// What an operation on a field leaves.
+/// The result of an operation on a field: the new contents of registers and of the field.
 #[derive(Clone, Copy, Debug, PartialEq, Eq)]
 pub struct Done {
     /// The accumulator with its sign byte.
     pub acc: Acc,
-    /// The bits of the field, where it is written.
+    /// The bits of the field, if it is written.
     pub field: Option<u64>,
-    /// The remainder register, where it changes.
+    /// The remainder register, if it changes.
     pub rm: Option<u64>,
-    /// The factor register, where it changes.
+    /// The factor register, if it changes.
     pub ft: Option<u64>,
-    /// The transit register, where it changes.
+    /// The transit register, if it changes.
     pub tr: Option<u64>,
-    /// The counts of leading zeros and of ones, as they stand in their register, where they change.
+    /// The register with the counts of leading zeros and of ones, if it changes.
     pub counts: Option<u64>,
-    /// The indicators that go on and off.
+    /// The indicators that are turned on and off.
     pub ind: Ind,
 }
 
-/// The accumulator becomes `acc`, and no field and no register is written.
+/// The result with the accumulator `acc` that writes no field and no other register.
 pub fn done_with(acc: &Acc, ind: Ind) -> Done
     ensures { result ≡ done_with_of acc.now ind }
 {
@@ -43,8 +43,8 @@ pub fn done_with(acc: &Acc, ind: Ind) -> Done
     }
 }
 
-/// The accumulator becomes `acc`, whose value `mag` is the result number; the indicators `on` go on
-/// too.
+/// The result with the accumulator `acc`, whose value `mag` is the result number; the indicators
+/// `on` are also turned on.
 pub fn in_accumulator(acc: Acc, mag: u128, on: u64) -> Done
     requires { on < 2 ^ 63 }
     ensures { result ≡ in_accumulator_of acc mag on }
@@ -52,7 +52,8 @@ pub fn in_accumulator(acc: Acc, mag: u128, on: u64) -> Done
     done_with(&acc, by_number(false, signed_as(&acc, mag), on))
 }
 
-/// The field becomes `f`, whose value `mag` is the result number; the indicators `on` go on too.
+/// The result that writes the field `f`, whose value `mag` is the result number; the indicators
+/// `on` are also turned on.
 pub fn in_field(acc: &Acc, f: &Field, shape: &Shape, mag: u128, on: u64) -> Done
     requires shape { IsBinaryShape shape.now }
     requires room { HasRoom f.now shape.now }

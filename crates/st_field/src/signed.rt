@@ -1,4 +1,4 @@
-//! Numbers as sign and magnitude. Zero can have either sign, and counts as zero.
+//! Numbers as sign and magnitude. Zero can have either sign.
 ghost use Rattle.std.specs.Prelude.{◌≡◌, ◌≢◌, ◌<◌, ◌≤◌, ◌+◌, ◌+ℤ◌, ◌%◌, ◌^◌, unsigned_abs, true};
 ghost use Rattle.std.specs.Ordering.{int_cmp};
 ghost use Rattle.st_field.specs.Numbers.{number_of, exactly_one as exactly_one_of, sign_after, exceeds as exceeds_of};
@@ -6,7 +6,7 @@ ghost use Rattle.st_field.specs.Numbers.{sum_of, magnitude_sum};
 
 use std::cmp::Ordering;
 
-/// A number.
+/// A number as sign and magnitude.
 #[derive(Clone, Copy)]
 pub struct Signed {
     /// Whether the sign is minus.
@@ -15,23 +15,23 @@ pub struct Signed {
     pub mag: u128,
 }
 
-/// Whether exactly one of both holds: the sign of a product, and of a number that is negated.
+/// Exclusive or: the sign of a product, or of a number that may be negated.
 pub fn exactly_one(a: bool, b: bool) -> bool
     ensures { result ≡ exactly_one_of a b }
 {
     if a { !b } else { b }
 }
 
-/// A sum, without the bits past the 128th of its magnitude.
+/// A sum whose magnitude is reduced to 128 bits.
 #[derive(Clone, Copy)]
 pub struct Sum {
-    /// The sum, as much of it as 128 bits hold.
+    /// The sum, with the low 128 bits of its magnitude.
     pub number: Signed,
-    /// Whether its magnitude has more.
+    /// Whether the magnitude has more than 128 bits.
     pub carry: bool,
 }
 
-// The sum of two numbers of one sign.
+// The sum of two numbers with equal signs.
 fn sum_of_alike(a: Signed, b: Signed) -> Sum
     requires { a.negative ≡ b.negative }
     ensures magnitude { result.number.mag ≡ unsigned_abs (number_of a +ℤ number_of b) % 2 ^ 128 }
@@ -49,7 +49,7 @@ fn sum_of_alike(a: Signed, b: Signed) -> Sum
     }
 }
 
-// The sum of two numbers of different signs, with the sign of `a` where it is zero.
+// The sum of two numbers with different signs; a sum of zero has the sign of `a`.
 fn sum_of_opposites(a: Signed, b: Signed) -> Signed
     requires { a.negative ≢ b.negative }
     ensures magnitude { result.mag ≡ unsigned_abs (number_of a +ℤ number_of b) }
@@ -68,7 +68,7 @@ fn sum_of_opposites(a: Signed, b: Signed) -> Signed
     }
 }
 
-/// The sum of two numbers, with the sign of `a` where it is zero.
+/// The sum of two numbers; a sum of zero has the sign of `a`.
 pub fn add(a: Signed, b: Signed) -> Sum
     ensures magnitude { result.number.mag ≡ (sum_of a b).mag % 2 ^ 128 }
     ensures sign { result.number.negative ≡ (sum_of a b).negative }
@@ -84,7 +84,7 @@ pub fn add(a: Signed, b: Signed) -> Sum
     }
 }
 
-/// How two numbers compare.
+/// The order of two numbers.
 pub fn order(a: Signed, b: Signed) -> Ordering
     ensures { result ≡ int_cmp (number_of a) (number_of b) }
 {
@@ -97,7 +97,8 @@ pub fn order(a: Signed, b: Signed) -> Ordering
     }
 }
 
-/// A number with `b` added to its magnitude, which is 0 where that sum is below 0; the sign stays.
+/// A number with `b` added to its magnitude, which becomes 0 if that sum is negative. The sign does
+/// not change.
 pub fn add_to_magnitude(a: Signed, b: Signed) -> Sum
     ensures magnitude { result.number.mag ≡ (magnitude_sum a b).mag % 2 ^ 128 }
     ensures sign { result.number.negative ≡ a.negative }
@@ -115,7 +116,7 @@ pub fn add_to_magnitude(a: Signed, b: Signed) -> Sum
     }
 }
 
-/// Whether a magnitude has no room in `bits` bits, at most 127.
+/// Whether a magnitude does not fit in `bits` bits, at most 127.
 pub fn exceeds(mag: u128, bits: u8) -> bool
     requires { bits < 128 }
     ensures { result ≡ exceeds_of mag bits }
@@ -123,7 +124,7 @@ pub fn exceeds(mag: u128, bits: u8) -> bool
     mag >= 1 << bits
 }
 
-/// The low bits of a magnitude, at most 64 of them.
+/// The low `bits` bits, at most 64, of a magnitude.
 pub fn low_bits(mag: u128, bits: u8) -> u64
     requires { bits ≤ 64 }
     ensures value { result ≡ mag % 2 ^ bits }

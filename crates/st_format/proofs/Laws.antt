@@ -1,4 +1,4 @@
--- What holds of the two formats, whatever the bits, proved.
+-- Proofs of the laws of the two formats.
 use Rattle.std.proofs.Common.{ap, if◌then◌else◌}
 use Rattle.st_format.specs.Laws.{BitsSpellInstruction, InstructionKeepsBits}
 use Rattle.st_format.proofs.RoundTrip.{spells-itself, full-shape}

@@ -1,4 +1,4 @@
--- Each operation has a number of its own, and each number that is used names its operation.
+-- Different operations have different numbers, and each number in use determines its operation.
 use Rattle.std.proofs.Common.{◌≡◌, ℕ, ◌%◌, ◌<◌, ◌==◌, ◌||◌, Bool, true, false, Option, None, Some, refl, sym, ◌∙◌, ap, lit<}
 use Rattle.std.specs.Prelude.{nat_le, is_some}
 use Rattle.std.proofs.lemmas.Bool.{leb-false}
@@ -67,7 +67,8 @@ pub order-bound : (b : Bool) → full_number (Order b) < 32
 order-bound true = lit< tt
 order-bound false = lit< tt
 
--- a half-word operation is neither of the floating nor of the branch group, nor the unused one
+-- the number of a half-word operation is not that of the floating group, the branch group or the
+-- unused number
 pub half_number-floating : (op : HalfOp) → (half_number op == 0) ≡ false
 half_number-floating Lx = refl
 half_number-floating _ = refl

@@ -1,4 +1,4 @@
--- The bits of a shape spell that shape.
+-- The encoding of an instruction with its fields in range decodes to that instruction.
 use Rattle.std.proofs.Common.{◌≡◌, ℕ, ◌+◌, ◌*◌, ◌%◌, ◌^◌, ◌<◌, ◌≤◌, ◌==◌, ◌&&◌, ◌||◌, Bool, true, false, if◌then◌else◌, Option, None, Some, refl, sym, ◌∙◌, ap, lit<, arith}
 use Rattle.std.specs.Prelude.{nat_lt, nat_le, unwrap_or, is_some}
 use Rattle.std.specs.Option.{option_map}
@@ -21,12 +21,12 @@ use Rattle.st_format.proofs.Shapes.{invalid-full, invalid-half}
 
 -- ---- a half-word
 
--- the bits of a half-word instruction are read as one half-word, with each of its fields
+-- the bits of a half-word instruction decode as one half-word, with each of its fields
 short-format : (f s : ℕ) → is_full f ≡ false → instruction_of f s ≡ half_word f
 unfolding instruction_of
 short-format f s short = ap (λ b. if b then full_word (full_op s) f s else half_word f) short
 
--- an operation of the table
+-- the decoding of a half-word whose operation is in the table
 index-chosen : (f o : ℕ) (op : HalfOp) → (o == 0) ≡ false → (o == 23) ≡ false → half_op o ≡ Some op
     → operation_of f ≡ o → half_word f ≡ Half op (address_of f) (j_of f) (i_of f)
 unfolding half_word
@@ -94,7 +94,7 @@ floating-back n a i s fits hn =
 
 -- ---- a full word
 
--- a full word with a known operation that breaks no rule
+-- the decoding of a full word with a known operation that breaks no rule
 full-chosen : (op : FullOp) (f s : ℕ) → is_full f ≡ true → full_op s ≡ Some op → breaks_rules op f s ≡ false
     → instruction_of f s ≡ full_word_instruction op f s
 unfolding instruction_of
@@ -103,7 +103,7 @@ full-chosen op f s full known kept =
     ∙ ap (λ o. full_word o f s) known
     ∙ ap (λ b. if b then Invalid f s true else full_word_instruction op f s) kept
 
--- an operation that is none of the connectives, by its number
+-- the operation of a full word that is not a connective, by its number
 plain-known : (op : FullOp) (s o n : ℕ) → later s 51 9 ≡ o → o < 256 → o % 32 ≡ n → numbered_op n ≡ Some op
     → full_op s ≡ Some op
 unfolding full_op
@@ -122,7 +122,7 @@ connective-known k s one number =
     ∙ ap (λ n. option_map Connective (kind n)) number
     ∙ ap (option_map Connective) (kind-number k)
 
--- a bit by its number
+-- a bit of the second half-word as a Boolean, by its number
 flag : (s a : ℕ) (b : Bool) → later s a 1 ≡ bit_of b → is_one s a ≡ b
 flag s a true e = ap (λ n. n == 1) e
 flag s a false e = ap (λ n. n == 1) e
@@ -131,7 +131,7 @@ bit-bound : (b : Bool) → bit_of b < 2
 bit-bound true = lit< tt
 bit-bound false = lit< tt
 
--- the rules of an operation on a field, and of a connective, by the values of the fields
+-- the rules of an operation on a field and of a connective, by the values of the fields
 field-keeps : (op : VflOp) (f s : ℕ) (d u : Bool) (p l b i : ℕ)
     → k_of s ≡ 0 → is_one s 52 ≡ d → is_one s 53 ≡ u → p_of s ≡ p → length_of s ≡ l → byte_of s ≡ b → i_of f ≡ i
     → misfits d u l b ≡ false → misuses_p (writes_field (Variable op)) p l i ≡ false
@@ -206,7 +206,7 @@ connect-back k t p l b o a i fits field ht used =
     (connective-keeps k f s p l i (omega arith) (k-field_bits p l b o code) ep el ei used)
     ∙ simp (et, ep, el, eb, eo, ea, ei) refl
 
--- the rules of the instructions with two addresses
+-- the rules of the instructions with two addresses, by the values of the fields
 move-keeps : (swap : Bool) (f s : ℕ) → later s 52 3 ≡ 0 → breaks_rules (Transmission swap) f s ≡ false
 unfolding breaks_rules
 move-keeps swap f s em = simp em refl
@@ -353,7 +353,7 @@ transfer-back write a i n fits some many =
     (order-keeps write f s n ek (omega arith) en (good-count n some many))
     ∙ simp (en, ea, ei) refl
 
--- ---- bits that spell none
+-- ---- invalid bits
 
 refused-word : (op : Option FullOp) (f s : ℕ) → is_refused op f s ≡ true → full_word op f s ≡ Invalid f s true
 refused-word None f s h = refl
@@ -402,7 +402,7 @@ invalid-back f w false s r =
     let none : w ≡ 0 = r.alone refl in
     half-invalid f s r.format (ap (is_invalid f) (sym none) ∙ r.refused) ∙ ap (λ x. Invalid f x false) (sym none)
 
--- what stands behind a half-word does not matter
+-- the half-word that follows a half-word instruction has no effect on the decoding
 pub spells-itself : (v : Instr) (s : ℕ) → IsShape v → instruction_of (first_half v) (unwrap_or (second_half v) s) ≡ v
 spells-itself (Half op a j i) s shape = half-back op a j i s shape.0 shape.1
 spells-itself (Branch op a i) s shape = branch-back op a i s shape
@@ -417,7 +417,7 @@ spells-itself (StoreCounter a i w) s shape = store-back a i w shape.0 shape.1
 spells-itself (Transfer write a i n) s shape = transfer-back write a i n shape.0 shape.1 shape.2
 spells-itself (Invalid f w full) s shape = invalid-back f w full s shape
 
--- an instruction's first half-word is that of a full word where there is a second one
+-- the first half-word of an encoding begins a full word if and only if there is a second one
 pub full-shape : (v : Instr) → IsShape v → is_full (first_half v) ≡ is_some (second_half v)
 full-shape (Half op a j i) shape = is_full-half_bits a j (half_number op) i shape.0.i_fits ∙ half_number-short op
 full-shape (Branch op a i) shape = is_full-half_bits a (branch_number op) 23 i shape.i_fits

@@ -1,4 +1,5 @@
--- What some bits spell has the shape of an instruction, and is none exactly where they break a rule.
+-- A decoded instruction has its fields in range, and is invalid if and only if the bits break a
+-- rule.
 use Rattle.std.proofs.Common.{◌≡◌, ℕ, ◌%◌, ◌^◌, ◌<◌, ◌≤◌, ◌==◌, ◌&&◌, ◌||◌, Bool, true, false, if◌then◌else◌, Option, None, Some, refl, sym, ◌∙◌, ap, lit<, arith}
 use Rattle.std.specs.Prelude.{nat_lt, nat_le}
 use Rattle.std.proofs.lemmas.Bool.{eqb-true, eqb-false, ltb-false}
@@ -133,7 +134,8 @@ refusal-half f hf short refused = record {
   alone = λ _. refl;
 }
 
--- bits 24-27 are the last four of the operation
+-- the last four bits of the operation number are bits 24-27, so they are not all ones in a
+-- half-word instruction
 short-operation : (f : ℕ) → is_full f ≡ false → (operation_of f % 16 == 15) ≡ false
 unfolding is_full operation_of
 short-operation f short =
@@ -219,7 +221,7 @@ none-half f short =
 
 -- ---- both formats
 
--- what some bits spell is a shape
+-- the instruction that two half-words decode to has its fields in range
 pub shape-instruction_of : (f s : ℕ) → f < 2 ^ 32 → s < 2 ^ 32 → IsShape (instruction_of f s)
 unfolding instruction_of
 shape-instruction_of f s hf hs =
@@ -227,7 +229,7 @@ shape-instruction_of f s hf hs =
     (λ full. shape-full (full_op s) f s hf hs full refl)
     (λ short. shape-half f hf short)
 
--- they spell none exactly where they break a rule
+-- two half-words decode to an invalid instruction if and only if they break a rule
 pub none-instruction_of : (f s : ℕ) → is_no_instruction (instruction_of f s) ≡ is_invalid f s
 unfolding instruction_of
 none-instruction_of f s =

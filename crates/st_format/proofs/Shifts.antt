@@ -1,8 +1,8 @@
--- What the shifts of the code come to in arithmetic.
+-- The shifts of the code in arithmetic.
 use Rattle.std.proofs.Common.{◌≡◌, ℕ, ◌+◌, ◌-◌, ◌*◌, ◌/◌, ◌%◌, ◌^◌, ◌≤◌, ◌∙◌, ap, arith}
 use Rattle.st_bits.proofs.Shifts.{run_by_shifts}
 
--- a run of n bits of a half-word by a shift to the left and one back
+-- n bits of a half-word that a left shift and a right shift extract
 pub run_of_half : (x a n : ℕ) → a + n ≤ 32 → x * 2 ^ a % 2 ^ 32 / 2 ^ (32 - n) ≡ x / 2 ^ (32 - a - n) % 2 ^ n
 run_of_half x a n h =
     let back : 32 - n ≡ a + (32 - a - n) = omega arith in

@@ -1,4 +1,4 @@
--- What the instruction that some bits spell is encoded in, and that it is a shape.
+-- A decoded instruction is encoded in the bits that were decoded.
 use Rattle.std.proofs.Common.{◌≡◌, ℕ, ◌^◌, ◌<◌, ◌==◌, ◌||◌, not, Bool, true, false, if◌then◌else◌, Option, None, Some, refl, sym, ◌∙◌, ap, lit<, arith}
 use Rattle.std.specs.Option.{option_map}
 use Rattle.std.proofs.lemmas.Bool.{eqb-true, eqb-false}
@@ -15,7 +15,7 @@ use Rattle.st_format.specs.Formats.{branch_instruction, index_instruction, half_
 use Rattle.st_format.proofs.Windows.{half_bits-fields, first_bits-fields, field_bits-fields, second_bits-fields, count_of-mod}
 use Rattle.st_format.proofs.Numbers.{number-half_op, number-branch_op, number-kind, number-numbered_op, vfl_number-bound, swap-bound, order-bound}
 
--- what holds of both choices holds of the chosen one
+-- a property of both branches of a choice is a property of the chosen one
 pub of_choice : {A : Type 0} (P : A → Type 0) (b : Bool) (x y : A) → (b ≡ true → P x) → (b ≡ false → P y)
     → P (if b then x else y)
 of_choice P true x y f g = f refl
@@ -58,7 +58,7 @@ first-half_word f lt =
     (λ group. first-branch (branch_op (j_of f)) f lt (eqb-true _ _ group) refl)
     (λ _. first-index (half_op (operation_of f)) f lt refl))
 
--- the first half-word of what is spelled is the one that spells it
+-- the first half-word of a decoded instruction is the one that was decoded
 pub first-instruction_of : (f s : ℕ) → f < 2 ^ 32 → first_half (instruction_of f s) ≡ f
 unfolding instruction_of
 first-instruction_of f s lt =
@@ -68,7 +68,7 @@ first-instruction_of f s lt =
 
 -- ---- the rules, one by one
 
--- a full word keeps the rules of its operation
+-- the rules that the fields of a full word keep
 pub record KeepsRules (op : FullOp) (f s : ℕ) : Type 0 where
   pub in_kind : unused_in_kind op s ≡ 0
   pub in_k : unused_k op s ≡ 0
@@ -114,7 +114,7 @@ pub bit-one : (n : ℕ) → n < 2 → bit_of (n == 1) ≡ n
 bit-one n lt = of_choice (λ m. m ≡ n) (n == 1) 1 0 (λ one. sym (eqb-true n 1 one))
     (λ other. let no : n ≡ 1 → ⊥ = eqb-false n 1 other in omega arith)
 
--- a kind gives the number of a connective, which is past those of other operations
+-- a connective has bit 51 set, so its number differs from those of other operations
 no-plain-kind : (k : Option ConnKind) (op : FullOp) → option_map Connective k ≡ Some op → full_number op < 32 → ⊥
 no-plain-kind None op e lt = cc
 no-plain-kind (Some k) op e lt =
@@ -126,7 +126,7 @@ kind-of-connective : (k : Option ConnKind) (j : ConnKind) → option_map Connect
 kind-of-connective None j e = cc
 kind-of-connective (Some k) j e = cc
 
--- an operation that is none of the connectives
+-- the operation of a full word that is not a connective has the number in bits 51-59
 plain-by : (b : Bool) (s : ℕ) (op : FullOp) → is_one s 51 ≡ b
     → (if b then option_map Connective (kind (later s 56 2)) else numbered_op (later s 55 5)) ≡ Some op
     → full_number op < 32
@@ -157,14 +157,14 @@ connective-full_op s k e = connective-by (is_one s 51) s k refl e
 
 -- ---- the second half-word
 
--- a second half with two addresses is packed from its fields
+-- the second half-word of an instruction with two addresses is packed from its fields
 second-by : (s o k : ℕ) → s < 2 ^ 32 → o ≡ later s 51 9 → k ≡ k_of s → second_bits (second_address_of s) o k ≡ s
 second-by s o k lt same last =
     ap (λ n. second_bits (second_address_of s) n k) same
     ∙ ap (λ n. second_bits (second_address_of s) (later s 51 9) n) last
     ∙ second_bits-fields s lt
 
--- one of an operation on a field
+-- the second half-word of an operation on a field is packed from its fields
 field-by : (s o : ℕ) → s < 2 ^ 32 → o ≡ later s 51 9 → k_of s ≡ 0
     → second_half_bits (p_of s) (length_of s) (byte_of s) (offset_of s) o ≡ s
 field-by s o lt same none =
@@ -251,7 +251,8 @@ second-by-format : (b : Bool) (f s : ℕ) → s < 2 ^ 32
 second-by-format true f s lt = second-full (full_op s) f s lt refl
 second-by-format false f s lt = second-half_word f
 
--- the second half-word of what is spelled is the one that spells it, where it is read
+-- the second half-word of a decoded instruction is the one that was decoded, if the first begins a
+-- full word
 pub second-instruction_of : (f s : ℕ) → s < 2 ^ 32
     → second_half (instruction_of f s) ≡ (if is_full f then Some s else None)
 unfolding instruction_of

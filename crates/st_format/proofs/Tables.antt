@@ -1,9 +1,9 @@
--- The operations of a list and their numbers.
+-- Tables of operations and their numbers.
 use Rattle.std.proofs.Common.{◌≡◌, ℕ, zero, suc, ◌<◌, ◌==◌, ◌&&◌, Bool, true, false, List, [], ◌∷◌, Some, refl, sym, ◌∙◌, ap, if◌then◌else◌, arith}
 use Rattle.std.proofs.lemmas.Bool.{eqb-true}
 use Rattle.st_format.specs.Operations.{operation_at}
 
--- the operation of a number has that number
+-- the operation that a table has for a number has that number
 pub number-numbered : {A : Type 0} (number : A → ℕ) (ops : List A) (n : ℕ) (x : A)
     → operation_at number ops n ≡ Some x → number x ≡ n
 number-numbered number [] n x e = cc
@@ -15,7 +15,7 @@ number-numbered {A} number (op ∷ ops) n x e =
     ] in
     by (number op == n) refl e
 
--- a test that all numbers below k pass
+-- whether a test holds for all numbers below k
 abbrev pub pass_below : (ℕ → Bool) → ℕ → Bool
 pass_below test zero = true
 pass_below test (suc k) = test k && pass_below test k
@@ -28,7 +28,7 @@ and-right : (a b : Bool) → (a && b) ≡ true → b ≡ true
 and-right true b h = h
 and-right false b h = cc
 
--- one of them passes it
+-- a test that holds for all numbers below k holds for each of them
 pub passes : (test : ℕ → Bool) (k n : ℕ) → pass_below test k ≡ true → n < k → test n ≡ true
 passes test zero n h lt = let no : ⊥ = omega arith in absurd no
 passes test (suc k) n h lt =

@@ -1,10 +1,10 @@
--- Each field of packed half-words, and half-words packed again from their fields.
+-- The fields of packed half-words, and half-words packed from their fields.
 use Rattle.std.proofs.Common.{◌≡◌, ℕ, zero, suc, if◌then◌else◌, ◌+◌, ◌*◌, ◌%◌, ◌^◌, ◌<◌, ◌≤◌, ◌==◌, Bool, true, false, refl, sym, ◌∙◌, ap, arith}
 use Rattle.std.proofs.Math.Nat.{mod_self, mod-eq_of_lt}
 use Rattle.std.proofs.lemmas.Bool.{eqb-true, eqb-false, ne_eqb}
 use Rattle.st_format.specs.Halves.{half_word_part, later, is_full, i_of, address_of, j_of, operation_of, bit_address_of, second_address_of, p_of, length_of, byte_of, offset_of, k_of, words_moved, or_greatest, half_bits, first_bits, second_half_bits, second_bits}
 
--- a field that is not zero stands for itself
+-- a field that is not zero encodes itself
 greatest-some : (g n : ℕ) → 1 ≤ n → or_greatest g n ≡ n
 greatest-some g n some =
     let not_zero : (n == 0) ≡ false = ne_eqb n 0 (λ e. omega arith) in ap (λ b. if b then g else n) not_zero
@@ -18,7 +18,7 @@ greatest-mod-by g n false e pos some fits =
     let other : n ≡ g → ⊥ = eqb-false n g e in
     ap (or_greatest g) (mod-eq_of_lt (omega arith)) ∙ greatest-some g n some
 
--- a number from 1 to the greatest, whose field is zero where it is the greatest
+-- a number from 1 to the greatest is recovered from its remainder modulo the greatest
 pub greatest-mod : (g n : ℕ) → 0 < g → 1 ≤ n → n ≤ g → or_greatest g (n % g) ≡ n
 greatest-mod g n pos some fits = greatest-mod-by g n (n == g) refl pos some fits
 
@@ -50,7 +50,7 @@ unfolding is_full half_bits
 is_full-half_bits a j o i hi =
     let e : half_word_part (a * 2 ^ 13 + j * 2 ^ 9 + o * 2 ^ 4 + i) 24 4 ≡ o % 16 = omega arith in ap (λ n. n == 15) e
 
--- a half-word is packed from its fields
+-- a half-word equals the half-word packed from its fields
 pub half_bits-fields : (h : ℕ) → h < 2 ^ 32 → half_bits (address_of h) (j_of h) (operation_of h) (i_of h) ≡ h
 unfolding half_bits address_of j_of operation_of i_of
 half_bits-fields h lt = omega arith
@@ -70,7 +70,7 @@ unfolding is_full first_bits
 is_full-first_bits a i hi =
     let e : half_word_part (a * 2 ^ 8 + 15 * 2 ^ 4 + i) 24 4 ≡ 15 = omega arith in ap (λ n. n == 15) e
 
--- a first half with ones in bits 24-27 is packed from its fields
+-- a first half-word of a full word equals the half-word packed from its fields
 pub first_bits-fields : (h : ℕ) → h < 2 ^ 32 → is_full h ≡ true → first_bits (bit_address_of h) (i_of h) ≡ h
 unfolding first_bits is_full bit_address_of i_of
 first_bits-fields h lt full =
@@ -110,7 +110,7 @@ pub k-field_bits : (p l b f o : ℕ) → k_of (second_half_bits p l b f o) ≡ 0
 unfolding k_of second_half_bits
 k-field_bits p l b f o = omega arith
 
--- a second half is packed from the fields of an operation on a field
+-- a second half-word of an operation on a field equals the half-word packed from its fields
 pub field_bits-fields : (s : ℕ) → s < 2 ^ 32 → k_of s ≡ 0
     → second_half_bits (p_of s) (length_of s) (byte_of s) (offset_of s) (later s 51 9) ≡ s
 unfolding second_half_bits p_of length_of byte_of offset_of k_of

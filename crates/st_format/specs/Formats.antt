@@ -1,4 +1,4 @@
--- The instruction that bits spell, and the bits of an instruction.
+-- Decoding (from bits to an instruction) and encoding (from an instruction to bits).
 use Rattle.std.specs.Prelude.{ℕ, ◌≡◌, ◌+◌, ◌*◌, ◌%◌, ◌^◌, ◌<◌, ◌≤◌, Bool, true, false, IsTrue, IsFalse, ◌==◌, unwrap_or, is_some, Option, None, Some, if◌then◌else◌}
 use Rattle.st_format.specs.declared.operations.TheConstants.{FLOATING_GROUP, BRANCH_GROUP}
 use Rattle.st_format.specs.declared.operations.FullOp.{FullOp}
@@ -14,17 +14,19 @@ use Rattle.st_format.specs.Halves.{later, is_one, is_full, i_of, address_of, j_o
 use Rattle.st_format.specs.Operations.{half_op, branch_op, full_op, half_number, branch_number, full_number, writes_field}
 use Rattle.st_format.specs.Validity.{breaks_rules, is_invalid, misfits, misuses_p}
 
--- a branch, where J names one
+-- the branch that a half-word encodes, by the operation in its J field; invalid if J is no branch
+-- operation
 abbrev pub branch_instruction : Option BranchOp → ℕ → Instr
 branch_instruction (Some op) first = Branch op (address_of first) (i_of first)
 branch_instruction None first = Invalid first 0 false
 
--- another operation of the half-word format, where the number names one
+-- the half-word instruction outside the floating and branch groups, by its operation; invalid if
+-- there is no such operation
 abbrev pub index_instruction : Option HalfOp → ℕ → Instr
 index_instruction (Some op) first = Half op (address_of first) (j_of first) (i_of first)
 index_instruction None first = Invalid first 0 false
 
--- a half-word instruction
+-- the instruction that a half-word encodes
 unfoldable pub half_word : ℕ → Instr
 half_word first =
     if operation_of first == FLOATING_GROUP then Floating (j_of first) (address_of first)
@@ -33,7 +35,7 @@ half_word first =
     then branch_instruction (branch_op (j_of first)) first
     else index_instruction (half_op (operation_of first)) first
 
--- a full-word instruction with a known operation
+-- the full-word instruction with a known operation, whose other fields come from the two half-words
 unfoldable pub full_word_instruction : FullOp → ℕ → ℕ → Instr
 full_word_instruction (Variable op) first second =
     Vfl op (is_one second 52) (is_one second 53) (is_one second 54) (p_of second) (length_of second)
@@ -54,19 +56,21 @@ full_word_instruction (Order write) first second =
 full_word_instruction CounterStore first second =
     StoreCounter (bit_address_of first) (i_of first) (second_address_of second)
 
--- a full-word instruction, where the operation is one of the list and breaks no rule
+-- the instruction that a full word encodes, by its operation; invalid if there is no such operation
+-- or the bits break a rule
 abbrev pub full_word : Option FullOp → ℕ → ℕ → Instr
 full_word None first second = Invalid first second true
 full_word (Some op) first second =
     if breaks_rules op first second then Invalid first second true
     else full_word_instruction op first second
 
--- the instruction that the bits spell
+-- the instruction that two half-words encode; the second is ignored if the first is a half-word
+-- instruction
 unfoldable pub instruction_of : ℕ → ℕ → Instr
 instruction_of first second =
     if is_full first then full_word (full_op second) first second else half_word first
 
--- the instruction that the bits spell, if they have this format
+-- the instruction that two half-words encode if they have the given format
 abbrev pub spelled_as : Format → ℕ → ℕ → Instr
 spelled_as (Index op) first second = Half op (address_of first) (j_of first) (i_of first)
 spelled_as (BranchGroup op) first second = Branch op (address_of first) (i_of first)
@@ -75,18 +79,18 @@ spelled_as (Whole op) first second = full_word_instruction op first second
 spelled_as NoHalf first second = Invalid first 0 false
 spelled_as NoWhole first second = Invalid first second true
 
--- the same with the number of its half-words
+-- the instruction that two half-words encode, with its length in half-words
 abbrev pub decoded_entry : ℕ → ℕ → Decoded
 decoded_entry first second = record {
   instr = instruction_of first second;
   halves = if is_full first then 2 else 1;
 }
 
--- a bit
+-- a Boolean as a bit: 1 for true
 abbrev pub bit_of : Bool → ℕ
 bit_of b = if b then 1 else 0
 
--- the first half-word of an instruction
+-- the first half-word of the encoding of an instruction
 abbrev pub first_half : Instr → ℕ
 first_half (Half op address j i) = half_bits address j (half_number op) i
 first_half (Branch op address i) = half_bits address (branch_number op) BRANCH_GROUP i
@@ -100,7 +104,7 @@ first_half (StoreCounter address i second) = first_bits address i
 first_half (Transfer write address i count) = first_bits address i
 first_half (Invalid first second full) = first
 
--- the second half-word, where the instruction is a full word
+-- the second half-word of the encoding of an instruction, if it is a full word
 abbrev pub second_half : Instr → Option ℕ
 second_half (Half op address j i) = None
 second_half (Branch op address i) = None
@@ -124,25 +128,26 @@ second_half (Transfer write address i count) =
     Some (second_bits count (full_number (Order write)) 0)
 second_half (Invalid first second full) = if full then Some second else None
 
--- the number of its half-words
+-- the length of an instruction in half-words, 1 or 2
 abbrev pub halves_of : Instr → ℕ
 halves_of instr = if is_some (second_half instr) then 2 else 1
 
--- what the bits of an instruction spell; other bits stand behind those of a half-word
+-- the result of decoding the encoding of an instruction, where the half-word rest follows a
+-- half-word instruction
 abbrev pub reread : Instr → ℕ → Decoded
 reread instr rest = decoded_entry (first_half instr) (unwrap_or (second_half instr) rest)
 
--- the address and the index field of a half-word instruction
+-- the ranges of the address and the index field of a half-word instruction
 pub record FitsHalf (address i : ℕ) : Type 0 where
   pub address_fits : address < 2 ^ 19
   pub i_fits : i < 16
 
--- the address and the index field of a full-word instruction
+-- the ranges of the address and the index field of a full-word instruction
 pub record FitsFull (address i : ℕ) : Type 0 where
   pub address_fits : address < 2 ^ 24
   pub i_fits : i < 16
 
--- the fields of an operation on a field
+-- the ranges of the fields of an operation on a field
 pub record FitsField (p length byte offset : ℕ) : Type 0 where
   pub p_fits : p < 8
   pub some_bits : 1 ≤ length
@@ -151,7 +156,7 @@ pub record FitsField (p length byte offset : ℕ) : Type 0 where
   pub byte_fits : byte ≤ 8
   pub offset_fits : offset < 128
 
--- bits that spell no instruction; where they are one half-word, there is no second one
+-- invalid bits as one or two half-words; a single half-word has 0 as its second
 pub record IsRefusal (first second : ℕ) (full : Bool) : Type 0 where
   pub first_fits : first < 2 ^ 32
   pub second_fits : second < 2 ^ 32
@@ -159,7 +164,7 @@ pub record IsRefusal (first second : ℕ) (full : Bool) : Type 0 where
   pub refused : IsTrue (is_invalid first second)
   pub alone : full ≡ false → second ≡ 0
 
--- a value that some bits spell
+-- an instruction value whose fields are all in range, so that it has an encoding
 abbrev pub IsShape : Instr → Type 0
 IsShape (Half op address j i) = FitsHalf address i × (j < 16)
 IsShape (Branch op address i) = FitsHalf address i
@@ -180,24 +185,24 @@ IsShape (StoreCounter address i second) = FitsFull address i × (second < 2 ^ 19
 IsShape (Transfer write address i count) = FitsFull address i × (1 ≤ count) × (count ≤ 1000)
 IsShape (Invalid first second full) = IsRefusal first second full
 
--- whether the machine has the instruction: not the floating group, nor bits that spell none
+-- whether the machine implements the instruction: false for the floating group and for invalid bits
 abbrev pub is_valid : Instr → Bool
 is_valid (Floating number address i) = false
 is_valid (Invalid first second full) = false
 is_valid _ = true
 
--- whether the bits spell none
+-- whether the instruction is a value for invalid bits
 abbrev pub is_no_instruction : Instr → Bool
 is_no_instruction (Invalid first second full) = true
 is_no_instruction _ = false
 
--- what stands where no instruction was put: a half-word that spells none
+-- an invalid half-word, the default instruction
 pub record IsBlank (instr : Instr) : Type 0 where
   pub shape : IsShape instr
   pub none : is_no_instruction instr ≡ true
   pub half : halves_of instr ≡ 1
 
--- the same with its length
+-- a decoded invalid half-word, the default decoded instruction
 pub record IsBlankDecoded (d : Decoded) : Type 0 where
   pub blank : IsBlank d.instr
   pub half : d.halves ≡ 1

@@ -1,27 +1,27 @@
--- The fields of an instruction, named by their bits. Bits 32-63 are those of the second half-word.
+-- The fields of an instruction by their bits. Bits 32-63 are those of the second half-word.
 use Rattle.std.specs.Prelude.{ℕ, ◌+◌, ◌-◌, ◌*◌, ◌/◌, ◌%◌, ◌^◌, Bool, ◌==◌, if◌then◌else◌}
 
--- the number of the n bits of a half-word from bit a on
+-- the number in the n bits of a half-word from bit a
 abbrev pub half_word_part : ℕ → ℕ → ℕ → ℕ
 half_word_part half a n = half / 2 ^ (32 - a - n) % 2 ^ n
 
--- the same of the second half-word
+-- the number in the n bits of the second half-word from bit a, 32 to 63
 abbrev pub later : ℕ → ℕ → ℕ → ℕ
 later second a n = half_word_part second (a - 32) n
 
--- whether one bit of the second half-word is one
+-- whether bit a, 32 to 63, of the second half-word is one
 abbrev pub is_one : ℕ → ℕ → Bool
 is_one second a = later second a 1 == 1
 
--- a first half-word with ones in bits 24-27 is that of a full word
+-- whether a first half-word begins a full word: its bits 24-27 are ones
 unfoldable pub is_full : ℕ → Bool
 is_full first = half_word_part first 24 4 == 15
 
--- the field of an index word, in both formats
+-- the I field, which selects the index word of the address, in both formats
 unfoldable pub i_of : ℕ → ℕ
 i_of first = half_word_part first 28 4
 
--- the address of a half-word instruction
+-- the address of a half-word instruction, a half-word address
 unfoldable pub address_of : ℕ → ℕ
 address_of first = half_word_part first 0 19
 
@@ -31,18 +31,18 @@ j_of first = half_word_part first 19 4
 unfoldable pub operation_of : ℕ → ℕ
 operation_of first = half_word_part first 23 5
 
--- the address of a full-word instruction
+-- the address of a full-word instruction, a bit address
 unfoldable pub bit_address_of : ℕ → ℕ
 bit_address_of first = half_word_part first 0 24
 
 unfoldable pub second_address_of : ℕ → ℕ
 second_address_of second = later second 32 19
 
--- the progressive form
+-- the P field, the progressive form
 unfoldable pub p_of : ℕ → ℕ
 p_of second = later second 32 3
 
--- a field in which zero stands for the greatest number
+-- the value of a field in which zero encodes the greatest number
 abbrev pub or_greatest : ℕ → ℕ → ℕ
 or_greatest greatest n = if n == 0 then greatest else n
 
@@ -55,26 +55,26 @@ byte_of second = or_greatest 8 (later second 41 3)
 unfoldable pub offset_of : ℕ → ℕ
 offset_of second = later second 44 7
 
--- the last four bits, and the count that they are of words that are moved
+-- the K field: the last four bits, which are the word count of a transmission
 unfoldable pub k_of : ℕ → ℕ
 k_of second = later second 60 4
 
 unfoldable pub words_moved : ℕ → ℕ
 words_moved second = or_greatest 16 (k_of second)
 
--- a half-word instruction's bits
+-- the bits of a half-word instruction with these fields
 unfoldable pub half_bits : ℕ → ℕ → ℕ → ℕ → ℕ
 half_bits address j operation i = address * 2 ^ 13 + j * 2 ^ 9 + operation * 2 ^ 4 + i
 
--- the first half of a full word
+-- the first half-word of a full-word instruction with these fields
 unfoldable pub first_bits : ℕ → ℕ → ℕ
 first_bits address i = address * 2 ^ 8 + 15 * 2 ^ 4 + i
 
--- the second half of an operation on a field
+-- the second half-word of an operation on a field with these fields
 unfoldable pub second_half_bits : ℕ → ℕ → ℕ → ℕ → ℕ → ℕ
 second_half_bits p length byte offset operation =
     p * 2 ^ 29 + length % 64 * 2 ^ 23 + byte % 8 * 2 ^ 20 + offset * 2 ^ 13 + operation * 2 ^ 4
 
--- the second half of an instruction with two addresses
+-- the second half-word of an instruction with two addresses, with these fields
 unfoldable pub second_bits : ℕ → ℕ → ℕ → ℕ
 second_bits second operation k = second * 2 ^ 13 + operation * 2 ^ 4 + k

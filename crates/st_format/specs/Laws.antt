@@ -1,17 +1,17 @@
--- What holds of the two formats, whatever the bits.
+-- Laws of the two formats, which hold for all bits.
 use Rattle.std.specs.Prelude.{ℕ, ◌≡◌, ◌^◌, ◌<◌, Some, None, if◌then◌else◌}
 use Rattle.st_format.specs.declared.instruction.Instr.{Instr}
 use Rattle.st_format.specs.Halves.{is_full}
 use Rattle.st_format.specs.Formats.{instruction_of, first_half, second_half, halves_of, reread, IsShape}
 
--- The bits of an instruction spell that instruction, with its length. Of a half-word instruction it
--- does not matter what stands behind it.
+-- The encoding of an instruction decodes to that instruction with its length. The half-word that
+-- follows a half-word instruction has no effect.
 pub record BitsSpellInstruction : Type 0 where
   pub instruction : (v : Instr) (s : ℕ) → IsShape v → (reread v s).instr ≡ v
   pub length : (v : Instr) (s : ℕ) → IsShape v → (reread v s).halves ≡ halves_of v
 
--- The instruction that bits spell is encoded in those bits, so no two half-words have an
--- instruction in common.
+-- The instruction that bits decode to is encoded in those bits, so different bits decode to
+-- different instructions.
 pub record InstructionKeepsBits : Type 0 where
   pub shape : (f s : ℕ) → f < 2 ^ 32 → s < 2 ^ 32 → IsShape (instruction_of f s)
   pub first : (f s : ℕ) → f < 2 ^ 32 → s < 2 ^ 32 → first_half (instruction_of f s) ≡ f

@@ -1,4 +1,4 @@
--- Which bits spell no instruction.
+-- The rules by which bits are an invalid instruction.
 use Rattle.std.specs.Prelude.{ℕ, ◌%◌, Bool, true, false, not, ◌==◌, ◌&&◌, ◌||◌, nat_lt, nat_le, Option, None, Some, if◌then◌else◌}
 use Rattle.st_format.specs.declared.operations.FullOp.{FullOp}
 use Rattle.st_format.specs.declared.operations.FullOp.TheVariants.{Variable, Connective, Transmission, IndicatorTest, Order, CounterStore}
@@ -6,22 +6,23 @@ use Rattle.st_format.specs.declared.operations.TheConstants.{BRANCH_GROUP, UNUSE
 use Rattle.st_format.specs.Halves.{later, is_one, is_full, i_of, j_of, operation_of, p_of, length_of, byte_of, k_of, second_address_of}
 use Rattle.st_format.specs.Operations.{full_op, writes_field}
 
--- a number of no operation, and a branch with J from 6 up
+-- whether a half-word is invalid: its operation number is unused, or it is a branch with J of 6 or
+-- more
 unfoldable pub is_invalid_half : ℕ → Bool
 is_invalid_half first =
     operation_of first == UNUSED || (operation_of first == BRANCH_GROUP && nat_le 6 (j_of first))
 
--- bits 58-59, which a connective does not use
+-- bits 58-59 of a connective, which must be zero; 0 for other operations
 abbrev pub unused_in_kind : FullOp → ℕ → ℕ
 unused_in_kind (Connective _) second = later second 58 2
 unused_in_kind _ second = 0
 
--- K, which only a transmission uses
+-- the K field, which must be zero except in a transmission; 0 for a transmission
 abbrev pub unused_k : FullOp → ℕ → ℕ
 unused_k (Transmission _) second = 0
 unused_k _ second = k_of second
 
--- those of bits 52-54 that an operation does not use
+-- those of bits 52-54 that the operation does not use, which must be zero
 abbrev pub unused_marks : FullOp → ℕ → ℕ
 unused_marks (Transmission _) second = later second 52 3
 unused_marks CounterStore second = later second 52 3
@@ -29,8 +30,8 @@ unused_marks (Order _) second = later second 52 3
 unused_marks IndicatorTest second = later second 54 1
 unused_marks _ second = 0
 
--- a decimal field has bytes of at least four bits and is made of whole bytes; a signed field has
--- room for its sign byte
+-- whether a field has a wrong size: a decimal field needs bytes of at least four bits and a whole
+-- number of bytes; a signed field needs room for its sign byte
 abbrev pub misfits : Bool → Bool → ℕ → ℕ → Bool
 misfits decimal unsigned length byte =
     (decimal && (nat_lt byte 4 || not (length % byte == 0))) || (not unsigned && nat_lt length byte)
@@ -40,8 +41,8 @@ has_misfit (Variable _) second =
     misfits (is_one second 52) (is_one second 53) (length_of second) (byte_of second)
 has_misfit _ second = false
 
--- an operand in the address is not written and has at most 24 bits; a progressive form needs an
--- index word
+-- whether the progressive form is wrong: an immediate operand (form 1) cannot be written and has at
+-- most 24 bits; forms 2 to 7 need an index word
 abbrev pub misuses_p : Bool → ℕ → ℕ → ℕ → Bool
 misuses_p writes p length i = (p == 1 && (writes || nat_lt 24 length)) || (nat_le 2 p && i == 0)
 
@@ -52,7 +53,7 @@ has_misused_p (Connective kind) first second =
     misuses_p (writes_field (Connective kind)) (p_of second) (length_of second) (i_of first)
 has_misused_p _ first second = false
 
--- an order comes 1 to 1,000 instructions later
+-- whether the count of an order is outside 1 to 1,000
 abbrev pub miscounts : ℕ → Bool
 miscounts count = count == 0 || nat_lt 1000 count
 
@@ -60,7 +61,7 @@ abbrev pub has_miscount : FullOp → ℕ → Bool
 has_miscount (Order _) second = miscounts (second_address_of second)
 has_miscount _ second = false
 
--- an operation of the list breaks one of the rules
+-- whether the bits of a full word with the given operation break one of the rules
 unfoldable pub breaks_rules : FullOp → ℕ → ℕ → Bool
 breaks_rules op first second =
     not (unused_in_kind op second == 0)
@@ -70,12 +71,12 @@ breaks_rules op first second =
     || has_misused_p op first second
     || has_miscount op second
 
--- the operation is not of the list, or breaks one of the rules
+-- whether a full word is invalid: there is no operation, or the bits break a rule
 abbrev pub is_refused : Option FullOp → ℕ → ℕ → Bool
 is_refused None first second = true
 is_refused (Some op) first second = breaks_rules op first second
 
--- whether the bits spell no instruction; those of the second half-word count only in a full word
+-- whether the bits are invalid; the second half-word counts only in a full word
 abbrev pub is_invalid : ℕ → ℕ → Bool
 is_invalid first second =
     if is_full first then is_refused (full_op second) first second else is_invalid_half first

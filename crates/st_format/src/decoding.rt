@@ -1,4 +1,4 @@
-//! From the bits of an instruction to the instruction.
+//! Decoding: from the bits of an instruction to the instruction.
 ghost use Rattle.std.specs.Prelude.{◌≡◌, ℕ, None, Some, if◌then◌else◌};
 ghost use Rattle.st_format.specs.Halves.{is_full as has_ones};
 ghost use Rattle.st_format.specs.Operations.{full_op as full_op_of};
@@ -13,15 +13,15 @@ use crate::instruction::{Decoded, Format, Instr};
 use crate::operations::{BRANCH_GROUP, FLOATING_GROUP, FullOp, branch_op, full_op, half_op};
 use crate::rules::breaks_rules;
 
-/// The instruction that two half-words spell, and its length. The second is read only where the
-/// first is that of a full word.
+/// Decodes two half-words: the instruction and its length. The second half-word is read only if the
+/// first begins a full word.
 ///
-/// Bits that spell no instruction are `Invalid`: docs/instructions.md lists the rules.
+/// Invalid bits decode to `Invalid`; docs/instructions.md lists the rules.
 pub fn decode(first: u32, second: u32) -> Decoded
     ensures value { result ≡ decoded_entry first second }
     ensures invalid { is_no_instruction result.instr ≡ is_invalid first second }
 
-    // Its fields are in range, and its bits are those that were decoded.
+    // The fields of the result are in range, and it is encoded in the bits that were decoded.
     ensures shape { IsShape result.instr }
     ensures first { first_half result.instr ≡ first }
     ensures second { second_half result.instr ≡ (if has_ones first then Some second else None) }
@@ -29,7 +29,7 @@ pub fn decode(first: u32, second: u32) -> Decoded
     decode_as(format_of(first, second), first, second)
 }
 
-/// The instruction that two half-words spell, and its length, their format being known.
+/// Decodes two half-words whose format is known: the instruction and its length.
 #[inline(always)]
 pub fn decode_as(format: Format, first: u32, second: u32) -> Decoded
     requires { spelled_as format first second ≡ instruction_of first second }
@@ -42,7 +42,7 @@ pub fn decode_as(format: Format, first: u32, second: u32) -> Decoded
     }
 }
 
-/// The number of half-words of the instruction with this first one, 1 or 2.
+/// The number of half-words of the instruction that begins with this half-word, 1 or 2.
 #[inline(always)]
 pub fn length_in_halves(first: u32) -> u8
     ensures { result ≡ (if has_ones first then 2 else 1) }
@@ -50,8 +50,8 @@ pub fn length_in_halves(first: u32) -> u8
     if is_full(first) { 2 } else { 1 }
 }
 
-/// The format of the instruction that two half-words spell. The second is read only where the first
-/// is that of a full word.
+/// The format of the instruction that two half-words encode. The second half-word is read only if
+/// the first begins a full word.
 #[inline(always)]
 pub fn format_of(first: u32, second: u32) -> Format
     ensures { spelled_as result first second ≡ instruction_of first second }
@@ -90,8 +90,8 @@ fn whole_format(first: u32, second: u32) -> Format
     }
 }
 
-// The format of a full word with this operation. What follows knows its kind, so that it is told
-// apart once.
+// The format of a full word with this operation: `NoWhole` if its bits break a rule. The kind of
+// the operation is known after this call and is tested only once.
 #[inline(always)]
 fn ruled(op: FullOp, first: u32, second: u32) -> Format
     ensures { spelled_as result first second ≡ full_word (Some op) first second }
@@ -118,7 +118,7 @@ fn checked(op: FullOp, first: u32, second: u32) -> Format
     }
 }
 
-// The instruction of this format that two half-words spell.
+// The instruction of this format that two half-words encode.
 #[inline(always)]
 fn spelled_by(format: Format, first: u32, second: u32) -> Instr
     ensures { result ≡ spelled_as format first second }
@@ -154,7 +154,7 @@ fn spelled_by(format: Format, first: u32, second: u32) -> Instr
     }
 }
 
-// The full-word instruction with this operation.
+// The full-word instruction with this operation that two half-words encode.
 #[inline(always)]
 fn spell(op: FullOp, first: u32, second: u32) -> Instr
     ensures { result ≡ full_word_instruction op first second }

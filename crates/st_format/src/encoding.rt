@@ -1,4 +1,4 @@
-//! From an instruction to its bits.
+//! Encoding: from an instruction to its bits.
 ghost use Rattle.std.specs.Prelude.{◌≡◌, ◌+◌, ◌*◌, ◌<◌, ◌^◌, ℕ, unwrap_or, is_some};
 ghost use Rattle.st_format.specs.Halves.{is_full, half_bits as half_bits_of, first_bits as first_bits_of, second_half_bits as field_bits_of, second_bits as second_bits_of};
 ghost use Rattle.st_format.specs.Operations.{full_number as full_number_of};
@@ -9,14 +9,15 @@ use crate::operations::{
     BRANCH_GROUP, FLOATING_GROUP, FullOp, branch_number, half_number, kind_number, vfl_number,
 };
 
-/// The bits of an instruction that some bits spell: the first half-word, and the second one of a
-/// full word.
+/// The bits of an instruction whose fields are in range: the first half-word, and the second one if
+/// it is a full word.
 pub fn encode(instr: &Instr) -> (u32, Option<u32>)
     requires { IsShape instr.now }
     ensures first { result.0 ≡ first_half instr.now }
     ensures second { result.1 ≡ second_half instr.now }
 
-    // They spell the instruction again, whatever stands behind a half-word.
+    // The bits decode to the instruction. The half-word that follows a half-word instruction has no
+    // effect.
     ensures decodes { (rest : ℕ) → instruction_of result.0 (unwrap_or result.1 rest) ≡ instr.now }
     ensures length { is_full result.0 ≡ is_some result.1 }
 {
@@ -126,7 +127,7 @@ fn pack(instr: &Instr) -> (u32, Option<u32>)
     }
 }
 
-// A half-word instruction.
+// The bits of a half-word instruction with these fields.
 fn half_bits(address: u32, j: u8, operation: u32, i: u8) -> u32
     requires address_fits { address < 2 ^ 19 }
     requires j_fits { j < 16 }
@@ -137,7 +138,7 @@ fn half_bits(address: u32, j: u8, operation: u32, i: u8) -> u32
     (address << 13) + (u32::from(j) << 9) + (operation << 4) + u32::from(i)
 }
 
-// The first half-word of a full word.
+// The first half-word of a full-word instruction with these fields.
 fn first_bits(address: u32, i: u8) -> u32
     requires address_fits { address < 2 ^ 24 }
     requires i_fits { i < 16 }
@@ -146,7 +147,7 @@ fn first_bits(address: u32, i: u8) -> u32
     (address << 8) + (15 << 4) + u32::from(i)
 }
 
-// The second half-word of an operation on a field.
+// The second half-word of an operation on a field with these fields.
 fn field_bits(p: u8, length: u8, byte: u8, offset: u8, operation: u32) -> u32
     requires p_fits { p < 8 }
     requires offset_fits { offset < 128 }
@@ -160,7 +161,7 @@ fn field_bits(p: u8, length: u8, byte: u8, offset: u8, operation: u32) -> u32
         + (operation << 4)
 }
 
-// The second half-word of an instruction with two addresses.
+// The second half-word of an instruction with two addresses, with these fields.
 fn second_bits(second: u32, operation: u32, k: u8) -> u32
     requires second_fits { second < 2 ^ 19 }
     requires operation_fits { operation < 512 }
@@ -170,7 +171,7 @@ fn second_bits(second: u32, operation: u32, k: u8) -> u32
     (second << 13) + (operation << 4) + u32::from(k)
 }
 
-// Bits 52-54 of an operation.
+// Bits 52-54 of an operation, in their place in the second half-word.
 fn marks(first: bool, second: bool, third: bool) -> u32
     ensures value { result ≡ bit_of first * 2 ^ 7 + bit_of second * 2 ^ 6 + bit_of third * 2 ^ 5 }
     ensures bound { result < 256 }
@@ -178,7 +179,8 @@ fn marks(first: bool, second: bool, third: bool) -> u32
     (u32::from(first) << 7) + (u32::from(second) << 6) + (u32::from(third) << 5)
 }
 
-// The number of an operation of the full-word format in bits 51-59.
+// The number in bits 51-59 of an operation of the full-word format, with zeros for its marks or its
+// table.
 fn full_number(op: FullOp) -> u32
     ensures value { result ≡ full_number_of op }
 {

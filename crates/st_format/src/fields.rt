@@ -1,8 +1,8 @@
-//! The fields of an instruction, named by their bits. Bits 32-63 are those of the second half-word.
+//! The fields of an instruction by their bits. Bits 32-63 are those of the second half-word.
 ghost use Rattle.std.specs.Prelude.{◌≡◌, ◌+◌, ◌<◌, ◌≤◌, ◌^◌};
 ghost use Rattle.st_format.specs.Halves.{half_word_part as part_of, later as later_of, is_full as is_full_of, i_of, address_of, j_of, operation_of, bit_address_of, second_address_of, p_of, length_of, byte_of, offset_of, k_of, words_moved, or_greatest as or_greatest_of};
 
-/// The number of `count` bits of a half-word from bit `first` on.
+/// The number in `count` bits of a half-word from bit `first`.
 #[inline(always)]
 pub fn part(half: u32, first: u32, count: u32) -> u32
     requires some { 1 ≤ count }
@@ -13,7 +13,7 @@ pub fn part(half: u32, first: u32, count: u32) -> u32
     half << first >> (32 - count)
 }
 
-/// The number of `count` bits of a second half-word from bit `first` on.
+/// The number in `count` bits of a second half-word from bit `first`.
 #[inline(always)]
 pub fn later(second: u32, first: u32, count: u32) -> u32
     requires some { 1 ≤ count }
@@ -25,7 +25,7 @@ pub fn later(second: u32, first: u32, count: u32) -> u32
     part(second, first - 32, count)
 }
 
-/// Whether a first half-word is that of a full word.
+/// Whether a first half-word begins a full word.
 #[inline(always)]
 pub fn is_full(first: u32) -> bool
     ensures { result ≡ is_full_of first }
@@ -33,7 +33,7 @@ pub fn is_full(first: u32) -> bool
     part(first, 24, 4) == 15
 }
 
-/// The number of the index word of the address, 0 to 15.
+/// The I field: the number of the index word that modifies the address, 0 to 15.
 #[inline(always)]
 pub fn index_field(first: u32) -> u8
     ensures value { result ≡ i_of first }
@@ -51,7 +51,7 @@ pub fn half_address(first: u32) -> u32
     part(first, 0, 19)
 }
 
-/// The number of the index word that a half-word instruction works on, 0 to 15.
+/// The J field: the number of the index word that a half-word instruction works on, 0 to 15.
 #[inline(always)]
 pub fn register_field(first: u32) -> u8
     ensures value { result ≡ j_of first }
@@ -60,7 +60,7 @@ pub fn register_field(first: u32) -> u8
     part(first, 19, 4) as u8
 }
 
-/// The number of a half-word operation, 0 to 31.
+/// The operation number of a half-word instruction, 0 to 31.
 #[inline(always)]
 pub fn operation_field(first: u32) -> u8
     ensures value { result ≡ operation_of first }
@@ -116,7 +116,7 @@ pub fn byte_size(second: u32) -> u8
     or_greatest(8, later(second, 41, 3) as u8)
 }
 
-/// The offset in the accumulator, 0 to 127.
+/// The offset of a field in the accumulator, 0 to 127.
 #[inline(always)]
 pub fn offset(second: u32) -> u8
     ensures value { result ≡ offset_of second }
@@ -125,7 +125,7 @@ pub fn offset(second: u32) -> u8
     later(second, 44, 7) as u8
 }
 
-/// The last four bits.
+/// The K field: the last four bits.
 #[inline(always)]
 pub fn last_field(second: u32) -> u8
     ensures value { result ≡ k_of second }
@@ -134,7 +134,7 @@ pub fn last_field(second: u32) -> u8
     later(second, 60, 4) as u8
 }
 
-/// The number of words that are moved, 1 to 16.
+/// The number of words of a transmission, 1 to 16.
 #[inline(always)]
 pub fn word_count(second: u32) -> u8
     ensures value { result ≡ words_moved second }
@@ -144,7 +144,7 @@ pub fn word_count(second: u32) -> u8
     or_greatest(16, last_field(second))
 }
 
-// A field in which zero stands for the greatest number.
+// The value of a field in which zero encodes the greatest number.
 #[inline(always)]
 fn or_greatest(greatest: u8, number: u8) -> u8
     ensures value { result ≡ or_greatest_of greatest number }

@@ -1,8 +1,8 @@
-//! Instructions with their fields.
+//! Instructions and their fields.
 use crate::operations::{FullOp, UNUSED};
 use st_bits::{BranchOp, ConnKind, HalfOp, VflOp};
 
-/// An instruction, or bits that spell none.
+/// An instruction, or invalid bits.
 ///
 /// The address of a half-word instruction is a half-word address below 2^19, that of a full-word
 /// instruction a bit address below 2^24, and a second address is a half-word address below 2^19.
@@ -22,15 +22,15 @@ pub enum Instr {
         address: u32,
         i: u8,
     },
-    /// An operation of the floating group, which is not built. Its number is 0 to 15.
+    /// An operation of the floating group, which the machine does not implement. Its number is 0 to
+    /// 15.
     Floating {
         number: u8,
         address: u32,
         i: u8,
     },
     /// An operation on a field. `p`, 0 to 7, is the progressive form, `length` is 1 to 64, `byte`
-    /// is 1 to 8 and `offset` is 0 to 127. The bits have 0 for the length 64 and 0 for the byte
-    /// size 8.
+    /// is 1 to 8 and `offset` is 0 to 127. The length 64 and the byte size 8 are encoded as 0.
     Vfl {
         op: VflOp,
         decimal: bool,
@@ -43,7 +43,7 @@ pub enum Instr {
         address: u32,
         i: u8,
     },
-    /// A connective. `table` is 0 to 15: its highest bit is the result for two zeros, its lowest
+    /// A connective. The highest bit of `table`, 0 to 15, is the result for two zeros, its lowest
     /// that for two ones. The other fields are those of an operation on a field.
     Connect {
         kind: ConnKind,
@@ -55,7 +55,8 @@ pub enum Instr {
         address: u32,
         i: u8,
     },
-    /// Words are copied, or exchanged. `count`, 1 to 16, is their number; the bits have 0 for 16.
+    /// A transmission: copies or exchanges words. `count`, 1 to 16, is the number of words; 16 is
+    /// encoded as 0.
     Move {
         swap: bool,
         address: u32,
@@ -63,8 +64,8 @@ pub enum Instr {
         second: u32,
         count: u8,
     },
-    /// A branch on a bit of storage. `change`, 0 to 3, is what then becomes of the bit: it is left,
-    /// zeroed, set to one or inverted.
+    /// A branch on a bit of storage. `change`, 0 to 3, is the change of the bit after the test: it
+    /// is left unchanged, cleared, set or inverted.
     BitBranch {
         sense: bool,
         change: u8,
@@ -72,7 +73,7 @@ pub enum Instr {
         i: u8,
         second: u32,
     },
-    /// A branch on an indicator, which is then turned off where `off` says so.
+    /// A branch on an indicator, which is turned off after the test if `off` is true.
     IndBranch {
         sense: bool,
         off: bool,
@@ -80,13 +81,13 @@ pub enum Instr {
         i: u8,
         second: u32,
     },
-    /// The counter is stored, and a branch is taken.
+    /// Stores the program counter and branches.
     StoreCounter {
         address: u32,
         i: u8,
         second: u32,
     },
-    /// An order to the reader, or to the printer where `write` says so. It takes effect `count`
+    /// An order to the reader, or to the printer if `write` is true. It takes effect `count`
     /// instructions later, 1 to 1,000.
     Transfer {
         write: bool,
@@ -94,7 +95,7 @@ pub enum Instr {
         i: u8,
         count: u32,
     },
-    /// Bits that spell no instruction, two half-words where `full` says so; else `second` is 0.
+    /// Invalid bits: two half-words if `full` is true; otherwise one, and `second` is 0.
     Invalid {
         first: u32,
         second: u32,
@@ -102,8 +103,8 @@ pub enum Instr {
     },
 }
 
-/// A format, with the operation where it has one: what is known of an instruction before its fields
-/// are taken out.
+/// The format of an instruction, with the operation if the format has one: the part of the decoding
+/// that precedes the extraction of the fields.
 #[derive(Clone, Copy, Debug, PartialEq, Eq)]
 pub enum Format {
     /// The half-word format.
@@ -112,15 +113,15 @@ pub enum Format {
     Branch(BranchOp),
     /// The floating group of the half-word format.
     Floating,
-    /// A format of full words.
+    /// The full-word format.
     Whole(FullOp),
-    /// A half-word that spells no instruction.
+    /// An invalid half-word.
     NoHalf,
-    /// A full word that spells none.
+    /// An invalid full word.
     NoWhole,
 }
 
-/// An instruction, and the number of half-words that it takes, 1 or 2.
+/// An instruction and its length in half-words, 1 or 2.
 #[derive(Clone, Copy, Debug, PartialEq, Eq)]
 pub struct Decoded {
     pub instr: Instr,
@@ -132,7 +133,7 @@ impl Default for Instr {
 
     ghost is_default = { IsBlank };
 
-    /// A half-word that spells no instruction.
+    /// An invalid half-word.
     fn default() -> Instr {
         Instr::Invalid {
             first: UNUSED as u32 * 16,
@@ -147,7 +148,7 @@ impl Default for Decoded {
 
     ghost is_default = { IsBlankDecoded };
 
-    /// A half-word that spells no instruction.
+    /// An invalid half-word.
     fn default() -> Decoded {
         Decoded {
             instr: Instr::default(),
@@ -160,8 +161,8 @@ impl Instr {
     ghost use Rattle.std.specs.Prelude.{◌≡◌};
     ghost use Rattle.st_format.specs.Formats.{is_valid as is_valid_of};
 
-    /// Whether the machine has this instruction: false for bits that spell none, and for the
-    /// floating group.
+    /// Whether the machine implements this instruction: false for invalid bits and for the floating
+    /// group.
     pub fn is_valid(&self) -> bool
         ensures { result ≡ is_valid_of self.now }
     {

@@ -1,4 +1,4 @@
-//! The two formats of an instruction, and what their bits spell. `docs/instructions.md` has the
+//! The two instruction formats, their decoding and their encoding. `docs/instructions.md` has the
 //! rules.
 //!
 //! A half-word instruction has 32 bits:
@@ -10,8 +10,8 @@
 //!  +---------------------+------+-------+-----+
 //! ```
 //!
-//! A full-word instruction has two half-words, and bits 24-27 of the first are ones. The second one
-//! of an operation on a field, decimal, binary or connective:
+//! A full-word instruction has two half-words, and bits 24-27 of the first are ones. The second
+//! half-word of an operation on a field, decimal, binary or connective, is:
 //!
 //! ```text
 //!   0                       23 24  27 28 31
@@ -24,7 +24,7 @@
 //!  +-----+--------+------+--------+-----------+-----+
 //! ```
 //!
-//! The second half-word of an instruction with two addresses, or with an address and a count:
+//! The second half-word of an instruction with two addresses, or with an address and a count, is:
 //!
 //! ```text
 //!   32                      50 51       59 60 63
@@ -33,7 +33,7 @@
 //!  +--------------------------+-----------+-----+
 //! ```
 //!
-//! The operation of a full word:
+//! The operation of a full word is:
 //!
 //! ```text
 //!   51  52  53  54  55      59

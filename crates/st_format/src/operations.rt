@@ -5,11 +5,12 @@ ghost use Rattle.st_format.specs.Operations.{half_op as half_op_of, branch_op as
 use crate::fields::{later, part};
 use st_bits::{BranchOp, ConnKind, HalfOp, VflOp};
 
-/// The number of the floating group, whose operations J tells apart. It is not built.
+/// The number of the floating group, whose operations are numbered by J. The machine does not
+/// implement it.
 pub const FLOATING_GROUP: u8 = 0;
-/// The number of the branch group, whose operations J tells apart.
+/// The number of the branch group, whose operations are numbered by J.
 pub const BRANCH_GROUP: u8 = 23;
-/// The number of no operation of the half-word format.
+/// The unused operation number of the half-word format.
 pub const UNUSED: u8 = 12;
 
 /// An operation of the full-word format.
@@ -18,19 +19,19 @@ pub enum FullOp {
     /// An operation on a field.
     Variable(VflOp),
     Connective(ConnKind),
-    /// T, or SWAP where the number says so.
+    /// T, or SWAP if `swap` is true.
     Transmission { swap: bool },
     /// BB.
     BitTest,
     /// BI.
     IndicatorTest,
-    /// RD, or WR where the number says so.
+    /// RD, or WR if `write` is true.
     Order { write: bool },
     /// SIC.
     CounterStore,
 }
 
-/// The half-word operation of a number, the floating group and the branch group apart.
+/// The half-word operation with this number, outside the floating group and the branch group.
 #[inline(always)]
 pub fn half_op(number: u8) -> Option<HalfOp>
     requires { number < 32 }
@@ -68,7 +69,7 @@ pub fn half_op(number: u8) -> Option<HalfOp>
     }
 }
 
-/// The branch of a number.
+/// The branch with this number.
 #[inline(always)]
 pub fn branch_op(number: u8) -> Option<BranchOp>
     ensures { result ≡ branch_op_of number }
@@ -84,7 +85,7 @@ pub fn branch_op(number: u8) -> Option<BranchOp>
     }
 }
 
-/// The operation of a full word by its second half-word.
+/// The operation of a full word with this second half-word.
 #[inline(always)]
 pub fn full_op(second: u32) -> Option<FullOp>
     ensures { result ≡ full_op_of second }
@@ -146,7 +147,7 @@ fn kind(number: u32) -> Option<ConnKind>
     }
 }
 
-/// The number of a half-word operation, below 32.
+/// The operation number of a half-word operation, below 32.
 pub fn half_number(op: HalfOp) -> u32
     ensures value { result ≡ half_number_of op }
     ensures bound { result < 32 }
@@ -154,7 +155,7 @@ pub fn half_number(op: HalfOp) -> u32
     op as u32
 }
 
-/// The number of a branch, below 6.
+/// The number of a branch in its J field, below 6.
 pub fn branch_number(op: BranchOp) -> u32
     ensures value { result ≡ branch_number_of op }
     ensures bound { result < 6 }

@@ -1,4 +1,4 @@
-//! Which bits spell no instruction.
+//! The rules by which bits are an invalid instruction.
 ghost use Rattle.std.specs.Prelude.{◌≡◌};
 ghost use Rattle.st_format.specs.Validity.{breaks_rules as breaks_rules_of, unused_in_kind as unused_in_kind_of, unused_k as unused_k_of, unused_marks as unused_marks_of, misfits, has_misfit as has_misfit_of, misuses_p, has_misused_p as has_misused_p_of, miscounts, has_miscount as has_miscount_of};
 
@@ -68,9 +68,9 @@ fn has_misfit(op: FullOp, second: u32) -> bool
     }
 }
 
-/// Whether a field has no such form: a decimal one has bytes of at least four bits and is made of
-/// whole bytes, and a signed one has room for its sign byte. The length is 1 to 64 bits, the byte 1
-/// to 8.
+/// Whether a field has a wrong size: a decimal field needs bytes of at least four bits and a whole
+/// number of bytes; a signed field needs room for its sign byte. The length is 1 to 64 bits, the
+/// byte 1 to 8.
 #[inline(always)]
 pub fn misfits_field(decimal: bool, unsigned: bool, length: u8, byte: u8) -> bool
     ensures { result ≡ misfits decimal unsigned length byte }

@@ -1,5 +1,4 @@
--- What instructions make of index words: the effective address, changes of value and count, and the
--- indicators.
+-- Index arithmetic: the effective address, changes of value and count, and the index indicators.
 use Rattle.std.specs.Prelude.{ℕ, zero, suc, ◌+◌, ◌-◌, ◌%◌, ◌^◌, ℤ, pos, negsuc, ◌+ℤ◌, neg_ℤ, Bool, ◌==◌, ◌||◌, ◌&&◌, nat_lt, if◌then◌else◌, List, [], ◌∷◌}
 use Rattle.std.specs.declared.cmp.Ordering.{Ordering}
 use Rattle.std.specs.declared.cmp.Ordering.TheVariants.{Less, Equal, Greater}
@@ -11,68 +10,70 @@ use Rattle.st_bits.specs.Indicators.{indicator, indicators}
 use Rattle.st_bits.specs.declared.indicators.TheConstants.{INDEX_FLAG, INDEX_COUNT_ZERO, INDEX_VALUE_LESS, INDEX_VALUE_ZERO, INDEX_VALUE_GREATER, INDEX_LOW, INDEX_EQUAL, INDEX_HIGH}
 use Rattle.st_index.specs.declared.change.Changed.{Changed}
 
--- a whole number modulo n, from 0 up
+-- an integer modulo n, from 0 to n - 1
 abbrev pub modulo : ℤ → ℕ → ℕ
 modulo (pos r) n = r % n
 modulo (negsuc r) n = n - 1 - r % n
 
--- the effective address: the address plus the value of the index word, modulo 2 ^ 24
+-- the effective address: the address plus the value of the index word x, modulo 2 ^ 24
 abbrev pub effective_address : ℕ → ℕ → ℕ
 effective_address a x = modulo (pos a +ℤ index_value x) (2 ^ 24)
 
--- the index word with d added to its value
+-- the index word x with d added to its value
 abbrev pub with_added : ℕ → ℤ → ℕ
 with_added x d = index_word_with_value x (index_value x +ℤ d)
 
--- one less, modulo 2 ^ 18
+-- a count minus one, modulo 2 ^ 18
 abbrev pub one_less : ℕ → ℕ
 one_less zero = 2 ^ 18 - 1
 one_less (suc n) = n
 
--- the index word with its count one less
+-- the index word x with its count decremented
 abbrev pub with_lower_count : ℕ → ℕ
 with_lower_count x = with_count x (one_less (count_of x))
 
--- the value of an index word, where its bit of the list is one
+-- the value of the index word x if its selection bit b is one, otherwise 0
 abbrev pub selected_value : ℕ → ℕ → ℤ
 selected_value b x = if b == 1 then index_value x else pos 0
 
--- the sum of the values of the index words that a list of bits selects
+-- the sum of the values of those index words that the list of bits selects
 unfoldable pub selected_sum : List ℕ → List ℕ → ℤ
 selected_sum [] xs = pos 0
 selected_sum (b ∷ bs) [] = pos 0
 selected_sum (b ∷ bs) (x ∷ xs) = selected_value b x +ℤ selected_sum bs xs
 
--- the indicator of a comparison: XL below, XE equal, XH above
+-- the indicator of a comparison: XL for less, XE for equal, XH for greater
 abbrev pub comparison_indicator : Ordering → ℕ
 comparison_indicator Less = indicator INDEX_LOW
 comparison_indicator Equal = indicator INDEX_EQUAL
 comparison_indicator Greater = indicator INDEX_HIGH
 
--- what a comparison of a with b turns on and off: exactly one of XL, XE and XH is on after it
+-- the indicators that a comparison of a with b turns on and off: exactly one of XL, XE and XH is on
+-- after it
 abbrev pub comparison : ℤ → ℤ → Ind
 comparison a b = record {
   on = comparison_indicator (int_cmp a b);
   off = indicators (INDEX_LOW ∷ INDEX_EQUAL ∷ INDEX_HIGH ∷ []);
 }
 
--- the indicators that an index result sets by the sign of the value: XVLZ, XVZ, XVGZ
+-- the indicator for the sign of an index value: XVLZ, XVZ or XVGZ
 abbrev pub sign_indicator : ℤ → ℕ
 sign_indicator (negsuc _) = indicator INDEX_VALUE_LESS
 sign_indicator (pos zero) = indicator INDEX_VALUE_ZERO
 sign_indicator (pos (suc _)) = indicator INDEX_VALUE_GREATER
 
--- XCZ, where the count is zero
+-- XCZ if the count is zero, otherwise no indicator
 abbrev pub count_indicator : ℕ → ℕ
 count_indicator zero = indicator INDEX_COUNT_ZERO
 count_indicator (suc _) = 0
 
--- XF, where the flag in bit 25 is one
+-- XF if the flag in bit 25 is one, otherwise no indicator
 abbrev pub flag_indicator : ℕ → ℕ
 flag_indicator zero = 0
 flag_indicator (suc _) = indicator INDEX_FLAG
 
--- what an index word turns on and off: XCZ, one of XVLZ, XVZ and XVGZ, and XF, which only goes on
+-- the indicators that an index word turns on and off: XCZ, one of XVLZ, XVZ and XVGZ, and XF, which
+-- is never turned off
 abbrev pub index_result : ℕ → Ind
 index_result y = record {
   on = count_indicator (count_of y) + sign_indicator (index_value y) + flag_indicator (part y 25 1);
@@ -80,25 +81,26 @@ index_result y = record {
       ∷ []);
 }
 
--- what a progressive form adds to the value: V+I, V+IC and V+ICR are 2 to 4, and V-I, V-IC and
--- V-ICR 5 to 7
+-- the number that a progressive form adds to the value: the increment e for V+I, V+IC and V+ICR
+-- (forms 2 to 4), its negative for V-I, V-IC and V-ICR (forms 5 to 7)
 abbrev pub increment_of : ℕ → ℕ → ℤ
 increment_of form e = if nat_lt form 5 then pos e else neg_ℤ (pos e)
 
--- the forms that count: V+IC, V+ICR, V-IC, V-ICR
+-- whether a form decrements the count: V+IC, V+ICR, V-IC, V-ICR
 abbrev pub is_counting : ℕ → Bool
 is_counting form = form == 3 || form == 4 || form == 6 || form == 7
 
--- the forms that refill where the count became zero: V+ICR, V-ICR
+-- whether a form refills if the count became zero: V+ICR, V-ICR
 abbrev pub is_refilling : ℕ → Bool
 is_refilling form = form == 4 || form == 7
 
--- the index word after a progressive form, before a refill
+-- the index word x after a progressive form with increment e, before a refill
 abbrev pub progressive_word : ℕ → ℕ → ℕ → ℕ
 progressive_word form x e =
     let y = with_added x (increment_of form e) in if is_counting form then with_lower_count y else y
 
--- the index word that a progressive form leaves, whether a refill follows, and the indicators
+-- the result of a progressive form that leaves the index word y: the word, whether a refill
+-- follows, and the indicators
 abbrev pub progressive_outcome : ℕ → ℕ → Changed
 progressive_outcome form y = record {
   word = y;
@@ -106,6 +108,6 @@ progressive_outcome form y = record {
   ind = index_result y;
 }
 
--- the whole change by a progressive form
+-- the result of a progressive form with increment e on the index word x
 abbrev pub progression : ℕ → ℕ → ℕ → Changed
 progression form x e = progressive_outcome form (progressive_word form x e)

@@ -1,4 +1,4 @@
-//! What instructions make of an index word.
+//! Changes of an index word.
 ghost use Rattle.std.specs.Prelude.{◌≡◌, ◌<◌, ◌≤◌, ◌^◌, unsigned_abs, ◌==◌, ◌&&◌};
 ghost use Rattle.st_bits.specs.Bits.{part};
 ghost use Rattle.st_bits.specs.IndexWord.{index_value as value, count_of as count};
@@ -8,20 +8,20 @@ ghost use Rattle.st_index.specs.IndexChange.{increment_of, is_counting, is_refil
 use crate::results::index_result;
 use st_bits::{Ind, count_of, value_of, with_count, with_value};
 
-/// What a progressive form makes of an index word.
+/// The result of a progressive form on an index word.
 #[derive(Clone, Copy, Debug, PartialEq, Eq)]
 pub struct Changed {
     /// The index word after the change and before a refill.
     pub word: u64,
-    /// Whether a refill follows: the word at the refill address of `word` then replaces the whole
-    /// of it.
+    /// Whether a refill follows, which replaces the whole index word by the word at the refill
+    /// address of `word`.
     pub refill: bool,
-    /// The index result of `word`.
+    /// The index indicators of `word`.
     pub ind: Ind,
 }
 
-/// The effective address, a bit address below 2^24: the address part plus the value of the index
-/// word `x`, modulo 2^24. Without an index `x` is zero.
+/// The effective address, a bit address below 2^24: the address plus the value of the index word
+/// `x`, modulo 2^24. If the instruction names no index word, `x` is zero.
 pub fn effective(address: u32, x: u64) -> u32
     requires { address < 2 ^ 24 }
     ensures value { result ≡ effective_address address x }
@@ -31,7 +31,7 @@ pub fn effective(address: u32, x: u64) -> u32
 }
 
 /// The index word with `d` added to its value. The magnitude of the sum is taken modulo 2^24, and
-/// the sign is minus where the sum is below zero, so that -2^24 becomes a minus zero.
+/// the sign is minus if the sum is negative, so that -2^24 becomes a minus zero.
 pub fn add_value(x: u64, d: i32) -> u64
     requires { unsigned_abs d < 2 ^ 25 }
     ensures word { result ≡ with_added x d }
@@ -40,7 +40,7 @@ pub fn add_value(x: u64, d: i32) -> u64
     with_value(x, value_of(x) + d)
 }
 
-// One less than a count, modulo 2^18: zero becomes 262,143.
+// The count minus one, modulo 2^18: zero becomes 262,143.
 fn lower(count: u32) -> u32
     requires { count < 2 ^ 18 }
     ensures value { result ≡ one_less count }
@@ -49,7 +49,7 @@ fn lower(count: u32) -> u32
     if count == 0 { (1 << 18) - 1 } else { count - 1 }
 }
 
-/// The index word with its count one less, modulo 2^18.
+/// The index word with its count decremented, modulo 2^18.
 pub fn count_down(x: u64) -> u64
     ensures word { result ≡ with_lower_count x }
     ensures count { count result ≡ one_less (count x) }
@@ -58,7 +58,7 @@ pub fn count_down(x: u64) -> u64
     with_count(x, lower(count_of(x)))
 }
 
-// What a progressive form adds to the value: the increment, negated in the V- forms.
+// The number that a progressive form adds to the value: the increment, negated in the V- forms.
 fn signed(form: u8, increment: u32) -> i32
     requires { increment < 2 ^ 24 }
     ensures value { result ≡ increment_of form increment }
@@ -71,7 +71,7 @@ fn signed(form: u8, increment: u32) -> i32
     }
 }
 
-// Whether a progressive form counts.
+// Whether a progressive form decrements the count.
 fn counts(form: u8) -> bool
     ensures { result ≡ is_counting form }
 {
@@ -95,8 +95,8 @@ fn advance(form: u8, x: u64, increment: u32) -> u64
 }
 
 /// The change of the index word `x` by a progressive form: 2 to 7 are V+I, V+IC, V+ICR, V-I, V-IC
-/// and V-ICR. The increment, below 2^24, is added to the value or taken from it; then the C forms
-/// count down; where the count became zero, a refill follows the R forms.
+/// and V-ICR. The increment, below 2^24, is added to the value or subtracted from it. The C forms
+/// then decrement the count. The R forms are followed by a refill if the count became zero.
 pub fn progress(form: u8, x: u64, increment: u32) -> Changed
     requires low { 2 ≤ form }
     requires high { form ≤ 7 }

@@ -1,4 +1,4 @@
-//! Index arithmetic: effective addresses, changed index words, and the indicators that they set.
+//! Index arithmetic: effective addresses, changes of index words, and the index indicators.
 //! `docs/index-words.md` has the rules.
 #![tactic(auto)]
 

@@ -9,8 +9,8 @@ use st_bits::indicators::{
 use st_bits::{Ind, count_of, indicator, part, value_of};
 use std::cmp::Ordering;
 
-/// What a comparison of `a` with `b` turns on and off: XL where a is below b, XE where they are
-/// equal, XH where a is above b, and the other two off.
+/// The indicators that a comparison of `a` with `b` turns on and off: XL is on if a < b, XE if they
+/// are equal, XH if a > b; the other two are off.
 pub fn compare(a: i32, b: i32) -> Ind
     ensures { result ≡ comparison a b }
 {
@@ -25,8 +25,9 @@ pub fn compare(a: i32, b: i32) -> Ind
     }
 }
 
-/// What an index word turns on and off: XCZ where its count is zero, else XCZ off; exactly one of
-/// XVLZ, XVZ and XVGZ by its value; XF, which only goes on, where its first flag is one.
+/// The indicators that an index word turns on and off: XCZ is on if its count is zero, otherwise
+/// off; exactly one of XVLZ, XVZ and XVGZ is on, by its value; XF is turned on if the first flag is
+/// one, and never turned off.
 pub fn index_result(y: u64) -> Ind
     ensures { result ≡ index_result_of y }
 {

@@ -6,7 +6,7 @@ ghost use Rattle.st_index.specs.IndexChange.{selected_sum, selected_value as sel
 
 use st_bits::value_of;
 
-// The value of an index word where bit `j` of the list, 0 leftmost, is one, else 0.
+// The value of an index word if bit `j` of the list, 0 leftmost, is one, otherwise 0.
 fn selected_value(list: u16, j: usize, word: u64) -> i32
     requires { j < 16 }
     ensures value { result ≡ selected_value_of (bit_at list (15 - j)) word }
@@ -19,8 +19,8 @@ fn selected_value(list: u16, j: usize, word: u64) -> i32
     }
 }
 
-/// The sum of the values of the index words that the list selects: its bit 0, the leftmost, selects
-/// the first word.
+/// The sum of the values of the index words that the list selects: bit 0, the leftmost, selects the
+/// first word.
 pub fn sum_values(list: u16, x: &[u64; 16]) -> i32
     ensures value { result ≡ selected_sum (bits 16 list) x.now }
     ensures bound { unsigned_abs result ≤ 16 * 2 ^ 24 }

@@ -1,4 +1,4 @@
--- What two reads or two writes do, one after the other.
+-- The effect of two successive reads or writes.
 use Rattle.std.proofs.Common.{◌≡◌, ℕ, ◌+◌, ◌≤◌, List, [], ◌∷◌, ◌++◌, length, take, drop, refl, sym, ◌∙◌, ap, append_assoc, arith, length-append}
 use Rattle.std.specs.Prelude.{Option, None, Some}
 use Rattle.std.proofs.lemmas.List.{take-append-drop, append-nil, length-take-le}
@@ -7,7 +7,7 @@ use Rattle.st_io.specs.Count.{count_after}
 use Rattle.st_io.specs.Output.{OutputState, Appends, Wrote}
 use Rattle.st_io.specs.Input.{InputState, Came, Gave}
 
--- a front of the piece was written, and this is left
+-- a prefix of the piece was written, and the rest remains
 pub record WritesSoFar (s t : OutputState) (piece rest : List ℕ) : Type 0 where
   pub front : List ℕ
   pub wrote : Wrote s t front
@@ -22,7 +22,7 @@ Appends-join (Some a) None (Some c) xs ys p q = absurd q
 Appends-join (Some a) (Some b) None xs ys p q = tt
 Appends-join (Some a) (Some b) (Some c) xs ys p q = q ∙ (ap (λ zs. zs ++ ys) p ∙ append_assoc a xs ys)
 
--- no byte is written where nothing is done
+-- without a write no bytes are appended
 pub Appends_none : (a : Option (List ℕ)) → Appends a a []
 Appends_none None = tt
 Appends_none (Some a) = sym (append-nil a)
@@ -40,7 +40,7 @@ writes_more s t u piece rest n h w = record {
   parts = h.parts ∙ (ap (λ xs. h.front ++ xs) (sym (take-append-drop n rest)) ∙ sym (append_assoc h.front (take n rest) (drop n rest)));
 }
 
--- an empty piece leaves nothing to write
+-- nothing remains of an empty piece
 pub nothing_left : (s t : OutputState) (piece rest : List ℕ) → WritesSoFar s t piece rest → piece ≡ [] → rest ≡ []
 nothing_left s t piece [] h e = refl
 nothing_left s t piece (x ∷ xs) h e = absurd (omega (arith, ap length (sym e ∙ h.parts), length-append h.front (x ∷ xs)))
@@ -60,7 +60,7 @@ Came_join s t u xs ys p q = record {
   counts = q.counts ∙ (ap (λ n. count_after n (length ys)) p.counts ∙ (counted-join s.taken (length xs) (length ys) ∙ ap (count_after s.taken) (sym (length-append xs ys))));
 }
 
--- the bytes of a read after others, and how many there are then
+-- the bytes of one more read, and their number in all
 pub came_more : (s t u : InputState) (xs buffer : List ℕ) (n : ℕ) → n ≤ length buffer → Came s t xs → Gave t u buffer n
     → (bytes : List ℕ) × Came s u bytes × (length bytes ≡ length xs + n)
 came_more s t u xs buffer n h p q =

@@ -1,11 +1,11 @@
--- What a read of bytes in memory gives.
+-- The result of a read from bytes in memory.
 use Rattle.std.proofs.Common.{◌≡◌, ℕ, ◌+◌, ◌-◌, ◌^◌, ◌<◌, ◌≤◌, min, List, ◌++◌, length, take, drop, refl, sym, ap, ◌∙◌, arith, length-append, length-drop, take_at, drop-drop}
 use Rattle.std.proofs.Math.ListN.{drop_of_length-le}
 use Rattle.std.proofs.lemmas.List.{take-append-drop, take_all, length-take-le}
 use Rattle.st_io.specs.Input.{Gave}
 use Rattle.st_io.specs.Memory.{sure_input}
 
--- the front of what is left, as much as the buffer has room for
+-- the first remaining bytes, as many as the buffer has room for
 pub gave_front : (bytes rest buffer : List ℕ) (taken n : ℕ) → taken ≤ length bytes → length bytes < 2 ^ 64 → rest ≡ take (length bytes - taken) (drop taken bytes) → n ≡ min (length buffer) (length rest)
     → Gave (sure_input (record { left = drop taken bytes; taken = taken })) (sure_input (record { left = drop (taken + n) bytes; taken = taken + n }))
     (take n rest ++ drop n buffer) n

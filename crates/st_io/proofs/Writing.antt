@@ -1,4 +1,5 @@
--- Writing line after line: what is written so far, and where it stopped.
+-- The writing of successive lines: the lines written so far, and the one in which the writing
+-- stopped.
 use Rattle.std.proofs.Common.{◌≡◌, ℕ, List, [], ◌∷◌, ◌++◌, refl, sym, ◌∙◌, ap, subst, append_assoc}
 use Rattle.std.proofs.lemmas.List.{append-nil}
 use Rattle.std.specs.Prelude.{Result, Ok, Err, MatchResult}
@@ -32,11 +33,11 @@ writes_line s t line (Err e) h = record {
   };
 }
 
--- lines and then lines are all written
+-- two lists of lines are all written
 pub wrote_more : (s t u : OutputState) (xs ys : List (List ℕ)) → Wrote s t (text xs) → Wrote t u (text ys) → Wrote s u (text (xs ++ ys))
 wrote_more s t u xs ys p q = subst (Wrote s u) (sym (text-append xs ys)) (Wrote_join s t u (text xs) (text ys) p q)
 
--- what stopped in the first lines stopped in all of them
+-- a stop in the first lines is a stop in all lines
 pub stopped_before : (s t : OutputState) (xs ys : List (List ℕ)) → StoppedIn s t xs → StoppedIn s t (xs ++ ys)
 stopped_before s t xs ys h = record {
   earlier = h.earlier;
@@ -51,7 +52,7 @@ stopped_before s t xs ys h = record {
   risen = h.risen;
 }
 
--- what stopped in the last lines stopped in all of them
+-- a stop in the last lines is a stop in all lines
 pub stopped_after : (s t u : OutputState) (xs ys : List (List ℕ)) → Wrote s t (text xs) → StoppedIn t u ys → StoppedIn s u (xs ++ ys)
 stopped_after s t u xs ys p h = record {
   earlier = xs ++ h.earlier;
@@ -78,11 +79,11 @@ pub lines_of-at_moment : (d k : ℕ) (xs : List (List ℕ)) → lines_of (at_mom
 lines_of-at_moment d k [] = refl
 lines_of-at_moment d k (x ∷ xs) = ap (λ zs. x ∷ zs) (lines_of-at_moment d k xs)
 
--- lines of one moment that are all written
+-- lines at one moment that are all written
 pub wrote_at_moment : (s t : OutputState) (d k : ℕ) (xs : List (List ℕ)) → Wrote s t (text xs) → Wrote s t (text (lines_of (at_moment d k xs)))
 wrote_at_moment s t d k xs h = subst (λ zs. Wrote s t (text zs)) (sym (lines_of-at_moment d k xs)) h
 
--- lines of one moment in which the writing stopped
+-- a stop in lines at one moment
 pub stopped_at_moment : (s t : OutputState) (d k : ℕ) (xs : List (List ℕ)) → StoppedIn s t xs → StoppedAt s t (at_moment d k xs) d k
 stopped_at_moment s t d k xs h = record {
   earlier = at_moment d k h.earlier;
@@ -99,11 +100,11 @@ stopped_at_moment s t d k xs h = record {
   ticks_then = refl;
 }
 
--- events and then events are all written
+-- two lists of events are all written
 pub wrote_events : (s t u : OutputState) (xs ys : List Event) → Wrote s t (text (lines_of xs)) → Wrote t u (text (lines_of ys)) → Wrote s u (text (lines_of (xs ++ ys)))
 wrote_events s t u xs ys p q = subst (λ zs. Wrote s u (text zs)) (sym (lines_of-append xs ys)) (wrote_more s t u (lines_of xs) (lines_of ys) p q)
 
--- what stopped in the first events stopped in all of them
+-- a stop in the first events is a stop in all events
 pub events_before : (s t : OutputState) (xs ys : List Event) (d k : ℕ) → StoppedAt s t xs d k → StoppedAt s t (xs ++ ys) d k
 events_before s t xs ys d k h = record {
   earlier = h.earlier;
@@ -120,7 +121,7 @@ events_before s t xs ys d k h = record {
   ticks_then = h.ticks_then;
 }
 
--- what stopped in the last events stopped in all of them
+-- a stop in the last events is a stop in all events
 pub events_after : (s t u : OutputState) (xs ys : List Event) (d k : ℕ) → Wrote s t (text (lines_of xs)) → StoppedAt t u ys d k → StoppedAt s u (xs ++ ys) d k
 events_after s t u xs ys d k p h = record {
   earlier = xs ++ h.earlier;

@@ -4,7 +4,7 @@ use Rattle.st_io.specs.Count.{HasRisen}
 use Rattle.st_io.specs.Output.{OutputState, Appends}
 use Rattle.st_io.specs.Lines.{text}
 
--- a line, and how many instructions were done and ticks gone by when it is written
+-- a line, with the count of completed instructions and the tick when it is written
 pub record Event : Type 0 where
   pub line : List ℕ
   pub done : ℕ
@@ -15,13 +15,13 @@ abbrev pub lines_of : List Event → List (List ℕ)
 lines_of [] = []
 lines_of (event ∷ events) = event.line ∷ lines_of events
 
--- these lines, all at one moment
+-- a list of lines as events at one moment
 abbrev pub at_moment : ℕ → ℕ → List (List ℕ) → List Event
 at_moment done ticks [] = []
 at_moment done ticks (l ∷ ls) = record { line = l; done = done; ticks = ticks }
     ∷ at_moment done ticks ls
 
--- the writing stopped in the line of one of the events, whose moment this is
+-- the writing stopped in the line of one of the events, which has this moment
 pub record StoppedAt (before after : OutputState) (events : List Event)
     (done ticks : ℕ) : Type 0 where
   pub earlier : List Event

@@ -1,20 +1,21 @@
--- Lines that were written to a sink, all of them or some.
+-- Lines that were written to a sink, all or some of them.
 use Rattle.std.specs.Prelude.{◌≡◌, ◌≢◌, ℕ, ◌+◌, zero, suc, List, [], ◌∷◌, ◌++◌, Result, OnOk, OnErr}
 use Rattle.st_io.specs.Count.{HasRisen}
 use Rattle.st_io.specs.Output.{OutputState, Appends, Wrote}
 use Rattle.st_io.specs.declared.Failed.{Failed}
 
--- the bytes of the lines, one after another
+-- the bytes of a list of lines
 abbrev pub text : List (List ℕ) → List ℕ
 text [] = []
 text (line ∷ lines) = line ++ text lines
 
--- the lines that each of n numbers gives, from the first on
+-- the lines that the function give returns for each of n numbers from first
 unfoldable pub lines_for : (ℕ → List (List ℕ)) → ℕ → ℕ → List (List ℕ)
 lines_for give zero first = []
 lines_for give (suc n) first = give first ++ lines_for give n (first + 1)
 
--- the writing stopped in one of the lines: those before it are written, and a front of it, not all
+-- the writing stopped in one of the lines: the lines before it are written, and a proper prefix of
+-- it
 pub record StoppedIn (before after : OutputState) (lines : List (List ℕ)) : Type 0 where
   pub earlier : List (List ℕ)
   pub failed : List ℕ
@@ -27,7 +28,7 @@ pub record StoppedIn (before after : OutputState) (lines : List (List ℕ)) : Ty
   pub appended : Appends before.written after.written (text earlier ++ front)
   pub risen : HasRisen before.faults after.faults
 
--- all the lines are written at Ok; at a failure the writing stopped in one of them
+-- all lines are written on Ok; on a failure the writing stopped in one of them
 pub record WritesLines (before after : OutputState) (lines : List (List ℕ))
     (result : Result (Unit {0}) Failed) : Type 0 where
   pub ok : OnOk result (Wrote before after (text lines))

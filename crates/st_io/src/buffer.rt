@@ -1,9 +1,9 @@
-//! A buffer in memory that takes bytes without an allocation.
+//! A buffer in memory that takes bytes without allocating.
 ghost use Rattle.std.specs.Prelude.{◌≡◌, ◌+◌, ◌-◌, ◌≤◌, ◌++◌, length, vec_len, vec_capacity};
 
 use std::marker::Model;
 
-// A vector, and room for how many more bytes was reserved in it.
+// A vector, and the number of further bytes for which it has reserved room.
 #[derive(Debug, Drop)]
 pub(crate) struct Buffer {
     bytes: Vec<u8>,
@@ -22,7 +22,7 @@ impl Model for Buffer {
 }
 
 impl Buffer {
-    // There is room for what the vector's capacity leaves.
+    // A buffer whose room is the spare capacity of the vector.
     pub(crate) fn new(bytes: Vec<u8>) -> Buffer
         ensures { result ≡ record {
           bytes = bytes.items;

@@ -1,5 +1,5 @@
-//! Bytes in and bytes out: a source and a sink that count their faults, and the calls that read a
-//! whole source and write a whole piece. `docs/edge.md` has the rules.
+//! Input and output of bytes: a source and a sink that count their faults, and the calls that read
+//! a whole source and write a whole piece. `docs/edge.md` has the rules.
 #![tactic(auto)]
 
 ghost use Rattle.std.specs.Prelude.{◌≡◌};
@@ -22,11 +22,11 @@ pub use source::{ReadError, Source, read_all};
 pub use standard::{StdSink, StdSource};
 pub use sure::{SureSink, SureSource};
 
-/// A read or a write failed. The count of faults of its source or sink rose.
+/// A read or a write failed. The count of faults of its source or sink increased.
 #[derive(Clone, Copy, Debug, PartialEq, Eq)]
 pub struct Failed;
 
-// Counts a fault, and is the answer to it. The count stands still at its end.
+// Counts a fault and returns the error. The count saturates.
 fn count_fault(faults: &mut u64) -> Failed
     ensures { faults.new ≡ count_after faults.old 1 }
 {

@@ -1,4 +1,4 @@
-//! A source and a sink in memory whose failures are planned, for tests.
+//! A source and a sink in memory with planned failures, for tests.
 ghost use Rattle.std.specs.Prelude.{◌≡◌, ◌+◌, ◌-◌, ◌≤◌, ◌↔◌, min, length, take, vec_len, vec_capacity, MatchResult, IfOk, OnErr, IsErr, IsTrue};
 ghost use Rattle.st_io.specs.Count.{count_after};
 ghost use Rattle.st_io.specs.Input.{Gave, GaveNothing};
@@ -9,7 +9,7 @@ use crate::buffer::Buffer;
 use crate::{Failed, Sink, Source, SureSource, count_fault};
 use std::marker::Model;
 
-// Counts the calls, and knows the numbers of those that fail.
+// A counter of calls, with the numbers of the calls that fail.
 #[derive(Debug, Drop)]
 struct Calls {
     made: u64,
@@ -31,7 +31,7 @@ impl Calls {
         Calls { made: 0, fails }
     }
 
-    // Counts a call, and says whether it is to fail.
+    // Counts a call and returns whether it fails.
     fn next_fails(&mut self) -> bool
         ensures fails { IsTrue result ↔ IsToFail self.old }
         ensures counts { self.new ≡ after_call self.old }
@@ -41,8 +41,8 @@ impl Calls {
     }
 }
 
-/// A source of the bytes of a vector, which it tells. The calls whose numbers, from 1 on, stand in
-/// a list fail.
+/// A source over the bytes of a vector, which are known to contracts. The calls whose numbers, from
+/// 1, are in a list fail.
 #[derive(Debug, Drop)]
 pub struct MemSource {
     source: SureSource,
@@ -64,7 +64,7 @@ impl Model for MemSource {
 }
 
 impl MemSource {
-    /// All of the bytes are still to come, and no call was made.
+    /// A source whose bytes all remain, before the first call.
     pub fn new(bytes: Vec<u8>, fails: Vec<u32>) -> MemSource
         ensures { result ≡ record {
           left = bytes.items;
@@ -84,14 +84,14 @@ impl MemSource {
 impl Source for MemSource {
     ghost input = { memory_input };
 
-    /// Gives as many bytes as the buffer has room for, or all that are left.
+    /// Reads as many bytes as the buffer has room for, or all that remain.
     fn read(&mut self, buf: &mut [u8]) -> Result<usize, Failed>
         ensures bound { IfOk result (λ n. n ≤ length buf.new) }
         ensures outcome { MatchResult result
             (λ n. Gave (memory_input self.old) (memory_input self.new) buf.new n)
             (λ _. GaveNothing (memory_input self.old) (memory_input self.new)) }
 
-        // It fails as planned.
+        // The read fails if and only if its failure is planned.
         ensures failed { IsErr result ↔ IsToFail self.old.calls }
         ensures calls { self.new.calls ≡ after_call self.old.calls }
         ensures faults { OnErr result (self.new.faults ≡ count_after self.old.faults 1) }
@@ -105,9 +105,9 @@ impl Source for MemSource {
     }
 }
 
-/// A sink that writes into a vector's spare capacity, and tells what it wrote. The calls whose
-/// numbers, from 1 on, stand in a list fail, and so does each call with bytes once the buffer is
-/// full.
+/// A sink over a vector's spare capacity; the written bytes are known to contracts. The calls whose
+/// numbers, from 1, are in a list fail, and so does each write of a nonempty piece when the buffer
+/// is full.
 #[derive(Debug, Drop)]
 pub struct MemSink {
     buffer: Buffer,
@@ -129,7 +129,7 @@ impl Model for MemSink {
 }
 
 impl MemSink {
-    /// The buffer's own bytes count as written, and no call was made.
+    /// A sink that counts the bytes of the buffer as written, before the first call.
     pub fn new(buffer: Vec<u8>, fails: Vec<u32>) -> MemSink
         ensures { result ≡ record {
           written = buffer.items;
@@ -145,14 +145,14 @@ impl MemSink {
         }
     }
 
-    /// The bytes written.
+    /// The written bytes.
     pub fn bytes(&self) -> &[u8]
         ensures { result.now ≡ self.now.written }
     {
         self.buffer.bytes()
     }
 
-    /// The bytes written.
+    /// The written bytes.
     pub fn into_bytes(self) -> Vec<u8>
         ensures { result.items ≡ self.written }
     {
@@ -163,13 +163,13 @@ impl MemSink {
 impl Sink for MemSink {
     ghost output = { memory_output };
 
-    /// Takes as much of the piece as there is room for.
+    /// Writes as much of the piece as there is room for.
     fn write(&mut self, piece: &[u8]) -> Result<usize, Failed>
         ensures outcome { MatchResult result
             (λ n. Wrote (memory_output self.old) (memory_output self.new) (take n piece.now))
             (λ _. WroteNothing (memory_output self.old) (memory_output self.new)) }
 
-        // It fails as planned, or for want of room.
+        // The write fails if and only if its failure is planned or there is no room.
         ensures failed { IsErr result ↔ Refuses self.old piece.now }
         ensures calls { self.new.calls ≡ after_call self.old.calls }
         ensures faults { OnErr result (self.new.faults ≡ count_after self.old.faults 1) }

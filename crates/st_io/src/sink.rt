@@ -1,16 +1,16 @@
-//! Where bytes go, and how a whole piece is written.
+//! The interface of sinks of bytes, and the call that writes a whole piece.
 ghost use Rattle.std.specs.Prelude.{◌≡◌, ◌<◌, ◌≤◌, [], length, take, MatchResult, IfOk, IsOk};
 ghost use Rattle.st_io.specs.Output.{OutputState, Wrote, WroteNothing, WroteFront};
 
 use crate::Failed;
 
-/// Where bytes go.
+/// A sink of bytes.
 pub trait Sink {
-    /// The bytes written and the number of failed writes.
+    /// The written bytes and the number of failed writes.
     ghost output: { Self → OutputState };
 
-    /// Writes a front of the piece and says how many bytes: at least one where the piece has any.
-    /// `Failed` changes nothing but the count of faults.
+    /// Writes a prefix of the piece and returns its length, at least 1 if the piece is nonempty.
+    /// `Failed` changes nothing except the count of faults.
     fn write(&mut self, piece: &[u8]) -> Result<usize, Failed>
         ensures bound { IfOk result (λ n. n ≤ length piece.now) }
         ensures some { IfOk result (λ n. 0 < length piece.now → 0 < n) }
@@ -19,8 +19,8 @@ pub trait Sink {
             (λ _. WroteNothing (output self.old) (output self.new)) };
 }
 
-/// Writes the whole piece, by as many writes as it takes. An empty piece makes no call. After
-/// `Failed` a front of the piece was written, and not all of it.
+/// Writes the whole piece, by as many writes as needed. An empty piece makes no call. After
+/// `Failed` a proper prefix of the piece was written.
 pub fn write_all<K: Sink>(k: &mut K, piece: &[u8]) -> Result<(), Failed>
     ensures outcome { MatchResult result
         (λ _. Wrote (K.output k.old) (K.output k.new) piece.now)

@@ -1,18 +1,18 @@
-//! Where bytes come from, and how all of them are read.
+//! The interface of sources of bytes, and the call that reads a whole source.
 ghost use Rattle.std.specs.Prelude.{◌≤◌, length, MatchResult, IfOk};
 ghost use Rattle.st_io.specs.Input.{InputState, Gave, GaveNothing, CameWhole, IsCause};
 
 use crate::Failed;
 use std::alloc::Global;
 
-/// Where bytes come from.
+/// A source of bytes.
 pub trait Source {
-    /// The bytes still to come, the number of bytes given and the number of failed reads.
+    /// The remaining bytes, the number of bytes read and the number of failed reads.
     ghost input: { Self → InputState };
 
-    /// Puts the next bytes at the front of the buffer and says how many. It gives none to a buffer
-    /// with room only at the end, and the end stays. `Failed` changes nothing but the count of
-    /// faults.
+    /// Reads the next bytes into the front of the buffer and returns their number. It returns 0 for
+    /// a nonempty buffer only at the end, and the end persists. `Failed` changes nothing except the
+    /// count of faults.
     fn read(&mut self, buf: &mut [u8]) -> Result<usize, Failed>
         ensures bound { IfOk result (λ n. n ≤ length buf.new) }
         ensures outcome { MatchResult result
@@ -20,22 +20,22 @@ pub trait Source {
             (λ _. GaveNothing (input self.old) (input self.new)) };
 }
 
-/// Why a source was not read to its end.
+/// The reason why a source was not read to its end.
 #[derive(Clone, Copy, Debug, PartialEq, Eq)]
 pub enum ReadError {
-    /// The source has more bytes than the limit: one more than the limit came.
+    /// The source has more bytes than the limit: one more than the limit was read.
     TooLong,
-    /// A read failed: the source's count of faults rose.
+    /// A read failed: the source's count of faults increased.
     Failed,
-    /// There was no memory for the bytes.
+    /// An allocation of memory failed.
     NoMemory,
 }
 
-// How many bytes one read asks for.
+// The number of bytes that one read requests.
 const PIECE: usize = 4096;
 
-/// Reads all of a source that has at most `limit` bytes. Each read asks for 4,096 bytes, or for one
-/// byte more than is left of the limit where that is less.
+/// Reads a whole source of at most `limit` bytes. Each read requests 4,096 bytes, or one byte more
+/// than the rest of the limit if that is less.
 pub fn read_all<S: Source>(alloc: Global, s: &mut S, limit: u32) -> Result<Vec<u8>, ReadError>
     ensures outcome { MatchResult result
         (λ all. CameWhole (S.input s.old) (S.input s.new) limit all.items)

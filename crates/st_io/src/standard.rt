@@ -1,4 +1,4 @@
-//! Sources and sinks over the readers and writers of the standard library: the edge to real
+//! Sources and sinks over the readers and writers of the standard library: the boundary to real
 //! devices.
 ghost use Rattle.std.specs.Prelude.{◌≡◌, ◌<◌, ◌≤◌, length, take, MatchResult, IfOk, OnErr, None};
 ghost use Rattle.std.specs.Io.KnownBytes.{ReadConsumes, WriteAppends};
@@ -10,8 +10,8 @@ ghost use Rattle.st_io.specs.Devices.{device_input, device_output, reader_of, wr
 use crate::{Failed, Sink, Source, count_fault};
 use std::io::{Read, Write};
 
-/// A source over a reader. It tells no bytes, only their number. Each read is one call of the
-/// reader, and each error of the reader is a fault, whatever its kind.
+/// A source over a reader. Contracts know only the number of its bytes. Each read is one call of
+/// the reader, and each error of the reader, of any kind, is a fault.
 #[derive(Debug, Drop)]
 pub struct StdSource<R> {
     reader: R,
@@ -20,7 +20,7 @@ pub struct StdSource<R> {
 }
 
 impl<R: Read> StdSource<R> {
-    /// Nothing was read and nothing has failed.
+    /// A source over a reader, before the first read.
     pub fn new(reader: R) -> StdSource<R>
         ensures reader { reader_of result ≡ reader }
         ensures counts { device_input result ≡ record { left = None; taken = 0; faults = 0 } }
@@ -44,7 +44,7 @@ impl<R: Read> Source for StdSource<R> {
         ensures faults { OnErr result
             ((device_input self.new).faults ≡ count_after (device_input self.old).faults 1) }
 
-        // What it gives is what the reader gave, and nothing is lost.
+        // A read returns exactly the bytes that the reader returned.
         ensures passes_on { ReadConsumes
             (R.remaining (reader_of self.old)) (R.remaining (reader_of self.new)) result buf.new }
     {
@@ -56,9 +56,8 @@ impl<R: Read> Source for StdSource<R> {
     }
 }
 
-/// A sink over a writer. It tells no bytes. Each write is one call of the writer. Each error of the
-/// writer is a fault, whatever its kind, and so is an answer that it took nothing of a piece with
-/// bytes.
+/// A sink over a writer. Contracts do not know its bytes. Each write is one call of the writer.
+/// Each error of the writer, of any kind, is a fault, and so is a result of 0 for a nonempty piece.
 #[derive(Debug, Drop)]
 pub struct StdSink<W> {
     writer: W,
@@ -66,7 +65,7 @@ pub struct StdSink<W> {
 }
 
 impl<W: Write> StdSink<W> {
-    /// Nothing has failed.
+    /// A sink over a writer, before the first write.
     pub fn new(writer: W) -> StdSink<W>
         ensures writer { writer_of result ≡ writer }
         ensures count { device_output result ≡ record { written = None; faults = 0 } }
@@ -87,7 +86,7 @@ impl<W: Write> Sink for StdSink<W> {
         ensures faults { OnErr result
             ((device_output self.new).faults ≡ count_after (device_output self.old).faults 1) }
 
-        // What it takes is what the writer took.
+        // A write takes exactly the bytes that the writer took.
         ensures passes_on { WriteAppends
             (W.contents (writer_of self.old)) (W.contents (writer_of self.new)) result piece.now }
     {

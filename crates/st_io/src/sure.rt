@@ -8,7 +8,8 @@ use crate::buffer::Buffer;
 use crate::{Failed, Sink, Source};
 use std::marker::Model;
 
-/// A source of the bytes of a vector. It tells what is left, and no read of it fails.
+/// A source over the bytes of a vector. The remaining bytes are known to contracts, and no read
+/// fails.
 #[derive(Debug, Drop)]
 pub struct SureSource {
     bytes: Vec<u8>,
@@ -27,7 +28,7 @@ impl Model for SureSource {
 }
 
 impl SureSource {
-    /// All of the bytes are still to come.
+    /// A source whose bytes all remain.
     pub fn new(bytes: Vec<u8>) -> SureSource
         ensures all { result ≡ record { left = bytes.items; taken = 0 } }
         ensures no_faults { (s : SureInput) → (⟦<SureSource as Source>⟧.input s).faults ≡ 0 }
@@ -39,7 +40,7 @@ impl SureSource {
 impl Source for SureSource {
     ghost input = { sure_input };
 
-    /// Gives as many bytes as the buffer has room for, or all that are left.
+    /// Reads as many bytes as the buffer has room for, or all that remain.
     fn read(&mut self, buf: &mut [u8]) -> Result<usize, Failed>
         ensures count { result ≡ Ok (min (length buf.old) (length self.old.left)) }
         ensures bound { IfOk result (λ n. n ≤ length buf.new) }
@@ -51,8 +52,8 @@ impl Source for SureSource {
     }
 }
 
-/// A sink that writes into a vector's spare capacity. It takes every piece whole, and no write
-/// fails. From the first piece on for which there is no room it tells its bytes no more.
+/// A sink over a vector's spare capacity. It takes every piece whole, and no write fails. From the
+/// first piece for which there is no room, its bytes are no longer known.
 #[derive(Debug, Drop)]
 pub struct SureSink {
     buffer: Option<Buffer>,
@@ -72,7 +73,7 @@ impl Model for SureSink {
 }
 
 impl SureSink {
-    /// The buffer's own bytes count as written.
+    /// A sink that counts the bytes of the buffer as written.
     pub fn new(buffer: Vec<u8>) -> SureSink
         ensures all { result ≡ record {
           written = Some buffer.items;
@@ -85,14 +86,14 @@ impl SureSink {
         }
     }
 
-    /// The bytes written, where they are told.
+    /// The written bytes, if they are known.
     pub fn bytes(&self) -> Option<&[u8]>
         ensures { option_copied result ≡ self.now.written }
     {
         self.buffer.as_ref().map(Buffer::bytes)
     }
 
-    /// The bytes written, where they are told.
+    /// The written bytes, if they are known.
     pub fn into_bytes(self) -> Option<Vec<u8>>
         ensures { option_map vec_items result ≡ self.written }
     {
@@ -119,7 +120,7 @@ impl Sink for SureSink {
     }
 }
 
-// The buffer with the piece at its end, where there is room for it.
+// The buffer with the piece appended, if there is room for it.
 fn appended(mut buffer: Buffer, piece: &[u8]) -> Option<Buffer>
     ensures fits { IsSome result ↔ (length piece.now ≤ buffer.room) }
     ensures bytes { IfSome result (λ b. b.bytes ≡ buffer.bytes ++ piece.now) }
@@ -132,7 +133,7 @@ fn appended(mut buffer: Buffer, piece: &[u8]) -> Option<Buffer>
     Some(buffer)
 }
 
-// Copies as many bytes as both have, and says how many.
+// Copies as many bytes as both slices have and returns their number.
 fn copy_front(from: &[u8], to: &mut [u8]) -> usize
     ensures count { result ≡ min (length to.old) (length from.now) }
     ensures copied { to.new ≡ take result from.now ++ drop result to.old }

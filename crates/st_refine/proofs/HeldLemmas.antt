@@ -1,4 +1,4 @@
--- The words that reads leave held.
+-- The held words after reads.
 use Rattle.std.proofs.Common.{◌≡◌, ℕ, zero, suc, ◌≤◌, Bool, true, false, if◌then◌else◌, List, [], ◌∷◌, ◌++◌, length, take, refl, sym, ◌∙◌, ap, arith, append_assoc}
 use Rattle.std.proofs.lemmas.Grind.{common_steps}
 use Rattle.st_fetch.specs.declared.fetched.AskedWord.{AskedWord}
@@ -7,7 +7,7 @@ use Rattle.st_rows.specs.BusTimes.{bus_after_read, answer_at, Read, after_one}
 use Rattle.st_rows.specs.declared.bus.Bus.{Bus}
 use Rattle.st_refine.specs.HeldReads.{held_by, held_of_reads}
 
--- the front of a list in which a longer front of another stands behind it
+-- the first n items of a list that is followed by the first m of another
 front-kept : (n m : ℕ) (xs ys : List AskedWord) → n ≤ m → take n (xs ++ take m ys) ≡ take n (xs ++ ys)
 front-kept zero m xs ys few = refl
 front-kept (suc n) zero xs ys few = absurd (omega (arith, few))
@@ -15,7 +15,7 @@ front-kept (suc n) (suc m) [] [] few = refl
 front-kept (suc n) (suc m) [] (y ∷ ys) few = ap (λ rest. y ∷ rest) (front-kept n m [] ys (omega (arith, few)))
 front-kept (suc n) (suc m) (x ∷ xs) ys few = ap (λ rest. x ∷ rest) (front-kept n (suc m) xs ys (omega (arith, few)))
 
--- a list is its own front
+-- the first n items of a list of n items
 whole : (xs : List AskedWord) (n : ℕ) → length xs ≡ n → take n xs ≡ xs
 whole xs n same = grind (arith, common_steps, same)
 

@@ -1,4 +1,4 @@
--- Completions come in time.
+-- The bound of the ticks between completions.
 use Rattle.std.specs.Prelude.{All, IfSome, IsSome, if◌then◌else◌}
 use Rattle.std.proofs.Math.Nat.{mul-add}
 use Rattle.std.proofs.Common.{◌≡◌, ℕ, ◌+◌, ◌*◌, ◌≤◌, Bool, true, false, List, [], ◌∷◌, length, inl, inr, Option, None, Some, refl, sym, subst, ◌∙◌, ap, arith}
@@ -65,7 +65,7 @@ made-soon most ds t reads b are near free =
     let c = made_before ds t reads b in
     All-weaker (λ x. x ≤ c.free + most) (λ x. x ≤ t + most) (λ x low. omega (arith, bounds.1)) c.banks.ticks bounds.0.banks
 
--- ---- what is kept of the ticks, where no delay is longer than so many
+-- ---- the invariant of the ticks, with a bound of the delays
 
 pub record IsWithin (most : ℕ) (m : Overlap) (made since : ℕ) : Type 0 where
   pub tight : IsTight most m.front
@@ -174,7 +174,7 @@ within-ticked most made since m are is over w =
       fresh = λ some. absurd (cc some);
     }
 
--- ---- the whole
+-- ---- all calls
 
 pub ticked-delays : (m : Overlap) → (machine_after_tick m).delays ≡ m.delays
 unfolding machine_after_tick machine_after_completion
@@ -237,7 +237,7 @@ in-time m made since most from are =
 
 -- ---- all ticks
 
--- what a tick at which an entry is done needs
+-- the bounds at a tick with a completion
 done-early : (m : Overlap) (made since most : ℕ) → IsReached m made since → AreDelaysUpTo most m.delays → m.owed ≡ false → since + 1 ≤ 64 * (most + 4)
 done-early m made since most from are over =
     let w = within most from are in
@@ -246,7 +246,8 @@ done-early m made since most from are over =
     let fits = entry-ranges m.taken m.state is.machine is.indicator in
     omega (arith, w.ticks, w.near, idle.early, row-within most m.delays m.levels m.front (entry m.taken m.state) are fits w.tight)
 
--- each tick lies behind as many completions as the state counts, with those since the last one
+-- the number of ticks is within the bound of the completed instructions and the ticks since the
+-- last one
 abbrev IsCounted : ℕ → ℕ → ℕ → Overlap → Type 0
 IsCounted b made since m = made ≤ b * m.state.done + since
 

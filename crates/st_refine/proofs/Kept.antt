@@ -1,4 +1,4 @@
--- What each call within the protocol keeps of a machine.
+-- The invariant of a machine is kept by each call within the protocol.
 use Rattle.std.specs.Prelude.{IfSome, IsSome, is_none, ◌&&◌, if◌then◌else◌}
 use Rattle.std.proofs.Common.{◌≡◌, ℕ, zero, suc, ◌⊎◌, ◌+◌, ◌<◌, ◌≤◌, ◌^◌, Bool, true, false, List, length, inl, inr, Option, None, Some, refl, sym, subst, ◌∙◌, ap, arith}
 use Rattle.std.proofs.lemmas.Bool.{eqb-true, eqb-false, cond_both}
@@ -24,17 +24,17 @@ use Rattle.st_refine.proofs.LevelLists.{done-behind}
 use Rattle.st_ring.proofs.OrderLemmas.{after-c}
 use Rattle.st_ahead.proofs.Passing.{ticked-owed}
 
--- ---- what is kept
+-- ---- the invariant
 
--- how many ticks were made
+-- the number of ticks made
 abbrev pub ticks_made : Overlap → ℕ
 ticks_made m = if m.owed then m.now + 1 else m.now
 
--- the row of the next entry of the state
+-- the completion tick of the next entry of the state
 abbrev pub next_row : Overlap → ℕ
 next_row m = (row_of_entry m.delays m.levels m.front (entry m.taken m.state)).c
 
--- no entry was done at this tick, or it is settled
+-- no entry completed at this tick, or the tick is settled
 pub record IsIdle (m : Overlap) : Type 0 where
   pub table : m.taken ≡ interrupt m.state
   pub awake : rests m.state ≡ false
@@ -43,7 +43,7 @@ pub record IsIdle (m : Overlap) : Type 0 where
   pub early : ticks_made m ≤ next_row m
   pub unstarted : m.owed ≡ false → m.now ≡ 0 → (m.state.enabled ≡ false) × (m.state.waiting ≡ false)
 
--- an entry was done at it
+-- an entry completed at this tick, which is not settled
 pub record IsFresh (m : Overlap) : Type 0 where
   pub owed : m.owed ≡ true
   pub none : m.taken ≡ None
@@ -63,7 +63,7 @@ pub record IsKept (m : Overlap) : Type 0 where
   pub counter : IfSome m.missed (λ h. h < 2 ^ 19)
   pub phase : IsPhase m.closing m
 
--- which of the two it is
+-- an idle and a fresh machine are distinguished by whether a settle is owed
 idle-by : (c : Option LastAnswers) (m : Overlap) → IsPhase c m → m.owed ≡ false → (c ≡ None) × IsIdle m
 idle-by None m is settled = (refl, is)
 idle-by (Some banks) m is machine_after_settling = absurd (cc (sym machine_after_settling ∙ is.owed))
@@ -100,7 +100,7 @@ interrupt-below s =
     of_choice (λ o. IfSome o (λ i. i < 64)) s.enabled (pending s) None
     (first_from-below (is_pending (word s 11) (word s 12)) 0 64) tt
 
--- a state in which an interrupt is due does not rest
+-- a state in which an interrupt is due is not at rest
 awake-by : (enabled waiting : Bool) (p : Option ℕ) (i : ℕ) → (if enabled then p else None) ≡ Some i → (waiting && is_none p) ≡ false
 awake-by true true (Some j) i due = refl
 awake-by true false (Some j) i due = refl
@@ -110,7 +110,7 @@ awake-by false waiting p i due = absurd (cc due)
 due-awake : (s : Machine) (i : ℕ) → interrupt s ≡ Some i → rests s ≡ false
 due-awake s i due = awake-by s.enabled s.waiting (pending s) i due
 
--- neither enabled nor waiting
+-- with interrupts disabled and no wait
 off-interrupt : (enabled : Bool) (p : Option ℕ) → enabled ≡ false → (if enabled then p else None) ≡ None
 off-interrupt true p is = absurd (cc is)
 off-interrupt false p is = refl
@@ -124,7 +124,7 @@ due-none : (t p : Option ℕ) → (if is_none t then p else None) ≡ None → t
 due-none None p due none = sym due
 due-none (Some i) p due none = absurd (cc none)
 
--- ---- a start
+-- ---- the start
 
 pub kept-started : (ds : List ℕ) (n : ℕ) (s : Machine) → CanStart ds n s → IsKept (machine_at_start ds n s)
 kept-started ds n s can = record {
@@ -154,7 +154,7 @@ pub seen-idle : (m : Overlap) → m.ended ≡ false → m.missed ≡ None → st
 unfolding state_ahead
 seen-idle m going right = seen-by m.ended m.missed m.state going right
 
--- the row of the oldest entry is that of the next one of the state
+-- the row of the oldest entry is that of the next entry of the state
 pub row-idle : (m : Overlap) → IsIdle m → (oldest_row m).c ≡ next_row m
 unfolding oldest_row
 row-idle m is = ap (λ s. (row_of_entry m.delays m.levels m.front (entry m.taken s)).c) (seen-idle m is.going is.right)
@@ -241,7 +241,7 @@ kept-ended m is some =
       });
     })
 
--- what it leaves
+-- the machine after the end of a segment
 pub record IsEnded (m e : Overlap) : Type 0 where
   pub delays : e.delays ≡ m.delays
   pub levels : e.levels ≡ m.levels
@@ -261,7 +261,7 @@ ended-rest m =
     (λ over. assumption)
     (λ going. assumption)
 
--- the end of a run
+-- the machine after the end of a run
 stopped-phase : (c : Option LastAnswers) (m : Overlap) → IsPhase c m → IsPhase c (record m { stopped = true })
 stopped-phase None m is = assumption
 stopped-phase (Some banks) m is = record { owed = is.owed; none = is.none; last = is.last; start = is.start }
@@ -271,7 +271,7 @@ kept-stopped m is = assumption (stopped-phase m.closing m is.phase)
 
 -- ---- a settle
 
--- the tick is over
+-- the machine after a tick passes
 kept-passed : (m : Overlap) → 1 ≤ m.levels → m.levels ≤ 8 → AreDelaysUpTo 255 m.delays → IsMachine m.state → m.taken ≡ interrupt m.state
     → rests m.state ≡ false → m.now ≤ m.front.c → IsKept (machine_after_pass m)
 kept-passed m some few delays machine table awake late =
@@ -293,18 +293,18 @@ kept-passed m some few delays machine table awake late =
       };
     }
 
--- where an entry was done, its C or a later opening is the front's
+-- after a completion, the C of the front, or a later opening, is not before the tick
 pub late-fresh : (m : Overlap) → IsFresh m → (b : Bool) → m.ended ≡ b → m.now ≤ m.front.c
 late-fresh m fresh true over = omega (arith, (fresh.start over).1)
 late-fresh m fresh false going = omega (arith, fresh.last going)
 
--- the tick is over behind an entry that was done
+-- the machine after the tick of a completion passes
 kept-passed_fresh : (m : Overlap) (t : Option ℕ) → IsKept m → IsSome m.closing → t ≡ interrupt m.state → rests m.state ≡ false
     → IsKept (machine_after_pass (record m { taken = t }))
 kept-passed_fresh m t is some table awake =
     kept-passed (record m { taken = t }) is.some is.few is.delays is.machine table awake (late-fresh m (fresh-of m is some) m.ended refl)
 
--- the same in the state before the end of a segment
+-- the machine after the tick of a completion passes, in the state before the end of a segment
 kept-passed_ended : (m : Overlap) (t : Option ℕ) → IsKept m → IsSome m.closing → t ≡ interrupt m.state → rests m.state ≡ false
     → IsKept (machine_after_pass (record (machine_after_segment m) { taken = t }))
 kept-passed_ended m t is some table awake =
@@ -334,7 +334,7 @@ settled-fresh None None false m is some due goes =
     let none : None ≡ interrupt m.state = sym (none-due m.taken (interrupt m.state) due fresh.none) in
     same-taken m None fresh.none (kept-passed_fresh m None is some none goes)
 
--- nothing is due where no entry was done
+-- nothing is due if no entry completed
 quiet-by : (t p : Option ℕ) → t ≡ p → (if is_none t then p else None) ≡ None
 quiet-by None p same = sym same
 quiet-by (Some i) p same = refl
@@ -377,9 +377,9 @@ kept-settled m is owed = elim (closing-cases m.closing) [
   | inr some ↦ settled-fresh (interrupt_due m) m.missed (rests m.state) m is some refl refl
 ]
 
--- ---- from outside
+-- ---- external events
 
--- the state alone changes, behind a tick at which an entry was done
+-- only the state changes, after a tick with a completion
 pub kept-changed : (m : Overlap) (u : Machine) → IsKept m → IsSome m.closing → IsMachine u → IsKept (record m { state = u })
 kept-changed m u is some machine =
     let fresh = fresh-of m is some in
@@ -397,7 +397,7 @@ idle-phase : (c : Option LastAnswers) (m : Overlap) → c ≡ None → IsIdle m 
 idle-phase None m none is = is
 idle-phase (Some banks) m none is = absurd (cc none)
 
--- a signal before the first tick
+-- the machine after a signal before the first tick
 kept-unstarted : (m : Overlap) (i : ℕ) → IsKept m → m.owed ≡ false → m.now ≡ 0 → IsKept (signalled_by i m)
 kept-unstarted m i is settled first =
     let both = idle-of m is settled in
@@ -440,7 +440,7 @@ kept-read m order (Some card) is given fits may =
     kept-changed (machine_after_segment m) (read_in m.state order.word (Some card)) (kept-ended m is may.1) (subst IsSome (sym rest.closing) may.1)
     (order-machine m.state order (Some card) is.machine given fits)
 
--- ---- the whole
+-- ---- all calls
 
 pub kept : {m : Overlap} {made since : ℕ} → IsReached m made since → IsKept m
 kept (Starts ds n s can) = kept-started ds n s can

@@ -1,4 +1,4 @@
--- The laws of machines that calls within the protocol lead to.
+-- Proofs of the laws of machines that are reached by calls within the protocol.
 use Rattle.std.specs.Prelude.{if◌then◌else◌}
 use Rattle.std.proofs.Common.{◌≡◌, ℕ, zero, suc, ◌+◌, ◌-◌, ◌<◌, ◌≤◌, ◌^◌, false, None, Some, refl, sym, subst, ◌∙◌, ap, arith}
 use Rattle.st_ahead.specs.Overlap.{Overlap}
@@ -23,7 +23,7 @@ use Rattle.st_exec.specs.Transfer.{read_in, printed_out}
 use Rattle.st_exec.proofs.BesideEntries.{beside-printed, beside-no_card}
 use Rattle.st_refine.proofs.StillLemmas.{still-done, still-signalled}
 
--- where no settle is owed
+-- the machine is reached, and no settle is owed
 record IsLedOver (start : Overlap) (made k : ℕ) (m new : Overlap) : Type 0 where
   pub led : IsLedTo start (made + k) new
   pub settled : new.owed ≡ false

@@ -1,4 +1,5 @@
--- The levels of the ring are the entries ahead, and undoing them gives the index words of the state.
+-- The levels of the ring are the entries in flight, and undoing them gives the index words of the
+-- state.
 use Rattle.std.specs.Prelude.{slice_get, slice_index_or, is_some, not, nat_lt, nat_le, ◌&&◌, ◌||◌, ◌-◌, if◌then◌else◌}
 use Rattle.std.specs.List.{AllZip}
 use Rattle.std.proofs.Common.{◌≡◌, ℕ, zero, suc, ◌+◌, ◌<◌, ◌≤◌, Bool, true, false, List, [], ◌∷◌, length, inl, inr, Option, None, Some, refl, sym, subst, ◌∙◌, ap, arith}
@@ -115,7 +116,7 @@ slots-there ticks p s tick zero free few two = slot-there ticks p s tick 0 free 
 slots-there ticks p s tick (suc zero) free few two = slot-there ticks p s tick 1 free few
 slots-there ticks p s tick (suc (suc k)) free few two = absurd (omega (arith, two))
 
--- how the slot of an operand word stands
+-- the contents of the slot of an operand word
 abbrev IsSlot : ℕ → List ℕ → ℕ → List (Option ℕ) → Prepared → Type 0
 IsSlot slot ticks tick have p =
     is_transmission p.instr ≡ false → slot < p.reads.len →
@@ -136,7 +137,7 @@ ring-slot m ring level k slot are there two =
 
 -- ---- undoing
 
--- the planned rows beside them
+-- the planned rows of the levels
 rows_of : List ℕ → ℕ → ℕ → Option ℕ → Machine → Front → List PlannedRow
 rows_of ds n zero t s f = []
 rows_of ds n (suc k) t s f =

@@ -1,4 +1,4 @@
--- The entries ahead that are prepared before a tick.
+-- The entries in flight that are prepared before a tick.
 use Rattle.std.specs.Prelude.{IfSome, get_or, ◌-◌, if◌then◌else◌, nat_lt}
 use Rattle.std.proofs.Common.{◌≡◌, ℕ, zero, suc, ◌+◌, ◌<◌, ◌≤◌, ◌||◌, Bool, true, false, List, [], ◌∷◌, ◌++◌, length, inl, inr, Option, None, refl, sym, subst, ◌∙◌, ap, arith}
 use Rattle.std.proofs.lemmas.Bool.{lt-ltb, le-ltb, ltb-true, false_from_ne_true, or_right}
@@ -36,19 +36,19 @@ after-serial : (ds : List ℕ) (n : ℕ) (f : Front) (e : Entry) → (front_afte
 unfolding front_after_entry
 after-serial ds n f e = refl
 
--- behind an entry that is done alone
+-- an entry after a serializing one is prepared after its completion
 alone-behind : (ds : List ℕ) (n : ℕ) (f : Front) (e : Entry) → f.serial ≡ true → f.c < (row_of_entry ds n f e).p
 unfolding row_of_entry tick_p preparation_tick tick_a address_tick
 alone-behind ds n f e alone =
     let some : (e.serial || f.serial) ≡ true = or_right e.serial f.serial alone in
     rw some (omega arith)
 
--- and one that is done alone
+-- a serializing entry is prepared after the completion of the entry before it
 pub alone-before : (ds : List ℕ) (n : ℕ) (f : Front) (e : Entry) → e.serial ≡ true → f.c < (row_of_entry ds n f e).p
 unfolding row_of_entry tick_p preparation_tick tick_a address_tick
 alone-before ds n f e alone = rw alone (omega arith)
 
--- behind the entry n before
+-- an entry is prepared after the completion of the n-th entry before it
 levels-behind : (ds : List ℕ) (n : ℕ) (f : Front) (e : Entry) → done_before n f.past < (row_of_entry ds n f e).p
 unfolding row_of_entry tick_p preparation_tick
 levels-behind ds n f e = omega arith
@@ -107,7 +107,7 @@ unfolding entry
 entry-free t s is = is
 
 module _ (ds : List ℕ) (n : ℕ) where
-  -- none is prepared before the tick behind the front's P
+  -- no entry is prepared up to the tick after the front's P
   pub none-before : (now k : ℕ) (t : Option ℕ) (s : Machine) (f : Front) → now ≤ f.p + 2 → prepared_before now (ahead ds n k t s f) ≡ []
   unfolding ahead prepared_before
   none-before now zero t s f early = refl
@@ -116,7 +116,7 @@ module _ (ds : List ℕ) (n : ℕ) where
       let late : now ≤ (row_of_entry ds n f e).p = omega (arith, p-behind ds n f e) in
       rw (le-ltb (row_of_entry ds n f e).p now late) refl
 
-  -- at most one more is prepared at the next tick
+  -- at most one more entry is prepared at the next tick
   pub one-more : (now k : ℕ) (t : Option ℕ) (s : Machine) (f : Front)
       → AddsOneAtMost (prepared_before now (ahead ds n k t s f)) (prepared_before (now + 1) (ahead ds n k t s f))
   unfolding ahead prepared_before
@@ -142,7 +142,7 @@ module _ (ds : List ℕ) (n : ℕ) where
       few-if (next_ahead ds n t s f) (prepared_before now (ahead ds n k None (guess t s) (front_after_entry ds n f (entry t s)))) k
       (nat_lt (row_of_entry ds n f (entry t s)).p now) (few-before now k None (guess t s) (front_after_entry ds n f (entry t s)))
 
-  -- they are the first ones of the entries ahead
+  -- the entries prepared before a tick are the first ones of the entries in flight
   pub first-ones : (j now k : ℕ) (t : Option ℕ) (s : Machine) (f : Front) → length (prepared_before now (ahead ds n k t s f)) ≡ j
       → prepared_before now (ahead ds n k t s f) ≡ ahead ds n j t s f
   unfolding ahead prepared_before
@@ -170,7 +170,7 @@ module _ (ds : List ℕ) (n : ℕ) where
       let p = (row_of_entry ds n f (entry t s)).p in
       ltb-true p now (first-if (next_ahead ds n t s f) (prepared_before now (ahead ds n k None (guess t s) (front_after_entry ds n f (entry t s)))) (nat_lt p now) some)
 
-  -- where the first of them is not done before, only the youngest may be done alone
+  -- if the first entry has not completed before, only the youngest can be serializing
   run-ahead : (j now k : ℕ) (t : Option ℕ) (s : Machine) (f : Front) → IsMachine s → IfSome t (λ i. i < 64)
       → now ≤ (row_of_entry ds n f (entry t s)).c → length (prepared_before now (ahead ds n k t s f)) ≡ suc j → RunAhead j t s
   unfolding ahead prepared_before RunAhead
@@ -199,7 +199,7 @@ module _ (ds : List ℕ) (n : ℕ) where
       let fewer : j ≡ suc j - 1 = omega arith in
       subst (λ i. RunAhead i t s) fewer (run-ahead j now k t s f m some late many)
 
-  -- what the front behind k entries keeps of an older one
+  -- the past entries of the front after k entries include those of an older front
   past-behind : (k j : ℕ) (d : Past) (t : Option ℕ) (s : Machine) (f : Front) → k + j < 8
       → get_or (front_behind ds n k t s f).past (k + j) d ≡ get_or f.past j d
   unfolding front_behind front_after_entry
@@ -211,7 +211,7 @@ module _ (ds : List ℕ) (n : ℕ) where
       ∙ past-behind k (suc j) d None (guess t s) g (omega arith)
       ∙ get_or-take 7 f.past j d (omega arith)
 
-  -- the entry that is prepared n entries behind one that is done at this tick is not prepared before it
+  -- the n-th entry after one that completes at this tick is not prepared before it
   full-late : (k now : ℕ) (t u : Option ℕ) (s v : Machine) (f : Front) (e : Entry) → n ≡ suc k → n ≤ 8 → now ≤ (row_of_entry ds n f (entry t s)).c
       → now < (row_of_entry ds n (front_behind ds n k None (guess t s) (front_after_entry ds n f (entry t s))) e).p
   unfolding front_after_entry row_of_entry
@@ -230,7 +230,7 @@ module _ (ds : List ℕ) (n : ℕ) where
   unfolding ahead prepared_before
   with-first k now t s f early = rw (lt-ltb (row_of_entry ds n f (entry t s)).p now early) refl
 
-  -- once the oldest one is done, the others are left
+  -- after the oldest entry completes, the others remain
   oldest-done : (k now : ℕ) (t : Option ℕ) (s : Machine) (f : Front) → IsMachine s → IfSome t (λ i. i < 64) → n ≡ suc k → n ≤ 8
       → (row_of_entry ds n f (entry t s)).c ≡ now
       → prepared_before now (ahead ds n (suc k) t s f)
@@ -257,7 +257,7 @@ module _ (ds : List ℕ) (n : ℕ) where
       ∙ oldest-done (n - 1) now t s f m some more few due
       ∙ ap (λ i. next_ahead ds n t s f ∷ prepared_before now (ahead ds n i None (guess t s) g)) (sym more)
 
-  -- ---- the rows of them, and of the one behind
+  -- ---- the rows of the levels and of the entry after them
 
   pub level-early : (k now m : ℕ) (t : Option ℕ) (s : Machine) (f : Front) → k < length (prepared_before now (ahead ds n m t s f))
       → (row_of_entry ds n (front_behind ds n k t s f) (entry (table_behind k t) (guesses k t s))).p < now

@@ -1,4 +1,4 @@
--- A machine stands at the opening of its segment.
+-- A machine is at the opening of its segment.
 use Rattle.std.specs.Prelude.{All, IfSome, IsSome, ◌==◌, if◌then◌else◌, ◌-◌}
 use Rattle.std.proofs.Common.{◌≡◌, ℕ, zero, suc, ◌+◌, ◌<◌, ◌≤◌, Bool, true, false, List, [], ◌∷◌, ◌++◌, length, Option, None, Some, refl, sym, subst, ◌∙◌, ap, ap₂, arith}
 use Rattle.std.proofs.lemmas.Bool.{eqb-true, ne_eqb, eq-eqb}
@@ -47,7 +47,7 @@ unfolding with_changes
 changes-done [] s = refl
 changes-done (x ∷ xs) s = changes-done xs (if x.done == s.done then state_after_change x.change s else s) ∙ one-done (x.done == s.done) x.change s
 
--- one more
+-- one more external change
 changes-more : (xs : List Outside) (x : Outside) (s : Machine)
     → with_changes (xs ++ x ∷ []) s
     ≡ (if x.done == (with_changes xs s).done then state_after_change x.change (with_changes xs s) else with_changes xs s)
@@ -68,7 +68,7 @@ changes-now xs x s here =
     let same : u.done ≡ s.done = changes-done xs s in
     changes-more xs x s ∙ ap (λ b. if b then state_after_change x.change u else u) (eq-eqb x.done u.done (here ∙ sym same))
 
--- those that came before are over
+-- changes at an earlier count of completed instructions have no effect
 changes-none : (xs : List Outside) (s : Machine) → All (λ x. x.done < s.done) xs → with_changes xs s ≡ s
 unfolding with_changes
 changes-none [] s before = refl
@@ -77,9 +77,10 @@ changes-none (x ∷ xs) s before =
     ap (λ b. with_changes xs (if b then state_after_change x.change s else s)) (ne_eqb x.done s.done (λ is. omega (arith, early, is)))
     ∙ changes-none xs s (All-tail (λ (y : Outside). y.done < s.done) x xs before)
 
--- ---- the banks where a segment ends
+-- ---- the banks at the end of a segment
 
--- of the reads of the entry that is done and of those behind it
+-- the last answers of the banks after the reads of the entry that completes and of those in flight
+-- after it
 banks-of : List ℕ → ℕ → ℕ → Option ℕ → Machine → Front → Entry → LastAnswers
 banks-of ds n c t s f e =
     (made_before ds c (reads_of_entry ds n f e ++ reads_before ds n c (ahead ds n (suc n) None (guess t s) (front_after_entry ds n f e))) f.bus).banks
@@ -160,7 +161,7 @@ module _ (o : Opening) (xs : List Outside) where
           (state-before i (omega (arith, early)))
           ∙ sym (banks-whole ds n o xs i)
 
--- ---- a start
+-- ---- the start
 
 pub stands-started : (ds : List ℕ) (n : ℕ) (s : Machine) → StandsAt (first_opening s) [] 0 (machine_at_start ds n s)
 unfolding state_after front_at with_changes
@@ -173,7 +174,7 @@ stands-started ds n s = record {
   banks = λ going. tt;
 }
 
--- ---- a change from outside
+-- ---- an external change
 
 if-same : (c : Option LastAnswers) (a b : LastAnswers) → a ≡ b → IfSome c (λ x. x ≡ a) → IfSome c (λ x. x ≡ b)
 if-same None a b same is = tt
@@ -219,7 +220,7 @@ executed-step : (t : Option ℕ) (s : Machine) → t ≡ interrupt s → state_a
 unfolding step
 executed-step t s table = ap (λ i. state_after_execution i s) table
 
--- the banks where the segment ends at the completion of an entry
+-- the last answers of the banks if the segment ends at the completion of an entry
 banks-are : (m : Overlap) (j : ℕ) (o : Opening) (xs : List Outside) → (row_of_entry m.delays m.levels m.front (oldest_entry m)).c ≡ m.now → StandsAt o xs j m
     → state_ahead m ≡ m.state → banks_at_its_end m ≡ banks_behind m.delays m.levels o xs (suc j)
 unfolding banks_at_its_end banks-of
@@ -329,7 +330,7 @@ stands-ended m made since j o xs from may going is =
     subst (StandsAt (opening_behind m.delays m.levels (length (levels_of m)) o xs j) [] 0) (sym (ended-going m going))
     (stands-opened m made since j o xs from may going is)
 
--- the end of a run
+-- the machine after the end of a run
 pub stands-stopped : (m : Overlap) (j : ℕ) (o : Opening) (xs : List Outside) → StandsAt o xs j m → StandsAt o xs j (record m { stopped = true })
 stands-stopped m j o xs is = assumption
 

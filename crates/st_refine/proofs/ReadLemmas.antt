@@ -30,7 +30,7 @@ use Rattle.st_refine.proofs.Kept.{fresh-of, kept}
 -- ---- reads that are accepted before a tick are the first ones
 
 module _ (ds : List ℕ) (t : ℕ) where
-  -- on a bus that is free at a tick or later nothing is accepted before
+  -- on a bus that is free only from the tick on, no read is accepted before it
   late-logged : (reads : List Read) (b : Bus) → t ≤ b.free → All (λ (m : Made). t ≤ m.tick) (notes_of_reads ds reads b)
   unfolding notes_of_reads
   late-logged [] b free = All-nil (λ (m : Made). t ≤ m.tick)
@@ -40,7 +40,7 @@ module _ (ds : List ℕ) (t : ℕ) where
       (late-logged reads (after_one ds b r) (omega (arith, here, free-one ds b r)))
       (All-cons (λ (m : Made). t ≤ m.tick) (note b r) [] here (All-nil (λ (m : Made). t ≤ m.tick)))
 
-  -- the first reads, and the bus behind them
+  -- the reads before the tick, and the bus after them
   pub record Splits (reads : List Read) (b : Bus) : Type 0 where
     pub first : List Read
     pub are : AreFirstReads ds t reads b first
@@ -83,7 +83,7 @@ module _ (ds : List ℕ) (t : ℕ) where
         }
       ]
 
--- ---- when the reads of entries ahead are wanted
+-- ---- the wants of the reads of entries in flight
 
 if-any : (P : ℕ → Type 0) (side : Option ℕ) → ((w : ℕ) → P w) → IfSome side P
 if-any P None all = tt
@@ -131,7 +131,8 @@ behind-late : (ds : List ℕ) (n t k : ℕ) (i : Option ℕ) (s : Machine) (f : 
 unfolding front_after_entry row_of_entry
 behind-late ds n t k i s f late = ahead-late ds n t k None (guess i s) (front_after_entry ds n f (entry i s)) late
 
--- those of entries behind the first one that is not prepared before the tick change nothing of what is made before it
+-- the reads of entries after the first one that is not prepared before the tick do not affect the
+-- reads before it
 ahead-made : (ds : List ℕ) (n t k : ℕ) (i : Option ℕ) (s : Machine) (f : Front) (front : List Read) (b : Bus)
     → made_before ds t (front ++ reads_before ds n t (ahead ds n k i s f)) b ≡ made_before ds t (front ++ asked_ahead ds n k i s f) b
 unfolding ahead reads_before
@@ -155,7 +156,7 @@ ahead-made ds n t (suc k) i s f front b = by (nat_lt (row_of_entry ds n f (entry
         ∙ sym (made-more ds t (front ++ reads_of_entry ds n f (entry i s)) more b (behind-late ds n t k i s f late))
         ∙ ap (λ xs. made_before ds t xs b) (append_assoc front (reads_of_entry ds n f (entry i s)) more)
 
--- ---- the banks where an entry is done
+-- ---- the banks at a completion
 
 banks-first : (ds : List ℕ) (n : ℕ) (o : Opening) (xs : List Outside) (j : ℕ)
     → banks_behind ds n o xs (suc j) ≡ (made_before ds (front_at ds n o xs (suc j)).c (reads_of_segment ds n o xs j) o.front.bus).banks

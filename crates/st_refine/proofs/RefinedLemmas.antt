@@ -1,4 +1,4 @@
--- What each call makes of the state and of the levels.
+-- The effect of each call on the state and on the levels.
 use Rattle.std.specs.Prelude.{IsSome, if◌then◌else◌}
 use Rattle.std.proofs.Common.{◌≡◌, ℕ, ◌+◌, ◌≤◌, Bool, true, false, List, [], ◌∷◌, length, inl, inr, Option, None, Some, refl, sym, subst, ◌∙◌, ap, arith}
 use Rattle.std.proofs.lemmas.Bool.{eqb-true, cond_both}
@@ -54,7 +54,7 @@ tick-state m made since from may done =
     ap (λ (x : Overlap). x.state) (ticked-done m done) ∙ completed-state m
     ∙ ap (λ t. state_after_execution t m.state) (table-is m made since from may.settled)
 
--- the levels behind the oldest one
+-- the levels after the oldest one
 completed-levels : (m : Overlap) → IsKept m → IsIdle m → is_done m ≡ true
     → levels_of m ≡ next_ahead m.delays m.levels m.taken m.state m.front ∷ levels_of (machine_after_completion m)
 unfolding levels_of machine_after_completion state_ahead oldest_row
@@ -114,7 +114,7 @@ tick-passed m later = (
   ap levels_of (late-ticked m later) ∙ passed-levels m,
 )
 
--- ---- what an answer says
+-- ---- the result of a settle
 
 pub goes-by : (due behind : Option ℕ) (resting : Bool) (m : Overlap) → answer_by due resting behind m ≡ Goes
     → (due ≡ None) × (resting ≡ false) × (behind ≡ None)
@@ -123,7 +123,7 @@ goes-by None behind true m is = absurd (cc is)
 goes-by None (Some h) false m is = absurd (cc is)
 goes-by None None false m is = (refl, refl, refl)
 
--- an interrupt, with what it tells
+-- an interrupt, with its result
 pub taken-by : (due behind : Option ℕ) (resting : Bool) (m : Overlap) (i d ic k : ℕ) → answer_by due resting behind m ≡ Interrupt i d ic k
     → (due ≡ Some i) × (d ≡ m.state.done) × (ic ≡ m.state.ic) × (k ≡ drop_count m)
 taken-by (Some j) behind resting m i d ic k is =
@@ -149,7 +149,7 @@ waits-by None behind true m is = (refl, refl)
 waits-by None (Some h) false m is = absurd (cc is)
 waits-by None None false m is = absurd (cc is)
 
--- ---- it goes on
+-- ---- the segment continues
 
 pub settled-goes : (m : Overlap) → (interrupt_due m ≡ None) × (rests m.state ≡ false) × (m.missed ≡ None) → machine_after_settling m ≡ machine_after_pass m
 unfolding machine_after_settling
@@ -173,9 +173,9 @@ goes-more m is =
     let why = goes-by (interrupt_due m) m.missed (rests m.state) m is in
     subst (λ (x : Overlap). AddsOneAtMost (levels_of m) (levels_of x)) (sym (settled-goes m why)) (passed-more m why.2)
 
--- ---- a segment ends
+-- ---- the segment ends
 
--- no level is left where the front lies behind the tick
+-- there are no levels if the front's P is not before the tick
 pub empty-levels : (m : Overlap) → m.now ≤ m.front.p + 2 → levels_of m ≡ []
 unfolding levels_of
 empty-levels m early = none-before m.delays m.levels m.now m.levels m.taken (state_ahead m) m.front early
@@ -210,7 +210,7 @@ dropped-is m is some =
     by-end true none = sym (none refl)
     by-end false none = refl
 
--- an entry was done where something comes of the settle
+-- if a settle takes an interrupt, an entry completed at this tick
 closing-due : (m : Overlap) (i : ℕ) → IsKept m → interrupt_due m ≡ Some i → IsSome m.closing
 closing-due m i is due = elim (closing-cases m.closing) [
   | inl none ↦ let idle : IsIdle m = subst (λ c. IsPhase c m) none is.phase in absurd (cc (sym due ∙ quiet m idle))
@@ -282,7 +282,7 @@ waits-unwinds m made since from owed is =
     let after_it : settled_by (interrupt_due m) (rests m.state) m.missed m ≡ machine_after_segment m = rw (told.0, told.1) refl in
     (told.1, subst IsUnwound (sym after_it) (unwound-ended m kept_is some))
 
--- where no entry was done at the tick, the segment has not ended before
+-- the number of levels to flush, if the segment has not ended before
 dropped-going : (m : Overlap) → m.ended ≡ false → drop_count m ≡ length (levels_of m)
 unfolding drop_count
 dropped-going m going =

@@ -1,4 +1,4 @@
--- Which entries are done, and which are levels, is told by their rows.
+-- The rows of entries determine which have completed and which are levels.
 use Rattle.std.specs.Prelude.{if◌then◌else◌, ◌-◌}
 use Rattle.std.proofs.Common.{◌≡◌, ℕ, zero, suc, ◌+◌, ◌<◌, ◌≤◌, Bool, true, false, List, length, inl, inr, Option, refl, sym, subst, ◌∙◌, ap, ap₂, arith}
 use Rattle.st_state.specs.Machine.{Machine}
@@ -18,7 +18,7 @@ use Rattle.st_refine.proofs.Kept.{IsIdle, IsPhase, IsKept, fresh-of, kept, row-i
 use Rattle.st_refine.proofs.SplitLemmas.{seen-machine}
 use Rattle.st_refine.proofs.LentLemmas.{oldest-late}
 
--- ---- entries that are done
+-- ---- completed entries
 
 front-later : (ds : List ℕ) (n : ℕ) (f : Front) (e : Entry) → f.c ≤ (front_after_entry ds n f e).c
 unfolding front_after_entry tick_c
@@ -52,7 +52,7 @@ rows-done m i j o xs is early =
 
 -- ---- levels
 
--- the oldest entry is not done by the last tick
+-- the oldest entry has not completed by the last tick
 last-idle : (owed : Bool) (now c f : ℕ) → (if owed then now + 1 else now) ≤ c → f < c → (if owed then now else now - 1) < c
 last-idle true now c f late some = omega (arith, late)
 last-idle false now c f late some = omega (arith, late, some)

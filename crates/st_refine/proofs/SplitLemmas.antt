@@ -1,4 +1,4 @@
--- What is shown of the levels.
+-- The view of the levels.
 use Rattle.std.specs.Prelude.{IfSome, option_map, unwrap_or, get_or, map, replicate, ◌-◌, ◌++◌, if◌then◌else◌}
 use Rattle.std.proofs.Common.{◌≡◌, ℕ, zero, suc, ◌+◌, ◌<◌, ◌≤◌, ◌^◌, Bool, true, false, List, [], ◌∷◌, length, Option, None, Some, refl, sym, ◌∙◌, ap, arith}
 use Rattle.std.proofs.lemmas.List.{length-append, length-map, length-replicate}
@@ -31,7 +31,7 @@ use Rattle.st_refine.proofs.LevelLists.{first-ones}
 use Rattle.st_refine.proofs.Kept.{IsKept, kept, idle-of, seen-idle}
 use Rattle.st_refine.proofs.InTime.{levels-few, made-ticks}
 
--- ---- the state that the run goes from
+-- ---- the state from which the entries in flight start
 
 pub counted-machine : (c : Option ℕ) (s : Machine) → IsMachine s → IfSome c (λ h. h < 2 ^ 19) → IsMachine (with_counter c s)
 counted-machine None s is below = is
@@ -71,7 +71,7 @@ seen-settled m made since from settled =
     let idle = (idle-of m (kept from) settled).1 in
     seen-idle m idle.going idle.right
 
--- ---- the whole of what is shown
+-- ---- the whole view
 
 pub shown-done : (m : Overlap) → (view_at_tick m).done ≡ m.state.done
 unfolding view_at_tick
@@ -147,7 +147,7 @@ pub levels-are : (m : Overlap) → levels_of m ≡ ahead m.delays m.levels (leng
 unfolding levels_of
 levels-are m = first-ones m.delays m.levels (length (levels_of m)) m.now m.levels m.taken (state_ahead m) m.front refl
 
--- an entry has its place, and keeps the index word that it replaces
+-- an entry records its place and the index word that it replaces
 place-by : (fault : Option ℕ) (place : Place) (a : Aim) (x : List ℕ) (read : Option ℕ) → (prepared_by fault place a x read).place ≡ place
 unfolding suppressed_entry entry_of
 place-by None place a x read = refl

@@ -1,4 +1,4 @@
--- What a machine keeps of the one that its calls began with.
+-- A machine has the delays and levels of the machine from which its calls started.
 use Rattle.std.proofs.Common.{◌≡◌, ℕ, Bool, true, false, List, Option, None, Some, refl, sym, ◌∙◌}
 use Rattle.st_exec.specs.Step.{rests}
 use Rattle.std.proofs.lemmas.Bool.{cond_both}

@@ -1,4 +1,4 @@
--- Signals, and orders that take effect, leave states.
+-- Signals and orders keep the invariant of the state.
 use Rattle.std.specs.Prelude.{All, IfSome}
 use Rattle.std.proofs.Common.{ℕ, ◌≡◌, ◌+◌, ◌<◌, ◌≤◌, ◌^◌, List, [], ◌∷◌, length, Option, None, Some, subst, arith}
 use Rattle.std.proofs.lemmas.List.Elements.{All-head, All-tail}

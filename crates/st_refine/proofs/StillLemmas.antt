@@ -1,4 +1,4 @@
--- Signals, and orders that bring no card, leave what is shown of the levels.
+-- Signals and orders without a card do not change the view of the levels.
 use Rattle.std.specs.Prelude.{IsSome, replicate, nat_lt, nat_le, option_map, ◌-◌, if◌then◌else◌}
 use Rattle.std.proofs.Common.{◌≡◌, ℕ, zero, suc, ◌<◌, ◌≤◌, Bool, true, false, List, [], ◌∷◌, ◌++◌, length, inl, inr, Option, None, Some, refl, sym, subst, ◌∙◌, ap, ap₂, arith}
 use Rattle.std.proofs.lemmas.Bool.{ltb-true, false_from_ne_true}
@@ -36,7 +36,7 @@ use Rattle.st_refine.proofs.RefinedLemmas.{empty-levels}
 use Rattle.st_ahead.proofs.Signals.{counted-alike}
 use Rattle.st_ahead.proofs.SameLookahead.{guess-same}
 
--- ---- entries that are prepared before the last one is done are not done alone
+-- ---- entries that are prepared before the previous one completes are non-serializing
 
 pub behind-later : (ds : List ℕ) (n now : ℕ) (f : Front) (e : Entry) → now ≤ f.c → now ≤ (front_after_entry ds n f e).c
 unfolding front_after_entry tick_c
@@ -52,7 +52,7 @@ level-by tick p r = record {
   ready = nat_le r.r tick;
 }
 
--- the same test, and what is shown of the levels is the same where it is true
+-- two lists with the same test have equal views if they have when it is true
 both-if : (tick : ℕ) (b : Bool) (x y : Ahead) (xs ys : List Ahead)
     → (b ≡ true → (level_shown tick x ≡ level_shown tick y) × (shows tick xs ≡ shows tick ys))
     → shows tick (if b then x ∷ xs else []) ≡ shows tick (if b then y ∷ ys else [])
@@ -102,9 +102,9 @@ module _ (ds : List ℕ) (n now : ℕ) where
       then record { state = u; table = None; front = f; entry = x; row = row_of_entry ds n f x } ∷ before (ahead ds n k None (guess None u) (front_after_entry ds n f x))
       else [])) (sym (entry-same None s u alike))
 
--- ---- what is shown
+-- ---- views
 
--- levels that are shown in the same way
+-- two machines whose levels have equal views
 still-by : (m x : Overlap) → last_tick_made x ≡ last_tick_made m → shows (last_tick_made m) (levels_of m) ≡ shows (last_tick_made m) (levels_of x) → (view_at_tick x).x ≡ (view_at_tick m).x
     → IsStill m x
 unfolding view_at_tick
@@ -119,13 +119,13 @@ still-by m x tick levels index =
       index = index;
     }
 
--- without levels
+-- machines without levels
 still-empty : (m x : Overlap) → last_tick_made x ≡ last_tick_made m → levels_of m ≡ [] → levels_of x ≡ [] → index_words x.state ≡ index_words m.state → IsStill m x
 still-empty m x tick old new same =
     still-by m x tick (ap (shows (last_tick_made m)) (old ∙ sym new))
     (shown-none x (ap length new) ∙ same ∙ sym (shown-none m (ap length old)))
 
--- ---- behind a tick at which an entry was done
+-- ---- after the tick of a completion
 
 seen-alike : (m : Overlap) (u : Machine) → AreAlikeBesideOrders m.state u → AreAlikeBesideOrders (state_ahead m) (state_ahead (record m { state = u }))
 unfolding state_ahead

@@ -1,4 +1,4 @@
--- What holds of machines that calls within the protocol lead to.
+-- Laws of machines that are reached by calls within the protocol.
 use Rattle.std.specs.Prelude.{ℕ, suc, ◌≡◌, ◌+◌, ◌-◌, ◌<◌, ◌≤◌, ◌^◌, false, List, ◌++◌, All, None, Some, IfSome, ◌*◌, ◌||◌, nat_lt, nat_le, is_some, length, take, slice_get, slice_index_or, true, if◌then◌else◌, [], ◌∷◌, get_or}
 use Rattle.st_rows.specs.Asked.{bus_after_reads}
 use Rattle.st_rows.specs.BusTimes.{Read}
@@ -30,14 +30,14 @@ use Rattle.st_exec.specs.Step.{interrupt, rests, step, address}
 use Rattle.st_exec.specs.Completion.{is_missed}
 use Rattle.st_ahead.specs.declared.events.Event.TheVariants.{Passed, Done}
 
--- such calls lead from the one machine to the other, with so many ticks made
+-- calls within the protocol lead from the machine start to m, with the given number of ticks made
 pub record IsLedTo (start : Overlap) (made : ℕ) (m : Overlap) : Type 0 where
   pub since : ℕ
   pub from : IsReachedFrom start m made since
 
--- A call that makes ticks up to an entry that is done, or up to the tick `last`, is so many calls
--- within the protocol, from the machine that led there. The first tick may be made, and `count` and
--- `last` are in their ranges.
+-- A call that makes ticks up to a completion, or up to the tick `last`, equals several calls within
+-- the protocol, continued from the machine that was reached. The first tick may be made, and
+-- `count` and `last` are in their ranges.
 pub record RunsAreReached : Type 0 where
   pub done : (start m new : Overlap) (made since count last : ℕ) (row : Row) →
       IsReachedFrom start m made since → MayTick m →
@@ -48,22 +48,21 @@ pub record RunsAreReached : Type 0 where
       count ≤ 2 ^ 63 → last < 2 ^ 63 → RunsTo count last None m new →
       IsLedTo start (made + (last + 1 - m.now)) new
 
--- A machine keeps the delays and the number of levels of the machine that its calls began with.
+-- A machine has the delays and the number of levels of the machine from which its calls started.
 pub record MachinesKeepTheirDelays : Type 0 where
   pub delays : (m : Overlap) (made since : ℕ) (reached : IsReached m made since) →
       m.delays ≡ (start_of reached).delays
   pub levels : (m : Overlap) (made since : ℕ) (reached : IsReached m made since) →
       m.levels ≡ (start_of reached).levels
 
--- The words that are held behind reads are those of the instruction words among them, each with the
--- tick of its answer, the youngest first, and behind these the ones that were held before: four in
--- all.
+-- The held words after reads are the instruction words among these reads, each with the tick of its
+-- answer, the youngest first, followed by the previously held words: four in all.
 abbrev pub HeldWordsAreThoseOfReads : Type 0
 HeldWordsAreThoseOfReads = (ds : List ℕ) (reads : List Read) (b : Bus) → length b.held.words ≡ 4 →
     (bus_after_reads ds reads b).held.words ≡ take 4 (held_of_reads ds reads b ++ b.held.words)
 
--- Of these reads, which are made one after another from the bus b on, the first ones are accepted
--- before the tick t, and each of the others, in their order behind those, at that tick or later
+-- of these successive reads from the bus b, the first ones are accepted before the tick t, and the
+-- others, in order after them, at that tick or later
 pub record AreFirstReads (ds : List ℕ) (t : ℕ) (reads : List Read) (b : Bus)
     (first : List Read) : Type 0 where
   pub others : List Read
@@ -71,9 +70,8 @@ pub record AreFirstReads (ds : List ℕ) (t : ℕ) (reads : List Read) (b : Bus)
   pub early : AreEarly t (notes_of_reads ds first b)
   pub late : All (λ (m : Made). t ≤ m.tick) (notes_of_reads ds others (bus_after_reads ds first b))
 
--- Where an entry is done the last answers of the banks are those of the first reads of its segment,
--- in the order of the timetable: of all that are accepted before this tick, and of none that is
--- accepted at it or later.
+-- At a completion, the last answers of the banks are those of the first reads of the segment in the
+-- order of the timetable: of all reads that are accepted before this tick, and of no others.
 abbrev pub BanksHaveTheFirstReads : Type 0
 BanksHaveTheFirstReads = (m : Overlap) (made since j : ℕ) (o : Opening) (changes : List Outside) →
     IsReached m made since →
@@ -83,9 +81,9 @@ BanksHaveTheFirstReads = (m : Overlap) (made since j : ℕ) (o : Opening) (chang
     (reads_of_segment m.delays m.levels o changes j) o.front.bus first
     × (banks ≡ (bus_after_reads m.delays first o.front.bus).banks))
 
--- The number of ticks since the last completion, or since the machine was made, never exceeds 64
--- times (L and four), for any number L that no delay exceeds (`since`); so the ticks in all are at
--- most so many for each instruction done and for one more (`all`).
+-- The number of ticks since the last completion, or since the machine was created, is at most 64
+-- times (L plus four), for any bound L of the delays (`since`). So the total number of ticks is at
+-- most this bound for each completed instruction and one more (`all`).
 pub record CompletionsComeInTime : Type 0 where
   pub since : (m : Overlap) (made since most : ℕ) → IsReached m made since →
       AreDelaysUpTo most m.delays →
@@ -94,13 +92,13 @@ pub record CompletionsComeInTime : Type 0 where
       AreDelaysUpTo most m.delays →
       made ≤ 64 * (most + 4) * (m.state.done + 1)
 
--- The ring that is lent has k levels, oldest first (`count`). Each is its entry as it is prepared
--- in the run of guessed steps, and with its P (`prepared`). A word in one of its slots is that
--- operand word in the state before the entry's step (`words`). A slot of an operand word of an
--- entry other than T and SWAP is filled exactly where the word is a register, or where by the tick
--- shown its read is answered or, without a read, its latest writer is done (`slots`). The words
--- that are lent are those shown (`index`), and undoing the levels from them gives those of the
--- state, since each level keeps the word that it replaced (`undone`).
+-- The ring that is lent has k levels, oldest first (`count`). Each is its entry as prepared along
+-- the predicted states, with its P (`prepared`). A word in one of its slots is that operand word in
+-- the state before the entry's step (`words`). A slot of an operand word, of an entry other than T
+-- and SWAP, is filled if and only if the word is a register, or its read has been answered by the
+-- tick that is shown, or, without a read, its latest writer has completed (`slots`). The index
+-- words that are lent are those that are shown (`index`). Undoing the levels from them gives the
+-- index words of the state, since each level records the word that it replaced (`undone`).
 pub record LevelsAreLent : Type 0 where
   pub count : (m : Overlap) (ring : List Level) → AreLevelsOf m ring → length ring
       ≡ length (levels_of m)
@@ -126,10 +124,11 @@ pub record LevelsAreLent : Type 0 where
       ≡ lent_index_words m)
       × (unwound (lent_index_words m) ring ≡ index_words m.state)
 
--- A new machine stands at the opening of the first segment (`start`). At each opening at which a
--- machine stands, the next tick and a settle with which it goes on leave it standing there, with
--- one entry more done where the tick completes one (`tick`, `goes`). What changes the state from
--- outside is added to the changes, with the number done at it (`signal`, `unread`, `print`).
+-- A new machine is at the opening of the first segment (`start`). If a machine is at an opening, it
+-- is still there after a tick, with one more completed entry if the tick completes one (`tick`),
+-- and after a settle that continues the segment (`goes`). An external change of the state is added
+-- to the list of changes, with the count of completed instructions at that time (`signal`,
+-- `unread`, `print`).
 pub record OpeningsAreKept : Type 0 where
   pub start : (ds : List ℕ) (n : ℕ) (s : Machine) → StandsAt (first_opening s) [] 0
       (machine_at_start ds n s)
@@ -153,12 +152,12 @@ pub record OpeningsAreKept : Type 0 where
       StandsAt o (changes ++ record { done = m.state.done; change = PrintedOut } ∷ []) j
       (printed_by m)
 
--- A call that ends the segment leaves the machine at the opening of the next one, one tick behind
--- the completion and one more for each level that is dropped (`end`). Where it has ended already at
--- this tick that opening stays (`again`), and so it does at the end of a run (`stop`), behind which
--- no tick may be made (`last`). Behind the end of a segment an interrupt makes the first entry a
--- table instruction (`interrupt`), a missed branch and a wait leave it (`missed`, `waits`), and a
--- card is a change of its first state (`card`).
+-- After a call that ends the segment the machine is at the opening of the next one, one tick after
+-- the completion and one more for each flushed level (`end`). If the segment had already ended at
+-- this tick, this opening does not change (`again`), nor does it at the end of a run (`stop`),
+-- after which no tick may be made (`last`). After the end of a segment an interrupt makes the first
+-- entry a table instruction (`interrupt`), a mispredicted branch and a wait leave the opening
+-- unchanged (`missed`, `waits`), and a card is a change of its first state (`card`).
 pub record OpeningsFollow : Type 0 where
   pub end : (m : Overlap) (made since j : ℕ) (o : Opening) (changes : List Outside) →
       IsReached m made since → MayServe m →
@@ -186,11 +185,11 @@ pub record OpeningsFollow : Type 0 where
       StandsAt o (changes ++ record { done = m.state.done; change = ReadIn w (Some card) } ∷ []) 0
       (read_in_by w (Some card) m)
 
--- The levels of a machine that stands at an opening are entries behind those that are done, by
--- guessed steps from the state, unless a branch was missed at this tick (`ahead`). Of a segment at
--- whose opening a machine stands, the entries with C up to the tick are done (`done`), and the
--- levels are those with P up to the tick and C behind it (`levels`, `next`); between a tick and its
--- settle those with P at it are not there yet.
+-- The levels of a machine at an opening are the entries after the completed ones along predicted
+-- states, unless a branch was mispredicted at this tick (`ahead`). Of the entries of the segment,
+-- those with C up to the tick have completed (`done`), and the levels are those with P up to the
+-- tick and C after it (`levels`, `next`). Between a tick and its settle, entries with P at this
+-- tick are not yet among the levels.
 pub record RowsTellTheLevels : Type 0 where
   pub done : (m : Overlap) (i j : ℕ) (o : Opening) (changes : List Outside) →
       StandsAt o changes j m → i < j →
@@ -206,11 +205,11 @@ pub record RowsTellTheLevels : Type 0 where
       (m.now ≤ (row_of (length (levels_of m)) m).p)
       × (last_tick_made m < (row_of (length (levels_of m)) m).c)
 
--- A tick that answers with a row makes the state the step of the old one (`state`), which takes the
--- interrupt that was taken (`table`); it removes the oldest level, and there is one (`oldest`); its
--- row has the new number done, the address of the entry and the tick (`row`), and the P, R and C of
--- the oldest entry (`times`). The mark of a missed branch is then set, and only then (`missed`).
--- Another tick leaves the state and the levels (`passed`).
+-- A tick whose result is a row makes one step of the state (`state`), with the interrupt that was
+-- taken (`table`). It removes the oldest level, which exists (`oldest`). The row has the new count
+-- of completed instructions, the address of the entry and the tick (`row`), and the P, R and C of
+-- the oldest entry (`times`). The mark of a mispredicted branch is set if and only if the entry is
+-- mispredicted (`missed`). Any other tick leaves the state and the levels unchanged (`passed`).
 pub record CompletionsAreSteps : Type 0 where
   pub table : (m : Overlap) (made since : ℕ) → IsReached m made since → m.owed ≡ false →
       m.taken ≡ interrupt m.state
@@ -233,11 +232,11 @@ pub record CompletionsAreSteps : Type 0 where
   pub passed : (m : Overlap) → IsEvent m Passed →
       ((machine_after_tick m).state ≡ m.state) × (levels_of (machine_after_tick m) ≡ levels_of m)
 
--- A settle and the end of a run leave the state (`settle`, `stop`). Where the machine goes on there
--- is one level more at most (`goes`). An interrupt, a missed branch, a card and the end of a run
--- drop as many levels as there were, and leave none, with the index words of the state
--- (`interrupt`, `missed`, `card`, `stop`); none are left before the first tick and in a wait
--- (`start`, `waits`).
+-- A settle and the end of a run do not change the state (`settle`, `stop`). If the machine
+-- continues, at most one level is added (`goes`). An interrupt, a mispredicted branch, a card and
+-- the end of a run flush all levels and report their number; the index words are then those of the
+-- state (`interrupt`, `missed`, `card`, `stop`). There are no levels before the first tick and in a
+-- wait (`start`, `waits`).
 pub record LevelsAreUnwound : Type 0 where
   pub settle : (m : Overlap) → (machine_after_settling m).state ≡ m.state
   pub goes : (m : Overlap) → answer m ≡ Goes → AddsOneAtMost (levels_of m)
@@ -259,15 +258,16 @@ pub record LevelsAreUnwound : Type 0 where
       (dropped_by (Some card) m ≡ length (levels_of m)) × IsUnwound (read_in_by w (Some card) m)
   pub start : (ds : List ℕ) (n : ℕ) (s : Machine) → IsUnwound (machine_at_start ds n s)
 
--- What is shown of a machine is its state with the first entries ahead of it. The shown levels are
--- the first k places, oldest first (`level`, `behind`), at most as many as the machine has (`few`,
--- `eight`); the number done is the state's (`done`); the index words are those of the state with k
--- entries ahead, the first of them the table instruction where an interrupt was taken (`index`),
--- and with none ahead the committed ones (`none`); each level shows the address of its entry, the
--- number of the index word that it changes and that word before its own step, in the run of guessed
--- steps (`level`); the tick is that of the last tick made, of which the first is number 0 (`tick`).
--- The run goes from the state (`state`, `ended`), or, at a tick at which a branch was missed, from
--- the state with the counter that follows it (`missed`).
+-- The view of a machine is its state together with the entries in flight. The levels are in the
+-- first k places, oldest first (`level`, `behind`), at most as many as the machine has (`few`,
+-- `eight`). The count of completed instructions is the state's (`done`). The index words are those
+-- after k entries in flight, the first of them the table instruction if an interrupt was taken
+-- (`index`); without entries in flight they are the committed ones (`none`). Each level shows the
+-- address of its entry, the number of the index word that it changes, and that word before its own
+-- step, along predicted states (`level`). The tick is that of the last tick made, where the first
+-- is number 0 (`tick`). The sequence of predicted states starts from the state (`state`, `ended`),
+-- or, at a tick with a mispredicted branch, from the state with the predicted program counter
+-- (`missed`).
 pub record TheStateIsSplit : Type 0 where
   pub done : (m : Overlap) → (view_at_tick m).done ≡ m.state.done
   pub tick : (m : Overlap) (made since : ℕ) → IsReached m made since → (view_at_tick m).tick ≡ made
@@ -289,9 +289,9 @@ pub record TheStateIsSplit : Type 0 where
       state_ahead m ≡ record m.state { ic = h }
   pub ended : (m : Overlap) → m.ended ≡ true → state_ahead m ≡ m.state
 
--- A signal, the order of the reader without a card, and that of the printer change the state, each
--- as its own clause says, and leave what is shown of the levels ahead and of the index words;
--- without a card none is dropped.
+-- A signal, a reader order without a card, and a printer order change the state, as the clause of
+-- each call says, but not the view of the levels and of the index words. Without a card no level is
+-- flushed.
 pub record SignalsLeaveLevels : Type 0 where
   pub signal : (m : Overlap) (made since i : ℕ) → IsReached m made since → MaySignal m →
       IsStill m (signalled_by i m)

@@ -1,4 +1,4 @@
--- The opening of a segment, and a machine that stands at it.
+-- The opening of a segment, and machines that are at one.
 use Rattle.std.specs.Prelude.{ℕ, zero, suc, ◌≡◌, ◌≤◌, ◌==◌, false, if◌then◌else◌, List, [], ◌∷◌, ◌++◌, All, Option, None, IfSome}
 use Rattle.st_state.specs.Machine.{Machine}
 use Rattle.st_state.specs.Interrupts.{state_with_signal}
@@ -16,27 +16,28 @@ use Rattle.st_segment.specs.Ahead.{next_ahead, reads_to_end, banks_at_end, front
 use Rattle.st_ahead.specs.Forecast.{asked_ahead}
 use Rattle.st_ahead.specs.Overlap.{Overlap, last_tick_made}
 
--- ---- changes from outside
+-- ---- external changes
 
--- a signal; the order of the reader, for the area at a word, with a card or without one; that of
--- the printer
+-- an external change: a signal; a reader order for the area at a word, with a card or without one;
+-- a printer order
 pub data Change : Type 0 where
   Signalled : ℕ → Change
   ReadIn : ℕ → Option (List ℕ) → Change
   PrintedOut : Change
 
--- what it makes of a state
+-- the state after an external change
 abbrev pub state_after_change : Change → Machine → Machine
 state_after_change (Signalled i) s = state_with_signal s i
 state_after_change (ReadIn w card) s = read_in s w card
 state_after_change PrintedOut s = printed_out s
 
--- a change, with the number of instructions that were done when it came
+-- an external change, with the count of completed instructions at which it occurred
 pub record Outside : Type 0 where
   pub done : ℕ
   pub change : Change
 
--- those that came when as many were done as in this state, one after another
+-- the state after those of the changes that occurred at its count of completed instructions, in
+-- order
 unfoldable pub with_changes : List Outside → Machine → Machine
 with_changes [] s = s
 with_changes (x ∷ xs) s = with_changes xs (if x.done == s.done then state_after_change x.change s
@@ -44,31 +45,31 @@ with_changes (x ∷ xs) s = with_changes xs (if x.done == s.done then state_afte
 
 -- ---- an opening
 
--- the first state of a segment, the interrupt whose table instruction comes first, if it is one,
--- and the front that the segment starts with
+-- the opening of a segment: its first state, the interrupt of a leading table instruction, if there
+-- is one, and the front at the start
 pub record Opening : Type 0 where
   pub state : Machine
   pub table : Option ℕ
   pub front : Front
 
--- that of the first segment
+-- the opening of the first segment
 abbrev pub first_opening : Machine → Opening
 first_opening s = record { state = s; table = None; front = opening_front idle_banks 0 }
 
--- the state after j steps from it, with changes from outside
+-- the state after j steps from an opening, with external changes
 unfoldable pub state_after : Opening → List Outside → ℕ → Machine
 state_after o changes zero = with_changes changes o.state
 state_after o changes (suc j) = with_changes changes (step (state_after o changes j))
 
 module _ (ds : List ℕ) (n : ℕ) (o : Opening) (changes : List Outside) where
-  -- the front behind its first j entries, with the delays ds and n levels
+  -- the front after the first j entries of the segment, with the delays ds and n levels
   unfoldable pub front_at : ℕ → Front
   front_at zero = o.front
   front_at (suc j) =
       front_after_entry ds n (front_at j)
       (entry (table_behind j o.table) (state_after o changes j))
 
-  -- the reads of those entries
+  -- the reads of the first j entries of the segment
   unfoldable pub reads_after : ℕ → List Read
   reads_after zero = []
   reads_after (suc j) =
@@ -76,18 +77,18 @@ module _ (ds : List ℕ) (n : ℕ) (o : Opening) (changes : List Outside) where
       ++ reads_of_entry ds n (front_at j)
       (entry (table_behind j o.table) (state_after o changes j))
 
-  -- the reads of a segment, in the order of the timetable: those of its first j entries, of entry
-  -- j, and of the n + 1 entries behind the guess of that, no more than n of which are prepared
-  -- before it is done
+  -- the reads of a segment in the order of the timetable: those of its first j entries, of entry j,
+  -- and of the n + 1 entries after the prediction of entry j; at most n of these are prepared
+  -- before entry j completes
   unfoldable pub reads_of_segment : ℕ → List Read
   reads_of_segment j =
       reads_after (suc j)
       ++ asked_ahead ds n (suc n) None
       (guess (table_behind j o.table) (state_after o changes j)) (front_at (suc j))
 
-  -- the last answers of the banks where the segment ends at the completion of entry j, after j
-  -- others: of all its reads, with those of the entries behind that one by the guess, those are
-  -- made that are accepted before that tick
+  -- the last answers of the banks if the segment ends at the completion of entry j, after j others:
+  -- of all its reads, including those of the entries in flight after entry j, the ones that are
+  -- accepted before that tick are made
   unfoldable pub banks_behind : ℕ → LastAnswers
   banks_behind zero = o.front.bus.banks
   banks_behind (suc j) =
@@ -95,7 +96,8 @@ module _ (ds : List ℕ) (n : ℕ) (o : Opening) (changes : List Outside) where
       banks_at_end ds a.row.c
       (reads_after j ++ reads_to_end ds n a.row.c a.table a.state a.front a.entry) o.front.bus
 
--- the opening of the next segment, where that one ends there and so many entries are dropped
+-- the opening of the next segment, if this one ends there and the given number of entries is
+-- flushed
 unfoldable pub opening_behind : List ℕ → ℕ → ℕ → Opening → List Outside → ℕ → Opening
 opening_behind ds n dropped o changes j = record {
   state = state_after o changes j;
@@ -103,12 +105,12 @@ opening_behind ds n dropped o changes j = record {
   front = front_behind_end (banks_behind ds n o changes j) (front_at ds n o changes j).c dropped;
 }
 
--- ---- standing at it
+-- ---- machines at an opening
 
--- j entries of the segment are done: the state is the one after j steps, with the changes so far,
--- and the front is the one behind j entries; the first entry is the table instruction until it is
--- done; all these entries are done by the tick that was made last; where the segment may end at
--- this tick, the banks are as the reads that are accepted before it leave them
+-- the machine m is at the opening o with j completed entries: the state is that after j steps with
+-- the changes so far, and the front is that after j entries; the first entry is the table
+-- instruction until it completes; all j entries have completed by the last tick made; if the
+-- segment may end at this tick, the banks are as after the reads that are accepted before it
 pub record StandsAt (o : Opening) (changes : List Outside) (j : ℕ) (m : Overlap) : Type 0 where
   pub state : m.state ≡ state_after o changes j
   pub front : m.front ≡ front_at m.delays m.levels o changes j

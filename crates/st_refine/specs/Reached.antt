@@ -1,4 +1,4 @@
--- What an overlapped machine stands for after calls within the protocol.
+-- Overlapped machines that are reached by calls within the protocol.
 use Rattle.std.specs.Prelude.{ℕ, ◌≡◌, ◌+◌, ◌≤◌, ◌<◌, ◌^◌, true, false, if◌then◌else◌, List, length, All, Option, Some, IsSome, IfSome}
 use Rattle.st_bits.specs.declared.limits.TheConstants.{MOST_DELAY}
 use Rattle.st_state.specs.Machine.{Machine, IsMachine}
@@ -7,8 +7,8 @@ use Rattle.st_rows.specs.Ranges.{AreDelaysUpTo}
 use Rattle.st_ahead.specs.Overlap.{Overlap, machine_at_start}
 use Rattle.st_ahead.specs.Calls.{is_done, machine_after_tick, machine_after_settling, run_ended, signalled_by, read_in_by, printed_by, MaySignal, MayServe}
 
--- a machine may be made: n levels, 1 to 8, delays of 1 to 255 ticks, and a state that is neither
--- enabled nor waiting
+-- a machine can be created: n levels, 1 to 8, delays of 1 to 255 ticks, and a state with interrupts
+-- disabled that does not wait
 pub record CanStart (ds : List ℕ) (n : ℕ) (s : Machine) : Type 0 where
   pub some : 1 ≤ n
   pub few : n ≤ 8
@@ -17,22 +17,22 @@ pub record CanStart (ds : List ℕ) (n : ℕ) (s : Machine) : Type 0 where
   pub enabled : s.enabled ≡ false
   pub waiting : s.waiting ≡ false
 
--- a tick may be made: no settle is owed, and its number and that of the instructions done are below
--- 2^63
+-- a tick may be made: no settle is owed, and the tick and the count of completed instructions are
+-- below 2^63
 pub record MayTick (m : Overlap) : Type 0 where
   pub settled : m.owed ≡ false
   pub tick : m.now < 2 ^ 63
   pub done : m.state.done < 2 ^ 63
 
--- a card of the reader: eight words
+-- a card of the reader: eight words below 2^64
 pub record IsCard (card : List ℕ) : Type 0 where
   pub size : length card ≡ 8
   pub below : All (λ x. x < 2 ^ 64) card
 
--- the machine before its first call, and after each further one: a tick, a settle, a signal, the
--- order of the reader with a card or without one, that of the printer, or, as the last one, the end
--- of the run behind a tick at which an entry was done. Beside it, how many ticks were made, and how
--- many of them since the last instruction was done, or since the start
+-- the machine before its first call, and after each further one: a tick, a settle, a signal, a
+-- reader order with a card or without one, a printer order, or, as the last call, the end of the
+-- run after a tick with a completion. The numbers are the ticks made in all, and those since the
+-- last completion or the start
 pub data IsReached : Overlap → ℕ → ℕ → Type 0 where
   Starts : (ds : List ℕ) (n : ℕ) (s : Machine) → CanStart ds n s →
       IsReached (machine_at_start ds n s) 0 0
@@ -63,17 +63,17 @@ start_of (Reads m made since order card reached given fits may) = start_of reach
 start_of (Prints m made since reached given may) = start_of reached
 start_of (Stops m made since reached may) = start_of reached
 
--- such calls lead from the one machine, as it is made, to the other
+-- calls within the protocol lead from the new machine start to m
 pub record IsReachedFrom (start m : Overlap) (made since : ℕ) : Type 0 where
   pub reached : IsReached m made since
   pub begun : start_of reached ≡ start
 
--- the same, with so many ticks made as there may be
+-- calls within the protocol lead from the new machine start to m, with any number of ticks
 pub record IsLed (start m : Overlap) : Type 0 where
   pub made : ℕ
   pub since : ℕ
   pub from : IsReachedFrom start m made since
 
--- from wherever such calls lead to the one machine, they lead to the other
+-- if calls within the protocol lead to the first machine, they lead to the second
 abbrev pub IsLedOn : Overlap → Overlap → Type 0
 IsLedOn m n = (start : Overlap) → IsLed start m → IsLed start n

@@ -1,4 +1,4 @@
--- What is shown of the levels, and what calls leave of them.
+-- The view of the levels, and the effect of calls on it.
 use Rattle.std.specs.Prelude.{ℕ, ◌≡◌, ◌+◌, nat_le, List, [], ◌∷◌, ◌++◌, Option, option_map, unwrap_or, ◌⊎◌}
 use Rattle.st_bits.specs.declared.register.TheConstants.{FIRST_INDEX_WORD}
 use Rattle.st_state.specs.Machine.{Machine, word}
@@ -15,34 +15,35 @@ use Rattle.st_ahead.specs.Overlap.{Overlap, state_ahead, levels_of}
 use Rattle.st_ahead.specs.Shown.{view_at_tick}
 use Rattle.st_ahead.specs.declared.events.LevelView.{LevelView}
 
--- ---- what is shown of a level
+-- ---- the view of a level
 
 module _ (k : ℕ) (m : Overlap) where
-  -- the state before the step of entry k ahead
+  -- the state before the step of entry k in flight
   abbrev pub state_before : Machine
   state_before = guesses k m.taken (state_ahead m)
 
-  -- the interrupt whose table instruction that entry is, if it is one
+  -- the interrupt whose table instruction entry k in flight is, if it is one
   abbrev pub table_before : Option ℕ
   table_before = table_behind k m.taken
 
-  -- the front that its row is computed from
+  -- the front from which the row of entry k in flight is computed
   abbrev pub front_before : Front
   front_before = front_behind m.delays m.levels k m.taken (state_ahead m) m.front
 
-  -- its row
+  -- the row of entry k in flight
   abbrev pub row_before : EntryTicks
   row_before =
       row_of_entry m.delays m.levels front_before (entry table_before state_before)
 
-  -- when its first two operand words above the registers are there: each when its read is answered
-  -- or, where it has none, when its latest writer is done
+  -- the ticks at which the first two operand words of entry k above the registers arrive: each when
+  -- its read is answered or, without a read, when its latest writer completes
   abbrev pub fills_at : List ℕ
   fills_at = fills m.delays m.levels front_before
       (entry table_before state_before)
 
--- entry k ahead as a level, shown at a tick: its address, its P, the number of the index word that
--- it changes and that word before its own step, 0 where it changes none, and whether its R has come
+-- the view of entry k in flight at a tick: its address, its P, the number of the index word that it
+-- changes and that word before its own step (0 if it changes none), and whether its R has been
+-- reached
 abbrev pub level_seen : ℕ → ℕ → Overlap → LevelView
 level_seen tick k m =
     let s = state_before k m in
@@ -56,18 +57,18 @@ level_seen tick k m =
       ready = nat_le (row_before k m).r tick;
     }
 
--- ---- what calls leave of the levels
+-- ---- the levels after a call
 
--- no level is left, and the index words that are shown are those of the state
+-- there are no levels, and the index words that are shown are those of the state
 pub record IsUnwound (m : Overlap) : Type 0 where
   pub levels : levels_of m ≡ []
   pub index : (view_at_tick m).x ≡ index_words m.state
 
--- the same levels, or one more behind the youngest
+-- the levels are unchanged, or one is added as the youngest
 abbrev pub AddsOneAtMost : List Ahead → List Ahead → Type 0
 AddsOneAtMost old new = (new ≡ old) ⊎ ((a : Ahead) × (new ≡ old ++ a ∷ []))
 
--- the same is shown of the levels, and of the index words
+-- the view of the levels and of the index words is unchanged
 pub record IsStill (old new : Overlap) : Type 0 where
   pub levels : (view_at_tick new).levels ≡ (view_at_tick old).levels
   pub index : (view_at_tick new).x ≡ (view_at_tick old).x

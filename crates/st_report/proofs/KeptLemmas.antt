@@ -1,4 +1,4 @@
--- A number by its digits but the last two, and these.
+-- A number as its leading digits and its last two digits.
 use Rattle.std.proofs.Common.{◌+◌, ◌*◌, ◌/◌, ◌%◌, ◌^◌, ◌<◌, ◌≤◌, ◌≡◌, ℕ, List, [], ◌∷◌, ◌++◌, get_or, drop, length, refl, sym, ap, ◌∙◌, append_assoc, decimal, arith}
 use Rattle.std.proofs.lemmas.Fmt.{decimal_digit, decimal_step}
 use Rattle.st_report.specs.Line.{two_digits}
@@ -11,7 +11,7 @@ two_digits-are p few = rw (decimal_digit (p / 10) (omega arith), decimal_digit (
 pub pair-text : (p : ℕ) → p < 100 → get_or PAIRS (p * 2) 0 ∷ get_or PAIRS (p * 2 + 1) 0 ∷ [] ≡ two_digits p
 pair-text p few = let digits = pair-at (λ d. 48 + d) 10 PAIRS 100 p refl few in rw (two_digits-are p few, digits.0, digits.1) refl
 
--- without the first one, where that is no digit of the number
+-- the two digits of a number below 10 without the leading zero
 pub one-digit : (n : ℕ) → n < 10 → drop 1 (two_digits n) ≡ decimal n
 one-digit n few =
     let same : n % 10 ≡ n = omega arith in
@@ -30,7 +30,7 @@ decimal-pair n m p some few is small =
     let ones : n % 10 ≡ p % 10 = omega arith in
     rw (decimal_step n (omega arith) small, decimal_step (n / 10) (omega arith) (omega arith), append_assoc, two_digits-are p few, front, tens, ones) refl
 
--- put before a line in two pieces
+-- a number put before a line in two pieces
 pub near-pieces : (n m p : ℕ) (pair front l0 l1 l2 : List ℕ) → 1 ≤ m → p < 100 → n ≡ 100 * m + p → n < 2 ^ 64
     → pair ≡ two_digits p → front ≡ decimal m → l1 ≡ pair ++ l0 → l2 ≡ front ++ l1 → l2 ≡ decimal n ++ l0
 near-pieces n m p pair front l0 l1 l2 some few is small two kept e1 e2 =

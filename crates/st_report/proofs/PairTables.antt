@@ -1,10 +1,10 @@
--- Tables that have two digits for each number.
+-- Tables with two digits for each number.
 use Rattle.std.specs.Prelude.{Bool, nat_eq, ◌&&◌}
 use Rattle.std.proofs.lemmas.Bool.{and_parts}
 use Rattle.std.proofs.lemmas.Bool.Decides.{eqb_tells, nat_tests}
 use Rattle.std.proofs.Common.{zero, suc, true, inl, inr, ◌+◌, ◌*◌, ◌/◌, ◌%◌, ◌<◌, get_or, ◌≡◌, ℕ, List, arith}
 
--- the first n rows are the digits of 0, 1, .. to this base
+-- the first n rows are the digits of 0, 1, .. in this base
 abbrev pub are_pairs : (ℕ → ℕ) → ℕ → List ℕ → ℕ → Bool
 are_pairs digit base table zero = true
 are_pairs digit base table (suc p) =
@@ -14,7 +14,7 @@ are_pairs digit base table (suc p) =
 same : (a b : ℕ) → nat_eq a b ≡ true → a ≡ b
 same a b h = grind (arith, nat_tests, h)
 
--- so is each row
+-- each row is the digits of its number
 pub pair-at : (digit : ℕ → ℕ) (base : ℕ) (table : List ℕ) (n p : ℕ) → are_pairs digit base table n ≡ true → p < n
     → (get_or table (p * 2) 0 ≡ digit (p / base)) × (get_or table (p * 2 + 1) 0 ≡ digit (p % base))
 pair-at digit base table zero p are few = absurd (omega arith)

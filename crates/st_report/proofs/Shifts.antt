@@ -3,7 +3,7 @@ use Rattle.std.proofs.Common.{◌≡◌, ℕ, ◌%◌, ◌+◌, ◌*◌, ◌^◌
 use Rattle.std.proofs.Math.Nat.{one-le-pow, mul-lt-mul_of_pos_right, pow-le-pow_right, mod-eq_of_lt}
 use Rattle.std.proofs.lemmas.Nat.{pow-add}
 
--- n bits, moved up by k places, lose nothing in a word
+-- a left shift of n bits by k places loses no bit of a word
 pub shifted_whole : (a n k : ℕ) → a < 2 ^ n → n + k ≤ 64 → a * 2 ^ k % 2 ^ 64 ≡ a * 2 ^ k
 shifted_whole a n k small room =
     let some : 0 < 2 ^ k = one-le-pow k 2 (lit< tt) in

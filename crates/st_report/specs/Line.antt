@@ -1,4 +1,4 @@
--- The bytes of each line of the report, its line end included.
+-- The bytes of each line of the report, including its line end.
 use Rattle.std.specs.Prelude.{ℕ, ◌/◌, ◌%◌, Bool, true, false, List, ◌++◌, codes, decimal, Option, Some, None}
 use Rattle.st_text.specs.Bytes.{lf}
 use Rattle.st_text.specs.Numerals.{hex_word, half_address, flag}
@@ -7,97 +7,99 @@ use Rattle.st_text.specs.Numerals.{hex_word, half_address, flag}
 abbrev pub two_digits : ℕ → List ℕ
 two_digits n = decimal (n / 10) ++ decimal (n % 10)
 
--- the seed and the number of cards of a made deck
+-- the line of a made deck: its seed and the number of its cards
 abbrev pub soak_line : ℕ → ℕ → List ℕ
 soak_line number cards = codes "SOAK " ++ decimal number ++ codes " " ++ decimal cards ++ lf
 
--- the first faulty card and the name of its fault
+-- the line of a refused job: the first faulty card and the name of its fault
 abbrev pub fault_line : ℕ → List ℕ → List ℕ
 fault_line card name = codes "CARD " ++ decimal card ++ codes " " ++ name ++ lf
 
--- the n-th instruction done and its address
+-- the trace line of the n-th completed instruction, with its address
 abbrev pub trc_line : ℕ → ℕ → List ℕ
 trc_line n address = codes "TRC " ++ decimal n ++ codes " " ++ half_address address ++ lf
 
--- the line that the printer prints
+-- the line of a print
 abbrev pub prt_line : List ℕ → List ℕ
 prt_line text = codes "PRT " ++ text ++ lf
 
--- the interrupt by indicator i after n instructions
+-- the line of the interrupt by indicator i after n completed instructions
 abbrev pub int_line : ℕ → ℕ → List ℕ
 int_line i n = codes "INT " ++ decimal i ++ codes " AFTER " ++ decimal n ++ lf
 
--- how the run ended: the machine waits, or the budget is used up
+-- the line of the end of a run: true if the machine waits, false if the budget is used up
 abbrev pub end_line : Bool → List ℕ
 end_line true = codes "END WAIT" ++ lf
 end_line false = codes "END BUDGET" ++ lf
 
--- the number of instructions done
+-- the line of the count of completed instructions
 abbrev pub done_line : ℕ → List ℕ
 done_line m = codes "DONE " ++ decimal m ++ lf
 
--- the number of states stepped back
+-- the line of the number of steps back
 abbrev pub back_line : ℕ → List ℕ
 back_line j = codes "BACK " ++ decimal j ++ lf
 
--- the instruction counter
+-- the line of the program counter
 abbrev pub ic_line : ℕ → List ℕ
 ic_line ic = codes "IC " ++ half_address ic ++ lf
 
--- whether interrupts are enabled
+-- the line that shows whether interrupts are enabled
 abbrev pub en_line : Bool → List ℕ
 en_line enabled = codes "EN " ++ flag enabled ++ lf
 
--- a register and its word
+-- the line of a register
 abbrev pub reg_line : ℕ → ℕ → List ℕ
 reg_line w word = codes "REG " ++ two_digits w ++ codes " " ++ hex_word word ++ lf
 
--- the first and the last word of a dump
+-- the line of the range of a dump
 abbrev pub dump_line : ℕ → ℕ → List ℕ
 dump_line from to = codes "DUMP " ++ decimal from ++ codes " " ++ decimal to ++ lf
 
--- a word of storage
+-- the line of a word of storage
 abbrev pub mem_line : ℕ → ℕ → List ℕ
 mem_line w word = codes "MEM " ++ decimal w ++ codes " " ++ hex_word word ++ lf
 
--- the tick of the last completion
+-- the line of the tick of the last completion
 abbrev pub ticks_line : ℕ → List ℕ
 ticks_line t = codes "TICKS " ++ decimal t ++ lf
 
--- the tick of an interrupt
+-- the line of the tick of an interrupt
 abbrev pub time_line : ℕ → List ℕ
 time_line t = codes "TIME " ++ decimal t ++ lf
 
--- the n-th instruction done, prepared at tick p, ready at tick r and complete at tick c
+-- the line of the row of the n-th completed instruction: prepared at tick p, ready at tick r,
+-- completed at tick c
 abbrev pub row_line : ℕ → ℕ → ℕ → ℕ → ℕ → List ℕ
 row_line n address p r c =
     codes "ROW " ++ decimal n ++ codes " " ++ half_address address
     ++ codes " P " ++ decimal p ++ codes " R " ++ decimal r ++ codes " C " ++ decimal c ++ lf
 
--- a dropped entry, prepared at tick p
+-- the line of a flushed entry that was prepared at tick p
 abbrev pub drop_line : ℕ → ℕ → List ℕ
 drop_line address p = codes "DROP " ++ half_address address ++ codes " P " ++ decimal p ++ lf
 
--- the state at tick t: q instructions done and k entries ahead
+-- the first line of a snapshot at tick t: q completed instructions and k entries in flight
 abbrev pub snap_line : ℕ → ℕ → ℕ → List ℕ
 snap_line t q k =
     codes "SNAP " ++ decimal t ++ codes " DONE " ++ decimal q ++ codes " AHEAD " ++ decimal k ++ lf
 
--- the index word that a level changed early, with what it held before, or none
+-- the text of the index word that a level changed early, with its previous contents; a dash if
+-- there is none
 abbrev pub change_text : Option (ℕ × ℕ) → List ℕ
 change_text None = codes "-"
 change_text (Some change) = decimal change.0 ++ codes " OLD " ++ hex_word change.1
 
--- a level: its instruction's address, its early change, and whether its result is ready
+-- the line of a level: its instruction's address, its early change, and whether its result is ready
 abbrev pub lev_line : ℕ → Option (ℕ × ℕ) → Bool → List ℕ
 lev_line address index ready =
     codes "LEV " ++ half_address address ++ codes " X " ++ change_text index
     ++ codes " READY " ++ flag ready ++ lf
 
--- the tick of the last completion on a machine with n levels
+-- the line of a sweep for n levels: the tick of the last completion
 abbrev pub levels_line : ℕ → ℕ → List ℕ
 levels_line n t = codes "LEVELS " ++ decimal n ++ codes " TICKS " ++ decimal t ++ lf
 
--- whether a run on machines of one to eight levels is calm
+-- the line that shows whether a run on machines of one to eight levels is calm
 abbrev pub calm_line : Bool → List ℕ
 calm_line calm = codes "CALM " ++ flag calm ++ lf

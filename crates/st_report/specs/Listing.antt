@@ -1,4 +1,4 @@
--- The bytes of the lines of the listing, their line ends included.
+-- The bytes of the lines of the listing, including their line ends.
 use Rattle.std.specs.Prelude.{ℕ, ◌-◌, ◌*◌, ◌^◌, ◌≤◌, if◌then◌else◌, nat_lt, List, [], ◌++◌, length, replicate, IsAscii, codes, decimal, Option, Some, None}
 use Rattle.std.specs.Int.{div_ceil}
 use Rattle.st_text.specs.Bytes.{blank, lf}
@@ -9,44 +9,44 @@ use Rattle.st_text.specs.Numerals.{hex_text, bit_address}
 abbrev pub blanks : ℕ → List ℕ
 blanks n = replicate n blank
 
--- the blanks that fill a text up to n places, none where it has as many
+-- the blanks that extend a text to n columns, none if it has at least n
 abbrev pub filling : ℕ → List ℕ → List ℕ
 filling n text = if nat_lt (length text) n then blanks (n - length text) else []
 
--- the text at the right of n places
+-- the text right-aligned in n columns
 abbrev pub right_in : ℕ → List ℕ → List ℕ
 right_in n text = filling n text ++ text
 
--- the text at the left of n places
+-- the text left-aligned in n columns
 abbrev pub left_in : ℕ → List ℕ → List ℕ
 left_in n text = text ++ filling n text
 
--- n bits in hexadecimal, with zeros on the right to whole digits
+-- n bits in hexadecimal, padded with zeros on the right to whole digits
 abbrev pub laid_text : ℕ → ℕ → List ℕ
 laid_text bits n = let digits = div_ceil n 4 in hex_text digits (bits * 2 ^ (4 * digits - n))
 
--- the location of a card, or none
+-- the location of a card as text, empty if it has none
 abbrev pub location_text : Option ℕ → List ℕ
 location_text None = []
 location_text (Some location) = bit_address location
 
--- the text of a card: at most 80 bytes, each of them ASCII
+-- the text of a card: at most 80 bytes of ASCII
 pub record IsCardText (text : List ℕ) : Type 0 where
   pub short : length text ≤ 80
   pub ascii : IsAscii text
 
--- a card in columns: its number, its location, the n bits that it lays and its text
+-- the columns of a card: its number, its location, the n bits that it assembles to, and its text
 abbrev pub listing_columns : ℕ → Option ℕ → ℕ → ℕ → List ℕ → List ℕ
 listing_columns card location bits n text =
     right_in 5 (decimal card) ++ codes " " ++ right_in 9 (location_text location)
     ++ codes " " ++ left_in 16 (laid_text bits n) ++ codes " " ++ text
 
--- the line of a card
+-- the line of a card, without trailing blanks
 abbrev pub listed_line : ℕ → Option ℕ → ℕ → ℕ → List ℕ → List ℕ
 listed_line card location bits n text = without_end_blanks
     (listing_columns card location bits n text) ++ lf
 
--- a name, without the blanks that fill it, and its value
+-- the line of a symbol: its name, without trailing blanks, and its value
 abbrev pub symbol_line : List ℕ → ℕ → List ℕ
 symbol_line name value = codes "SYM " ++ without_end_blanks name ++ codes " " ++ bit_address value
     ++ lf

@@ -11,7 +11,7 @@ use st_text::{
 };
 use std::str;
 
-// Appends bytes as they stand.
+// Appends bytes unchanged.
 fn push_text(line: &mut Line, text: &[u8])
     requires ascii { IsAscii text.now }
     requires room { array_string_len line.old + length text.now ≤ 128 }
@@ -30,7 +30,7 @@ fn push_blanks(line: &mut Line, count: usize)
     }
 }
 
-// Appends the blanks that fill a text up to so many places.
+// Appends the blanks that extend a text to `width` columns.
 fn push_filling(line: &mut Line, width: usize, text: &str)
     requires { array_string_len line.old + (max width (length text.now) - length text.now) ≤ 128 }
     ensures bytes { line.new.bytes ≡ line.old.bytes ++ filling width text.now }
@@ -42,7 +42,7 @@ fn push_filling(line: &mut Line, width: usize, text: &str)
     }
 }
 
-// Appends a text at the right of so many places.
+// Appends a text right-aligned in `width` columns.
 fn push_right(line: &mut Line, width: usize, text: &str)
     requires { array_string_len line.old + max width (length text.now) ≤ 128 }
     ensures bytes { line.new.bytes ≡ line.old.bytes ++ right_in width text.now }
@@ -53,7 +53,7 @@ fn push_right(line: &mut Line, width: usize, text: &str)
     line.push_str(text);
 }
 
-// Appends a text at the left of so many places.
+// Appends a text left-aligned in `width` columns.
 fn push_left(line: &mut Line, width: usize, text: &str)
     requires { array_string_len line.old + max width (length text.now) ≤ 128 }
     ensures bytes { line.new.bytes ≡ line.old.bytes ++ left_in width text.now }
@@ -64,7 +64,7 @@ fn push_left(line: &mut Line, width: usize, text: &str)
     push_filling(line, width, text);
 }
 
-// The location of a card as word.bit, or nothing.
+// The location of a card as word.bit, empty if it has none.
 fn shown_location(location: Option<u32>) -> Line
     ensures bytes { result.bytes ≡ location_text location }
     ensures room { array_string_len result ≤ 14 }
@@ -76,7 +76,7 @@ fn shown_location(location: Option<u32>) -> Line
     shown
 }
 
-// Bits in hexadecimal, with zeros on the right to whole digits.
+// Bits in hexadecimal, padded with zeros on the right to whole digits.
 fn shown_bits(bits: u64, length: u8) -> Line
     requires whole { length ≤ 64 }
     requires fits { bits < 2 ^ length }
@@ -89,10 +89,11 @@ fn shown_bits(bits: u64, length: u8) -> Line
     shown
 }
 
-/// A line of the listing: the card's number, counted from 1, right in 5 places; its location, a bit
-/// address, as word.bit right in 9; the bits that it lays in hexadecimal, left in 16, with zeros on
-/// the right to whole digits; and its text. One blank parts them, and blanks at the line's end are
-/// dropped. `bits` are the laid bits as one number, and `length` says how many there are.
+/// A line of the listing: the card's number, counted from 1, right-aligned in 5 columns; its
+/// location, a bit address, as word.bit right-aligned in 9; the bits that it assembles to in
+/// hexadecimal, left-aligned in 16 and padded with zeros on the right to whole digits; and its
+/// text. The columns are separated by one blank, and trailing blanks are dropped. `bits` are these
+/// bits as one number, and `length` is their number.
 pub fn line_listed(card: u32, location: Option<u32>, bits: u64, length: u8, text: &[u8]) -> Line
     requires whole { length ≤ 64 }
     requires fits { bits < 2 ^ length }
@@ -111,7 +112,8 @@ pub fn line_listed(card: u32, location: Option<u32>, bits: u64, length: u8, text
     ended(line)
 }
 
-/// `SYM name word.bit`: a name, filled with blanks to eight bytes, and its value, a bit address.
+/// `SYM name word.bit`: the line of a symbol. The name is padded with blanks to eight bytes, and
+/// the value is a bit address.
 pub fn line_symbol(name: [u8; 8], value: u32) -> Line
     requires { IsAscii name }
     ensures { result.bytes ≡ symbol_line name value }

@@ -1,12 +1,12 @@
-//! The line of an entry that is done.
+//! The line of a completed entry.
 
 ghost use Rattle.std.specs.Prelude.{◌≡◌, []};
 
 use crate::from_end::LineFromEnd;
 use crate::kept::KeptDigits;
 
-/// A line that is filled for one entry after another, with the digits that the number of each and
-/// its three ticks have in common with those of the entry before.
+/// A line that is written for successive entries, with the leading digits that the number of an
+/// entry and its three ticks share with those of the previous entry.
 #[derive(Debug, Drop)]
 pub struct EntryLine {
     /// The bytes of the line.
@@ -18,7 +18,7 @@ pub struct EntryLine {
 }
 
 impl EntryLine {
-    /// A line of no bytes.
+    /// The empty line.
     pub fn new() -> EntryLine
         ensures { result.bytes ≡ [] }
     {

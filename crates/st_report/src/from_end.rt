@@ -1,4 +1,4 @@
-//! A line that is put together from its end.
+//! A line that is composed from its end.
 
 ghost use Rattle.std.specs.Prelude.{◌≡◌, ◌+◌, ◌*◌, ◌<◌, ◌≤◌, ◌++◌, [], length, drop, codes, decimal};
 ghost use Rattle.st_text.specs.Numerals.{half_address};
@@ -7,11 +7,11 @@ use crate::kept::{KeptDigits, two_digits, zeros_before};
 use itoa::write_digits;
 use std::marker::Model;
 
-// Room for a line.
+// The capacity of a line.
 const ROOM: usize = 192;
 
-/// A line of at most 192 bytes that is put together from its end: each piece comes before those
-/// that stand there. So a number's digits are written where they stay, and the line is never moved.
+/// A line of at most 192 bytes that is composed from its end: each piece is put before the previous
+/// ones. So the digits of a number are written to their final place, and the line is never moved.
 #[derive(Debug, Drop)]
 pub struct LineFromEnd {
     bytes: [u8; ROOM],
@@ -29,7 +29,7 @@ impl Model for LineFromEnd {
 }
 
 impl LineFromEnd {
-    /// A line of no bytes.
+    /// The empty line.
     #[inline(always)]
     pub fn new() -> LineFromEnd
         ensures { result ≡ [] }
@@ -48,7 +48,7 @@ impl LineFromEnd {
         &self.bytes[self.start..]
     }
 
-    /// Takes all bytes away.
+    /// Removes all bytes.
     #[inline(always)]
     pub fn clear(&mut self)
         ensures { self.new ≡ [] }
@@ -67,7 +67,7 @@ impl LineFromEnd {
         self.start = start;
     }
 
-    /// Puts a number in decimal digits before the line, of which there are at most 20.
+    /// Puts a number in decimal before the line; it has at most 20 digits.
     #[inline(always)]
     pub fn put_decimal(&mut self, n: u64)
         requires { length self.old + 20 ≤ 192 }
@@ -77,7 +77,8 @@ impl LineFromEnd {
         self.start = write_digits(n, &mut self.bytes, self.start);
     }
 
-    /// Puts a word before the line. It is a copy, so no test is made whether it is of the line.
+    /// Puts a word before the line. The word is a copy, so no test for aliasing with the line is
+    /// needed.
     #[inline(always)]
     pub fn put_word<const K: usize>(&mut self, word: [u8; K])
         requires { K + length self.old ≤ 192 }
@@ -86,7 +87,7 @@ impl LineFromEnd {
         self.put(&word);
     }
 
-    // Puts the end of a piece before the line, without its first bytes, of which there are so many.
+    // Puts a piece without its first `before` bytes before the line.
     #[inline(always)]
     fn put_end(&mut self, piece: [u8; 16], before: usize)
         requires few { before ≤ 16 }
@@ -97,8 +98,8 @@ impl LineFromEnd {
         self.start += before;
     }
 
-    /// Puts a number in decimal digits before the line, as `put_decimal` does. All but the last two
-    /// are those that are kept, where it has these; else its own are kept.
+    /// Puts a number in decimal before the line, as `put_decimal` does. If its digits except the
+    /// last two are those of `kept`, they are copied; otherwise `kept` is updated with its digits.
     #[inline(always)]
     pub fn put_near(&mut self, n: u64, kept: &mut KeptDigits)
         requires { length self.old + 20 ≤ 192 }
@@ -114,7 +115,8 @@ impl LineFromEnd {
         self.put_kept(n, past, kept);
     }
 
-    /// The same of a number that has the digits that are kept, and is so much past their hundred.
+    /// Puts a number in decimal before the line, whose digits except the last two are those of
+    /// `kept`; `past` is the number that its last two digits form.
     #[inline(always)]
     pub fn put_kept(&mut self, n: u64, past: u64, kept: &KeptDigits)
         requires few { past < 100 }
@@ -128,8 +130,7 @@ impl LineFromEnd {
         self.put_end(*digits, start);
     }
 
-    // Puts a number below 100 before the line: its two digits, without the first one where that is
-    // a zero before its own.
+    // Puts a number below 100 before the line, without a leading zero.
     #[inline(always)]
     fn put_few(&mut self, n: u64)
         requires few { n < 100 }
@@ -141,7 +142,8 @@ impl LineFromEnd {
         self.start += before;
     }
 
-    // Puts the number of a word before the line, as `put_decimal` does. Most are below 100.
+    // Puts the number of a word in decimal before the line, as `put_decimal` does, with a fast path
+    // for numbers below 100.
     #[inline(always)]
     fn put_word_number(&mut self, n: u64)
         requires { length self.old + 20 ≤ 192 }
@@ -155,7 +157,7 @@ impl LineFromEnd {
         }
     }
 
-    // Puts the bit at which a half of a word begins before the line.
+    // Puts the first bit of a half of a word before the line.
     #[inline(always)]
     fn put_half(&mut self, half: u32)
         requires few { half < 2 }

@@ -1,4 +1,4 @@
-//! The lines that tell of the job as it was handed in.
+//! The lines about the job as it was submitted.
 
 ghost use Rattle.std.specs.Prelude.{◌≡◌};
 ghost use Rattle.st_report.specs.Line.{fault_line, soak_line};
@@ -7,7 +7,7 @@ use crate::Line;
 use arrayvec::ArrayString;
 use st_text::{begun, ended, push_decimal, push_short_decimal};
 
-/// `SOAK number cards`: the seed of a made deck, and how many drawn cards it has.
+/// `SOAK number cards`: the seed of a made deck, and the number of its drawn cards.
 pub fn line_soak(number: u64, cards: u32) -> Line
     ensures { result.bytes ≡ soak_line number cards }
 {
@@ -18,7 +18,7 @@ pub fn line_soak(number: u64, cards: u32) -> Line
     ended(line)
 }
 
-/// `CARD n FAULT`: the card that is refused, counted from 1, and the name of its fault.
+/// `CARD n FAULT`: the refused card, counted from 1, and the name of its fault.
 pub fn line_fault(card: u32, name: &ArrayString<32>) -> Line
     ensures { result.bytes ≡ fault_line card name.now.bytes }
 {

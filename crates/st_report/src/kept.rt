@@ -1,4 +1,4 @@
-//! Digits that a number has in common with others that are close to it.
+//! The leading digits that a number shares with numbers close to it.
 
 ghost use Rattle.std.specs.Prelude.{◌≡◌, ◌↔◌, ◌+◌, ◌*◌, ◌/◌, ◌^◌, ◌<◌, ◌≤◌, drop, decimal};
 ghost use Rattle.st_report.specs.Line.{two_digits as two_digits_of};
@@ -6,30 +6,30 @@ ghost use Rattle.st_report.specs.Line.{two_digits as two_digits_of};
 use itoa::write_digits;
 use std::marker::Model;
 
-// The decimal digits of the numbers below 100, two for each.
+// The two decimal digits of each number below 100.
 static PAIRS: [u8; 200] = *b"00010203040506070809101112131415161718192021222324\
     25262728293031323334353637383940414243444546474849\
     50515253545556575859606162636465666768697071727374\
     75767778798081828384858687888990919293949596979899";
 
-// Room for the digits that are kept.
+// The capacity for digits.
 const ROOM: usize = 16;
 
-// Numbers from this one on, 10^18, have more digits.
+// Numbers from 10^18 on have too many digits.
 const MOST: u64 = 1_000_000_000_000_000_000;
 
-/// All decimal digits but the last two of a number. Those of numbers that come one after another
-/// are mostly the same.
+/// All decimal digits of a number except the last two. Successive numbers mostly have equal leading
+/// digits.
 #[derive(Debug, Drop)]
 pub struct KeptDigits {
-    // They stand from `start` on.
+    // The digits are those from `start`.
     digits: [u8; ROOM],
     start: usize,
-    // The number that has zeros behind them.
+    // The number with these digits followed by two zeros.
     hundred: u64,
 }
 
-// Clauses see the number that these digits are alone.
+// Contracts see the number that these digits form.
 impl Model for KeptDigits {
     ghost use Rattle.std.specs.Prelude.{◌≡◌, ℕ, ◌*◌, ◌/◌, ◌^◌, ◌<◌, ◌≤◌, drop, decimal};
 
@@ -42,7 +42,7 @@ impl Model for KeptDigits {
 }
 
 impl KeptDigits {
-    /// Those of 100.
+    /// The digits of 100 except the last two.
     pub fn new() -> KeptDigits
         ensures { result ≡ 1 }
     {
@@ -53,8 +53,8 @@ impl KeptDigits {
         }
     }
 
-    /// By how much a number is past the first one that has these digits: below 100 exactly where
-    /// it has them.
+    /// The difference of `n` and the first number with these leading digits: below 100 if and only
+    /// if `n` has them.
     #[inline(always)]
     pub fn past(&self, n: u64) -> u64
         ensures some { 1 ≤ self.now }
@@ -64,7 +64,7 @@ impl KeptDigits {
         n.wrapping_sub(self.hundred)
     }
 
-    /// The digits, with others before them, and where they begin.
+    /// The digits in a larger buffer, and the place where they begin.
     #[inline(always)]
     pub fn digits(&self) -> (&[u8; 16], usize)
         ensures few { result.1 ≤ 16 }
@@ -73,8 +73,7 @@ impl KeptDigits {
         (&self.digits, self.start)
     }
 
-    /// Keeps the digits of another number, where it has three at least and 18 at most; else those
-    /// that it has stay.
+    /// Replaces the digits by those of `n` if it has 3 to 18 digits; otherwise they do not change.
     #[inline(never)]
     pub fn keep(&mut self, n: u64)
         ensures few { n < 100 → self.new ≡ self.old }
@@ -102,7 +101,7 @@ pub fn two_digits(n: u64) -> [u8; 2]
     [PAIRS[from], PAIRS[from + 1]]
 }
 
-/// How many of the two digits of a number below 100 are zeros before its own.
+/// The number of leading zeros in the two digits of a number below 100.
 #[inline(always)]
 pub fn zeros_before(n: u64) -> usize
     requires { n < 100 }

@@ -9,23 +9,23 @@ use st_text::{
     begun, ended, push_decimal, push_flag, push_half_address, push_hex, push_short_decimal,
 };
 
-/// A row of the timetable: an instruction that is done.
+/// A row of the timetable: a completed instruction.
 #[derive(Clone, Copy)]
 pub struct EntryRow {
-    /// The number of instructions done with it.
+    /// The count of completed instructions, including this one.
     pub number: u64,
-    /// Its half-word address.
+    /// The half-word address.
     pub address: u32,
-    /// The tick at which it was prepared.
+    /// The tick at which the instruction was prepared.
     pub p: u64,
     /// The tick at which its result was ready.
     pub r: u64,
-    /// The tick at which it was complete.
+    /// The tick at which the instruction completed.
     pub c: u64,
 }
 
-/// `ROW n a P p R r C c`: the n-th instruction done, its half-word address, and the ticks at
-/// which it was prepared, its result was ready, and it was complete.
+/// `ROW n a P p R r C c`: the n-th completed instruction, its half-word address, and the ticks at
+/// which it was prepared, its result was ready, and it completed.
 pub fn line_row(row: &EntryRow) -> Line
     ensures { result.bytes ≡ row_line row.now.number row.now.address row.now.p row.now.r row.now.c }
 {
@@ -42,7 +42,7 @@ pub fn line_row(row: &EntryRow) -> Line
     ended(line)
 }
 
-/// The same, filled into a line; what the line had is gone.
+/// As `line_row`, written to a line that is already there; its previous bytes are removed.
 pub fn fill_row(line: &mut EntryLine, row: &EntryRow)
     ensures { line.new.bytes
         ≡ row_line row.now.number row.now.address row.now.p row.now.r row.now.c }
@@ -61,7 +61,7 @@ pub fn fill_row(line: &mut EntryLine, row: &EntryRow)
     line.bytes.put_word(*b"ROW ");
 }
 
-/// `DROP a P p`: a dropped entry, its half-word address, and the tick at which it was prepared.
+/// `DROP a P p`: a flushed entry, its half-word address, and the tick at which it was prepared.
 pub fn line_drop(address: u32, p: u64) -> Line
     ensures { result.bytes ≡ drop_line address p }
 {
@@ -72,7 +72,7 @@ pub fn line_drop(address: u32, p: u64) -> Line
     ended(line)
 }
 
-/// `SNAP t DONE q AHEAD k`: at tick t, q instructions are done and k entries stand ahead.
+/// `SNAP t DONE q AHEAD k`: at tick t, q instructions have completed and k entries are in flight.
 pub fn line_snap(t: u64, q: u64, k: u8) -> Line
     ensures { result.bytes ≡ snap_line t q k }
 {
@@ -85,7 +85,8 @@ pub fn line_snap(t: u64, q: u64, k: u8) -> Line
     ended(line)
 }
 
-// Appends the index word that was changed early with what it held before, or a dash.
+// Appends the number and the previous contents of the index word that was changed early, or a dash
+// if there is none.
 fn push_change(line: &mut Line, index: Option<(u8, u64)>)
     requires { array_string_len line.old + 31 ≤ 128 }
     ensures bytes { line.new.bytes ≡ line.old.bytes ++ change_text index }
@@ -101,9 +102,9 @@ fn push_change(line: &mut Line, index: Option<(u8, u64)>)
     }
 }
 
-/// `LEV a X x OLD hhhhhhhhhhhhhhhh READY r`, or `LEV a X - READY r`: an entry that stands ahead.
-/// The address is a half-word address; the index is the number, below 16, of the index word that
-/// the entry changed early, and the word before that change. `ready` says that its result is.
+/// `LEV a X x OLD hhhhhhhhhhhhhhhh READY r`, or `LEV a X - READY r`: an entry in flight. The
+/// address is a half-word address; the index is the number, below 16, of the index word that the
+/// entry changed early, and the word before that change. `ready` is true if its result is ready.
 pub fn line_lev(address: u32, index: Option<(u8, u64)>, ready: bool) -> Line
     ensures { result.bytes ≡ lev_line address index ready }
 {

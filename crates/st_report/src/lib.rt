@@ -1,6 +1,6 @@
-//! The lines of the report and of the listing, by the rules of `docs/report.md`: one call a line,
-//! each with its line end. The lines that may come for each instruction fill a line that is put
-//! together from its end.
+//! The lines of the report and of the listing, by the rules of `docs/report.md`: one call per line,
+//! each including its line end. The lines that may occur for each instruction are written to a line
+//! that is composed from its end.
 #![tactic(auto)]
 
 mod cards;

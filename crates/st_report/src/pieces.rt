@@ -1,4 +1,4 @@
-//! The pieces that only the lines of the report have.
+//! Pieces of lines that only the report uses.
 
 ghost use Rattle.std.specs.Prelude.{◌≡◌, ◌+◌, ◌≤◌, ◌++◌};
 ghost use Rattle.arrayvec.specs.ArrayString.{array_string_len};

@@ -1,4 +1,4 @@
-//! The lines that tell of the run.
+//! The lines about the run.
 
 ghost use Rattle.std.specs.Prelude.{◌≡◌};
 ghost use Rattle.st_report.specs.Line.{trc_line, prt_line, int_line, time_line, end_line, done_line, ticks_line, back_line};
@@ -7,7 +7,7 @@ use crate::{EntryLine, Line};
 use arrayvec::ArrayString;
 use st_text::{begun, ended, push_decimal, push_half_address, push_short_decimal};
 
-/// `TRC n a`: the n-th instruction is done. The address is a half-word address.
+/// `TRC n a`: the n-th instruction completed. The address is a half-word address.
 pub fn line_trc(n: u64, address: u32) -> Line
     ensures { result.bytes ≡ trc_line n address }
 {
@@ -18,7 +18,7 @@ pub fn line_trc(n: u64, address: u32) -> Line
     ended(line)
 }
 
-/// The same, filled into a line; what the line had is gone.
+/// As `line_trc`, written to a line that is already there; its previous bytes are removed.
 pub fn fill_trc(line: &mut EntryLine, n: u64, address: u32)
     ensures { line.new.bytes ≡ trc_line n address }
 {
@@ -35,7 +35,8 @@ pub fn fill_trc(line: &mut EntryLine, n: u64, address: u32)
     line.bytes.put_word(*b"TRC ");
 }
 
-// The same of a number whose digits are not kept. It is apart, so that the other makes no call.
+// As `fill_trc`, for a number whose leading digits have changed. It is a separate function, so that
+// the common path makes no call.
 #[inline(never)]
 fn fill_trc_anew(line: &mut EntryLine, n: u64, address: u32)
     ensures { line.new.bytes ≡ trc_line n address }
@@ -49,7 +50,7 @@ fn fill_trc_anew(line: &mut EntryLine, n: u64, address: u32)
     line.bytes.put_word(*b"TRC ");
 }
 
-/// `PRT text`: a line that the printer prints. The text may be empty.
+/// `PRT text`: a print. The text may be empty.
 pub fn line_prt(text: &ArrayString<64>) -> Line
     ensures { result.bytes ≡ prt_line text.now.bytes }
 {
@@ -58,7 +59,7 @@ pub fn line_prt(text: &ArrayString<64>) -> Line
     ended(line)
 }
 
-/// `INT i AFTER n`: the interrupt by indicator i, below 64, with n instructions done.
+/// `INT i AFTER n`: the interrupt by indicator i, below 64, after n completed instructions.
 pub fn line_int(i: u8, n: u64) -> Line
     ensures { result.bytes ≡ int_line i n }
 {
@@ -78,14 +79,14 @@ pub fn line_time(t: u64) -> Line
     ended(line)
 }
 
-/// `END WAIT` where the machine waits and nothing is left to come, else `END BUDGET`.
+/// `END WAIT` if the machine waits and no external event is left, otherwise `END BUDGET`.
 pub fn line_end(waits: bool) -> Line
     ensures { result.bytes ≡ end_line waits }
 {
     ended(begun(if waits { "END WAIT" } else { "END BUDGET" }))
 }
 
-/// `DONE m`: the number of instructions done at the end.
+/// `DONE m`: the count of completed instructions at the end.
 pub fn line_done(m: u64) -> Line
     ensures { result.bytes ≡ done_line m }
 {
@@ -103,7 +104,7 @@ pub fn line_ticks(t: u64) -> Line
     ended(line)
 }
 
-/// `BACK j`: how many instructions the state block that follows lies before the end.
+/// `BACK j`: the number of instructions between the state block that follows and the end.
 pub fn line_back(j: u8) -> Line
     ensures { result.bytes ≡ back_line j }
 {

@@ -7,7 +7,7 @@ use crate::Line;
 use crate::pieces::push_two_digits;
 use st_text::{begun, ended, push_flag, push_half_address, push_hex, push_short_decimal};
 
-/// `IC a`: the instruction counter, a half-word address, as word.bit.
+/// `IC a`: the program counter, a half-word address, as word.bit.
 pub fn line_ic(ic: u32) -> Line
     ensures { result.bytes ≡ ic_line ic }
 {
@@ -16,7 +16,7 @@ pub fn line_ic(ic: u32) -> Line
     ended(line)
 }
 
-/// `EN 1` where interrupts are enabled, else `EN 0`.
+/// `EN 1` if interrupts are enabled, otherwise `EN 0`.
 pub fn line_en(enabled: bool) -> Line
     ensures { result.bytes ≡ en_line enabled }
 {
@@ -25,7 +25,7 @@ pub fn line_en(enabled: bool) -> Line
     ended(line)
 }
 
-/// `REG nn hhhhhhhhhhhhhhhh`: a register, a word address below 32, and its word.
+/// `REG nn hhhhhhhhhhhhhhhh`: a register, with its word address below 32, and its contents.
 pub fn line_reg(w: u8, word: u64) -> Line
     ensures { result.bytes ≡ reg_line w word }
 {
@@ -47,7 +47,7 @@ pub fn line_dump(from: u32, to: u32) -> Line
     ended(line)
 }
 
-/// `MEM w hhhhhhhhhhhhhhhh`: a word address and its word.
+/// `MEM w hhhhhhhhhhhhhhhh`: a word address and the contents of the word.
 pub fn line_mem(w: u32, word: u64) -> Line
     ensures { result.bytes ≡ mem_line w word }
 {

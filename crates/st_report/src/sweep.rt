@@ -1,4 +1,4 @@
-//! The lines of one job on machines of one to eight levels.
+//! The lines of a sweep, a job on machines of one to eight levels.
 
 ghost use Rattle.std.specs.Prelude.{◌≡◌};
 ghost use Rattle.st_report.specs.Line.{levels_line, calm_line};

@@ -1,4 +1,4 @@
--- No tick of a run is later than the number done allows.
+-- The bound of the ticks of a run by the number of completed instructions.
 use Rattle.std.specs.Prelude.{All, nat_lt}
 use Rattle.std.proofs.Common.{◌≡◌, ℕ, zero, suc, ◌+◌, ◌*◌, ◌≤◌, List, [], ◌∷◌, length, Option, None, sym, subst, arith}
 use Rattle.std.proofs.Math.Nat.{mul-add}
@@ -29,7 +29,7 @@ use Rattle.st_refine.proofs.InTime.{opening-tight, free-before_done}
 use Rattle.st_refine.proofs.Kept.{interrupt-below}
 use Rattle.st_exec.specs.Step.{interrupt}
 
--- ---- entries ahead
+-- ---- entries in flight
 
 ahead-few : (ds : List ℕ) (n k : ℕ) (t : Option ℕ) (s : Machine) (f : Front) → length (ahead ds n k t s f) ≤ k
 unfolding ahead
@@ -47,7 +47,7 @@ prepared-few t (a ∷ rest) =
 
 -- ---- moments
 
--- what each moment of a run keeps
+-- the invariant of the moments of a run
 pub record IsMoment (most n : ℕ) (m : Moment) : Type 0 where
   pub scene : IsScene m.scene
   pub tight : IsTight most m.front
@@ -103,7 +103,7 @@ module _ (most n : ℕ) (ds : List ℕ) (are : AreDelaysUpTo most ds) (levels : 
 
 -- ---- events
 
--- a tick that the number done allows, by b ticks for each entry
+-- the tick is within the bound of b ticks for each completed instruction
 abbrev pub HasTime : ℕ → ℕ → Machine → Type 0
 HasTime b tick s = tick ≤ b * s.done
 

@@ -1,4 +1,4 @@
--- What is decided between two entries.
+-- The decision between two entries.
 use Rattle.std.specs.Prelude.{IfSome, is_none, is_some, if◌then◌else◌, option_map}
 use Rattle.std.proofs.Common.{◌≡◌, ◌≢◌, ℕ, ◌+◌, ◌<◌, ◌≤◌, Bool, true, false, ◌||◌, List, [], Option, None, Some, refl, sym, subst, ◌∙◌, ap, arith}
 use Rattle.st_state.specs.Machine.{Machine, IsMachine}
@@ -28,7 +28,7 @@ use Rattle.st_run.proofs.InterludeLemmas.{HasCome}
 use Rattle.st_run.proofs.EndedLemmas.{opened, stopped-none, by_now, ended-since, since-is}
 use Rattle.st_refine.proofs.Kept.{interrupt-below}
 
--- ---- what the answer says
+-- ---- the result of a settle
 
 choice-by : (due : Option ℕ) (waits : Bool) (behind : Option ℕ) (over : Bool) (m : Overlap) → waits ≡ false
     → choice_of (answer_by due waits behind m) over ≡ ((is_some behind || over || is_some due), due)
@@ -64,11 +64,11 @@ row-later : (ds : List ℕ) (n now : ℕ) (f : Front) (e : Entry) → IsEntryInT
 unfolding row_of_entry tick_c
 row-later ds n now f e is late = omega (arith, is.costs.0)
 
--- the machine before the next entry, of which the front is f
+-- the machine before the next entry, with the front f
 abbrev going : Overlap → Machine → Option ℕ → Front → Overlap
 going o s t f = record o { state = s; taken = t; front = f; owed = false; ended = false; missed = None; closing = None; now = o.now + 1 }
 
--- between two ticks, the interrupt taken that is pending
+-- the machine between two ticks, with the pending interrupt taken
 abbrev between_by : Overlap → Overlap
 between_by m = machine_between_ticks m.delays m.levels m.state (interrupt m.state) m.front m.now
 
@@ -120,7 +120,7 @@ going-by None (Some h) over o s x now ends none = ap machine_after_pass ends ∙
 going-by None None true o s x now ends none = ap machine_after_pass now ∙ ap (λ t. going o s t (opened o s).front) none
 going-by None None false o s x now ends none = ap machine_after_pass now ∙ ap (λ t. going o s t o.front) none
 
--- ---- how the run goes on
+-- ---- the continuation of the run
 
 abbrev pub IsWay : Turn → ℕ → Moment → Decided → Together → Type 0
 IsWay turn left m d t = IsDecidedBy turn left (next_state m) d (RunGoesOn m d t) ((scene_of t ≡ next_scene m) × (levels_of t.machine ≡ []))
@@ -132,7 +132,7 @@ ends-by true card waited due = refl
 ends-by false true waited due = refl
 ends-by false false waited due = refl
 
--- the moment, and the machine in the state behind all that comes
+-- a moment, and the machine in the state after all external events
 module _ (b t : Together) (text : Option (List ℕ)) (over : Bool) (is : IsBehindEntry b) (came : HasCome b t text over) where
   abbrev m : Moment
   m = moment_of b
@@ -153,7 +153,7 @@ module _ (b t : Together) (text : Option (List ℕ)) (over : Bool) (is : IsBehin
       ∙ ends-by (is_some b.machine.missed) (has_card m) (has_waited m) (is_some (interrupt s))
       ∙ ap (λ (u : Machine). is_some b.machine.missed || has_card m || has_waited m || is_some (interrupt u)) state-is
 
-  -- the front behind the decision
+  -- the front after the decision
   abbrev front : Front
   front = if ends then next_segment m else b.machine.front
 
@@ -164,7 +164,7 @@ module _ (b t : Together) (text : Option (List ℕ)) (over : Bool) (is : IsBehin
   front-late : b.machine.now ≤ front.c
   front-late = of_choice (λ (f : Front). b.machine.now ≤ f.c) ends (next_segment m) b.machine.front (omega arith) (omega (arith, is.last))
 
-  -- how the machine stands
+  -- the machine after the external events
   now-is : t.machine ≡ by_now over b.machine s
   now-is = since-is b t.machine over is came.since
 
@@ -182,7 +182,7 @@ module _ (b t : Together) (text : Option (List ℕ)) (over : Bool) (is : IsBehin
       ∙ ap (λ x. settled_by (interrupt s) false x t.machine) behind-is
       ∙ going-by (interrupt s) b.machine.missed over b.machine s t.machine now-is (ended-since b t.machine over is came.since) is.table
 
-  -- the scene behind it
+  -- the scene after the external events
   scene-is : (n : Together) → n ≡ record t { machine = n.machine } → n.machine.state ≡ s → scene_of n ≡ next_scene m
   scene-is n rest state =
       ap scene_of rest ∙ ap (λ u. record { machine = u; signals = t.signals; cards = t.cards }) state ∙ came.scene

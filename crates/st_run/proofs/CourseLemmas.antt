@@ -1,4 +1,4 @@
--- How a run with its timetable goes on: by what is told of its first moment, and then the rest.
+-- The events of a timed run: those of its first moment, followed by the rest.
 use Rattle.std.specs.List.{flat_map}
 use Rattle.std.proofs.Common.{◌≡◌, ℕ, zero, suc, ◌+◌, ◌≤◌, ◌<◌, ◌⊎◌, Bool, true, false, if◌then◌else◌, List, [], ◌∷◌, ◌++◌, inl, inr, refl, sym, ap, ◌∙◌, append_assoc, arith, map}
 use Rattle.std.specs.Prelude.{nat_lt}
@@ -26,12 +26,12 @@ module _ (ds : List ℕ) (n : ℕ) where
   unfolding next_moment next_row row_of_entry front_after_entry
   next-same p = refl
 
--- ---- snapshots that are to come
+-- ---- remaining snapshots
 
 pub test-lt : (x u : ℕ) → ((nat_lt x u ≡ true) × (x < u)) ⊎ ((nat_lt x u ≡ false) × (u ≤ x))
 test-lt x u = elim (cases_Bool (nat_lt x u)) [ inl t ↦ inl (t, ltb-true x u t) | inr f ↦ inr (f, ltb-false x u f) ]
 
--- of those from a tick on those from a later one on
+-- the ticks from u are among the ticks from an earlier tick t
 pub again : (t u : ℕ) (xs : List ℕ) → t ≤ u → snapshots_from u (snapshots_from t xs) ≡ snapshots_from u xs
 unfolding snapshots_from
 again t u [] le = refl
@@ -43,22 +43,22 @@ again t u (x ∷ xs) le = elim (test-lt x t) [
   | inr late ↦ rw late.0 refl
 ]
 
--- all of them come from the tick 0 on
+-- all ticks are from tick 0
 pub all-to-come : (xs : List ℕ) → snapshots_from 0 xs ≡ xs
 unfolding snapshots_from
 all-to-come [] = refl
 all-to-come (x ∷ xs) = elim (test-lt x 0) [ inl y ↦ let no : ⊥ = omega (arith, y.1) in absurd no | inr n ↦ rw n.0 refl ]
 
--- so do those that rise from a tick on
+-- increasing ticks from t are all from t
 pub rising-to-come : (t : ℕ) (xs : List ℕ) → AreRising t xs → snapshots_from t xs ≡ xs
 unfolding snapshots_from AreRising
 rising-to-come t [] is = refl
 rising-to-come t (x ∷ xs) is = elim (test-lt x t) [ inl y ↦ let no : ⊥ = omega (arith, y.1, is.0) in absurd no | inr n ↦ rw n.0 refl ]
 
--- ---- one turn
+-- ---- one entry
 
 module _ (ds : List ℕ) (n : ℕ) where
-  -- what is told of a course
+  -- the events of a course of moments
   abbrev told : List ℕ → Course Moment → List Timed
   told snaps r = flat_map (told_from ds n snaps) r.before ++ last_events r.last (snapshots_from r.last.tick snaps)
 
@@ -80,7 +80,7 @@ module _ (ds : List ℕ) (n : ℕ) where
   unfolding timed_from course
   timed-none m snaps = refl
 
-  -- a snapshot before the first moment is not told
+  -- a snapshot before the first moment is not shown
   pub timed-later : (left : ℕ) (m : Moment) (x : ℕ) (xs : List ℕ) → m.front.c ≡ m.tick → x < m.tick
       → timed_from ds n left m (x ∷ xs) ≡ timed_from ds n left m xs
   unfolding snapshots_from
@@ -98,7 +98,7 @@ module _ (ds : List ℕ) (n : ℕ) where
       else (events_between m ++ until_done ds n p (snapshots_from m.tick xs)) ++ ys) rest
       ∙ sym (timed-step left m xs)
 
-  -- ---- its scenes are those of the plain run
+  -- ---- the scenes are those of the plain run
 
   pub scenes-same : (left : ℕ) (m : Moment)
       → map state_next (scenes left m.scene).before ++ state_next (scenes left m.scene).last ∷ []

@@ -1,4 +1,5 @@
--- What comes between two steps leaves the number done, and a step counts as one.
+-- The transition between two steps does not change the count of completed instructions, and a step
+-- adds one.
 use Rattle.std.specs.Prelude.{slice_get}
 use Rattle.std.proofs.Common.{◌≡◌, ℕ, List, Bool, true, false, nat_le, Option, None, Some, refl, ◌∙◌, if◌then◌else◌}
 use Rattle.st_state.specs.Machine.{Machine}

@@ -1,4 +1,4 @@
--- What holds of each event of a run, by the number done and the tick.
+-- Properties of each event of a run, by the count of completed instructions and the tick.
 use Rattle.std.specs.Prelude.{All, map, reverse}
 use Rattle.std.proofs.Common.{◌≡◌, ℕ, zero, suc, ◌+◌, List, [], ◌∷◌, ◌++◌, sym, subst, ◌∙◌, ap}
 use Rattle.std.proofs.lemmas.List.Elements.{All-nil, All-cons, All-append}
@@ -55,7 +55,7 @@ until-each Q ds n p snaps here there =
     (each Q (snapshot_at ds n p) shown (λ x. here))
     (All-cons (HoldsOf Q) last [] there (All-nil (HoldsOf Q)))
 
--- of each event, where it holds at each moment, by what each moment keeps for the next one
+-- a property of all moments is a property of all events, by an invariant of the moments
 pub timed-each : (Q : ℕ → ℕ → Type 0) (ds : List ℕ) (n : ℕ) (Keeps : ℕ → Moment → Type 0)
     → ((left : ℕ) (m : Moment) → Keeps left m → Q m.scene.machine.done m.tick)
     → ((left : ℕ) (m : Moment) → Keeps (suc left) m → Keeps left (next_moment ds n (standing_at m)))
@@ -77,7 +77,7 @@ timed-each Q ds n Keeps here on (suc left) m snaps is =
     (until-each Q ds n p due (subst (λ (d : ℕ). Q d m.tick) (sym (settled-done m.scene)) now) (here left next more)))
     (timed-each Q ds n Keeps here on left next snaps more)))
 
--- one more is done at the next moment
+-- the next moment has one more completed instruction
 pub next-more : (ds : List ℕ) (n : ℕ) (m : Moment) → (next_moment ds n (standing_at m)).scene.machine.done ≡ m.scene.machine.done + 1
 unfolding next_moment
 next-more ds n m = step-done (next_state m) ∙ ap {A = ℕ} (λ d. d + 1) (settled-done m.scene)

@@ -1,4 +1,4 @@
--- A run ends in time.
+-- The bound of the end of a run.
 use Rattle.std.proofs.Common.{◌≡◌, ℕ, zero, suc, ◌+◌, ◌*◌, ◌≤◌, Bool, true, false, if◌then◌else◌, List, ◌++◌, sym, subst, arith}
 use Rattle.std.proofs.Math.Nat.{mul-add}
 use Rattle.st_exec.specs.Step.{rests}
@@ -15,7 +15,7 @@ use Rattle.st_run.proofs.Bounds.{IsMoment, HasTime, next-is, next-time, start-is
 use Rattle.st_run.proofs.DoneLemmas.{settled-done}
 use Rattle.st_run.proofs.ShownLemmas.{last-append, last_events-tick}
 
--- the events end in time for a run, whatever tick is given for no events
+-- the last of the events is within the bound, for any initial tick
 EndsInTime : ℕ → List Timed → Transition → Type 0
 EndsInTime b xs ran = (t : ℕ) → last_completion t xs ≤ b * (ran.scene.machine.done + 1)
 

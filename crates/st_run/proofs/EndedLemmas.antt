@@ -1,4 +1,4 @@
--- The end of a segment is the same before and after signals and orders without a card.
+-- The end of a segment does not depend on signals and orders without a card.
 use Rattle.std.specs.Prelude.{if◌then◌else◌, nat_lt}
 use Rattle.std.proofs.Common.{◌≡◌, ℕ, zero, suc, ◌+◌, ◌<◌, ◌≤◌, Bool, true, false, List, [], ◌∷◌, length, Option, None, refl, sym, ◌∙◌, ap, arith}
 use Rattle.std.proofs.lemmas.Bool.{ltb-true, le-ltb, false_from_ne_true}
@@ -23,14 +23,14 @@ use Rattle.st_refine.proofs.SplitLemmas.{counted-machine}
 use Rattle.st_refine.proofs.StillLemmas.{behind-later}
 use Rattle.st_refine.proofs.OpeningLemmas.{ended-again}
 
--- ---- entries that are prepared before the last one is done
+-- ---- entries that are prepared before the previous one completes
 
 same-count : (b : Bool) (x y : Ahead) (xs ys : List Ahead) → (b ≡ true → length xs ≡ length ys)
     → length (if b then x ∷ xs else []) ≡ length (if b then y ∷ ys else [])
 same-count true x y xs ys same = ap suc (same refl)
 same-count false x y xs ys same = refl
 
--- they are not done alone
+-- the entries in flight are non-serializing
 not-alone : (ds : List ℕ) (n now : ℕ) (f : Front) (e : Entry) → now ≤ f.c → (row_of_entry ds n f e).p < now → e.serial ≡ false
 unfolding row_of_entry tick_a tick_p address_tick preparation_tick
 not-alone ds n now f e late early = false_from_ne_true e.serial (λ alone. absurd (behind e.serial alone early))
@@ -62,7 +62,7 @@ count-alike ds n now (suc k) s u f m alike late =
 
 -- ---- the end of a segment
 
--- the machine in a state, with the front of the segment behind the one that ends here
+-- the machine in a state, with the front of the segment after the one that ends here
 abbrev pub opened : Overlap → Machine → Overlap
 opened o s = record o {
   state = s;
@@ -92,7 +92,7 @@ pub ended-behind : (t : Together) → IsBehindEntry t → machine_after_segment 
 unfolding machine_after_segment
 ended-behind t is = ap (λ b. if b then t.machine else opened t.machine t.machine.state) is.going
 
--- what it is, as long as nothing but signals and orders came
+-- the machine after the end of the segment, if only signals and orders occurred
 pub ended-since : (b : Together) (m : Overlap) (over : Bool) → IsBehindEntry b → IsSince b.machine over m
     → machine_after_segment m ≡ opened b.machine m.state
 ended-since b m true is since =
@@ -100,7 +100,7 @@ ended-since b m true is since =
     ended-again m (ap (λ (o : Overlap). o.ended) same) ∙ same
 ended-since b m false is since = ap machine_after_segment since.machine ∙ ended-first b m.state is (since.alike refl)
 
--- what it is by now, by whether the segment has ended
+-- the current machine, by whether the segment has ended
 abbrev pub by_now : Bool → Overlap → Machine → Overlap
 by_now over o s = if over then opened o s else record o { state = s }
 
@@ -109,7 +109,7 @@ pub since-is : (b : Together) (m : Overlap) (over : Bool) → IsBehindEntry b �
 since-is b m true is since = since.machine ∙ ap (λ (o : Overlap). record o { state = m.state }) (ended-behind b is)
 since-is b m false is since = since.machine
 
--- ---- what an end leaves
+-- ---- the machine after the end
 
 pub ended-state : (m : Overlap) → (machine_after_segment m).state ≡ m.state
 unfolding machine_after_segment
@@ -127,7 +127,7 @@ ended-serves m may = kept m.ended
     kept true = may
     kept false = may
 
--- nothing is ahead behind it
+-- no entry is in flight right after the end of a segment
 pub opening-none : (ds : List ℕ) (n k : ℕ) (t : Option ℕ) (s : Machine) (banks : LastAnswers) (start now : ℕ) → now ≤ start
     → prepared_before now (ahead ds n k t s (opening_front banks start)) ≡ []
 unfolding ahead prepared_before row_of_entry tick_a tick_p address_tick preparation_tick

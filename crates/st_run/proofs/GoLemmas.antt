@@ -1,4 +1,4 @@
--- Before the next entry: a snapshot, or that entry is done.
+-- Before the next entry: a snapshot, or the completion of that entry.
 use Rattle.std.specs.Prelude.{slice_get, IfSome}
 use Rattle.std.proofs.Common.{◌≡◌, ℕ, ◌+◌, ◌-◌, ◌<◌, ◌≤◌, ◌^◌, List, [], ◌∷◌, Option, None, Some, refl, sym, ◌∙◌, ap, subst, arith}
 use Rattle.std.proofs.lemmas.List.Elements.{All-tail}
@@ -22,7 +22,7 @@ use Rattle.st_run.proofs.MomentLemmas.{moment-next, behind-next, row-before}
 use Rattle.st_run.proofs.LeftLemmas.{next-done, next-tick, oldest-in_time}
 use Rattle.st_refine.proofs.SplitLemmas.{plan-address}
 
--- the machine so many ticks later, at none of which an entry is done
+-- the machine after a number of ticks without a completion
 abbrev pub at_tick : ℕ → Together → Together
 at_tick now t = record t { machine = record t.machine { now = now } }
 
@@ -38,7 +38,7 @@ unfolding AreRising
 rising-first t c [] is late = tt
 rising-first t c (x ∷ xs) is late = (late, is.1)
 
--- where none comes before, the entry is done first
+-- if no snapshot is earlier, the next event is the completion
 behind-completes : (ds : List ℕ) (n left : ℕ) (p : Standing) (snaps : List ℕ)
     → IfSome (slice_get snaps 0) (λ x. (next_moment ds n p).tick ≤ x)
     → timed_behind ds n left p snaps ≡ completion ds n p ∷ timed_from ds n left (next_moment ds n p) snaps
@@ -64,7 +64,7 @@ module _ (left tick : ℕ) (snaps : List ℕ) (t new : Together) (before : IsBef
   abbrev next : Moment
   next = next_moment o.delays o.levels p
 
-  -- a snapshot
+  -- the next event is a snapshot
   shown-by : (xs : List ℕ) → AreRising (o.now - 1) xs
       → AreInTime (reported_events (timed_behind o.delays o.levels left p xs)) → AreMade (AreTicked None (slice_get xs 0)) t new → IsShown left tick xs new
   unfolding AreRising
@@ -84,7 +84,7 @@ module _ (left tick : ℕ) (snaps : List ℕ) (t new : Together) (before : IsBef
   go-shows snap first made =
       shown-by snaps rising in_time (subst {A = Option ℕ} (λ k. AreMade (AreTicked None k) t new) first made)
 
-  -- the entry is done
+  -- the next event is the completion
   module _ (row : Row) (snap : Option ℕ) (first : snap ≡ slice_get snaps 0) (made : AreMade (AreTicked (Some row) snap) t new) where
     abbrev done : Together
     done = record t { machine = machine_after_completion (at_completion o) }
@@ -127,7 +127,7 @@ module _ (left tick : ℕ) (snaps : List ℕ) (t new : Together) (before : IsBef
         subst {A = ℕ} (λ k. IsLeft left snaps k new) (sym row-c)
         (subst {A = Together} (λ u. IsLeft left snaps (oldest_row o).c u) (sym new-done) done-left)
 
-    -- the row that is told
+    -- the reported form of the row
     abbrev told_row : Row → TimedReportedEvent
     told_row r = once r.number r.c (Done r.address r.p r.r r.c)
 

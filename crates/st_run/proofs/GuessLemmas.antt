@@ -1,4 +1,4 @@
--- What runs ahead of the guess of an entry, by the state that the entry leaves.
+-- The entries in flight after the prediction of an entry, by its completed state.
 use Rattle.std.proofs.Common.{◌≡◌, ℕ, true, false, List, None, ap}
 use Rattle.st_prep.specs.Plan.{plan}
 use Rattle.st_exec.specs.Step.{step, interrupt}

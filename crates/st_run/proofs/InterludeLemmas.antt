@@ -1,4 +1,4 @@
--- What comes between two entries to an overlapped machine, in one.
+-- The external events of an overlapped machine between two entries, combined.
 use Rattle.std.proofs.Common.{◌≡◌, ℕ, Bool, true, false, ◌||◌, List, Option, refl, sym, subst, ◌∙◌, ap}
 use Rattle.std.specs.Prelude.{length, nat_lt, option_map}
 use Rattle.st_exch.specs.Printer.{line_of_words}
@@ -14,14 +14,14 @@ use Rattle.st_run.specs.declared.between.Interlude.{Interlude}
 use Rattle.st_run.proofs.OutsideLemmas.{printed-texts}
 use Rattle.st_run.proofs.PrintLemmas.{settled-one}
 
--- all of it came: the scene, the text that was printed, and whether that has ended the segment
+-- the effect of all external events: the scene, the printed text, and whether the segment has ended
 pub record HasCome (b t : Together) (text : Option (List ℕ)) (over : Bool) : Type 0 where
   pub scene : scene_of t ≡ (interlude (scene_of b)).scene
   pub told : AreTexts text (interlude (scene_of b)).happened
   pub since : IsSince b.machine over t.machine
   pub ends : over ≡ (has_card (moment_of b) || has_waited (moment_of b))
 
--- the machine since then, before anything comes
+-- the machine before any external event
 pub since-none : (o : Overlap) → IsSince o false o
 since-none o = record { machine = refl; alike = λ open_still. beside-same o.state }
 
@@ -34,7 +34,7 @@ or-change false b false d first next = next ∙ first
 abbrev pub with_coming : Overlap → Coming → Together
 with_coming m x = record { machine = m; signals = x.signals; cards = x.cards }
 
--- it came to the machine and what is to come to it, which stand for the first moment
+-- the external events of a machine at a moment are those of the plain run
 pub come-between : (b : Together) (m n : Overlap) (x y : Coming) (i : Interlude) (over : Bool) → with_coming m x ≡ b → IsBehindEntry b
     → HasHappened (λ (o : Overlap). o.state) IsChanged (interlude (scene_at m.state x))
     (rests (with_due_orders (with_due_signals (scene_at m.state x))).scene.machine) i m x n y

@@ -1,4 +1,4 @@
--- The last thing that is told of a run is told at its end.
+-- The last event of a run is its end.
 use Rattle.std.proofs.Common.{◌≡◌, ℕ, zero, suc, Bool, true, false, if◌then◌else◌, List, [], ◌∷◌, ◌++◌, ◌+◌, refl, sym, ◌∙◌, map}
 use Rattle.st_exec.specs.Step.{rests}
 use Rattle.st_run.specs.Run.{Scene, Transition, Ends, interlude, scene_after_step, run}
@@ -11,7 +11,7 @@ use Rattle.st_run.specs.Order.{last_completion}
 use Rattle.st_run.proofs.DoneLemmas.{settled-done}
 use Rattle.st_run.proofs.ShownLemmas.{last-append, last_events-tick}
 
--- the number of entries that are done by the end of a list of events, d before it
+-- the count of completed instructions at the end of a list of events, d before it
 unfoldable pub last_done : ℕ → List Timed → ℕ
 last_done d [] = d
 last_done d (x ∷ xs) = last_done x.done xs
@@ -21,7 +21,7 @@ unfolding last_done
 done-append d [] ys = refl
 done-append d (x ∷ xs) ys = done-append x.done xs ys
 
--- events end like a run, whatever was before them
+-- the last of the events has the count of the end of the run, for any initial count
 record EndsLike (ran : Transition) (xs : List Timed) : Type 0 where
   done : (d : ℕ) → last_done d xs ≡ ran.scene.machine.done
   tick : (t u : ℕ) → last_completion t xs ≡ last_completion u xs

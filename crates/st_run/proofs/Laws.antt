@@ -1,4 +1,4 @@
--- What holds of each run with its timetable, proved.
+-- Proofs of the laws of timed runs.
 use Rattle.st_run.proofs.Untimed.{timed-plain}
 use Rattle.st_run.specs.Moments.{moment_at_start, next_moment}
 use Rattle.std.proofs.Common.{sym, ◌∙◌, refl, arith}

@@ -1,4 +1,4 @@
--- What a run makes of its machine are calls within the protocol.
+-- A run uses its machine only by calls within the protocol.
 use Rattle.std.specs.Prelude.{IfSome, IsSome, nat_le}
 use Rattle.std.specs.List.{AllPass}
 use Rattle.std.proofs.Common.{◌≡◌, ℕ, zero, suc, ◌+◌, ◌-◌, ◌<◌, ◌≤◌, ◌^◌, true, false, List, [], ◌∷◌, Option, None, Some, refl, sym, subst, arith}
@@ -47,7 +47,7 @@ read-led m order card given is may led = record {
   from = record { reached = Reads m led.made led.since order card led.from.reached given is may; begun = led.from.begun };
 }
 
--- ticks up to an entry that is done, or up to a tick
+-- the calls that make ticks up to a completion or up to a tick are within the protocol
 passed-led : {b : Overlap} (k count last : ℕ) (m new : Overlap) → last + 1 - m.now ≡ k → m.owed ≡ false → m.state.done < 2 ^ 63 → count ≤ 2 ^ 63 → last < 2 ^ 63
     → ArePassed count k m new → IsLed b m → IsLed b new
 unfolding after_ticks
@@ -66,12 +66,12 @@ run-led count last (Some row) m new owes few most soon ran led =
     record { made = row.c + 1; since = 0; from = runs_are_reached.done _ m new led.made led.since count last row led.from may most soon ran }
 run-led count last None m new owes few most soon ran led = passed-led (last + 1 - m.now) count last m new refl owes few most soon ran led
 
--- the last tick that may be made is in its range
+-- the last tick that may be made is below 2 ^ 63
 pub last-soon : (snap : Option ℕ) (last : ℕ) → last ≡ last_for snap → last < 2 ^ 63
 last-soon None last is = omega (arith, is)
 last-soon (Some x) last is = omega (arith, is)
 
--- ---- signals, one after another
+-- ---- successive signals
 
 known-indicator : (x : Signal) → is_signal x ≡ true → x.indicator ≤ 13
 known-indicator x is = leb-true x.indicator 13 (and_parts (nat_le x.count 10000000) (nat_le x.indicator 13) is).1
@@ -85,7 +85,7 @@ due-led {b = b} (x ∷ xs) m cards known may led =
     (due-led xs (signalled_by x.indicator m) cards (All-tail (λ s. is_signal s ≡ true) x xs known) may
     (signal-led m x.indicator (known-indicator x (All-head (λ s. is_signal s ≡ true) x xs known)) may led)) led
 
--- ---- its start
+-- ---- the start of a run
 
 pub start-led : (ds : List ℕ) (n : ℕ) (s : Machine) (m : Overlap) → CanStart ds n s → m ≡ machine_at_start ds n s → IsLed (machine_at_start ds n s) m
 start-led ds n s m can same =

@@ -1,4 +1,4 @@
--- What is told behind an entry that has just been done, and how the run goes on there.
+-- The events after the completion of an entry, and the continuation of the run.
 use Rattle.std.specs.Prelude.{map, is_some, if◌then◌else◌, ◌||◌, IsSome, option_map, ◌≢◌}
 use Rattle.std.proofs.Common.{◌≡◌, ℕ, ◌+◌, ◌-◌, ◌<◌, ◌^◌, Bool, true, false, List, [], ◌∷◌, ◌++◌, Option, None, refl, sym, ◌∙◌, ap, subst, arith}
 use Rattle.st_state.specs.Machine.{Machine}
@@ -24,22 +24,22 @@ use Rattle.st_run.proofs.ReportedLemmas.{told-append, dropped_at, told-between, 
 use Rattle.st_run.proofs.MomentLemmas.{still, ready-still, row-before}
 use Rattle.st_run.proofs.ChoiceLemmas.{IsWay}
 
--- ---- the run ends, or goes on
+-- ---- the run ends or continues
 
 ends-here : (ds : List ℕ) (n left : ℕ) (m : Moment) (snaps : List ℕ) (b : Bool) → snapshots_from m.tick snaps ≡ snaps → b ≡ rests (next_state m) → (b ≡ false → left ≡ 0)
     → timed_from ds n left m snaps ≡ last_events m snaps
 ends-here ds n left m snaps true come resting none = timed-rests ds n left m snaps come (sym resting)
 ends-here ds n left m snaps false come resting none = timed-budget ds n left m snaps come (none refl)
 
--- what is dropped, where the segment ends or not
+-- the flushed entries, if the segment ends
 abbrev dropped_if : Bool → Moment → List (ℕ × ℕ)
 dropped_if ends m = if ends then map dropped_at m.dropped else []
 
--- what waits then
+-- the pending events from their parts
 abbrev pub waits : List (ℕ × ℕ) → Option (List ℕ) → Option ℕ → Waiting
 waits drops text table = record { drops = drops; text = text; taken = table }
 
--- by what was decided
+-- the pending events by the decision
 abbrev pub waits_by : List (ℕ × ℕ) → Decided → Waiting
 waits_by drops d = waits drops (option_map (λ x. x.bytes) d.text) d.taken
 
@@ -101,7 +101,7 @@ module _ (ds : List ℕ) (n left tick : ℕ) (m : Moment) (snaps : List ℕ) (d 
   way-told (turns.AtEnd resting) way = stops-told resting way.0 way.1 way.2 way.3 way.4.0
   way-told turns.Over way = absurd way
 
-  -- ---- what the run keeps there
+  -- ---- the invariant of the run after the entry
 
   or-true : (b : Bool) → (b || true) ≡ true
   or-true true = refl
@@ -144,7 +144,7 @@ module _ (ds : List ℕ) (n left tick : ℕ) (m : Moment) (snaps : List ℕ) (d 
   way-taken (turns.AtEnd resting) way some = way.4.1
   way-taken turns.Over way some = absurd way
 
--- the answers to how a run is left
+-- the obligations of the call that leaves an entry
 module _ (left tick : ℕ) (snaps : List ℕ) (old t : Together) (d : Decided) (drops : List (ℕ × ℕ))
     (is : IsLeft left snaps tick old) (decided : IsDecided left (moment_of old) d t)
     (delays : t.machine.delays ≡ old.machine.delays) (levels : t.machine.levels ≡ old.machine.levels)
@@ -171,7 +171,7 @@ module _ (left tick : ℕ) (snaps : List ℕ) (old t : Together) (d : Decided) (
         in_time = subst {A = List TimedReportedEvent} AreInTime left-told is.in_time;
       }
 
--- ---- an entry is done
+-- ---- an entry completes
 
 module _ (left tick : ℕ) (snaps : List ℕ) (t : Together) (before : IsBeforeEntry t)
     (in_time : AreInTime (reported_events (timed_behind t.machine.delays t.machine.levels left (standing_of tick t) snaps))) where

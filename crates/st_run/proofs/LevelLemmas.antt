@@ -1,4 +1,4 @@
--- The levels of the ring, and the entries ahead.
+-- The levels of the ring buffer, and the entries in flight.
 use Rattle.std.specs.Prelude.{map}
 use Rattle.std.specs.List.{AllZip}
 use Rattle.std.proofs.Common.{◌≡◌, ℕ, List, [], ◌∷◌, refl, ◌∙◌, ap}

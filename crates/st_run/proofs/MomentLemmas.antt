@@ -1,4 +1,4 @@
--- The moment at which the next entry of a machine is done.
+-- The moment at which the next entry of a machine completes.
 use Rattle.std.specs.Prelude.{is_some, if◌then◌else◌, IfSome}
 use Rattle.std.proofs.Common.{◌≡◌, ℕ, ◌<◌, ◌≤◌, ◌^◌, Bool, true, false, List, Option, None, Some, refl, sym, ◌∙◌, ap, subst}
 use Rattle.st_state.specs.Machine.{Machine}
@@ -23,7 +23,7 @@ use Rattle.st_run.proofs.SceneLemmas.{stepped-scene}
 use Rattle.st_run.proofs.GuessLemmas.{behind-right, behind-missed}
 use Rattle.st_refine.proofs.Kept.{interrupt-below}
 
--- a machine between two ticks, by what it keeps there
+-- a machine between two ticks
 abbrev pub still : List ℕ → ℕ → Machine → Front → ℕ → Overlap
 still ds n s f now = machine_between_ticks ds n s (interrupt s) f now
 
@@ -47,7 +47,7 @@ module _ (ds : List ℕ) (n : ℕ) (c : Scene) (f : Front) (tick now : ℕ) wher
   unfolding oldest_row state_ahead next_row
   row-still = refl
 
-  -- what runs behind the guess, as the machine sees it
+  -- the entries in flight after the prediction, as the machine has them
   behind-same : IsScene c → (b : Bool) → (next_moment ds n here).missed ≡ b
       → ahead ds n n None
       (with_counter (if b then Some (plan c.machine (interrupt c.machine)).following else None) (next_moment ds n here).scene.machine)
@@ -74,7 +74,7 @@ module _ (ds : List ℕ) (n : ℕ) (c : Scene) (f : Front) (tick now : ℕ) wher
       ap (λ (b : Bool). record (moment_of (together done)) { missed = b }) (missed-same (is_missed p s) p.following)
       ∙ ap (λ (xs : List Ahead). record m { dropped = xs }) dropped
 
--- once it is done, that moment stands
+-- the machine after the completion of the next entry corresponds to the next moment
 pub moment-next : (t : Together) (tick : ℕ) → IsBeforeEntry t
     → moment_of (record t { machine = machine_after_completion (at_completion t.machine) })
     ≡ next_moment t.machine.delays t.machine.levels (standing_of tick t)
@@ -83,7 +83,7 @@ moment-next t tick h =
     ap {A = Overlap} (λ q. moment_of (record t { machine = machine_after_completion (at_completion q) })) (ready-still o h.ready)
     ∙ moment-done o.delays o.levels (scene_of t) o.front tick o.now h.kept.scene
 
--- nothing has come from outside since
+-- the machine right after the completion, before external events
 behind-done : (t : Together) (f : Front) (now : ℕ) → 1 ≤ t.machine.levels → t.machine.levels ≤ 8 → AreDelaysUpTo 255 t.machine.delays
     → IsScene (scene_of t)
     → IsBehindEntry (record t { machine = machine_after_completion (at_completion (still t.machine.delays t.machine.levels t.machine.state f now)) })
@@ -108,7 +108,7 @@ behind-next t h =
     subst {A = Overlap} (λ q. IsBehindEntry (record t { machine = machine_after_completion (at_completion q) })) (sym (ready-still t.machine h.ready))
     (behind-done t t.machine.front t.machine.now h.kept.some h.kept.few h.kept.delays h.kept.scene)
 
--- its row
+-- the row of the next entry in the machine is that of the timed run
 pub row-before : (t : Together) (tick : ℕ) → IsBeforeEntry t
     → oldest_row t.machine ≡ next_row t.machine.delays t.machine.levels (standing_of tick t)
 row-before t tick h =

@@ -1,4 +1,4 @@
--- What waits is told before the run goes on.
+-- Pending events precede the continuation of the run.
 use Rattle.std.specs.Prelude.{map, IsSome}
 use Rattle.std.proofs.Common.{◌≡◌, ℕ, ◌<◌, ◌^◌, Bool, List, [], ◌∷◌, ◌++◌, sym, ◌∙◌, ap, subst}
 use Rattle.std.proofs.lemmas.List.Elements.{All-tail}
@@ -28,7 +28,7 @@ module _ (turn : Turn) (left tick : ℕ) (snaps : List ℕ) (w v : Waiting) (t :
         (subst {A = List TimedReportedEvent} AreInTime next-tells is.in_time);
   }
 
--- where nothing waits the turn decides
+-- without pending events, the phase determines the next event
 module _ (turn : Turn) (left tick : ℕ) (snaps : List ℕ) (w v : Waiting) (t : Together) (quiet : Quiet w) (kept : v ≡ w)
     (is : IsRun turn left tick snaps w t) where
   pub still-quiet : Quiet v

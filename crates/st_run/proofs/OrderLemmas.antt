@@ -1,4 +1,4 @@
--- The events of a run come in the order of their ticks.
+-- The events of a run are in order of their ticks.
 use Rattle.std.specs.Prelude.{map, reverse}
 use Rattle.std.proofs.Common.{◌≡◌, ℕ, zero, suc, ◌+◌, ◌≤◌, inl, inr, List, [], ◌∷◌, ◌++◌, refl, sym, subst, arith, append_assoc}
 use Rattle.st_prep.proofs.Choices.{of_choice}
@@ -52,7 +52,7 @@ unfolding AreEventsInOrder
 leads-at t f [] told ys is = is
 leads-at t f (x ∷ xs) told ys is = rw (told x) (omega arith, leads-at t f xs told ys is)
 
--- snapshots at rising ticks, those before v
+-- snapshots at increasing ticks before v
 leads-snapshots : (t u v : ℕ) (f : ℕ → Timed) (xs : List ℕ) → ((x : ℕ) → told_at (f x).tick (f x).event ≡ x)
     → t ≤ u → v ≤ u + 1 → AreRising t xs → Leads t u (map f (ticks_before v xs))
 unfolding AreEventsInOrder AreRising ticks_before
@@ -65,7 +65,7 @@ leads-snapshots t u v f (x ∷ xs) told le near rising ys is = elim (test-lt x v
   | inr late ↦ rw late.0 (order-weaker t u ys le is)
 ]
 
--- ---- turns
+-- ---- one entry
 
 module _ (m : Moment) where
   drops-lead : Leads m.tick m.tick (drops m)

@@ -1,4 +1,4 @@
--- One thing comes to a machine after another.
+-- Successive external events of a machine.
 use Rattle.std.specs.Prelude.{nat_lt, option_map, map, if◌then◌else◌}
 use Rattle.std.specs.Option.{option_or}
 use Rattle.std.proofs.lemmas.Bool.Decides.{nat_tests}
@@ -21,7 +21,7 @@ nothing = record { card = false; waited = false; words = None }
 abbrev pub a_wait : Interlude
 a_wait = record { card = false; waited = true; words = None }
 
--- what is kept of the rest of a machine, one thing after another
+-- the effect on the rest of the machine composes
 abbrev pub Both : {A : Type 0} → (Bool → A → A → Type 0) → Type 0
 Both leaves = (a b c : Bool) (m n o : _) → leaves a m n → leaves b n o → c ≡ (a || b) → leaves c m o
 
@@ -33,7 +33,7 @@ none-came n = grind (arith, nat_tests)
 came-both : (a b c : ℕ) (one two : Bool) → b ≤ a → c ≤ b → one ≡ nat_lt b a → two ≡ nat_lt c b → (one || two) ≡ nat_lt c a
 came-both a b c one two first second is_one is_two = rw (is_one, is_two) (grind (arith, nat_tests))
 
--- ---- what was printed
+-- ---- prints
 
 printed-joined : (t u : Option (List ℕ)) (xs ys : List PlainEvent) → (length xs ≤ 1 → ArePrinted t xs) → (length ys ≤ 1 → ArePrinted u ys)
     → length (xs ++ ys) ≤ 1 → ArePrinted (option_or t u) (xs ++ ys)
@@ -46,7 +46,7 @@ printed-joined (Some words) u (x ∷ []) [] first second few = first (omega arit
 printed-joined (Some words) u (x ∷ []) (y ∷ ys) first second few = absurd (omega arith)
 printed-joined (Some words) u (x ∷ z ∷ xs) ys first second few = absurd (omega arith)
 
--- it is told as text
+-- printed words are reported as text
 pub printed-texts : (t : Option (List ℕ)) (xs : List PlainEvent) → ArePrinted t xs → AreTexts (option_map line_of_words t) xs
 printed-texts None xs is = ap (map reported_plain_event) (sym is)
 printed-texts (Some words) xs is = ap (map reported_plain_event) (sym is.1)
@@ -59,7 +59,7 @@ or-none : (b : Bool) → (b || false) ≡ b
 or-none true = refl
 or-none false = refl
 
--- ---- two things
+-- ---- two external events
 
 ends-both : (i j : Interlude) → ends_by (joined_of i j) ≡ (ends_by i || ends_by j)
 ends-both i j = by i.waited i.card j.waited j.card
@@ -91,7 +91,7 @@ pub came-is : {A : Type 0} (state : A → Machine) (leaves : Bool → A → A �
     (m n : A) (x y : Coming) → q ≡ r → HasHappened state leaves q w i m x n y → HasHappened state leaves r w i m x n y
 came-is state leaves q r w i m n x y same came = subst (λ (t : Transition). HasHappened state leaves t w i m x n y) same came
 
--- nothing came
+-- no external event
 pub came-none : {A : Type 0} (state : A → Machine) (leaves : Bool → A → A → Type 0) (m : A) (x : Coming) → leaves false m m
     → HasHappened state leaves (uneventful (scene_at (state m) x)) false nothing m x m x
 came-none state leaves m x same = record {
@@ -111,7 +111,7 @@ both-nothing i =
 
 -- ---- orders
 
--- the next order of a wait
+-- the next order during a wait
 pub order-awake : (c : Scene) → rests c.machine ≡ false → uneventful c ≡ with_order_at_rest c
 unfolding with_order_at_rest
 order-awake c awake = sym (ap (λ b. if b then with_device (next_device c.machine) c else uneventful c) awake)
@@ -124,7 +124,7 @@ order-at_rest c d resting next =
 
 -- ---- signals
 
--- behind signals
+-- an external event after signals
 pub came-behind : {A : Type 0} (state : A → Machine) (leaves : Bool → A → A → Type 0) → Both leaves
     → (f : Scene → Transition) (c : Scene) (w : Bool) (i : Interlude) (m n o : A) (x y z : Coming)
     → scene_at (state n) y ≡ c → y.cards ≡ x.cards → leaves false m n → HasHappened state leaves (f (scene_at (state n) y)) w i n y o z
@@ -140,7 +140,7 @@ came-behind state leaves both f c w i m n o x y z reached cards left came =
       rest = both false (ends_by i) _ m n o left came.rest refl;
     })
 
--- then signals
+-- signals after an external event
 pub came-signals : {A : Type 0} (state : A → Machine) (leaves : Bool → A → A → Type 0) → Both leaves
     → (r : Transition) (f : Scene → Scene) (w : Bool) (i : Interlude) (m n o : A) (x y z : Coming)
     → HasHappened state leaves r w i m x n y → scene_at (state o) z ≡ f (scene_at (state n) y) → z.cards ≡ y.cards → leaves false n o
@@ -160,7 +160,7 @@ came-signals state leaves both r f w i m n o x y z first came cards left =
 
 -- ---- a wait
 
--- there is none
+-- the machine is not at rest
 pub came-awake : {A : Type 0} (state : A → Machine) (leaves : Bool → A → A → Type 0) → Both leaves
     → ((m : A) → leaves false m m) → (r : Transition) (i : Interlude) (m o : A) (x z : Coming)
     → rests (state o) ≡ false → HasHappened state leaves r false i m x o z
@@ -173,7 +173,7 @@ came-awake state leaves both same r i m o x z awake came =
     (came-then state leaves both r with_wait false false i nothing m o o x z z came
     (subst (λ q. HasHappened state leaves q false nothing o z o z) (sym none) (came-none state leaves o z (same o)))))
 
--- there is one: the machine rests, and then what ends the wait comes
+-- the machine is at rest, and the events that may end the wait follow
 pub came-waiting : {A : Type 0} (state : A → Machine) (leaves : Bool → A → A → Type 0) → Both leaves
     → (r : Transition) (i j : Interlude) (m n o p : A) (x y z : Coming)
     → rests (state n) ≡ true → HasHappened state leaves r false i m x n y → state o ≡ state n → leaves true n o

@@ -1,4 +1,4 @@
--- What comes to an overlapped machine changes of it.
+-- The changes of an overlapped machine by external events.
 use Rattle.std.specs.Prelude.{IfSome, IsSome, is_none, is_some, if◌then◌else◌}
 use Rattle.std.proofs.Common.{◌≡◌, ℕ, ◌≤◌, Bool, true, false, ◌||◌, ◌&&◌, List, Option, None, Some, refl, sym, subst, ◌∙◌, ap, inr}
 use Rattle.st_state.specs.Machine.{Machine}
@@ -22,7 +22,7 @@ or-some : (a : Bool) → true ≡ (a || true)
 or-some true = refl
 or-some false = refl
 
--- the state alone has changed
+-- only the state has changed
 since-state : (o m k : Overlap) (over : Bool) → m ≡ record (if over then machine_after_segment o else o) { state = m.state } → k ≡ record m { state = k.state }
     → k ≡ record (if over then machine_after_segment o else o) { state = k.state }
 since-state o m k over first next = next ∙ ap (λ (x : Overlap). record x { state = k.state }) first
@@ -99,7 +99,7 @@ quiet-by true true waiting None e = refl
 quiet-by true true true (Some i) e = absurd (cc e)
 quiet-by true true false (Some i) e = absurd (cc e)
 
--- a machine that rests takes no interrupt
+-- a machine at rest takes no interrupt
 rests-quiet : (m : Overlap) → rests m.state ≡ true → interrupt_due m ≡ None
 rests-quiet m waits = quiet-by (is_none m.taken) m.state.enabled m.state.waiting (pending m.state) waits
 

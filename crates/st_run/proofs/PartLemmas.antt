@@ -1,4 +1,4 @@
--- What comes between two entries leaves the delays and the number of levels.
+-- External events between two entries do not change the delays and the number of levels.
 use Rattle.std.specs.Prelude.{if◌then◌else◌}
 use Rattle.std.proofs.Common.{◌≡◌, ℕ, ◌+◌, Bool, true, false, length, Option, None, Some, refl, sym, ◌∙◌, subst}
 use Rattle.st_prep.proofs.Choices.{of_choice}
@@ -12,7 +12,7 @@ use Rattle.st_run.specs.declared.turn.Turn.{Turn}
 use Rattle.st_run.specs.declared.turn.Turn.TheVariants.{Before, AtEnd, Over}
 use Rattle.st_run.specs.declared.leaving.Decided.{Decided}
 
--- one machine has the delays and the levels of another
+-- two machines have equal delays and levels
 pub record HasParts (o p : Overlap) : Type 0 where
   pub delays : p.delays ≡ o.delays
   pub levels : p.levels ≡ o.levels

@@ -1,4 +1,4 @@
--- Entries that are done one after another, between which nothing comes.
+-- Successive completions without external events between them.
 use Rattle.std.specs.Prelude.{is_some, nat_le, length, MatchOption}
 use Rattle.std.proofs.Common.{◌≡◌, ◌≢◌, ℕ, zero, suc, ◌+◌, ◌-◌, ◌<◌, ◌≤◌, ◌||◌, Bool, true, false, List, [], ◌∷◌, ◌++◌, Option, None, Some, refl, sym, ◌∙◌, ap, subst, arith, length-append}
 use Rattle.std.proofs.lemmas.Bool.Decides.{nat_tests}
@@ -31,7 +31,7 @@ use Rattle.st_run.proofs.QuietLemmas.{none-quiet, quiet-settled, passed-decided,
 use Rattle.st_run.proofs.GoLemmas.{tick-before, go-leaves, go-tells}
 use Rattle.st_run.specs.Outside.{signal_due}
 
--- what is still to be told before the next entry
+-- the remaining events before the next entry
 abbrev rest_told : ℕ → ℕ → Together → List TimedReportedEvent
 rest_told left tick t = reported_events (timed_behind t.machine.delays t.machine.levels left (standing_of tick t) [])
 
@@ -39,7 +39,7 @@ rising-none : (k : ℕ) → AreRising k []
 unfolding AreRising
 rising-none k = tt
 
--- ---- nothing comes behind an entry
+-- ---- no external event after an entry
 
 both-none : (a b c : Bool) → (a || (b || c)) ≡ false → (a ≡ false) × (b ≡ false) × (c ≡ false)
 both-none true b c none = absurd (cc none)
@@ -66,13 +66,13 @@ fewer count done test = grind (arith, nat_tests)
 
 -- ---- one entry
 
--- rows are told before others
+-- the events of two lists of rows
 rows-both : (xs ys : List Row) (rest : List TimedReportedEvent) → rows_then (xs ++ ys) rest ≡ rows_then xs (rows_then ys rest)
 rows-both [] ys rest = refl
 rows-both (x ∷ xs) ys rest = ap (λ (more : List TimedReportedEvent). row_told x ∷ more) (rows-both xs ys rest)
 
--- entries were done, between which nothing came and fewer than `count` by then, in k ticks which
--- leave the machine `new`
+-- entries completed in k ticks without external events between them, fewer than `count` in all, and
+-- left the machine `new`
 pub record PassedTo (count left tick k : ℕ) (t : Together) (new : Overlap) : Type 0 where
   pub left_now : ℕ
   pub tick_now : ℕ
@@ -84,7 +84,7 @@ pub record PassedTo (count left tick k : ℕ) (t : Together) (new : Overlap) : T
   pub short : length (rows_in_ticks k t.machine) ≤ count - t.machine.state.done - 1
   pub now : new.now ≡ t.machine.now + k
 
--- the entry is done at this tick
+-- the next entry completes at this tick
 module _ (left tick : ℕ) (t : Together) (before : IsBeforeEntry t) (in_time : AreInTime (rest_told left tick t)) (due : is_done t.machine ≡ true) where
   abbrev o : Overlap
   o = t.machine
@@ -114,7 +114,7 @@ module _ (left tick : ℕ) (t : Together) (before : IsBeforeEntry t) (in_time : 
   one-done : (machine_after_completion (at_completion o)).state.done ≡ o.state.done + 1
   one-done = ap {A = Moment} (λ m. m.scene.machine.done) (moment-next t tick before) ∙ next-done left tick [] t before in_time
 
-  -- and passed
+  -- the next entry completes at this tick and the run continues at once
   module _ (count : ℕ) (passes : IsPassed count o) (few : count ≤ o.state.done + left + 1)
       (signals : (d : ℕ) → d < count → signal_due d t.signals ≡ false) where
     abbrev m : Overlap
@@ -178,7 +178,7 @@ module _ (left tick : ℕ) (t : Together) (before : IsBeforeEntry t) (in_time : 
       now = omega (arith, now-is);
     }
 
--- a tick
+-- one more tick
 pub tick-passed : (count left tick : ℕ) (t : Together) → IsBeforeEntry t → AreInTime (rest_told left tick t) → count ≤ t.machine.state.done + left + 1
     → ((d : ℕ) → d < count → signal_due d t.signals ≡ false) → IsPassed count t.machine → PassedTo count left tick 1 t (machine_after_settling (machine_after_tick t.machine))
 tick-passed count left tick t before in_time few signals passes = by (is_done t.machine) refl
@@ -200,7 +200,7 @@ tick-passed count left tick t before in_time few signals passes = by (is_done t.
           now = refl;
         })
 
--- so many ticks
+-- several more ticks
 pub all-passed : (k count left tick : ℕ) (t : Together) (new : Overlap) → IsBeforeEntry t → AreInTime (rest_told left tick t)
     → count ≤ t.machine.state.done + left + 1 → ((d : ℕ) → d < count → signal_due d t.signals ≡ false)
     → ArePassed count k t.machine new → PassedTo count left tick k t new
@@ -241,7 +241,7 @@ all-passed (suc k) count left tick t new before in_time few signals are =
       now = omega (arith, rest.now, first.now);
     }
 
--- ---- up to an entry behind which something may come
+-- ---- up to an entry after which an external event is possible
 
 pub record PassedUpTo (count left tick : ℕ) (t new : Together) (row : Row) : Type 0 where
   pub left_now : ℕ
@@ -282,7 +282,7 @@ module _ (count left tick : ℕ) (t new : Together) (before : IsBeforeEntry t) (
             ∙ ap {A = ℕ} (λ k. rows_then (rows_in_ticks k t.machine) (row_told row ∷ rest)) ticks;
       }
 
-  -- each entry comes in time
+  -- each entry completes before the last tick
   pub passed-none : AreMade (RunsTo count (last_for None) None) t new → ⊥
   passed-none made =
       let o = t.machine in
@@ -291,7 +291,7 @@ module _ (count left tick : ℕ) (t new : Together) (before : IsBeforeEntry t) (
       let late = oldest-in_time all.left_now all.tick_now [] (record t { machine = new.machine }) all.before all.in_time in
       omega (arith, far, late, before.ready.early, all.before.ready.early, all.now)
 
--- ---- of a run where nothing waits and no snapshot is to come
+-- ---- runs without pending events and without remaining snapshots
 
 pub record AreAhead (left tick : ℕ) (t : Together) : Type 0 where
   pub before : IsBeforeEntry t
@@ -337,7 +337,7 @@ module _ (count left tick : ℕ) (snaps : List ℕ) (t new : Together) (row : Ro
     few = omega (arith, far.short, are, few);
   }
 
--- what has gone far is left out, where there is no room
+-- the skipped rows if the queue has no room
 pub far-passed : (o : Option Row) (done most : ℕ) (all old new : List TimedReportedEvent) (before next : Queue) → all ≡ old → before.room ≡ 0
     → MatchOption o ⊥ (λ row. HasGoneFar done most row old new before next)
     → (next ≡ before) × MatchOption o (new ≡ all) (λ row. AreLeftOut row all new)
@@ -345,7 +345,7 @@ far-passed None done most all old new before next same shut far = absurd far
 far-passed (Some row) done most all old new before next same shut far =
     (far.waits ∙ queue-shut _ before shut, record { passed = far.out.passed; rest = same ∙ far.out.rest })
 
--- and waits, where there is room
+-- the queued rows if the queue has room
 pub far-waits : (done : ℕ) (row : Row) (old new : List TimedReportedEvent) (before after : Queue) → HasGoneFar done (done + 64) row old new before after
     → before ≡ record { rows = []; room = 64 } → old ≡ rows_then (queue_with (row ∷ []) after).rows new
 far-waits done row old new before after far empty =

@@ -1,4 +1,5 @@
--- What comes between two steps is one print at most: the printer has one order at most, and gets none there.
+-- At most one print occurs between two steps: the printer has at most one order, and gets none in
+-- between.
 use Rattle.std.specs.Prelude.{slice_get}
 use Rattle.std.proofs.Common.{◌≡◌, ℕ, ◌+◌, ◌≤◌, List, [], ◌∷◌, length, length-append, Option, None, Some, refl, ap, arith}
 use Rattle.st_state.specs.Machine.{Machine, state_with_store}
@@ -12,7 +13,7 @@ use Rattle.st_exec.specs.Transfer.{all_stored, read_in}
 use Rattle.st_run.specs.Run.{Scene, Transition, with_due_signals, with_signals_at_rest, if_due, with_due_orders, with_device, with_order_at_rest, with_wait, interlude, uneventful, and_then, with_order}
 use Rattle.st_run.proofs.SignalLemmas.{kept-while}
 
--- how many orders the printer has
+-- the number of orders of the printer
 orders : Option Order → ℕ
 orders None = 0
 orders (Some order) = 1
@@ -22,7 +23,8 @@ unfolding orders
 orders-few None = omega arith
 orders-few (Some order) = omega arith
 
--- what happened, and what can still be printed, is no more than could be printed before
+-- the prints that occurred and those that are still possible are at most those that were possible
+-- before
 record PrintsWithin (c : Scene) (r : Transition) : Type 0 where
   few : length r.happened + orders r.scene.machine.printer ≤ orders c.machine.printer
 
@@ -57,7 +59,7 @@ if_due-few : (done : ℕ) (o : Option Order) → orders (if_due done o) ≤ orde
 unfolding orders
 if_due-few done o = of_choice (λ p. orders p ≤ orders o) (is_due done o) o None (omega arith) (omega arith)
 
--- ---- one after another
+-- ---- successive transitions
 
 then-prints : (c : Scene) (r : Transition) (f : Scene → Transition) → PrintsWithin c r → PrintsWithin r.scene (f r.scene)
     → PrintsWithin c (and_then r f)

@@ -1,4 +1,4 @@
--- How a run goes on from one thing that it tells to the next.
+-- The progress of a run from one event to the next.
 use Rattle.std.specs.Prelude.{slice_get, map, reverse, if◌then◌else◌, IsSome, IfSome}
 use Rattle.std.proofs.Common.{◌≡◌, ℕ, ◌+◌, ◌-◌, ◌<◌, ◌≤◌, ◌^◌, Bool, true, false, List, [], ◌∷◌, ◌++◌, Option, None, Some, refl, sym, ◌∙◌, ap, subst, length, arith}
 use Rattle.std.proofs.lemmas.Bool.{lt-ltb, le-ltb}
@@ -28,7 +28,7 @@ use Rattle.st_run.proofs.ReportedLemmas.{once}
 use Rattle.st_run.proofs.MomentLemmas.{still, ready-still, row-before}
 use Rattle.std.specs.Option.{option_to_list}
 
--- ---- nothing waits
+-- ---- no pending events
 
 abbrev pub Quiet : Waiting → Type 0
 Quiet w = (s : Machine) → waiting_events w s ≡ []
@@ -45,7 +45,7 @@ none-some : (o : Option ℕ) (P : Type 0) → o ≡ None → IsSome o → P
 none-some None P none some = absurd (cc some)
 none-some (Some i) P none some = absurd (cc none)
 
--- so no interrupt does
+-- without pending events no interrupt is pending
 pub quiet-taken : (w : Waiting) (s : Machine) (P : Type 0) → Quiet w → IsSome w.taken → P
 unfolding waiting_events
 quiet-taken w s P quiet some =
@@ -58,7 +58,7 @@ unfolding rest_of
 rest-quiet turn left tick snaps w t quiet =
     ap (λ (xs : List ReportedEvent). map (at_once tick t.machine.state) xs ++ rest_by turn left tick snaps t) (quiet t.machine.state)
 
--- ---- what is shown where nothing is ahead
+-- ---- the state that is shown without entries in flight
 
 index-seen : (ended : Bool) (h : Option ℕ) (s : Machine)
     → index_words (if ended then s else with_counter h s) ≡ index_words s
@@ -114,7 +114,7 @@ unfolding AreRising
 rising-same x now [] same is = tt
 rising-same x now (y ∷ ys) same is = (omega (arith, same, is.0), is.1)
 
--- it is told, and no longer comes
+-- the snapshot is returned and removed
 module _ (left tick x : ℕ) (xs snaps : List ℕ) (w : Waiting) (t : Together) (turn : Turn)
     (first : snaps ≡ x ∷ xs) (shown : IsShown left tick snaps t) (before : turn ≡ turns.Before) (quiet : Quiet w) where
   shown_first : IsShown left tick (x ∷ xs) t

@@ -1,4 +1,4 @@
--- Where nothing comes between two entries.
+-- The transition between two entries without external events.
 use Rattle.std.specs.Prelude.{nat_lt, is_some, map}
 use Rattle.std.proofs.Common.{◌≡◌, ◌≢◌, ℕ, Bool, true, false, ◌||◌, List, [], length, Option, None, Some, refl, sym, subst, ◌∙◌, ap, arith}
 use Rattle.std.proofs.lemmas.Bool.{le-ltb}
@@ -32,7 +32,7 @@ by-orders : (c : Scene) (reader printer : Bool) → is_due c.machine.done c.mach
 unfolding with_due_orders
 by-orders c reader printer first second a b = rw (first ∙ a, second ∙ b) refl
 
--- nothing comes
+-- no external event is due
 module _ (c : Scene) (signals : signal_due c.machine.done c.signals ≡ false) (reader : is_due c.machine.done c.machine.reader ≡ false)
     (printer : is_due c.machine.done c.machine.printer ≡ false) (awake : rests c.machine ≡ false) where
   pub none-due : with_due_orders (with_due_signals c) ≡ uneventful c
@@ -43,7 +43,7 @@ module _ (c : Scene) (signals : signal_due c.machine.done c.signals ≡ false) (
   unfolding interlude
   none-comes = ap (λ r. and_then r with_wait) none-due ∙ wait-none c awake
 
--- two tests, none of which holds
+-- two tests, neither of which holds
 neither-first : (behind : Bool) (due : Option ℕ) → (behind || is_some due) ≡ false → None ≡ due
 neither-first true due none = absurd (cc none)
 neither-first false None none = refl
@@ -53,7 +53,7 @@ neither-still : (behind : Bool) (due : Option ℕ) → (behind || is_some due) �
 neither-still true due none = absurd (cc none)
 neither-still false due none = sym none
 
--- nothing is due and no branch was missed
+-- no interrupt is due and no branch was mispredicted
 still-due : (behind : Bool) (due : Option ℕ) → (behind || is_some due) ≡ false → due ≡ None
 still-due behind due none = sym (neither-first behind due none)
 
@@ -110,7 +110,7 @@ module _ (left : ℕ) (b n : Together) (is : IsBehindEntry b) (some : left ≢ 0
   pub quiet-parts : HasParts b.machine n.machine
   quiet-parts = left-parts b.machine b.machine n.machine false left nothing_decided (since-none b.machine) choice
 
--- the same of the parts of a machine with what is to come to it
+-- the parts of a machine with its external events, if none is due
 module _ (left : ℕ) (old : Together) (m k : Overlap) (xs : List Signal) (cards : List (List ℕ)) (view : record { machine = m; signals = xs; cards = cards } ≡ old)
     (is : IsBehindEntry old) (some : left ≢ 0) (signals : signal_due m.state.done xs ≡ false) (quiet : IsQuiet m) (after : k ≡ machine_after_pass m) where
   abbrev settles : k ≡ settled_of m
@@ -132,7 +132,7 @@ module _ (left : ℕ) (old : Together) (m k : Overlap) (xs : List Signal) (cards
       subst {A = Together} (λ t. HasParts t.machine k) view
       (quiet-parts left b n (subst {A = Together} IsBehindEntry (sym view) is) some signals quiet refl settles)
 
--- ---- what waits is nothing, whichever way
+-- ---- no event is pending in either case
 
 pub none-quiet : Quiet (waits [] None None)
 unfolding waiting_events

@@ -1,4 +1,4 @@
--- What is told of what comes between two entries, and at the end.
+-- The reported events between two entries and at the end.
 use Rattle.std.specs.Prelude.{map, reverse, if◌then◌else◌}
 use Rattle.std.proofs.Common.{◌≡◌, ℕ, ◌+◌, Bool, true, false, List, [], ◌∷◌, ◌++◌, Option, None, refl, sym, ◌∙◌, ap, append_assoc}
 use Rattle.std.specs.Prelude.{All}
@@ -17,7 +17,7 @@ use Rattle.st_run.specs.Telling.{waiting_events, at_once, told_at_end}
 use Rattle.st_run.proofs.DoneLemmas.{settled-done}
 use Rattle.std.specs.Option.{option_to_list}
 
--- told so many done, at a tick
+-- a reported event with this count and tick
 abbrev pub once : ℕ → ℕ → ReportedEvent → TimedReportedEvent
 once done tick event = record { done = done; tick = tick; event = event }
 
@@ -26,7 +26,7 @@ unfolding reported_events
 told-append [] ys = refl
 told-append (x ∷ xs) ys = ap (λ (rest : List TimedReportedEvent). timed_reported_event x ∷ rest) (told-append xs ys)
 
--- what is told of events of one kind
+-- the reported forms of events of one kind
 told-each : {A : Type 0} (event : A → Timed) (tell : A → TimedReportedEvent) (xs : List A) → ((x : A) → timed_reported_event (event x) ≡ tell x)
     → reported_events (map event xs) ≡ map tell xs
 unfolding reported_events
@@ -41,7 +41,7 @@ reverse-map {A} {B} f (x ∷ xs) =
     ∙ sym (map-append f (reverse xs) (x ∷ []))
     ∙ ap (map f) (sym (reverse-append (x ∷ []) xs))
 
--- an entry that is dropped, by its address and its tick
+-- a flushed entry by its address and tick
 abbrev pub dropped_at : Ahead → ℕ × ℕ
 dropped_at a = (address_ahead a, a.row.p)
 
@@ -65,7 +65,7 @@ module _ (m : Moment) where
       told-each (happening_at m) (λ (h : PlainEvent). tell (reported_plain_event h)) hs (λ h. refl)
       ∙ sym (map-map tell reported_plain_event hs)
 
-  -- the entries that are dropped where the segment ends
+  -- the flushed entries, if the segment ends
   abbrev pub drops_by : Bool → List (ℕ × ℕ)
   drops_by ends = if ends then map dropped_at m.dropped else []
 
@@ -91,7 +91,7 @@ module _ (m : Moment) where
       ∙ ap (map tell) (sym (append_assoc ds (map reported_plain_event hs) (map reported_plain_event is))
       ∙ ap (λ (xs : List ReportedEvent). ds ++ xs ++ map reported_plain_event is) (sym same))
 
-  -- where the state behind it has as many done
+  -- the reported events between two entries, where the state after them has the same count
   pub told-between : (text : Option (List ℕ)) → AreTexts text (interlude m.scene).happened
       → reported_events (events_between m)
       ≡ map (at_once m.tick (next_state m))
@@ -147,7 +147,7 @@ module _ (m : Moment) where
       ∙ ap (λ (d : ℕ). map (once d m.tick) ws
       ++ (map (λ (x : ℕ). once d m.tick (Shown x s [])) due ++ once d m.tick (Ended (rests s) s) ∷ [])) (sym (settled-done m.scene))
 
--- ---- the next entry is among what is told
+-- ---- the next completion is among the remaining events
 
 all-behind : (P : TimedReportedEvent → Type 0) (xs ys : List TimedReportedEvent) → All P (xs ++ ys) → All P ys
 all-behind P [] ys all = all

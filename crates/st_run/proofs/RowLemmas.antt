@@ -1,4 +1,4 @@
--- Rows that wait to be told, and what is told behind them.
+-- Queued rows, and the events after them.
 use Rattle.std.specs.Prelude.{MatchOption, Bool, true, ◌==◌}
 use Rattle.std.proofs.lemmas.Bool.{eqb-true}
 use Rattle.std.proofs.Common.{◌≡◌, length, arith, List, [], ◌∷◌, Option, None, Some, refl, sym, ◌∙◌, ap}
@@ -7,7 +7,7 @@ use Rattle.st_ahead.specs.declared.events.Row.{Row}
 use Rattle.st_run.specs.ReportedEvents.{TimedReportedEvent}
 use Rattle.st_run.specs.Telling.{row_told, rows_then, AreLeftOut}
 
--- none waits
+-- no row is queued
 pub none-waits : (rows : List Row) (b : Bool) → b ≡ (length rows == 0) → b ≡ true → rows ≡ []
 none-waits [] b is empty = refl
 none-waits (row ∷ rows) b is empty =
@@ -30,7 +30,7 @@ passed-behind (Some row) [] [] rest more none same passed = passed
 passed-behind o [] (y ∷ ys) rest more none same passed = absurd (cc same)
 passed-behind o (y ∷ ys) new rest more none same passed = absurd (cc none)
 
--- the first one that does
+-- the first queued row is the next event
 pub row-next : (o : Option Row) (mid new : Queue) (rest old : List TimedReportedEvent) → old ≡ rows_then mid.rows rest
     → MatchOption o (mid.rows ≡ []) (λ row. mid.rows ≡ row ∷ new.rows) → MatchOption o (new ≡ mid) (λ row. new.room ≡ mid.room)
     → MatchOption o (rows_then new.rows rest ≡ old) (λ row. old ≡ row_told row ∷ rows_then new.rows rest)

@@ -1,4 +1,4 @@
--- The laws of runs.
+-- Proofs of the laws of the length of runs.
 use Rattle.std.specs.Prelude.{All, map, reverse}
 use Rattle.std.proofs.Common.{◌≡◌, ℕ, zero, suc, ◌+◌, ◌≤◌, List, [], ◌∷◌, ◌++◌, append_assoc, ◌*◌, refl, sym, subst, arith}
 use Rattle.st_prep.proofs.Choices.{of_choice}
@@ -24,7 +24,7 @@ timed-done ds n left k m snaps few =
     timed-each (λ done tick. done ≤ k) ds n (λ left m. m.scene.machine.done + left ≤ k) (λ left m few. omega (arith, few))
     (λ left m few. let more = next-more ds n m in omega (arith, few, more)) left m snaps few
 
--- the plain run
+-- the count of completed instructions of the plain run is within the budget
 ran-done : (left : ℕ) (c : Scene) → (run left c).scene.machine.done ≤ c.machine.done + left
 ran-done zero c = rw (run-none c) (let same = settled-done c in omega (arith, same))
 ran-done (suc left) c =
@@ -45,7 +45,7 @@ runs_keep_their_budget = record {
 
 -- ---- completions
 
--- events behind which those that are near from the tick u on are near from the tick t on
+-- the events keep their distance from the tick t if the events after them keep it from the tick u
 abbrev ComesNear : ℕ → ℕ → ℕ → List Timed → Type 0
 ComesNear b t u xs = (ys : List Timed) → AreNear b u ys → AreNear b t (xs ++ ys)
 

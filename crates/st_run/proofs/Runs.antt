@@ -1,4 +1,4 @@
--- How a run goes on: it ends, or a step is made.
+-- The recursion of a run: it ends, or a step is made.
 use Rattle.std.specs.List.{flat_map}
 use Rattle.std.proofs.Common.{◌≡◌, ◌≢◌, ℕ, zero, suc, ◌-◌, arith, Bool, true, false, List, [], ◌∷◌, ◌++◌, refl, ◌∙◌, ap, append_assoc, if◌then◌else◌}
 use Rattle.st_exec.specs.Step.{rests}
@@ -7,18 +7,18 @@ use Rattle.st_run.specs.Run.{Scene, Transition, PlainEvent, Ends, interlude, hap
 
 -- ---- one step
 
--- the run ends here
+-- the run ends after this transition
 abbrev pub transition_at_end : Transition → Transition
 transition_at_end r = record r {
   happened = r.happened ++ Ends r.scene.machine (rests r.scene.machine) ∷ [];
 }
 
--- it goes on by a step
+-- the run continues after this transition
 abbrev pub goes_on : Transition → Transition → Transition
 goes_on r rest =
     record rest { happened = r.happened ++ (happens r.scene.machine ++ rest.happened) }
 
--- what a course of scenes is as a run
+-- the run of a course of scenes
 abbrev ran : Course Scene → Transition
 ran r = record {
   scene = (interlude r.last).scene;
@@ -45,7 +45,7 @@ pub run-none : (c : Scene) → run zero c ≡ transition_at_end (interlude c)
 unfolding run course
 run-none c = refl
 
--- ---- what it comes to
+-- ---- the recursion of a run
 
 -- a machine at rest ends the run
 pub run-rests : (left : ℕ) (c : Scene) → rests (interlude c).scene.machine ≡ true → run left c ≡ transition_at_end (interlude c)
@@ -54,12 +54,12 @@ run-rests (suc left) c h =
     run-step left c
     ∙ ap (λ b. if b then transition_at_end (interlude c) else goes_on (interlude c) (run left (scene_after_step (interlude c).scene))) h
 
--- so does a budget that is used up
+-- a budget that is used up ends the run
 pub run-budget : (left : ℕ) (c : Scene) → left ≡ 0 → run left c ≡ transition_at_end (interlude c)
 run-budget zero c h = run-none c
 run-budget (suc left) c h = absurd (omega arith)
 
--- else a step is made
+-- otherwise a step is made
 goes_on-some : (k : ℕ) (c : Scene) → rests (interlude c).scene.machine ≡ false → run (suc k) c ≡ goes_on (interlude c) (run k (scene_after_step (interlude c).scene))
 goes_on-some k c h =
     run-step k c

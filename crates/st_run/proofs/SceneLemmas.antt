@@ -1,4 +1,4 @@
--- What comes between two steps, and a step, keep what each scene keeps.
+-- The transition between two steps and a step keep the invariant of a scene.
 use Rattle.std.specs.Prelude.{IfSome, drop, slice_get}
 use Rattle.std.proofs.Common.{ℕ, nat_le, Bool, List, [], ◌∷◌, Option, None, Some}
 use Rattle.std.specs.Prelude.{All}

@@ -1,4 +1,4 @@
--- A state with other index words, as it is seen.
+-- A state with its index words replaced.
 use Rattle.std.specs.Option.{option_map_or}
 use Rattle.std.proofs.Common.{◌≡◌, ℕ, ◌+◌, ◌-◌, ◌<◌, ◌≤◌, List, ◌++◌, length, take, drop, get_or, Option, None, Some, refl, sym, ◌∙◌, ap, arith, length-append, length-take}
 use Rattle.std.proofs.lemmas.List.{get_or_append_left, get_or-append_right, get_or-take, get_or-drop}
@@ -36,7 +36,7 @@ module _ (xs : List ℕ) (s : Machine) (size : length xs ≡ 16) (long : 32 ≤ 
       ∙ sym (get_or-drop 32 s.words (w - 32) 0)
       ∙ sym (get_or-append_right (take 16 s.words ++ xs) (drop 32 s.words) 32 w 0 front high)
 
--- its counter, and whether interrupts are enabled, are those of the state
+-- the program counter and the mark for interrupts do not depend on the index words
 pub counter-seen : {A : Type 0} (f : A → List ℕ) (o : Option A) (s : Machine)
     → s.ic ≡ (option_map_or (λ (x : A). with_index_words (f x) s) o s).ic
 unfolding with_index_words

@@ -1,4 +1,4 @@
--- Which snapshots are shown.
+-- The snapshots that are shown.
 use Rattle.std.specs.Prelude.{map, reverse}
 use Rattle.std.proofs.Common.{◌≡◌, ℕ, zero, suc, ◌+◌, ◌≤◌, ◌<◌, inl, inr, Bool, true, false, if◌then◌else◌, List, [], ◌∷◌, ◌++◌, refl, sym, ◌∙◌, ap, subst, arith, append_assoc, append-nil}
 use Rattle.std.proofs.lemmas.Bool.{lt-ltb}
@@ -35,7 +35,7 @@ unfolding shown_ticks
 all-shown f [] each = refl
 all-shown f (x ∷ xs) each = rw (each x) (ap (λ rest. x ∷ rest) (all-shown f xs each))
 
--- those before a tick, and of the others those before a later one
+-- the ticks before u, followed by those from u to v, are the ticks before v
 before-both : (u v : ℕ) (xs : List ℕ) → u ≤ v → ticks_before u xs ++ ticks_before v (snapshots_from u xs) ≡ ticks_before v xs
 unfolding ticks_before snapshots_from
 before-both u v [] le = refl
@@ -46,7 +46,7 @@ before-both u v (x ∷ xs) le = elim (test-lt x u) [
   | inr late ↦ rw late.0 refl
 ]
 
--- ---- turns
+-- ---- one entry
 
 drops-shown : (b : Bool) (m : Moment) → shown_ticks (if b then drops m else []) ≡ []
 unfolding shown_ticks drops
@@ -100,7 +100,7 @@ last_events-tick t m snaps =
 -- ---- the run
 
 module _ (ds : List ℕ) (n : ℕ) where
-  -- the events of a run end at a tick, up to which snapshots are shown, whatever tick is given for no events
+  -- the events of a run end at a tick up to which all snapshots are shown, for any initial tick
   record IsShown (t : ℕ) (snaps : List ℕ) (xs : List Timed) : Type 0 where
     later : (u : ℕ) → t ≤ last_completion u xs
     same : (u v : ℕ) → last_completion u xs ≡ last_completion v xs

@@ -9,7 +9,7 @@ use Rattle.st_exec.specs.Step.{rests}
 use Rattle.st_run.specs.Run.{Scene, uneventful, with_signals_while, with_due_signals, with_signals_at_rest, with_wait, with_order_at_rest}
 use Rattle.st_run.specs.Outside.{Coming, scene_at, signal_due}
 
--- what a signal leaves of a scene, and what each of them keeps
+-- the scene after a signal is taken
 abbrev pub with_signal : Signal → List Signal → Scene → Scene
 with_signal x xs c = record c { machine = state_with_signal c.machine x.indicator; signals = xs }
 
@@ -20,7 +20,7 @@ kept-while P keeps holds (x ∷ xs) c is =
     of_choice P (holds c.machine x) (with_signals_while holds xs (with_signal x xs c)) c
     (kept-while P keeps holds xs (with_signal x xs c) (keeps c x xs is)) is
 
--- one that is due was taken
+-- a due signal is taken
 due-taken : (s : Machine) (xs : List Signal) (cards : List (List ℕ)) (i : ℕ) → signal_due s.done xs ≡ true
     → option_map (λ (x : Signal). x.indicator) (slice_get xs 0) ≡ Some i
     → with_due_signals (record { machine = state_with_signal s i; signals = drop 1 xs; cards = cards })
@@ -34,7 +34,7 @@ pub due-came : (s t : Machine) (x y : Coming) (d i : ℕ) → signal_due d x.sig
 due-came s t x y d i due same some sig left =
     simp (sig, left) (due-taken s x.signals x.cards i (subst (λ e. signal_due e x.signals ≡ true) same due) some)
 
--- one was taken while the machine rested
+-- a signal is taken while the machine is at rest
 rest-taken : (s : Machine) (xs : List Signal) (cards : List (List ℕ)) (i : ℕ) → rests s ≡ true
     → option_map (λ (x : Signal). x.indicator) (slice_get xs 0) ≡ Some i
     → with_signals_at_rest (record { machine = state_with_signal s i; signals = drop 1 xs; cards = cards })
@@ -47,7 +47,7 @@ pub rest-came : (s t : Machine) (x y : Coming) (i : ℕ) → rests s ≡ true
     → y ≡ record x { signals = drop 1 x.signals } → with_signals_at_rest (scene_at t y) ≡ with_signals_at_rest (scene_at s x)
 rest-came s t x y i resting some sig left = simp (sig, left) (rest-taken s x.signals x.cards i resting some)
 
--- none is taken where none is due, or where it does not rest
+-- no signal is taken if none is due or the machine is not at rest
 pub due-over : (xs : List Signal) (c : Scene) (d : ℕ) → d ≡ c.machine.done → signal_due d xs ≡ false
     → with_signals_while (λ s x. nat_le x.count s.done) xs c ≡ c
 due-over [] c d same none = refl
@@ -57,7 +57,7 @@ pub rest-over : (xs : List Signal) (c : Scene) → rests c.machine ≡ false →
 rest-over [] c awake = refl
 rest-over (x ∷ xs) c awake = rw awake refl
 
--- nothing ends a wait where there is none
+-- without a wait, nothing has to end it
 pub wait-none : (c : Scene) → rests c.machine ≡ false → with_wait c ≡ uneventful c
 unfolding with_wait with_order_at_rest
 wait-none c awake = simp awake (ap uneventful (rest-over c.signals c awake))

@@ -1,4 +1,4 @@
--- The start of a run, where no interrupt is enabled, nothing waits and no order is given.
+-- The start of a run: interrupts are disabled, no event is pending and there are no orders.
 use Rattle.std.specs.Prelude.{map, slice_index, is_some, nat_lt, nat_le, if◌then◌else◌, All}
 use Rattle.std.specs.List.Sorted.{IsStrictlyIncreasing}
 use Rattle.std.proofs.Common.{◌≡◌, ◌≢◌, ℕ, suc, ◌+◌, ◌-◌, ◌<◌, ◌≤◌, ◌^◌, Bool, false, ◌||◌, List, [], ◌∷◌, ◌++◌, length, Option, None, refl, sym, ◌∙◌, ap, subst, arith}
@@ -33,7 +33,7 @@ use Rattle.st_run.proofs.InterludeLemmas.{with_coming}
 use Rattle.st_run.proofs.SignalLemmas.{wait-none, kept-while}
 use Rattle.st_run.proofs.SceneLemmas.{signals-scene}
 
--- the same at another scene
+-- the machine with another scene
 abbrev pub with_scene : Together → Scene → Together
 with_scene t c = record {
   machine = record t.machine { state = c.machine };
@@ -41,7 +41,7 @@ with_scene t c = record {
   cards = c.cards;
 }
 
--- ---- the machine once the signals that are due came
+-- ---- the machine after the signals that are due at the start
 
 pub started : (m k : Overlap) (xs ys : List Signal) (cards : List (List ℕ)) (x : Coming)
     → ((ts : List (List ℕ)) → with_due_signals (record { machine = m.state; signals = xs; cards = ts }) ≡ record { machine = k.state; signals = ys; cards = ts })
@@ -52,7 +52,7 @@ started m k xs ys cards x came machine is =
     ∙ ap (λ (o : Overlap). record { machine = o; signals = ys; cards = cards }) machine
     ∙ sym (ap (with_scene (record { machine = m; signals = xs; cards = cards })) (came cards))
 
--- ---- signals leave that
+-- ---- signals keep the properties of the start
 
 pub record IsIdle (s : Machine) : Type 0 where
   pub enabled : s.enabled ≡ false
@@ -75,7 +75,7 @@ idle-rests s is = rw is.waiting refl
 idle-interrupt : (s : Machine) → IsIdle s → interrupt s ≡ None
 idle-interrupt s is = rw is.enabled refl
 
--- ---- so nothing comes between the start and the first entry but signals
+-- ---- only signals can occur between the start and the first entry
 
 orders-idle : (c : Scene) → IsIdle c.machine → with_due_orders c ≡ uneventful c
 unfolding with_due_orders
@@ -149,7 +149,7 @@ module _ (c : Scene) (is : IsIdle c.machine) where
       ∙ ap {A = List Timed} (λ xs. xs ++ timed_behind ds n (budget - 1) (standing_at (moment_at_start c)) snaps) between-idle
       ∙ ap {A = Standing} (λ p. timed_behind ds n (budget - 1) p snaps) standing-idle
 
--- ---- all comes in time
+-- ---- the bounds of the ticks
 
 told-all : (P : TimedReportedEvent → Type 0) (xs : List Timed) → All (λ (x : Timed). P (timed_reported_event x)) xs → All P (reported_events xs)
 unfolding reported_events
@@ -169,7 +169,7 @@ run-in_time ds n budget c snaps are levels is none few =
     let low = less k d inside in
     (omega (arith, early, low), omega (arith, low)))
 
--- ---- rising ticks
+-- ---- increasing ticks
 
 rising-from : (t : ℕ) (xs : List ℕ) → IsStrictlyIncreasing xs → (0 < length xs → t ≤ slice_index xs 0) → AreRising t xs
 unfolding AreRising
@@ -190,7 +190,7 @@ increasing-rises xs up = rising-from 0 xs up (λ some. omega arith)
 abbrev pub opened : List ℕ → ℕ → Scene → Together
 opened ds n c = record { machine = machine_at_start ds n c.machine; signals = c.signals; cards = c.cards }
 
--- nothing waits
+-- no pending events
 abbrev pub none : Waiting
 none = record { drops = []; text = None; taken = None }
 

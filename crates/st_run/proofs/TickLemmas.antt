@@ -1,4 +1,4 @@
--- Ticks before the next entry is done, and that at which it is done.
+-- Ticks before the next completion, and the tick of the completion.
 use Rattle.std.specs.Prelude.{is_none, IfSome}
 use Rattle.std.proofs.Common.{◌≡◌, ℕ, zero, suc, ◌+◌, ◌-◌, ◌<◌, ◌≤◌, ◌==◌, ◌^◌, true, false, if◌then◌else◌, List, Option, None, Some, refl, sym, ◌∙◌, ap, subst, arith}
 use Rattle.std.proofs.lemmas.Bool.Decides.{nat_tests}
@@ -15,7 +15,7 @@ use Rattle.st_card.specs.declared.control_cards.Signal.{Signal}
 use Rattle.st_run.specs.Together.{Together, IsBeforeEntry, IsMachineReady}
 use Rattle.st_run.specs.Ticking.{at_completion, AreTicked, AreMade, last_for}
 
--- the interrupt that is pending was taken
+-- the pending interrupt has been taken
 pub ready-table : (o : Overlap) → IsMachineReady o → o.taken ≡ interrupt o.state
 ready-table o h = ap {A = Overlap} (λ x. x.taken) h.between
 
@@ -28,17 +28,17 @@ pub row-same : (o : Overlap) (at : ℕ) → oldest_row (record o { now = at }) �
 unfolding oldest_row state_ahead
 row-same o at = refl
 
--- no interrupt is due, since the one that is pending was taken
+-- no interrupt is due, since the pending one has been taken
 none-due : (s : Machine) (t : Option ℕ) → t ≡ interrupt s → (if is_none t then interrupt s else None) ≡ None
 none-due s None same = sym same
 none-due s (Some i) same = refl
 
--- where nothing comes the tick is settled by passing
+-- without external events, a settle leaves the tick unchanged
 pub still-settled : (m : Overlap) → interrupt_due m ≡ None → rests m.state ≡ false → m.missed ≡ None → machine_after_pass m ≡ machine_after_settling m
 unfolding machine_after_settling
 still-settled m due awake right = rw (due, awake, right) refl
 
--- a tick at which no entry is done passes
+-- a tick without a completion
 between-passes : (ds : List ℕ) (n : ℕ) (s : Machine) (t : Option ℕ) (f : Front) (at : ℕ) → t ≡ interrupt s → rests s ≡ false
     → is_done (machine_between_ticks ds n s t f at) ≡ false
     → machine_after_settling (machine_after_tick (machine_between_ticks ds n s t f at)) ≡ machine_between_ticks ds n s t f (at + 1)
@@ -55,7 +55,7 @@ tick-passes o m at h same late =
     ∙ between-passes o.delays o.levels o.state o.taken o.front at (ready-table o h) h.awake (ap is_done (sym is) ∙ late)
     ∙ sym (between_at (at + 1))
 
--- the next entry is done later
+-- the next entry completes at a later tick
 apart : (c at : ℕ) → at ≤ c → (c == at) ≡ false → at + 1 ≤ c
 apart c at le test = grind (arith, nat_tests)
 
@@ -68,7 +68,7 @@ tick-early o m at early same late =
     apart (oldest_row o).c at early
     (ap (λ r. r.c == at) (sym (row-same o at)) ∙ ap is_done (sym same) ∙ late)
 
--- so do ticks that are passed over, one after another
+-- several ticks without a completion that are skipped
 pub idle-passes : (o : Overlap) (k at : ℕ) (new : Overlap) → IsMachineReady o → at ≤ (oldest_row o).c → ArePassed 0 k (record o { now = at }) new
     → (new ≡ record o { now = at + k }) × (at + k ≤ (oldest_row o).c)
 unfolding after_ticks
@@ -86,7 +86,7 @@ idle-passes o (suc k) at new h early idle =
     let same : at + 1 + k ≡ at + suc k = omega arith in
     (rest.0 ∙ ap {A = ℕ} (λ x. record o { now = x }) same, omega (arith, rest.1))
 
--- it is done at this tick
+-- the entry completes at this tick
 pub tick-done : (o m : Overlap) (at : ℕ) → m ≡ record o { now = at } → is_done m ≡ true → at ≡ (oldest_row o).c
 tick-done o m at same done =
     together (oldest_row o).c at
@@ -96,7 +96,7 @@ pub done-completed : (o m : Overlap) (at : ℕ) → m ≡ record o { now = at } 
 unfolding machine_after_tick
 done-completed o m at same done = rw done refl
 
--- ---- up to the next entry that is done, or a snapshot
+-- ---- up to the next completion or snapshot
 
 until-late : (c now last : ℕ) (snap : Option ℕ) → c ≤ last → last ≡ last_for snap → IfSome snap (λ x. c ≤ x)
 until-late c now last None soon is = tt
@@ -126,7 +126,7 @@ ticked-until o new (Some row) last snap h in_time from is ran =
       ran.row_is ∙ ap {A = Overlap} row_done at_end,
     )
 
--- the same of the parts of a machine with what is to come to it
+-- the effect of ticks on the parts of a machine with its external events
 pub made-until : (old : Together) (m new : Overlap) (xs : List Signal) (cards : List (List ℕ))
     → record { machine = m; signals = xs; cards = cards } ≡ old → IsBeforeEntry old → (oldest_row old.machine).c < 2 ^ 63
     → (snap : Option ℕ) → IfSome snap (λ x. old.machine.now - 1 ≤ x) → (last : ℕ) → last ≡ last_for snap

@@ -1,4 +1,4 @@
--- How a run with its timetable goes on: it ends, or an entry is done, with snapshots before.
+-- The recursion of a timed run: it ends, or an entry completes, with snapshots before it.
 use Rattle.std.proofs.Common.{◌≡◌, ◌≢◌, ℕ, zero, suc, ◌+◌, ◌-◌, ◌<◌, ◌≤◌, true, false, List, [], ◌∷◌, ◌++◌, Option, refl, sym, ◌∙◌, ap, arith, append_assoc, take, drop, length}
 use Rattle.std.proofs.lemmas.List.{take-append-drop, drop-drop}
 use Rattle.std.proofs.lemmas.Bool.{lt-ltb, le-ltb}
@@ -15,9 +15,9 @@ use Rattle.st_run.specs.Moments.{Moment, Standing, next_state, ends_segment, nex
 use Rattle.st_run.specs.TimedRun.{ticks_before, snapshots_from, snapshot_at, events_between, completion, until_done, last_events, timed_from, timed_behind}
 use Rattle.st_run.proofs.CourseLemmas.{next-same, timed-none, timed-step, timed-later}
 
--- ---- turns
+-- ---- one entry
 
--- all snapshots are to come at a moment
+-- all snapshots are at or after the moment
 abbrev AreToCome : Moment → List ℕ → Type 0
 AreToCome m snaps = snapshots_from m.tick snaps ≡ snaps
 
@@ -27,13 +27,13 @@ pub timed-rests : (ds : List ℕ) (n left : ℕ) (m : Moment) (snaps : List ℕ)
 timed-rests ds n zero m snaps come h = timed-none ds n m snaps ∙ ap (last_events m) come
 timed-rests ds n (suc left) m snaps come h = timed-step ds n left m snaps ∙ (rw h (ap (last_events m) come))
 
--- so does a budget that is used up
+-- a budget that is used up ends the run
 pub timed-budget : (ds : List ℕ) (n left : ℕ) (m : Moment) (snaps : List ℕ) → AreToCome m snaps → left ≡ 0
     → timed_from ds n left m snaps ≡ last_events m snaps
 timed-budget ds n zero m snaps come h = timed-none ds n m snaps ∙ ap (last_events m) come
 timed-budget ds n (suc left) m snaps come h = absurd (omega arith)
 
--- else the next entry is done
+-- otherwise the next entry completes
 goes_on-some : (ds : List ℕ) (n left : ℕ) (m : Moment) (snaps : List ℕ) → AreToCome m snaps → rests (next_state m) ≡ false
     → timed_from ds n (suc left) m snaps ≡ events_between m ++ timed_behind ds n left (standing_at m) snaps
 goes_on-some ds n left m snaps come h =
@@ -50,9 +50,9 @@ timed-goes_on ds n (suc left) m snaps come some h =
     let same : left ≡ suc left - 1 = omega arith in
     goes_on-some ds n left m snaps come h ∙ ap (λ k. events_between m ++ timed_behind ds n k (standing_at m) snaps) same
 
--- ---- before an entry is done
+-- ---- before a completion
 
--- a snapshot that is due before is shown first
+-- a snapshot before the completion is the next event
 pub behind-snapshot : (ds : List ℕ) (n left : ℕ) (p : Standing) (x : ℕ) (xs : List ℕ) → x < (next_moment ds n p).tick
     → timed_behind ds n left p (x ∷ xs) ≡ snapshot_at ds n p x ∷ timed_behind ds n left p xs
 unfolding until_done ticks_before
@@ -61,7 +61,7 @@ behind-snapshot ds n left p x xs early =
     ap (λ (rest : List Timed). until_done ds n p (x ∷ xs) ++ rest) (timed-later ds n left next x xs (next-same ds n p) early)
     ∙ (rw (lt-ltb x next.tick early) refl)
 
--- where none is, the entry is done
+-- without a snapshot before it, the completion is the next event
 pub behind-done : (ds : List ℕ) (n left : ℕ) (p : Standing) (x : ℕ) (xs : List ℕ) → (next_moment ds n p).tick ≤ x
     → timed_behind ds n left p (x ∷ xs) ≡ completion ds n p ∷ timed_from ds n left (next_moment ds n p) (x ∷ xs)
 unfolding until_done ticks_before
@@ -72,7 +72,7 @@ pub behind-none : (ds : List ℕ) (n left : ℕ) (p : Standing)
 unfolding until_done ticks_before
 behind-none ds n left p = refl
 
--- ---- snapshots of which nothing is ahead
+-- ---- snapshots without entries in flight
 
 pub same-words : (s : Machine) → with_index_words (index_words s) s ≡ s
 unfolding with_index_words index_words
@@ -88,9 +88,9 @@ pub snapshot-none : (tick : ℕ) (t : Option ℕ) (s : Machine) → snapshot tic
 unfolding snapshot split_words
 snapshot-none tick t s = ap (λ u. Shows tick u []) (same-words s)
 
--- ---- behind the end of a segment
+-- ---- after the end of a segment
 
--- the first entry of a segment is prepared behind its start
+-- the first entry of a segment is prepared after its start
 opening-late : (ds : List ℕ) (n k : ℕ) (t : Option ℕ) (s : Machine) (banks : LastAnswers) (start tick : ℕ) → tick ≤ start
     → prepared_before (tick + 1) (ahead ds n k t s (opening_front banks start)) ≡ []
 unfolding ahead prepared_before row_of_entry tick_a tick_p address_tick preparation_tick

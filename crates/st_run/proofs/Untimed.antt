@@ -1,4 +1,4 @@
--- A run with its timetable is the plain run, with what belongs to the timetable left out.
+-- A timed run without its timing is the plain run.
 use Rattle.std.specs.Prelude.{map, reverse}
 use Rattle.std.proofs.Common.{◌≡◌, ℕ, zero, suc, ◌+◌, Bool, true, false, if◌then◌else◌, List, [], ◌∷◌, ◌++◌, refl, sym, ◌∙◌, ap, append_assoc, append-nil}
 use Rattle.st_exec.specs.Step.{step, rests, address, interrupt}
@@ -18,13 +18,13 @@ untimed-append (x ∷ xs) ys =
     ap (λ rest. plain_events_of x.event ++ rest) (untimed-append xs ys)
     ∙ sym (append_assoc (plain_events_of x.event) (plain_run xs) (plain_run ys))
 
--- nothing of the plain run is among them
+-- none of these events belongs to the plain run
 none-of : {A : Type 0} (f : A → Timed) (xs : List A) → ((x : A) → plain_events_of (f x).event ≡ []) → plain_run (map f xs) ≡ []
 unfolding plain_run
 none-of f [] void = refl
 none-of f (x ∷ xs) void = rw (void x) (none-of f xs void)
 
--- the happenings of the plain run are what they were
+-- the events of the plain run are unchanged
 happenings : (m : Moment) (hs : List PlainEvent) → plain_run (map (happening_at m) hs) ≡ hs
 unfolding plain_run
 happenings m [] = refl
@@ -43,7 +43,7 @@ snapshots-none : (ds : List ℕ) (n : ℕ) (p : Standing) (xs : List ℕ) → pl
 unfolding snapshot
 snapshots-none ds n p xs = none-of (snapshot_at ds n p) xs (λ x. refl)
 
--- ---- a turn
+-- ---- one entry
 
 between-plain : (m : Moment)
     → plain_run (events_between m) ≡ (interlude m.scene).happened ++ interrupts_by (interrupt (next_state m)) (next_state m)

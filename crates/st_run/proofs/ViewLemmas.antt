@@ -1,4 +1,4 @@
--- What is shown of the levels is what they are.
+-- The views of the levels agree with the levels.
 use Rattle.std.specs.Prelude.{map, slice_index, IfSome, option_map, nat_lt, replicate}
 use Rattle.std.proofs.Common.{◌≡◌, ℕ, zero, suc, ◌+◌, ◌-◌, ◌<◌, false, List, [], ◌∷◌, ◌++◌, length, drop, Option, None, Some, refl, sym, ◌∙◌, ap, subst}
 use Rattle.std.proofs.lemmas.List.{get_or-take, get_or-drop, length-map}
@@ -36,7 +36,7 @@ use Rattle.st_run.proofs.TickLemmas.{ready-table}
 
 -- ---- the word that an early change replaces
 
--- what is kept of it is the index word as it was
+-- the view contains the previous contents of the index word
 abbrev Keeps : List ℕ → Option IndexChange → Type 0
 Keeps xs o = IfSome o (λ c. c.kept ≡ slice_index xs c.number)
 
@@ -102,7 +102,7 @@ word-of_index : (s : Machine) (j : ℕ) → j < 16 → slice_index (index_words 
 unfolding index_words
 word-of_index s j low = get_or-take 16 (drop 16 s.words) j 0 low ∙ get_or-drop 16 s.words j 0
 
--- so it stands in the state before the step
+-- the view contains the index word of the state before the entry's own step
 changed-same : (o : Option IndexChange) (s : Machine) → Keeps (index_words s) o → IfSome o IsChange
     → option_map {U = ℕ × ℕ} (λ (i : ℕ). (i, word_before_change o)) (option_map (λ (c : IndexChange). c.number) o)
     ≡ option_map {U = ℕ × ℕ} (λ (c : IndexChange). (c.number, word s (16 + c.number))) o
@@ -116,7 +116,7 @@ level-is tick a m some =
     ap {A = Option (ℕ × ℕ)} (λ o. record (level_at tick a) { changed = o })
     (changed-same (plan_of a).index a.state (plan-keeps a.state a.table) (plan-prepared a.state a.table m some).change)
 
--- ---- all of them
+-- ---- all levels
 
 levels-are : (tick now : ℕ) (ds : List ℕ) (n k : ℕ) (t : Option ℕ) (s : Machine) (f : Front) → IsMachine s → IfSome t (λ i. i < 64)
     → map level_of (map (level_shown tick) (prepared_before now (ahead ds n k t s f)))

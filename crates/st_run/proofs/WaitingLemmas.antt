@@ -1,4 +1,4 @@
--- What waits to be told, one thing after another.
+-- The order of the pending events.
 use Rattle.std.specs.Prelude.{map, reverse, is_some, option_map}
 use Rattle.std.proofs.Common.{◌≡◌, ℕ, ◌<◌, ◌≤◌, false, true, length, arith, List, [], ◌∷◌, ◌++◌, Option, None, Some, refl, ◌∙◌, ap}
 use Rattle.std.proofs.lemmas.List.{reverse-append}
@@ -12,26 +12,26 @@ use Rattle.st_run.specs.Telling.{Waiting, waiting_events}
 reverse-push : (drops : List (ℕ × ℕ)) (d : ℕ × ℕ) → reverse (drops ++ d ∷ []) ≡ d ∷ reverse drops
 reverse-push drops d = reverse-append drops (d ∷ [])
 
--- the youngest entry that is dropped comes first
+-- the youngest flushed entry is first
 pub waiting_events-drop : (w : Waiting) (drops : List (ℕ × ℕ)) (d : ℕ × ℕ) (s : Machine) → w.drops ≡ drops ++ d ∷ []
     → waiting_events w s ≡ Dropped d.0 d.1 ∷ waiting_events (record w { drops = drops }) s
 unfolding waiting_events
 waiting_events-drop w drops d s same =
     ap (λ xs. map (λ (e : ℕ × ℕ). Dropped e.0 e.1) xs ++ map Printed (option_to_list w.text) ++ map reported_plain_event (interrupts_by w.taken s)) (ap reverse same ∙ reverse-push drops d)
 
--- then the text
+-- the text follows the flushed entries
 pub waiting_events-text : (w v : Waiting) (text : List ℕ) (s : Machine) → w.drops ≡ [] → w.text ≡ Some text
     → v ≡ record { drops = []; text = None; taken = w.taken } → waiting_events w s ≡ Printed text ∷ waiting_events v s
 unfolding waiting_events
 waiting_events-text w v text s none same is = rw (none, same, is) refl
 
--- then the interrupt
+-- the interrupt follows the text
 pub waiting_events-taken : (w v : Waiting) (i : ℕ) (s : Machine) → w.drops ≡ [] → w.text ≡ None → w.taken ≡ Some i
     → v ≡ record { drops = []; text = None; taken = None } → waiting_events w s ≡ Interrupted i s ∷ waiting_events v s
 unfolding waiting_events
 waiting_events-taken w v i s none empty same is = rw (none, empty, same, is) refl
 
--- and then nothing
+-- no event follows the interrupt
 pub waiting_events-none : (w : Waiting) (s : Machine) → w.drops ≡ [] → w.text ≡ None → w.taken ≡ None → waiting_events w s ≡ []
 unfolding waiting_events
 waiting_events-none w s none empty same = rw (none, empty, same) refl
@@ -41,7 +41,7 @@ pub no-items : (xs : List (ℕ × ℕ)) → (0 < length xs → false ≡ true) �
 no-items [] none = refl
 no-items (x ∷ xs) none = let some : 0 < length (x ∷ xs) = omega arith in absurd (cc (none some))
 
--- it is the same where each part of it is
+-- pending events are equal if their parts are
 pub waiting-same : (v w : Waiting) → v.drops ≡ w.drops → v.text ≡ w.text → v.taken ≡ w.taken → v ≡ w
 waiting-same v w drops text taken =
     ap {A = List (ℕ × ℕ)} (λ xs. record v { drops = xs }) drops

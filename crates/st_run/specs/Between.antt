@@ -1,4 +1,4 @@
--- The decision between two entries how the run goes on.
+-- The decision between two entries: whether the run continues, and whether the segment ends.
 use Rattle.std.specs.Prelude.{ℕ, ◌≡◌, ◌≢◌, Bool, true, false, ◌||◌, is_some, Option, None, Some}
 use Rattle.st_state.specs.Machine.{Machine}
 use Rattle.st_state.specs.Orders.{is_due}
@@ -11,30 +11,31 @@ use Rattle.st_run.specs.declared.turn.Turn.{Turn}
 use Rattle.st_run.specs.declared.turn.Turn.TheVariants.{Before, AtEnd, Over}
 use Rattle.st_run.specs.declared.leaving.Decided.{Decided}
 
--- a run in a state goes on, by what then holds; or its last segment ends, at rest or where no more
--- may be done, by what holds there
+-- the decision d in state s: the run continues, and then going holds; or its last segment ends, at
+-- rest or with the budget used up, and then ending holds
 abbrev pub IsDecidedBy : Turn → ℕ → Machine → Decided → Type 0 → Type 0 → Type 0
 IsDecidedBy Before left s d going ending = (left ≢ 0) × (rests s ≡ false) × going
 IsDecidedBy (AtEnd resting) left s d going ending =
     (resting ≡ rests s) × (resting ≡ false → left ≡ 0) × (d.ends ≡ true) × (d.taken ≡ None) × ending
 IsDecidedBy Over left s d going ending = ⊥
 
--- the machine goes on by its decision about interrupts, or ends its last segment
+-- the machine after the decision: it continues with the decision about interrupts, or its last
+-- segment ends
 abbrev pub IsChoice : Turn → ℕ → Bool → Overlap → Decided → Overlap → Type 0
 IsChoice turn left over old d new = IsDecidedBy turn left old.state d
     ((new ≡ machine_after_settling old) × (d.taken ≡ interrupt_due old)
     × (d.ends ≡ (is_some old.missed || over || is_some (interrupt_due old))))
     (new ≡ run_ended old)
 
--- whether the segment ends and which interrupt is taken, by the answer
+-- the choice by the result of a settle: whether the segment ends, and the interrupt that is taken
 abbrev pub choice_of : Settled → Bool → Bool × Option ℕ
 choice_of (answers.Interrupt i done ic dropped) over = (true, Some i)
 choice_of (answers.Missed dropped) over = (true, None)
 choice_of _ over = (over, None)
 
--- ---- nothing of it
+-- ---- no external event
 
--- no order is due, the machine does not wait, and the next decision ends no segment
+-- no order is due, the machine does not wait, and the next decision does not end the segment
 pub record IsQuiet (o : Overlap) : Type 0 where
   pub reader : is_due o.state.done o.state.reader ≡ false
   pub printer : is_due o.state.done o.state.printer ≡ false

@@ -1,4 +1,4 @@
--- What was decided between two entries.
+-- The decision between two entries in terms of the moment.
 use Rattle.std.specs.Prelude.{ℕ, ◌≡◌, ◌+◌, false, [], None, option_map}
 use Rattle.st_exec.specs.Step.{interrupt}
 use Rattle.st_ahead.specs.Overlap.{levels_of}
@@ -9,7 +9,7 @@ use Rattle.st_run.specs.Between.{IsDecidedBy}
 use Rattle.st_run.specs.declared.turn.Turn.TheVariants.{Before}
 use Rattle.st_run.specs.declared.leaving.Decided.{Decided}
 
--- the next entry comes next
+-- the run continues with the next entry
 pub record RunGoesOn (m : Moment) (d : Decided) (t : Together) : Type 0 where
   pub before : IsBeforeEntry t
   pub standing : standing_of m.tick t ≡ standing_at m
@@ -17,12 +17,12 @@ pub record RunGoesOn (m : Moment) (d : Decided) (t : Together) : Type 0 where
   pub taken : d.taken ≡ interrupt (next_state m)
   pub now : t.machine.now ≡ m.tick + 1
 
--- what was decided is what the moment gives: the text that is printed, and how the run goes on
+-- the decision agrees with the moment: the printed text, and whether and how the run continues
 pub record IsDecided (left : ℕ) (m : Moment) (d : Decided) (t : Together) : Type 0 where
   pub text : AreTexts (option_map (λ x. x.bytes) d.text) (interlude m.scene).happened
   pub way : IsDecidedBy d.turn left (next_state m) d (RunGoesOn m d t)
       ((scene_of t ≡ next_scene m) × (levels_of t.machine ≡ []))
 
--- where nothing comes and the segment goes on
+-- the decision if nothing occurs and the segment continues
 abbrev pub nothing_decided : Decided
 nothing_decided = record { ends = false; text = None; taken = None; turn = Before }

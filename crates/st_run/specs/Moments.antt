@@ -1,5 +1,5 @@
--- Where a run with its timetable stands: when an entry has just been done, and before the next one.
--- The machine has the delays ds and n levels.
+-- The points of a timed run: right after an entry completes, and right before the next one. The
+-- machine has the delays ds and n levels.
 use Rattle.std.specs.Prelude.{ℕ, Bool, false, ◌||◌, nat_lt, if◌then◌else◌, is_some, List, [], length, None}
 use Rattle.st_state.specs.Machine.{Machine}
 use Rattle.st_prep.specs.Plan.{plan}
@@ -16,10 +16,10 @@ use Rattle.st_rows.specs.declared.front.EntryTicks.{EntryTicks}
 use Rattle.st_segment.specs.Entries.{entry}
 use Rattle.st_segment.specs.Ahead.{Ahead, ahead, prepared_before, reads_to_end, banks_at_end, front_behind_end}
 
--- An entry has just been done, at this tick, and nothing has come from outside since: the scene
--- with the state that it leaves; the front behind it; whether the guess was wrong by which others
--- ran ahead of it; and for the case that the segment ends here, the entries that are prepared
--- behind that guess, oldest first, and the last answers of the banks.
+-- the point at which an entry has completed at this tick, before any external event: the scene with
+-- the state after it; the front after it; whether its branch was mispredicted; and, in case the
+-- segment ends here, the entries in flight after the prediction, oldest first, and the last answers
+-- of the banks
 pub record Moment : Type 0 where
   pub scene : Scene
   pub tick : ℕ
@@ -28,14 +28,14 @@ pub record Moment : Type 0 where
   pub dropped : List Ahead
   pub banks : LastAnswers
 
--- What comes between two entries is over: the scene, the tick at which the last entry was done, and
--- the front that the row of the next one is computed from.
+-- the point right before the next entry, after all external events: the scene, the tick of the last
+-- completion, and the front from which the row of the next entry is computed
 pub record Standing : Type 0 where
   pub scene : Scene
   pub tick : ℕ
   pub front : Front
 
--- the start of a run, at tick 0
+-- the moment at the start of a run, at tick 0
 abbrev pub moment_at_start : Scene → Moment
 moment_at_start c = record {
   scene = c;
@@ -46,10 +46,10 @@ moment_at_start c = record {
   banks = idle_banks;
 }
 
--- ---- what comes between two entries
+-- ---- the transition between two entries
 
 module _ (m : Moment) where
-  -- the scene before the next entry: signals, orders and waits are over
+  -- the scene before the next entry, after signals, orders and waits
   abbrev pub next_scene : Scene
   next_scene = (interlude m.scene).scene
 
@@ -57,58 +57,58 @@ module _ (m : Moment) where
   abbrev pub next_state : Machine
   next_state = next_scene.machine
 
-  -- the reader has put a card into storage
+  -- whether the reader has put a card into storage since the moment
   abbrev pub has_card : Bool
   has_card = nat_lt (length next_scene.cards) (length m.scene.cards)
 
-  -- with the signals and the orders that are due, the machine rests: it waits for what comes next
+  -- whether the machine is at rest after the signals and orders that are due: it waits for the next
+  -- event
   abbrev pub has_waited : Bool
   has_waited =
       rests (with_due_orders (with_due_signals m.scene)).scene.machine
 
-  -- where the run goes on, the segment ends here if a branch was missed, a card came, the machine
-  -- waited, or an interrupt is taken
+  -- whether the segment ends here if the run continues: a branch was mispredicted, a card came, the
+  -- machine waited, or an interrupt is taken
   unfoldable pub ends_segment : Bool
   ends_segment = m.missed || has_card || has_waited || is_some (interrupt next_state)
 
-  -- the front of the segment behind it, which starts one tick later and one more for each entry
-  -- that is dropped
+  -- the front of the next segment, which starts one tick later and one more for each flushed entry
   abbrev pub next_segment : Front
   next_segment = front_behind_end m.banks m.tick (length m.dropped)
 
-  -- the front of the next entry's row
+  -- the front from which the row of the next entry is computed
   unfoldable pub next_front : Front
   next_front = if ends_segment then next_segment else m.front
 
-  -- where the run stands then
+  -- the point before the next entry
   abbrev pub standing_at : Standing
   standing_at = record { scene = next_scene; tick = m.tick; front = next_front }
 
 -- ---- the next entry
 
--- the next entry, as the timetable sees it; it may be the table instruction of an interrupt
+-- the next entry as the timetable sees it, which may be the table instruction of an interrupt
 abbrev pub entry_of_moment : Standing → Entry
 entry_of_moment p = entry (interrupt p.scene.machine) p.scene.machine
 
 module _ (ds : List ℕ) (n : ℕ) (p : Standing) where
-  -- its row
+  -- the row of the next entry
   unfoldable pub next_row : EntryTicks
   next_row = row_of_entry ds n p.front (entry_of_moment p)
 
-  -- the front behind it
+  -- the front after the next entry
   abbrev pub front_after : Front
   front_after = front_after_entry ds n p.front (entry_of_moment p)
 
-  -- it, and the entries behind it, by guessed steps
+  -- the next entry and the entries in flight after it, along predicted states
   abbrev pub entries_at_moment : List Ahead
   entries_at_moment = ahead ds n n (interrupt p.scene.machine) p.scene.machine p.front
 
-  -- so many entries behind its guess
+  -- the k entries in flight after the prediction of the next entry
   abbrev pub entries_behind : ℕ → List Ahead
   entries_behind k = ahead ds n k None (guess (interrupt p.scene.machine) p.scene.machine)
       front_after
 
-  -- the moment at which it is done: of the reads those are made that are accepted before
+  -- the moment at which the next entry completes; reads that are accepted before this tick are made
   unfoldable pub next_moment : Moment
   next_moment = record {
     scene = scene_after_step p.scene;
@@ -120,7 +120,7 @@ module _ (ds : List ℕ) (n : ℕ) (p : Standing) where
         (interrupt p.scene.machine) p.scene.machine p.front (entry_of_moment p)) p.front.bus;
   }
 
--- the moments of a run from one on, behind which so many entries may still be done
+-- the moments of a run from a given one, with the given budget of instructions
 abbrev pub moments : List ℕ → ℕ → ℕ → Moment → Course Moment
 moments ds n left m = course (λ m. rests (next_state m)) (λ m. next_moment ds n (standing_at m))
     left m

@@ -1,5 +1,4 @@
--- What comes to a machine from outside between two steps, whatever the machine has beside its plain
--- state.
+-- External events of a machine between two steps, for any machine that has a plain state.
 use Rattle.std.specs.Prelude.{ℕ, ◌≡◌, ◌≤◌, ◌||◌, Bool, false, nat_lt, nat_le, List, [], ◌∷◌, length, Option, None, Some}
 use Rattle.std.specs.Option.{option_or}
 use Rattle.st_card.specs.declared.control_cards.Signal.{Signal}
@@ -7,23 +6,23 @@ use Rattle.st_state.specs.Machine.{Machine}
 use Rattle.st_run.specs.Run.{Scene, PlainEvent, Prints, Transition}
 use Rattle.st_run.specs.declared.between.Interlude.{Interlude}
 
--- what is still to come
+-- the signals and the reader's cards that are still to come
 pub record Coming : Type 0 where
   pub signals : List Signal
   pub cards : List (List ℕ)
 
--- the scene of a machine to which it comes
+-- the scene of a state with these external events
 abbrev pub scene_at : Machine → Coming → Scene
 scene_at s x = record { machine = s; signals = x.signals; cards = x.cards }
 
--- the first signal comes where so many are done
+-- whether the first signal is due at the given count of completed instructions
 abbrev pub signal_due : ℕ → List Signal → Bool
 signal_due done [] = false
 signal_due done (x ∷ xs) = nat_le x.count done
 
--- ---- what came
+-- ---- summaries of external events
 
--- one thing after another
+-- the summary of two successive interludes
 abbrev pub joined_of : Interlude → Interlude → Interlude
 joined_of i j = record {
   card = i.card || j.card;
@@ -31,18 +30,18 @@ joined_of i j = record {
   words = option_or i.words j.words;
 }
 
--- a card or a wait ends the segment
+-- whether an interlude ends the segment, by a card or a wait
 abbrev pub ends_by : Interlude → Bool
 ends_by i = i.waited || i.card
 
--- what happened is that this was printed, and nothing else
+-- the events are exactly the print of these words, or none
 abbrev pub ArePrinted : Option (List ℕ) → List PlainEvent → Type 0
 ArePrinted None happened = happened ≡ []
 ArePrinted (Some words) happened = (s : Machine) × (happened ≡ Prints s words ∷ [])
 
--- What came to a machine: its scene is the one that is reached; the words are what was printed, if
--- that is no more than one area; whether a card came, and whether the machine waited; and what is
--- left of the rest of the machine
+-- the effect of external events on a machine: its scene is the one of the transition; the words are
+-- those that were printed, if at most one area was; whether a card came and whether the machine
+-- waited; and the rest of the machine satisfies leaves
 pub record HasHappened {A : Type 0} (state : A → Machine) (leaves : Bool → A → A → Type 0)
     (r : Transition) (waited : Bool) (i : Interlude)
     (old : A) (o : Coming) (new : A) (n : Coming) : Type 0 where

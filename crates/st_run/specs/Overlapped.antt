@@ -1,12 +1,13 @@
--- What comes to an overlapped machine between two entries changes of it.
+-- The changes of an overlapped machine by external events between two entries.
 use Rattle.std.specs.Prelude.{Bool, ◌||◌}
 use Rattle.st_ahead.specs.Overlap.{Overlap}
 use Rattle.st_ahead.specs.Calls.{MayServe}
 use Rattle.st_refine.specs.Reached.{IsLedOn}
 use Rattle.st_run.specs.Together.{Together, IsBehindEntry, IsSince}
 
--- since an entry was done the state alone has changed, and the segment has ended, by what came or
--- before; a device may be served as before, and calls within the protocol lead to it as before
+-- since an entry completed only the state has changed, and the segment has ended, by this event or
+-- before; a device may be served as before, and the machine is still reached by calls within the
+-- protocol
 pub record IsChanged (over : Bool) (m n : Overlap) : Type 0 where
   pub since : (b : Together) (before : Bool) → IsBehindEntry b → IsSince b.machine before m →
       IsSince b.machine (before || over) n

@@ -1,4 +1,4 @@
--- What comes to an overlapped machine changes of it, one thing after another.
+-- Properties of successive external events of an overlapped machine.
 use Rattle.std.proofs.Common.{◌≡◌, ◌||◌, Bool, true, false, refl, sym, subst}
 use Rattle.st_ahead.specs.Overlap.{Overlap}
 use Rattle.st_run.specs.Together.{IsSince}

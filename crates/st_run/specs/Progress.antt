@@ -1,4 +1,4 @@
--- How far a run has come between two things that it tells, and what it still has to tell.
+-- The progress of a run between two events, and the events that remain.
 use Rattle.std.specs.Prelude.{ℕ, ◌≡◌, List, []}
 use Rattle.st_state.specs.Machine.{Machine}
 use Rattle.st_run.specs.TimedRun.{timed_from}
@@ -11,36 +11,37 @@ use Rattle.st_run.specs.declared.run_events.TimedRunEvent.{TimedRunEvent}
 use Rattle.st_run.specs.declared.turn.Turn.TheVariants as turns
 
 module _ {n : ℕ} (run : Progress n) where
-  -- it keeps what a run keeps
+  -- the invariant of a run
   abbrev pub IsUnderWay : Type 0
   IsUnderWay = IsRun run.turn run.left run.tick run.snaps.now run.waiting run.driven
 
-  -- the same before the next entry
+  -- the invariant of a run before the next entry
   abbrev pub IsBeforeNext : Type 0
   IsBeforeNext = IsRun turns.Before run.left run.tick run.snaps.now run.waiting run.driven
 
-  -- what it still has to tell
+  -- the remaining events of the run
   abbrev pub rest_behind : List TimedReportedEvent
   rest_behind = rest_of run.turn run.left run.tick run.snaps.now run.waiting run.driven
 
-  -- nothing waits to be told
+  -- no event is pending
   abbrev pub IsTold : Type 0
   IsTold = (s : Machine) → waiting_events run.waiting s ≡ []
 
-  -- what is told of the events before the next entry is done, and from it on
+  -- the remaining events from the point before the next entry
   abbrev pub told_ahead : List TimedReportedEvent
   told_ahead = rest_by turns.Before run.left run.tick run.snaps.now run.driven
 
-  -- where an entry has just been done, what is told of the events behind it
+  -- the remaining events after an entry has just completed
   abbrev pub told_after : List TimedReportedEvent
   told_after = reported_events (timed_from run.driven.machine.delays run.driven.machine.levels
       run.left (moment_of run.driven) run.snaps.now)
 
--- an answer, by what is shown behind it
+-- the reported form of an event of the interface, with the state, levels and text that are visible
+-- after it
 abbrev pub told_by : {n : ℕ} → TimedRunEvent → Progress n → TimedReportedEvent
 told_by t run = told_as t (state_told run.driven.machine) (ahead_of run.driven.machine)
     run.printed.bytes
 
--- the rows that wait, and then the rest
+-- the events of the pending rows, followed by the remaining events
 abbrev pub rest_with_rows : {n : ℕ} → Teller n → List TimedReportedEvent
 rest_with_rows teller = rows_then teller.rows.rows (rest_behind teller.progress)

@@ -1,4 +1,5 @@
--- A whole run, one instruction after the other: signals and orders take effect between two of them.
+-- A whole run without timing: instructions are executed sequentially, and signals and orders take
+-- effect between them.
 use Rattle.std.specs.Prelude.{ℕ, Bool, nat_le, if◌then◌else◌, slice_get, drop, List, [], ◌∷◌, ◌++◌, map, Option, None, Some}
 use Rattle.std.specs.List.{flat_map}
 use Rattle.std.specs.Option.{option_to_list}
@@ -13,26 +14,26 @@ use Rattle.st_exec.specs.Step.{rests, interrupt, step, address}
 use Rattle.st_exec.specs.Transfer.{words_from, read_in, printed_out}
 use Rattle.st_run.specs.Course.{Course, course}
 
--- a run at a moment: the machine, and the signals and the reader's cards that are still to come
+-- a point of a run: the machine, and the signals and the reader's cards that are still to come
 pub record Scene : Type 0 where
   pub machine : Machine
   pub signals : List Signal
   pub cards : List (List ℕ)
 
--- what a report shows of a run: eight words are printed, an interrupt is taken, the instruction at
--- an address is done and leaves this state, the run ends
+-- an event that a report shows: eight words are printed, an interrupt is taken, the instruction at
+-- an address completes with this state after it, or the run ends
 pub data PlainEvent : Type 0 where
   Prints : Machine → List ℕ → PlainEvent
   Interrupts : Machine → ℕ → PlainEvent
   Executes : Machine → ℕ → PlainEvent
   Ends : Machine → Bool → PlainEvent
 
--- a scene, and what happened on the way to it
+-- the scene after a transition, and the events that occurred
 pub record Transition : Type 0 where
   pub scene : Scene
   pub happened : List PlainEvent
 
--- the signals of a scene come, one after another, as long as the test holds of the next one
+-- the scene after signals are taken, one at a time, while the test holds of the next one
 abbrev pub with_signals_while : (Machine → Signal → Bool) → List Signal → Scene → Scene
 with_signals_while holds [] c = c
 with_signals_while holds (x ∷ xs) c =
@@ -40,23 +41,23 @@ with_signals_while holds (x ∷ xs) c =
     (record c { machine = state_with_signal c.machine x.indicator; signals = xs })
     else c
 
--- those come that are due
+-- the scene after the due signals are taken
 abbrev pub with_due_signals : Scene → Scene
 with_due_signals c = with_signals_while (λ s x. nat_le x.count s.done) c.signals c
 
--- they come as long as the machine rests
+-- the scene after signals are taken while the machine is at rest
 abbrev pub with_signals_at_rest : Scene → Scene
 with_signals_at_rest c = with_signals_while (λ s x. rests s) c.signals c
 
--- a scene where nothing happens
+-- the transition without a change and without events
 abbrev pub uneventful : Scene → Transition
 uneventful c = record { scene = c; happened = [] }
 
--- one thing after another
+-- two transitions in sequence
 abbrev pub and_then : Transition → (Scene → Transition) → Transition
 and_then r f = let q = f r.scene in record { scene = q.scene; happened = r.happened ++ q.happened }
 
--- the order, where it is due
+-- the order if it is due, otherwise None
 abbrev pub if_due : ℕ → Option Order → Option Order
 if_due done order = if is_due done order then order else None
 
@@ -65,8 +66,8 @@ abbrev pub order_of : Device → Machine → Option Order
 order_of Reader s = s.reader
 order_of Printer s = s.printer
 
--- an order of a device takes effect: the reader's brings its next card, if there is one; by the
--- printer's eight words are printed, and EOP is turned on
+-- the transition by an order of a device: the reader's order reads its next card, if there is one;
+-- the printer's order prints eight words and turns on EOP
 abbrev pub with_order : Device → Option Order → Scene → Transition
 with_order _ None c = uneventful c
 with_order Reader (Some order) c = record {
@@ -81,36 +82,37 @@ with_order Printer (Some order) c = record {
   happened = Prints c.machine (words_from c.machine order.word 8) ∷ [];
 }
 
--- the order of a device takes effect, where it is due
+-- the transition by the order of a device if it is due
 abbrev pub with_due_order : Device → Scene → Transition
 with_due_order device c = with_order device (if_due c.machine.done (order_of device c.machine)) c
 
--- the orders that are due take effect, the reader's first
+-- the transition by the due orders, the reader's first
 unfoldable pub with_due_orders : Scene → Transition
 with_due_orders c = and_then (with_due_order Reader c) (λ d. with_due_order Printer d)
 
--- the order of this device takes effect
+-- the transition by the order of the given device, if there is one
 abbrev pub with_device : Option Device → Scene → Transition
 with_device None c = uneventful c
 with_device (Some device) c = with_order device (order_of device c.machine) c
 
--- the order that is given takes effect where the machine rests; the reader's where both are due at
--- once
+-- the transition by the earliest order if the machine is at rest; the reader has priority if both
+-- are due at the same count
 unfoldable pub with_order_at_rest : Scene → Transition
 with_order_at_rest c = if rests c.machine then with_device (next_device c.machine) c
     else uneventful c
 
--- what ends a wait: orders, then signals
+-- the transition that may end a wait: orders, then signals
 unfoldable pub with_wait : Scene → Transition
 with_wait c =
     and_then (and_then (with_order_at_rest c) with_order_at_rest)
     (λ d. uneventful (with_signals_at_rest d))
 
--- what comes between two instructions: the due signals, the due orders, and what ends a wait
+-- the transition between two instructions: the due signals, the due orders, and the events that may
+-- end a wait
 unfoldable pub interlude : Scene → Transition
 interlude c = and_then (with_due_orders (with_due_signals c)) with_wait
 
--- the interrupt that the next step takes, if it takes one
+-- the event of the interrupt that the next step takes, if it takes one
 abbrev pub interrupts_by : Option ℕ → Machine → List PlainEvent
 interrupts_by i s = map (Interrupts s) (option_to_list i)
 
@@ -118,7 +120,7 @@ interrupts_by i s = map (Interrupts s) (option_to_list i)
 abbrev pub scene_after_step : Scene → Scene
 scene_after_step c = record c { machine = step c.machine }
 
--- what happens in the next step
+-- the events of the next step
 abbrev pub happens : Machine → List PlainEvent
 happens s = interrupts_by (interrupt s) s ++ Executes (step s) (address s) ∷ []
 
@@ -128,21 +130,21 @@ happens s = interrupts_by (interrupt s) s ++ Executes (step s) (address s) ∷ [
 abbrev pub state_next : Scene → Machine
 state_next c = (interlude c).scene.machine
 
--- the scenes of a run from one on, in which so many instructions may still be done, each before
--- what comes between two of them
+-- the scenes of a run from a given one with the given budget, each before the transition between
+-- two instructions
 abbrev pub scenes : ℕ → Scene → Course Scene
 scenes left c = course (λ d. rests (state_next d)) (λ d. scene_after_step (interlude d).scene)
     left c
 
--- what happens from a scene to the next one
+-- the events from a scene to the next one
 abbrev pub happens_from : Scene → List PlainEvent
 happens_from c = (interlude c).happened ++ happens (state_next c)
 
--- what happens from the last one on: the run ends, at rest or with the budget used up
+-- the events from the last scene: the run ends, at rest or with the budget used up
 abbrev pub happens_last : Scene → List PlainEvent
 happens_last c = (interlude c).happened ++ Ends (state_next c) (rests (state_next c)) ∷ []
 
--- the run from a scene on to its end
+-- the run from a scene to its end
 unfoldable pub run : ℕ → Scene → Transition
 run left c = record {
   scene = (interlude (scenes left c).last).scene;

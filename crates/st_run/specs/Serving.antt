@@ -1,4 +1,4 @@
--- What a device that is served does to an overlapped machine and to the cards of the reader.
+-- The effect of serving a device on an overlapped machine and on the reader's cards.
 use Rattle.std.specs.Prelude.{ℕ, ◌≡◌, List, [], ◌∷◌, Some, None, IfSome}
 use Rattle.st_state.specs.declared.devices.Device.{Device}
 use Rattle.st_state.specs.declared.devices.Device.TheVariants as devices
@@ -9,7 +9,7 @@ use Rattle.st_ahead.specs.Calls.{drop_count, read_in_by, printed_by}
 use Rattle.st_run.specs.declared.serving.Served.{Served}
 use Rattle.st_run.specs.declared.serving.Served.TheVariants.{Card, NoCard, Printed}
 
--- the next card comes into storage, and so many levels are dropped
+-- the next card is read into storage, and this number of levels is flushed
 pub record HasCome (dropped : ℕ) (m : Overlap) (cards : List (List ℕ)) (n : Overlap)
     (left : List (List ℕ)) : Type 0 where
   pub card : List ℕ
@@ -17,7 +17,7 @@ pub record HasCome (dropped : ℕ) (m : Overlap) (cards : List (List ℕ)) (n : 
   pub dropped_is : dropped ≡ drop_count m
   pub machine : IfSome m.state.reader (λ order. n ≡ read_in_by order.word (Some card) m)
 
--- by the device and what is answered
+-- the effect of serving a device, by its result
 abbrev pub IsServed : Device → Served → Overlap → List (List ℕ) → Overlap → List (List ℕ) → Type 0
 IsServed devices.Reader (Card dropped) m cards n left = HasCome dropped m cards n left
 IsServed devices.Reader NoCard m cards n left =

@@ -1,4 +1,4 @@
--- What a run still has to tell, and what it shows.
+-- The remaining events of a run, and the state that it shows.
 use Rattle.std.specs.Prelude.{ℕ, ◌≡◌, ◌+◌, ◌-◌, ◌<◌, ◌^◌, Bool, List, [], ◌∷◌, ◌++◌, map, reverse, replicate, length, All, Option, None, Some, option_map, IsSome, ◌≤◌}
 use Rattle.std.specs.Option.{option_to_list}
 use Rattle.st_state.specs.Machine.{Machine}
@@ -20,7 +20,8 @@ use Rattle.st_run.specs.declared.run_events.RunEvent.TheVariants as tells
 use Rattle.st_run.specs.declared.turn.Turn.{Turn}
 use Rattle.st_run.specs.declared.turn.Turn.TheVariants as turns
 
--- what is still to be told, the machine, and the state, the levels and the text that are shown
+-- the view of a run: the remaining events, the machine, and the state, levels and text that it
+-- shows
 pub record Telling : Type 0 where
   pub rest : List TimedReportedEvent
   pub machine : Overlap
@@ -28,11 +29,11 @@ pub record Telling : Type 0 where
   pub ahead : List Level
   pub text : List ℕ
 
--- ---- what is told next
+-- ---- the next event
 
--- at a tick, where this state, these levels and this text are shown
+-- the reported forms of events at a tick, with the state, levels and text that are shown
 module _ (tick : ℕ) (s : Machine) (levels : List Level) (text : List ℕ) where
-  -- what an answer tells
+  -- the reported form of an event
   abbrev pub reported_answer : RunEvent → ReportedEvent
   reported_answer (tells.Done address p r) = Done address p r tick
   reported_answer (tells.Dropped address p) = Dropped address p
@@ -41,58 +42,59 @@ module _ (tick : ℕ) (s : Machine) (levels : List Level) (text : List ℕ) wher
   reported_answer (tells.Shown at) = Shown at s levels
   reported_answer (tells.Ended rests) = Ended rests s
 
--- a row as it is told
+-- the reported form of a row
 abbrev pub row_told : Row → TimedReportedEvent
 row_told row =
     record { done = row.number; tick = row.c; event = Done row.address row.p row.r row.c }
 
--- rows that wait to be told, and the rest
+-- the events of rows, followed by the remaining events
 abbrev pub rows_then : List Row → List TimedReportedEvent → List TimedReportedEvent
 rows_then rows rest = map row_told rows ++ rest
 
--- of what was to be told rows are left out at the front, of which this is the last one, and nothing
--- else
+-- the events of some rows, ending with this last one, were skipped from the front of the old list,
+-- and nothing else
 pub record AreLeftOut (last : Row) (old new : List TimedReportedEvent) : Type 0 where
   pub passed : List Row
   pub rest : old ≡ rows_then passed (row_told last ∷ new)
 
--- ---- what is told between two entries
+-- ---- pending events between two entries
 
--- the entries that are dropped, oldest first; the text that is printed; the interrupt that is taken
+-- the pending events between two entries: the flushed entries, oldest first; the text that is
+-- printed; the interrupt that is taken
 pub record Waiting : Type 0 where
   pub drops : List (ℕ × ℕ)
   pub text : Option (List ℕ)
   pub taken : Option ℕ
 
--- all of this in its order
+-- the pending events in order
 unfoldable pub waiting_events : Waiting → Machine → List ReportedEvent
 waiting_events w s =
     map (λ d. Dropped d.0 d.1) (reverse w.drops) ++ map Printed (option_to_list w.text)
     ++ map reported_plain_event (interrupts_by w.taken s)
 
--- told in a state whose last entry was done at a tick
+-- an event at the tick of the last completion
 abbrev pub at_once : ℕ → Machine → ReportedEvent → TimedReportedEvent
 at_once tick s event = record { done = s.done; tick = tick; event = event }
 
--- ---- all that is still to be told
+-- ---- all remaining events
 
--- at the end of the run: snapshots up to the last tick, and the end
+-- the events at the end of the run: snapshots up to the last tick, and the end
 unfoldable pub told_at_end : Bool → ℕ → List ℕ → Machine → List TimedReportedEvent
 told_at_end rests tick snaps s =
     map (λ x. at_once tick s (Shown x s [])) (ticks_before (tick + 1) snaps)
     ++ at_once tick s (Ended rests s) ∷ []
 
--- where the machine stands by the turn: an entry is to be done, or nothing is ahead any more
+-- the machine agrees with the phase of the run: an entry follows, or no entry is in flight any more
 abbrev pub IsTurn : Turn → List ℕ → Together → Type 0
 IsTurn turns.Before snaps t = IsBeforeEntry t × AreRising (t.machine.now - 1) snaps
 IsTurn _ snaps t = levels_of t.machine ≡ []
 
--- all that is still to be told comes in time
+-- the ticks and counts of all events are below 2 ^ 63
 abbrev pub AreInTime : List TimedReportedEvent → Type 0
 AreInTime = All (λ x. (x.tick < 2 ^ 63) × (x.done < 2 ^ 63))
 
--- by the turn: before the next entry, behind which so many more may be done; at the end, or behind
--- it
+-- the remaining events by the phase of the run: before the next entry, with the budget after it; at
+-- the end; or after it
 abbrev pub rest_by : Turn → ℕ → ℕ → List ℕ → Together → List TimedReportedEvent
 rest_by turns.Before left tick snaps t =
     reported_events (timed_behind t.machine.delays t.machine.levels left (standing_of tick t) snaps)
@@ -100,35 +102,35 @@ rest_by (turns.AtEnd rests) left tick snaps t = told_at_end rests tick snaps t.m
 rest_by turns.Over left tick snaps t = []
 
 module _ (turn : Turn) (left tick : ℕ) (snaps : List ℕ) (w : Waiting) (t : Together) where
-  -- what waits to be told, and then that
+  -- the pending events, followed by the remaining ones
   unfoldable pub rest_of : List TimedReportedEvent
   rest_of =
       map (at_once tick t.machine.state) (waiting_events w t.machine.state)
       ++ rest_by turn left tick snaps t
 
-  -- where an interrupt waits to be told nothing is ahead, so that the state is shown in which it is
-  -- taken
+  -- the invariant of a run; if an interrupt is pending, no entry is in flight, so that the state in
+  -- which it is taken is the one that is shown
   pub record IsRun : Type 0 where
     pub stands : IsTurn turn snaps t
     pub taken : IsSome w.taken → levels_of t.machine ≡ []
     pub in_time : AreInTime rest_of
 
--- ---- what is shown
+-- ---- the state that is shown
 
--- the state with the index words of what runs ahead
+-- the state with the index words of the entries in flight
 abbrev pub state_told : Overlap → Machine
 state_told m = with_index_words (lent_index_words m) m.state
 
--- what runs ahead, after the last tick
+-- the entries in flight, after the last tick
 abbrev pub ahead_of : Overlap → List Level
 ahead_of m = map (level_at (last_tick_made m)) (levels_of m)
 
--- an answer, where this state, these levels and this text are shown
+-- the reported form of an event of the interface, with the state, levels and text that are shown
 abbrev pub told_as : TimedRunEvent → Machine → List Level → List ℕ → TimedReportedEvent
 told_as t s levels text =
     record { done = t.done; tick = t.tick; event = reported_answer t.tick s levels text t.event }
 
--- a level, of what the machine shows of it
+-- a level from its view
 abbrev pub level_of : LevelView → Level
 level_of v = record {
   address = v.address;
@@ -136,27 +138,27 @@ level_of v = record {
   ready = v.ready;
 }
 
--- the levels that are shown, with room for eight
+-- the views of at most eight levels agree with the levels
 pub record AreLevelsShown (shown : List (Option LevelView)) (levels : List Level) : Type 0 where
   pub views : List LevelView
   pub room : shown ≡ map (λ v. Some v) views ++ replicate (8 - length views) None
   pub same : map level_of views ≡ levels
 
--- ---- on the way from one thing that is told to the next
+-- ---- between one event and the next
 
--- the tick before was that of the first snapshot
+-- the previous tick was that of the first snapshot
 abbrev pub IsAtFirst : ℕ → List ℕ → Type 0
 IsAtFirst now [] = ⊥
 IsAtFirst now (x ∷ xs) = (now ≡ x + 1) × AreRising (x + 1) xs
 
--- the tick of a snapshot was made last
+-- the tick of the first snapshot has just been made
 pub record IsShown (left tick : ℕ) (snaps : List ℕ) (t : Together) : Type 0 where
   pub before : IsBeforeEntry t
   pub first : IsAtFirst t.machine.now snaps
   pub soon : t.machine.now ≤ 2 ^ 63
   pub in_time : AreInTime (rest_by turns.Before left tick snaps t)
 
--- an entry has just been done at a tick
+-- an entry has just completed at the tick
 pub record IsLeft (left : ℕ) (snaps : List ℕ) (tick : ℕ) (t : Together) : Type 0 where
   pub behind : IsBehindEntry t
   pub tick_is : tick ≡ t.machine.now
@@ -165,8 +167,9 @@ pub record IsLeft (left : ℕ) (snaps : List ℕ) (tick : ℕ) (t : Together) : 
   pub in_time : AreInTime (reported_events (timed_from t.machine.delays t.machine.levels left
       (moment_of t) snaps))
 
--- rows up to this one are left out, and those before it wait as far as there is room; when `done`
--- were done before the first of them, and `most` at most behind this one or it is the only one
+-- the events of the rows up to this one are skipped from the old list; the rows before it are added
+-- to the queue as far as there is room. Here done instructions were completed before the first of
+-- these rows, and after the last one at most as many as most, or it is the only one.
 pub record HasGoneFar (done most : ℕ) (row : Row) (old new : List TimedReportedEvent)
     (before after : Queue) : Type 0 where
   pub out : AreLeftOut row old new

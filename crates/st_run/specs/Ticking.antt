@@ -1,16 +1,16 @@
--- What ticks make of a machine, up to an entry that is done or up to a snapshot.
+-- The effect of ticks on a machine, up to the next completion or snapshot.
 use Rattle.std.specs.Prelude.{ℕ, ◌≡◌, ◌+◌, ◌-◌, ◌<◌, ◌≤◌, ◌^◌, min, Option, None, Some, IfSome}
 use Rattle.st_ahead.specs.Overlap.{Overlap, oldest_row}
 use Rattle.st_ahead.specs.Calls.{machine_after_completion, row_done}
 use Rattle.st_ahead.specs.declared.events.Row.{Row}
 use Rattle.st_run.specs.Together.{Together}
 
--- the machine at the tick at which the oldest entry is done
+-- the machine at the tick of the oldest entry's completion
 abbrev pub at_completion : Overlap → Overlap
 at_completion o = record o { now = (oldest_row o).c }
 
--- the ticks up to that of a snapshot were made, before an entry was done; or an entry was done at
--- the last of them, and no snapshot comes before
+-- either the ticks up to that of a snapshot were made before any completion, or an entry completed
+-- at the last tick and no snapshot is earlier
 abbrev pub AreTicked : Option Row → Option ℕ → Overlap → Overlap → Type 0
 AreTicked None None old new = ⊥
 AreTicked None (Some x) old new = (x < (oldest_row old).c) × (new ≡ record old { now = x + 1 })
@@ -19,12 +19,12 @@ AreTicked (Some row) snap old new =
     × (new ≡ machine_after_completion (at_completion old))
     × (row ≡ row_done (at_completion old))
 
--- such ticks are made by a machine with what is still to come, which stays
+-- such ticks were made, and the signals and cards did not change
 pub record AreMade (ticks : Overlap → Overlap → Type 0) (old new : Together) : Type 0 where
   pub ticked : ticks old.machine new.machine
   pub kept : new ≡ record old { machine = new.machine }
 
--- the last tick that may be made: that of a snapshot, or one that no run reaches
+-- the last tick that may be made: that of the snapshot, or one that no run reaches
 abbrev pub last_for : Option ℕ → ℕ
 last_for None = 2 ^ 63 - 1
 last_for (Some x) = min x (2 ^ 63 - 1)

@@ -13,45 +13,45 @@ use Rattle.st_run.specs.Moments.{Moment, Standing}
 use Rattle.st_run.specs.Scenes.{IsScene}
 use Rattle.st_run.specs.ReportedEvents.{Printed, reported_plain_event}
 
--- the machine, and what is still to come from outside
+-- the machine, and the signals and cards that are still to come
 pub record Together : Type 0 where
   pub machine : Overlap
   pub signals : List Signal
   pub cards : List (List ℕ)
 
--- the scene of the plain run in which it stands
+-- the corresponding scene of the plain run
 abbrev pub scene_of : Together → Scene
 scene_of t = record { machine = t.machine.state; signals = t.signals; cards = t.cards }
 
--- what it keeps: one to eight levels, delays in their range, and what each scene keeps
+-- the invariant: one to eight levels, delays in range, and a valid scene
 pub record IsTogether (t : Together) : Type 0 where
   pub some : 1 ≤ t.machine.levels
   pub few : t.machine.levels ≤ 8
   pub delays : AreDelaysUpTo MOST_DELAY t.machine.delays
   pub scene : IsScene (scene_of t)
 
--- ---- between two ticks, before an entry is done
+-- ---- between two ticks, before a completion
 
--- nothing is owed, nothing comes between and no entry is late
+-- a machine between two ticks that waits for no settle, is not at rest, and has no late entry
 pub record IsMachineReady (o : Overlap) : Type 0 where
   pub between : o
       ≡ machine_between_ticks o.delays o.levels o.state (interrupt o.state) o.front o.now
   pub awake : rests o.state ≡ false
   pub early : o.now ≤ (oldest_row o).c
 
--- the tick is settled and the run goes on: no interrupt is due that is not taken, and no entry was
--- to be done at an earlier tick
+-- the point before the next entry: the tick is settled and the run continues; a pending interrupt
+-- has been taken, and no entry should have completed at an earlier tick
 pub record IsBeforeEntry (t : Together) : Type 0 where
   pub kept : IsTogether t
   pub ready : IsMachineReady t.machine
 
--- where the run stands then, the last entry done at the tick
+-- the corresponding point of the timed run, where the last entry completed at the tick
 abbrev pub standing_of : ℕ → Together → Standing
 standing_of tick t = record { scene = scene_of t; tick = tick; front = t.machine.front }
 
--- ---- an entry has just been done, and nothing has come from outside since
+-- ---- after a completion, before any external event
 
--- a tick that is not settled, at which an entry was done
+-- the point after a completion: the tick is not settled yet
 pub record IsBehindEntry (t : Together) : Type 0 where
   pub kept : IsTogether t
   pub owed : t.machine.owed ≡ true
@@ -62,7 +62,7 @@ pub record IsBehindEntry (t : Together) : Type 0 where
   pub counter : IfSome t.machine.missed (λ h. h < 2 ^ 19)
   pub last : t.machine.front.c ≡ t.machine.now
 
--- the moment at which the run stands then
+-- the corresponding moment of the timed run
 abbrev pub moment_of : Together → Moment
 moment_of t = record {
   scene = scene_of t;
@@ -73,16 +73,16 @@ moment_of t = record {
   banks = banks_left t.machine.closing;
 }
 
--- ---- what comes between two entries has come in part
+-- ---- after some of the external events between two entries
 
--- since the machine was o the state alone has changed, and the segment has ended or not; as long as
--- it has not, a signal or an order without a card has changed it
+-- since the machine was o only the state has changed, and the segment has ended or not; until it
+-- has, only signals and orders without a card have changed the state
 pub record IsSince (o : Overlap) (over : Bool) (m : Overlap) : Type 0 where
   pub machine : m ≡ record (if over then machine_after_segment o else o) { state = m.state }
   pub alike : over ≡ false → AreAlikeBesideOrders o.state m.state
 
--- ---- what comes between two entries is over
+-- ---- after all external events between two entries
 
--- what was printed in between: a text, or nothing
+-- the text, if there is one, is what the events print
 abbrev pub AreTexts : Option (List ℕ) → List PlainEvent → Type 0
 AreTexts text happened = map Printed (option_to_list text) ≡ map reported_plain_event happened

@@ -1,5 +1,4 @@
-//! What a run begins with besides its state: the delays that are asked for, and the reader of a
-//! job.
+//! The initial data of a run other than its state: the requested delays, and the reader of a job.
 ghost use Rattle.std.specs.Prelude.{◌≡◌, ◌≤◌, All, IfOk, length};
 ghost use Rattle.st_card.specs.Cards.{cards_of};
 ghost use Rattle.st_card.specs.Limits.{IsWithinLimits};
@@ -12,8 +11,8 @@ use st_card::{Card, Controls};
 use st_exch::Hopper;
 use std::alloc::Global;
 
-/// The delays of storage that control cards ask for, one at least. The one error is that memory ran
-/// out.
+/// The delays of storage that control cards request, at least one. The only error is a failed
+/// allocation.
 pub fn delays_asked(alloc: Global, controls: &Controls) -> Result<Delays, NoMemory>
     requires some { 1 ≤ length controls.now.delays }
     requires limits { IsWithinLimits controls.now }
@@ -25,8 +24,8 @@ pub fn delays_asked(alloc: Global, controls: &Controls) -> Result<Delays, NoMemo
     }
 }
 
-/// The reader of a job, whose cards are `cards`, all of them and in order. Each card of the reader
-/// has eight words. The one error is that memory ran out.
+/// The reader of a job with the cards `cards`, which are all cards of the job in order. Each card
+/// of the reader has eight words. The only error is a failed allocation.
 pub fn reader_of_job(alloc: Global, job: &[u8], cards: &[Card]) -> Result<Hopper, NoMemory>
     requires { cards.now ≡ cards_of job.now }
     ensures value { IfOk result (λ hopper. hopper ≡ reader_cards job.now) }

@@ -1,5 +1,5 @@
-//! What comes to a machine between two steps: signals, orders of the reader and the printer, and
-//! what ends a wait.
+//! External events of a machine between two steps: signals, orders of the reader and the printer,
+//! and the end of a wait.
 ghost use Rattle.std.specs.Prelude.{◌≡◌, false, IsSome};
 ghost use Rattle.std.specs.Option.{option_or};
 ghost use Rattle.st_state.specs.declared.devices.Device.TheVariants.{Reader, Printer};
@@ -13,14 +13,14 @@ use crate::plain::is_due_at;
 use st_exec::is_at_rest;
 use st_state::{Device, done_in};
 
-/// What came between two steps.
+/// A summary of the external events between two steps.
 #[derive(Clone, Copy, Debug)]
 pub struct Interlude {
-    /// Whether a card came into storage.
+    /// Whether a card was read into storage.
     pub card: bool,
-    /// Whether the machine waited once all was there that was due.
+    /// Whether the machine was at rest after the due events.
     pub waited: bool,
-    /// The eight words that were printed.
+    /// The eight words that were printed, if there are any.
     pub words: Option<[u64; 8]>,
 }
 
@@ -36,7 +36,7 @@ const A_WAIT: Interlude = Interlude {
     words: None,
 };
 
-// The reader's order takes effect, with its next card or without one.
+// The reader's order takes effect, with the next card or without one.
 fn read_card<M: Outside>(machine: &mut M, coming: &mut Coming) -> Interlude
     requires order { IsSome (M.state machine.old).reader }
     requires turn { M.is_open machine.old }
@@ -98,7 +98,7 @@ fn serve_if_due<M: Outside>(machine: &mut M, coming: &mut Coming, device: Device
     NOTHING
 }
 
-// The orders that are due take effect, the reader's first.
+// The due orders take effect, the reader's first.
 fn serve_due<M: Outside>(machine: &mut M, coming: &mut Coming) -> Interlude
     requires { M.is_open machine.old }
     ensures { HasHappened M.state M.leaves
@@ -110,7 +110,7 @@ fn serve_due<M: Outside>(machine: &mut M, coming: &mut Coming) -> Interlude
     joined(first, second)
 }
 
-// The order that is due earliest takes effect, if the machine rests.
+// The earliest order takes effect, if the machine is at rest.
 fn serve_at_rest<M: Outside>(machine: &mut M, coming: &mut Coming) -> Interlude
     requires { M.is_open machine.old }
     ensures { HasHappened M.state M.leaves
@@ -126,7 +126,7 @@ fn serve_at_rest<M: Outside>(machine: &mut M, coming: &mut Coming) -> Interlude
     }
 }
 
-// The signals at the front that are due come.
+// Takes the due signals from the front.
 fn take_due_signals<M: Outside>(machine: &mut M, coming: &mut Coming)
     requires { M.is_open machine.old }
     ensures came { scene_at (M.state machine.new) coming.new
@@ -142,7 +142,7 @@ fn take_due_signals<M: Outside>(machine: &mut M, coming: &mut Coming)
     }
 }
 
-// Signals come, one at a time, as long as the machine rests.
+// Takes signals, one at a time, while the machine is at rest.
 fn take_signals_at_rest<M: Outside>(machine: &mut M, coming: &mut Coming)
     requires { M.is_open machine.old }
     ensures came { scene_at (M.state machine.new) coming.new
@@ -158,7 +158,7 @@ fn take_signals_at_rest<M: Outside>(machine: &mut M, coming: &mut Coming)
     }
 }
 
-// Of two printed areas the first one.
+// The first of two optional printed areas.
 fn first_words(first: Option<[u64; 8]>, later: Option<[u64; 8]>) -> Option<[u64; 8]>
     ensures { result ≡ option_or first later }
 {
@@ -168,7 +168,7 @@ fn first_words(first: Option<[u64; 8]>, later: Option<[u64; 8]>) -> Option<[u64;
     }
 }
 
-// One thing came after another.
+// The summary of two successive interludes.
 fn joined(first: Interlude, later: Interlude) -> Interlude
     ensures { result ≡ joined_of first later }
 {
@@ -179,7 +179,7 @@ fn joined(first: Interlude, later: Interlude) -> Interlude
     }
 }
 
-// What ends a wait comes: orders, then signals.
+// Takes the events that may end a wait: orders, then signals.
 fn end_wait<M: Outside>(machine: &mut M, coming: &mut Coming) -> Interlude
     requires { M.is_open machine.old }
     ensures { HasHappened M.state M.leaves
@@ -192,7 +192,8 @@ fn end_wait<M: Outside>(machine: &mut M, coming: &mut Coming) -> Interlude
     joined(first, second)
 }
 
-/// What comes between two steps comes: the signals and orders that are due, and what ends a wait.
+/// Makes the transition between two steps: the due signals and orders, and the events that may end
+/// a wait.
 pub fn between<M: Outside>(machine: &mut M, coming: &mut Coming) -> Interlude
     requires { M.is_open machine.old }
     ensures { HasHappened M.state M.leaves

@@ -1,4 +1,4 @@
-//! What is still to come to a machine from outside.
+//! The external events that are still to come.
 ghost use Rattle.std.specs.Prelude.{◌≡◌};
 
 use crate::plain::is_signal_due;
@@ -31,7 +31,7 @@ impl<'a> Coming<'a> {
     ghost use Rattle.st_card.specs.Limits.{is_signal};
     ghost use Rattle.st_run.specs.Outside.{signal_due};
 
-    /// These signals and cards.
+    /// These signals and cards, as the external events to come.
     pub fn new(signals: &'a [Signal], cards: Hopper) -> Coming<'a>
         requires { AllPass is_signal signals.now }
         ensures { result ≡ record { signals = signals.now; cards = cards } }
@@ -48,21 +48,21 @@ impl<'a> Coming<'a> {
         (self.signals, self.cards)
     }
 
-    /// The signals.
+    /// The signals that are still to come.
     pub fn signals(&self) -> &'a [Signal]
         ensures { result.now ≡ self.now.signals }
     {
         self.signals
     }
 
-    /// Whether the first signal is due where so many instructions are done.
+    /// Whether the first signal is due at the count `done` of completed instructions.
     pub fn is_due(&self, done: u64) -> bool
         ensures { result ≡ signal_due done self.now.signals }
     {
         is_signal_due(self.signals, done)
     }
 
-    /// Takes the first signal, and gives its indicator.
+    /// Removes the first signal and returns its indicator; None if there is none.
     pub fn next_signal(&mut self) -> Option<u8>
         ensures signal { result ≡ option_map (λ x. x.indicator) (slice_get self.old.signals 0) }
         ensures known { IfSome result (λ i. i ≤ 13) }
@@ -77,7 +77,7 @@ impl<'a> Coming<'a> {
         }
     }
 
-    /// Takes the next card.
+    /// Removes the next card and returns it; None if there is none.
     pub fn next_card(&mut self) -> Option<[u64; 8]>
         ensures card { result ≡ slice_get self.old.cards 0 }
         ensures left { self.new ≡ record self.old { cards = drop 1 self.old.cards } }

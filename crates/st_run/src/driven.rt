@@ -1,4 +1,4 @@
-//! An overlapped machine to which something comes from outside.
+//! An overlapped machine with external events.
 ghost use Rattle.std.specs.Prelude.{◌≡◌, ℕ, List, IfSome};
 ghost use Rattle.std.specs.List.{AllPass};
 ghost use Rattle.st_card.specs.Limits.{is_signal};
@@ -14,7 +14,7 @@ use st_card::Signal;
 use st_state::State;
 use std::marker::Model;
 
-// An overlapped machine with what is still to come to it.
+// An overlapped machine with the external events that are still to come.
 #[derive(Drop)]
 pub(crate) struct Driven<'a, const N: usize> {
     pub machine: Machine<N>,
@@ -33,7 +33,7 @@ impl<'a, const N: usize> Model for Driven<'a, N> {
     } };
 }
 
-// A card has eight words.
+// Provides the fact that a card has eight words to the caller's proof.
 fn shape_of(card: Option<[u64; 8]>)
     ensures { IfSome card IsCard }
 {
@@ -81,8 +81,8 @@ impl<const N: usize> Outside for Machine<N> {
     }
 }
 
-// Turns on the signals at the front that are due, and gives those that are still to come; at the
-// start of a run.
+// Turns on the indicators of the signals that are due at the start of a run, and returns the
+// remaining signals.
 pub(crate) fn due_signals<'a, const N: usize>(
     machine: &mut Machine<N>,
     signals: &'a [Signal],
@@ -110,7 +110,7 @@ pub(crate) fn due_signals<'a, const N: usize>(
     rest
 }
 
-// What is shown of the machine.
+// The view of the machine.
 pub(crate) fn view_of<const N: usize>(driven: &Driven<N>) -> View
     ensures { result ≡ view_at_tick driven.now.machine }
 {

@@ -1,4 +1,4 @@
-//! What comes between two entries, and the decision how the run goes on.
+//! External events between two entries, and the decision whether the run continues.
 ghost use Rattle.std.specs.Prelude.{◌≡◌, ◌≤◌, true, false, length, map, option_map};
 ghost use Rattle.st_exch.specs.Printer.{line_of_words};
 ghost use Rattle.st_ahead.specs.Overlap.{levels_of};
@@ -21,21 +21,21 @@ use st_exec::is_at_rest;
 use st_ring::SpecRing;
 use st_state::done_in;
 
-// What was decided between two entries.
+// The decision between two entries.
 #[derive(Clone, Copy, Debug)]
 pub(crate) struct Decided {
     // Whether the segment ends.
     pub ends: bool,
-    // The text that was printed.
+    // The text that was printed, if there is one.
     pub text: Option<ArrayString<64>>,
-    // The interrupt that is taken.
+    // The interrupt that is taken, if there is one.
     pub taken: Option<u8>,
-    // How the run goes on.
+    // The next phase of the run.
     pub turn: Turn,
 }
 
-// The entries that run ahead, oldest first: the half-word address of each, and the tick at which it
-// was prepared.
+// The entries in flight, oldest first: the half-word address of each, and the tick at which it was
+// prepared.
 pub(crate) fn levels_ahead<const N: usize>(driven: &Driven<N>) -> ArrayVec<(u32, u64), 8>
     ensures { result.items ≡ map (λ a. (address_ahead a, a.row.p)) (levels_of driven.now.machine) }
 {
@@ -43,7 +43,7 @@ pub(crate) fn levels_ahead<const N: usize>(driven: &Driven<N>) -> ArrayVec<(u32,
 }
 
 // The half-word address of each level, oldest first, and the tick at which it was prepared. There
-// are eight at most.
+// are at most eight levels.
 fn levels_in<const N: usize>(ring: &SpecRing<N>) -> ArrayVec<(u32, u64), 8>
     requires { length ring.now ≤ 8 }
     ensures { result.items ≡ map (λ v. (v.prepared.place.address, v.p)) ring.now }
@@ -56,14 +56,14 @@ fn levels_in<const N: usize>(ring: &SpecRing<N>) -> ArrayVec<(u32, u64), 8>
     levels
 }
 
-// Whether what came ends the segment.
+// Whether the external events end the segment.
 fn is_over(came: Interlude) -> bool
     ensures { result ≡ ends_by came }
 {
     came.waited || came.card
 }
 
-// The text that is printed of these words.
+// The text of the printed words.
 fn text_of(words: Option<[u64; 8]>) -> Option<ArrayString<64>>
     ensures { option_map (λ x. x.bytes) result ≡ option_map line_of_words words }
 {
@@ -73,8 +73,8 @@ fn text_of(words: Option<[u64; 8]>) -> Option<ArrayString<64>>
     }
 }
 
-// It is decided whether the segment ends and which interrupt is taken, by what the machine answers,
-// and by whether the segment has ended.
+// The choice by the result of a settle, and by whether the segment has already ended: whether the
+// segment ends, and the interrupt that is taken.
 fn choice(answer: Settled, over: bool) -> (bool, Option<u8>)
     ensures { result ≡ choice_of answer over }
 {
@@ -85,8 +85,8 @@ fn choice(answer: Settled, over: bool) -> (bool, Option<u8>)
     }
 }
 
-// It is decided how the run goes on, in which so many entries may still be done, where the segment
-// has ended or not.
+// Decides whether and how the run continues, given the remaining budget and whether the segment has
+// ended.
 fn decide<const N: usize>(
     driven: &mut Driven<N>,
     left: u64,
@@ -118,8 +118,8 @@ fn decide<const N: usize>(
     }
 }
 
-// What comes between two entries comes, of which so many may still be done; and it is decided how
-// the run goes on.
+// Takes the external events between two entries, then decides whether and how the run continues.
+// `left` is the remaining budget.
 pub(crate) fn leave<const N: usize>(driven: &mut Driven<N>, left: u64) -> Decided
     requires { IsBehindEntry driven.old }
     ensures decided { IsDecided left (moment_of driven.old) result driven.new }
@@ -131,9 +131,10 @@ pub(crate) fn leave<const N: usize>(driven: &mut Driven<N>, left: u64) -> Decide
     decide(driven, left, is_over(came), text_of(came.words))
 }
 
-// ---- nothing of it
+// ---- no external event
 
-// Whether no order is due, the machine does not wait, and the next decision ends no segment.
+// Whether no order is due, the machine does not wait, and the next decision does not end the
+// segment.
 fn is_quiet<const N: usize>(machine: &Machine<N>) -> bool
     ensures { result ≡ true → IsQuiet machine.entry.now }
 {
@@ -149,8 +150,8 @@ fn is_quiet<const N: usize>(machine: &Machine<N>) -> bool
     !is_at_rest(machine.state())
 }
 
-// The run goes on at once where nothing comes between two entries and the segment does not end. The
-// result says whether it did; else nothing changes. So many entries may still be done.
+// Continues the run at once if no external event is due and the segment does not end. Returns
+// whether it did; if not, nothing changes. `left` is the remaining budget.
 pub(crate) fn pass_on<const N: usize>(driven: &mut Driven<N>, left: u64) -> bool
     requires { IsBehindEntry driven.old }
     ensures decided { result ≡ true →

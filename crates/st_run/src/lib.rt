@@ -1,5 +1,5 @@
-//! A whole run with its timetable: each event of it with its tick, as definitions and laws, and the
-//! run that tells one after another. `docs/timetable.md` has the rules.
+//! A whole timed run: definitions and laws of its events and their ticks, and the run as an
+//! iterator over events. `docs/timetable.md` has the rules.
 #![tactic(auto, using(st_bits::specs::Storage::words_of_storage_is))]
 
 mod beginning;

@@ -1,4 +1,4 @@
-//! A machine to which something comes from outside.
+//! The interface of a machine that takes external events.
 ghost use Rattle.std.specs.Prelude.{◌≡◌, ◌≤◌, ◌||◌, Bool, true, false, is_some, IfSome, IsSome};
 ghost use Rattle.st_state.specs.Machine.{Machine as MachineOf};
 ghost use Rattle.st_state.specs.Interrupts.{state_with_signal};
@@ -7,30 +7,30 @@ ghost use Rattle.st_exec.specs.Transfer.{printed_out, words_from, read_in as rea
 
 use st_state::State;
 
-/// A machine that stands for a plain state, to which signals and the cards and texts of its orders
-/// come between two steps.
+/// A machine with a plain state, to which signals, cards and prints of its orders occur between two
+/// steps.
 pub trait Outside {
-    // The plain state that it stands for.
+    // The plain state of the machine.
     ghost state: { Self → MachineOf };
 
-    // Something may come to it.
+    // Whether the machine can take an external event.
     ghost is_open: { Self → Type 0 };
 
-    // What such a coming leaves of the rest of it, where it ends the segment or not.
+    // The effect of an external event on the rest of the machine, by whether it ends the segment.
     ghost leaves: { Bool → Self → Self → Type 0 };
 
-    /// Its plain state.
+    /// The plain state of the machine.
     fn state(&self) -> &State
         ensures { result.now ≡ state self.now };
 
-    /// A signal turns on an indicator, 0 to 13.
+    /// Takes a signal, which turns on an indicator, 0 to 13.
     fn signal(&mut self, indicator: u8)
         requires known { indicator ≤ 13 }
         requires turn { is_open self.old }
         ensures state { state self.new ≡ state_with_signal (state self.old) indicator }
         ensures rest { leaves false self.old self.new };
 
-    /// The order of the reader takes effect, with its next card or without one.
+    /// The reader's order takes effect, with the next card or without one.
     fn read_in(&mut self, card: Option<[u64; 8]>)
         requires order { IsSome (state self.old).reader }
         requires turn { is_open self.old }
@@ -38,7 +38,7 @@ pub trait Outside {
             (λ order. state self.new ≡ read_in_of (state self.old) order.word card) }
         ensures rest { leaves (is_some card) self.old self.new };
 
-    /// The order of the printer takes effect. The result is the eight words of its area.
+    /// The printer's order takes effect. Returns the eight words of its area.
     fn print_out(&mut self) -> [u64; 8]
         requires order { IsSome (state self.old).printer }
         requires turn { is_open self.old }
@@ -47,7 +47,7 @@ pub trait Outside {
         ensures state { state self.new ≡ printed_out (state self.old) }
         ensures rest { leaves false self.old self.new };
 
-    /// It rests, and waits for what comes.
+    /// Records that the machine is at rest and waits for an external event.
     fn rest(&mut self)
         requires rests { rests (state self.old) ≡ true }
         requires turn { is_open self.old }

@@ -1,5 +1,5 @@
-//! A machine that executes one instruction after the other, to which something may come from
-//! outside, and whether its devices have orders.
+//! A machine that executes instructions sequentially, with external events, and reads of the orders
+//! of its devices.
 ghost use Rattle.std.specs.Prelude.{◌≡◌, is_none};
 ghost use Rattle.st_state.specs.Orders.{is_due as is_due_of};
 ghost use Rattle.st_run.specs.Run.{order_of};
@@ -79,7 +79,7 @@ pub fn is_due_at(state: &State, device: Device) -> bool
     }
 }
 
-/// Whether the first of the signals is due where so many instructions are done.
+/// Whether the first of the signals is due at the count `done` of completed instructions.
 pub fn is_signal_due(signals: &[Signal], done: u64) -> bool
     ensures { result ≡ signal_due done signals.now }
 {

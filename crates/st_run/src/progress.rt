@@ -1,4 +1,4 @@
-//! How far a run has come, and how it goes on.
+//! The progress of a run, and its next event.
 ghost use Rattle.std.specs.Prelude.{◌≡◌, ◌+◌, ◌-◌, ◌<◌, ◌≤◌, ◌^◌, ℕ, true, false, if◌then◌else◌, [], ◌∷◌, MatchOption, IfSome, slice_get};
 ghost use Rattle.st_ahead.specs.Overlap.{levels_of};
 ghost use Rattle.st_refine.specs.Reached.{IsLedOn};
@@ -19,16 +19,15 @@ use st_ahead::{Row, RowQueue};
 use st_card::Signal;
 use st_state::done_in;
 
-// No more instructions are done than this number, 2^63 - 1.
+// The greatest count of completed instructions, 2^63 - 1.
 const MOST: u64 = (1 << 63) - 1;
 
-// How many rows are made at once, as many as there is room for.
+// The greatest number of rows that are computed at once, which is the capacity of the queue.
 const ROWS: u64 = 64;
 
-// A run between two things that it tells: the machine with what is still to come to it, the
-// snapshots that are still to come, how many instructions may be done behind the next one, the tick
-// at which the last one was done, what waits to be told, the text that was printed last, and the
-// turn.
+// A run between two events: the machine with its external events, the remaining snapshots, the
+// remaining budget after the next instruction, the tick of the last completion, the pending events,
+// the last printed text, and the phase.
 #[derive(Drop)]
 pub(crate) struct Progress<'a, const N: usize> {
     pub driven: Driven<'a, N>,
@@ -40,7 +39,7 @@ pub(crate) struct Progress<'a, const N: usize> {
     pub turn: Turn,
 }
 
-// The next thing that is told; `None` exactly where all is told.
+// The next event; `None` if and only if the run is over.
 pub(crate) fn tell_next<const N: usize>(
     run: &mut Progress<N>,
     rows: &mut RowQueue,
@@ -63,9 +62,8 @@ pub(crate) fn tell_next<const N: usize>(
     }
 }
 
-// Passes over entries that are done, as so many calls would tell them, as long as nothing else
-// comes between them. The last of them is the result; there is none where something else is told
-// next, or may be.
+// Skips completions up to the next event of another kind. Returns the last of the completions.
+// Returns None if another kind of event is next, or may be.
 #[inline(never)]
 pub(crate) fn pass_entries<const N: usize>(
     run: &mut Progress<N>,
@@ -86,15 +84,15 @@ pub(crate) fn pass_entries<const N: usize>(
     go_far(run, done, MOST, rows)
 }
 
-// Where nothing else is told next, entries are done, as long as nothing else comes between them,
-// and their rows wait; there is room for all of them.
+// If no other kind of event is next, completes entries until one is and queues their rows, for all
+// of which there is room.
 #[inline(never)]
 pub(crate) fn make_rows<const N: usize>(run: &mut Progress<N>, rows: &mut RowQueue)
     requires run { IsUnderWay run.old }
     requires none { rows.old.rows ≡ [] }
     requires shut { rows.old.room ≡ 0 }
 
-    // What is told, and what the run is then.
+    // The events, and the run after them.
     ensures kept { IsUnderWay run.new }
     ensures led { IsLedOn run.old.driven.machine run.new.driven.machine }
     ensures shut { rows.new.room ≡ 0 }
@@ -112,7 +110,7 @@ pub(crate) fn make_rows<const N: usize>(run: &mut Progress<N>, rows: &mut RowQue
     rows.shut();
 }
 
-// Whether an entry is done next, and no snapshot is to come.
+// Whether a completion is next and no snapshots remain.
 fn may_go_far<const N: usize>(run: &Progress<N>) -> bool
     ensures { result ≡ true → (run.now.turn ≡ turns.Before) × (run.now.snaps.now ≡ [])
         × IsTold run.now }
@@ -126,9 +124,10 @@ fn may_go_far<const N: usize>(run: &Progress<N>) -> bool
     run.waiting.is_empty()
 }
 
-// Before the next entry, where no snapshot is to come: it is done, and those behind it between
-// which nothing comes, as long as fewer than `most` are done. The row of the last one is the
-// result; those of the others wait, as far as there is room. So many are `done` before.
+// Before the next entry, with no snapshots remaining: completes it and the following entries as
+// long as no external event is possible between them and the count is below `most`. Returns the row
+// of the last one; the rows of the others are queued as far as there is room. `done` instructions
+// have completed before.
 fn go_far<const N: usize>(
     run: &mut Progress<N>,
     done: u64,
@@ -155,8 +154,8 @@ fn go_far<const N: usize>(
     Some(row)
 }
 
-// The number of instructions after which something else may come than entries that are done, or
-// `most`: where the budget is used up, or a signal comes; 2^63 at most.
+// The count of completed instructions up to which only completions can occur, at most `most`:
+// limited by the budget and the next signal. At most 2^63.
 fn count_of<const N: usize>(driven: &Driven<N>, done: u64, left: u64, most: u64) -> u64
     requires { done < 2 ^ 63 }
     ensures few { result ≤ 2 ^ 63 }
@@ -167,7 +166,8 @@ fn count_of<const N: usize>(driven: &Driven<N>, done: u64, left: u64, most: u64)
     count_before(driven.coming.signals(), done, left).min(most)
 }
 
-// The same by the signals that are still to come.
+// The count of completed instructions up to which only completions can occur, by the remaining
+// signals and the budget.
 fn count_before(signals: &[Signal], done: u64, left: u64) -> u64
     requires { done < 2 ^ 63 }
     ensures few { result ≤ 2 ^ 63 }
@@ -185,7 +185,7 @@ fn count_before(signals: &[Signal], done: u64, left: u64) -> u64
     }
 }
 
-// An entry that is done.
+// The event of a row.
 pub(crate) fn event_of_row(row: Row) -> TimedRunEvent
     ensures { result ≡ record {
       done = row.number;
@@ -204,14 +204,14 @@ pub(crate) fn event_of_row(row: Row) -> TimedRunEvent
     }
 }
 
-// Before the next entry: a snapshot, or that entry is done.
+// Before the next entry: returns the next snapshot, or completes that entry.
 fn go<const N: usize>(run: &mut Progress<N>, rows: &mut RowQueue) -> TimedRunEvent
     requires run { IsBeforeNext run.old }
     requires turn { run.old.turn ≡ turns.Before }
     requires waits { IsTold run.old }
     requires shut { rows.old.room ≡ 0 }
 
-    // What is told, and what the run is then.
+    // The events, and the run after them.
     ensures rows { rows.new ≡ rows.old }
     ensures kept { IsUnderWay run.new }
     ensures led { IsLedOn run.old.driven.machine run.new.driven.machine }
@@ -225,7 +225,7 @@ fn go<const N: usize>(run: &mut Progress<N>, rows: &mut RowQueue) -> TimedRunEve
     event_of_row(row)
 }
 
-// The snapshot whose tick was made last.
+// The snapshot whose tick has just been made.
 fn show<const N: usize>(run: &mut Progress<N>) -> TimedRunEvent
     requires shown { IsShown run.old.left run.old.tick run.old.snaps.now run.old.driven }
     requires turn { run.old.turn ≡ turns.Before }
@@ -241,8 +241,7 @@ fn show<const N: usize>(run: &mut Progress<N>) -> TimedRunEvent
     at_once(&run.driven, run.tick, RunEvent::Shown(at))
 }
 
-// What comes behind an entry that has just been done at a tick waits to be told; mostly that is
-// nothing.
+// Queues the events that follow the completion of an entry at a tick; usually there are none.
 fn leave_entry<const N: usize>(run: &mut Progress<N>, tick: u64)
     requires left { IsLeft run.old.left run.old.snaps.now tick run.old.driven }
     requires turn { run.old.turn ≡ turns.Before }
@@ -259,7 +258,7 @@ fn leave_entry<const N: usize>(run: &mut Progress<N>, tick: u64)
     run.left = one_less(run.left);
 }
 
-// The same, whatever comes.
+// Queues the events that follow the completion of an entry at a tick, in the general case.
 #[inline(never)]
 fn leave_fully<const N: usize>(run: &mut Progress<N>, tick: u64)
     requires left { IsLeft run.old.left run.old.snaps.now tick run.old.driven }
@@ -280,7 +279,7 @@ fn leave_fully<const N: usize>(run: &mut Progress<N>, tick: u64)
     run.left = one_less(run.left);
 }
 
-// At the end: a snapshot up to the last tick, or the end itself.
+// At the end: the next snapshot up to the last tick, or the end event.
 fn finish<const N: usize>(run: &mut Progress<N>, rests: bool) -> TimedRunEvent
     requires turn { run.old.turn ≡ turns.AtEnd rests }
     requires levels { levels_of run.old.driven.machine ≡ [] }
@@ -301,7 +300,7 @@ fn finish<const N: usize>(run: &mut Progress<N>, rests: bool) -> TimedRunEvent
     at_once(&run.driven, run.tick, RunEvent::Shown(at))
 }
 
-// Something that is told at the tick at which the last entry was done.
+// An event at the tick of the last completion.
 fn at_once<const N: usize>(driven: &Driven<N>, tick: u64, event: RunEvent) -> TimedRunEvent
     ensures { result ≡ record { done = driven.now.machine.state.done; tick = tick; event = event } }
 {
@@ -312,14 +311,14 @@ fn at_once<const N: usize>(driven: &Driven<N>, tick: u64, event: RunEvent) -> Ti
     }
 }
 
-// The number of instructions that a machine has done.
+// The number of completed instructions of a machine.
 fn done_of<const N: usize>(driven: &Driven<N>) -> u64
     ensures { result ≡ driven.now.machine.state.done }
 {
     done_in(driven.machine.state())
 }
 
-// The tick of the next snapshot.
+// The tick of the next snapshot, None if there is none.
 fn first_of(snaps: &[u64]) -> Option<u64>
     ensures { result ≡ slice_get snaps.now 0 }
 {
@@ -329,7 +328,7 @@ fn first_of(snaps: &[u64]) -> Option<u64>
     }
 }
 
-// The tick of the next snapshot, and those behind it.
+// The tick of the next snapshot and the list of the later ones; None if there is none.
 fn split_first(snaps: &[u64]) -> Option<(u64, &[u64])>
     ensures { MatchOption result (snaps.now ≡ []) (λ r. snaps.now ≡ r.0 ∷ r.1.now) }
 {
@@ -339,7 +338,8 @@ fn split_first(snaps: &[u64]) -> Option<(u64, &[u64])>
     }
 }
 
-// The same where it comes up to this tick.
+// The tick of the next snapshot and the list of the later ones, if it is at most `tick`; None
+// otherwise.
 fn split_due(snaps: &[u64], tick: u64) -> Option<(u64, &[u64])>
     ensures { MatchOption result (IfSome (slice_get snaps.now 0) (λ x. tick < x))
         (λ r. (snaps.now ≡ r.0 ∷ r.1.now) × (r.0 ≤ tick)) }
@@ -352,7 +352,7 @@ fn split_due(snaps: &[u64], tick: u64) -> Option<(u64, &[u64])>
     }
 }
 
-// Keeps the entries that are dropped where the segment ends.
+// Removes the flushed entries unless the segment ends.
 fn clear_unless(ends: bool, drops: &mut ArrayVec<(u32, u64), 8>)
     ensures { drops.new.items ≡ (if ends then drops.old.items else []) }
 {
@@ -361,7 +361,7 @@ fn clear_unless(ends: bool, drops: &mut ArrayVec<(u32, u64), 8>)
     }
 }
 
-// One less, 0 where there is none.
+// The number minus one, or 0 for zero.
 fn one_less(left: u64) -> u64
     ensures { result ≡ left - 1 }
 {

@@ -1,4 +1,4 @@
-//! A whole run, one thing after another.
+//! A whole run, event by event.
 ghost use Rattle.std.specs.Prelude.{◌≡◌, ◌≤◌, false, None, [], ◌∷◌, MatchOption, All};
 ghost use Rattle.std.specs.List.{AllPass};
 ghost use Rattle.std.specs.List.Sorted.{IsStrictlyIncreasing};
@@ -27,27 +27,27 @@ use st_exch::Hopper;
 use st_state::State;
 use std::marker::Model;
 
-/// What control cards ask of a run.
+/// The parameters of a run from control cards.
 #[derive(Clone, Copy)]
 pub struct RunControls<'a> {
-    /// The signals that come to it, in their order.
+    /// The signals, in order.
     pub signals: &'a [Signal],
-    /// The ticks of the snapshots, which only grow.
+    /// The ticks of the snapshots, in increasing order.
     pub snaps: &'a [u64],
-    /// How many instructions may be done, 1 to 10,000,000.
+    /// The budget: the greatest number of instructions, 1 to 10,000,000.
     pub budget: u64,
 }
 
-/// A run on a machine with N levels, 1 to 8. It tells one thing after another: entries that are
-/// done or dropped, texts that are printed, interrupts, snapshots, and its end. No call takes
-/// memory. Its machine is made of the delays, of N levels and of the state that it begins with, and
-/// what it does with it are calls within the protocol. `docs/timetable.md` has the rules.
+/// A run on a machine with N levels, 1 to 8, as an iterator over its events: completions, flushed
+/// entries, printed texts, interrupts, snapshots, and the end. No call allocates. The machine is
+/// created from the delays, N levels and the initial state, and the run uses it only by calls
+/// within the protocol. `docs/timetable.md` has the rules.
 #[derive(Drop)]
 pub struct Run<'a, const N: usize> {
     teller: Teller<'a, N>,
 }
 
-// Clauses see what is still to be told, and what is shown.
+// Contracts see the remaining events, and the state that is shown.
 impl<'a, const N: usize> Model for Run<'a, N> {
     ghost use Rattle.std.specs.Prelude.{◌≡◌};
     ghost use Rattle.st_run.specs.Telling.{Telling, state_told, ahead_of};
@@ -77,8 +77,7 @@ impl<'a, const N: usize> Run<'a, N> {
     ghost use Rattle.st_run.specs.TimedRun.{timed_run};
     ghost use Rattle.st_run.specs.Telling.{state_told, told_as, row_told, AreLeftOut, AreLevelsShown};
 
-    /// A run from a state that nothing has happened in, with the reader's cards that come to it,
-    /// and what control cards ask of it.
+    /// A run from an initial state, with the reader's cards, and the parameters from control cards.
     pub fn new(
         state: State,
         delays: Delays,
@@ -102,7 +101,7 @@ impl<'a, const N: usize> Run<'a, N> {
             ≡ reported_events (timed_run delays.list N k.budget
             (record { machine = state; signals = k.signals.now; cards = cards }) k.snaps.now) }
 
-        // Its machine is made of these delays, of N levels and of this state.
+        // The machine is created from these delays, N levels and this state.
         ensures led { IsLed (machine_at_start delays.list N state) result.machine }
     {
         let RunControls {
@@ -132,7 +131,7 @@ impl<'a, const N: usize> Run<'a, N> {
         }
     }
 
-    /// The next thing that is told; `None` exactly where all is told.
+    /// The next event; `None` if and only if the run is over.
     pub fn next(&mut self) -> Option<TimedRunEvent>
         ensures told { MatchOption result (self.old.rest ≡ []) (λ t. self.old.rest
             ≡ told_as t self.new.seen self.new.ahead self.new.text ∷ self.new.rest) }
@@ -141,9 +140,9 @@ impl<'a, const N: usize> Run<'a, N> {
         next_of(&mut self.teller)
     }
 
-    /// Passes over entries that are done, as so many calls of `next` would tell them, as long as
-    /// nothing else comes between them. The row of the last one is the result; there is none where
-    /// something else is told next, or may be, as long as snapshots are to come.
+    /// Skips completions up to the next event of another kind, as that many calls of `next` would.
+    /// Returns the row of the last completion. Returns None if another kind of event is next, or
+    /// may be because snapshots remain.
     pub fn pass_entries(&mut self) -> Option<Row>
         ensures told { MatchOption result (self.new.rest ≡ self.old.rest)
             (λ row. AreLeftOut row self.old.rest self.new.rest) }
@@ -152,8 +151,7 @@ impl<'a, const N: usize> Run<'a, N> {
         pass_over(&mut self.teller)
     }
 
-    /// The next thing that is told, where that is an entry that is done, as its row. There may be
-    /// none as long as snapshots are to come.
+    /// The next event if it is a completion, as its row. May return None while snapshots remain.
     #[inline(always)]
     pub fn next_row(&mut self) -> Option<Row>
         ensures told { MatchOption result (self.new.rest ≡ self.old.rest) (λ row. self.old.rest
@@ -163,7 +161,8 @@ impl<'a, const N: usize> Run<'a, N> {
         next_row_of(&mut self.teller)
     }
 
-    /// The state that is shown: that of its machine, with the index words of what runs ahead.
+    /// The state that is shown: the state of the machine with the index words of the entries in
+    /// flight.
     pub fn seen(&self) -> Seen<'_>
         ensures seen { result ≡ self.entry.now.seen }
         ensures machine { result ≡ state_told self.entry.now.machine }
@@ -174,7 +173,7 @@ impl<'a, const N: usize> Run<'a, N> {
         )
     }
 
-    /// What is shown of its machine, the levels too.
+    /// The view of the machine, with its levels.
     pub fn view(&self) -> View
         ensures levels { AreLevelsShown result.levels self.entry.now.ahead }
         ensures machine { result ≡ view_at_tick self.entry.now.machine }

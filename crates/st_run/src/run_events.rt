@@ -1,29 +1,30 @@
-//! What is told of a run.
-/// What a run tells next.
+//! The events of a run.
+/// An event of a run.
 #[derive(Clone, Copy, Debug)]
 pub enum RunEvent {
-    /// The entry at this half-word address is done, which was prepared at the tick `p` and ready at
-    /// `r`. It is complete at the tick at which this is told.
+    /// The entry at this half-word address completes; it was prepared at the tick `p` and ready at
+    /// `r`. The tick of its completion is that of the event.
     Done { address: u32, p: u64, r: u64 },
-    /// An entry that ran ahead, at this half-word address and prepared at this tick, is dropped.
+    /// An entry in flight, at this half-word address and prepared at this tick, is flushed.
     Dropped { address: u32, p: u64 },
     /// A text is printed. The run shows the text.
     Printed,
-    /// An interrupt by this indicator is taken. The run shows the state in which it is.
+    /// An interrupt by this indicator is taken. The run shows the state in which it is taken.
     Interrupted(u8),
     /// A snapshot at this tick. The run shows the state and the levels.
     Shown(u64),
-    /// The run ends, at rest or with its budget used up. The run shows the last state.
+    /// The run ends: true if the machine is at rest, false if the budget is used up. The run shows
+    /// the last state.
     Ended(bool),
 }
 
-/// What is told, and when.
+/// An event with its time.
 #[derive(Clone, Copy, Debug)]
 pub struct TimedRunEvent {
-    /// The number of instructions done by then.
+    /// The number of completed instructions at the event.
     pub done: u64,
-    /// The tick at which the last of them was done, 0 before the first.
+    /// The tick of the last completion, 0 before the first.
     pub tick: u64,
-    /// What is told.
+    /// The event.
     pub event: RunEvent,
 }

@@ -1,4 +1,4 @@
-//! A state as it is seen of a machine that runs ahead.
+//! The state of a machine with the index words of its entries in flight.
 ghost use Rattle.std.specs.Prelude.{◌≡◌, ◌<◌, ◌^◌};
 ghost use Rattle.st_bits.specs.declared.limits.TheConstants.{WORDS};
 ghost use Rattle.st_state.specs.Machine.{word as word_of};
@@ -7,7 +7,7 @@ ghost use Rattle.st_run.specs.Events.{with_index_words};
 use st_state::{State, counter_in, is_enabled};
 use std::marker::Model;
 
-/// A state, with the index words of what runs ahead of it.
+/// A state, with the index words of the entries in flight.
 #[derive(Drop)]
 pub struct Seen<'a> {
     state: &'a State,
@@ -28,14 +28,14 @@ impl<'a> Model for Seen<'a> {
 impl<'a> Seen<'a> {
     ghost use Rattle.st_run.specs.Events.{with_index_words};
 
-    /// A state of which nothing runs ahead.
+    /// A state without entries in flight.
     pub fn new(state: &'a State) -> Seen<'a>
         ensures { result ≡ state.now }
     {
         Seen { state, index: None }
     }
 
-    /// A state with these index words.
+    /// A state with its index words replaced by these.
     pub fn with_index(state: &'a State, index: &'a [u64; 16]) -> Seen<'a>
         ensures { result ≡ with_index_words index.now state.now }
     {
@@ -45,7 +45,7 @@ impl<'a> Seen<'a> {
         }
     }
 
-    /// The word at `w`, below 98,304.
+    /// The word at the word address `w`, below 98,304.
     pub fn word(&self, w: u32) -> u64
         requires { w < WORDS }
         ensures { result ≡ word_of self.now w }
@@ -56,7 +56,7 @@ impl<'a> Seen<'a> {
         }
     }
 
-    /// The counter.
+    /// The program counter, a half-word address.
     pub fn ic(&self) -> u32
         ensures value { result ≡ self.now.ic }
         ensures bound { result < 2 ^ 19 }
@@ -72,7 +72,7 @@ impl<'a> Seen<'a> {
     }
 }
 
-// The word at `w` of a state with these index words.
+// The word at the word address `w` of a state with its index words replaced by these.
 fn word_with(state: &State, index: &[u64; 16], w: u32) -> u64
     requires { w < WORDS }
     ensures { result ≡ word_of (with_index_words index.now state.now) w }

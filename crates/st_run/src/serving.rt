@@ -1,4 +1,4 @@
-//! A device that is served: what a caller of the machine itself does between two entries.
+//! The service of a device, for a caller that drives the machine itself between two entries.
 ghost use Rattle.std.specs.Prelude.{IsSome};
 ghost use Rattle.st_ahead.specs.Calls.{MayServe};
 ghost use Rattle.st_run.specs.Run.{order_of};
@@ -9,10 +9,11 @@ use st_ahead::Machine;
 use st_exch::{Hopper, print_text};
 use st_state::Device;
 
-/// What the order of a device did.
+/// The result of serving a device.
 #[derive(Clone, Copy, Debug)]
 pub enum Served {
-    /// The next card came into storage. It ended the segment, of which so many levels are dropped.
+    /// The next card was read into storage. This ended the segment, and `dropped` levels are
+    /// flushed.
     Card { dropped: u8 },
     /// The reader had no card.
     NoCard,
@@ -21,8 +22,8 @@ pub enum Served {
 }
 
 /// The order of a device takes effect: that of the reader with the next card of the hopper or
-/// without one, that of the printer with its text. A settle is owed, an entry was done at the last
-/// tick, and the device has an order. `docs/machine.md` has the rules.
+/// without one, that of the printer with its text. A settle must be owed after a completion at the
+/// last tick, and the device must have an order. `docs/machine.md` has the rules.
 pub fn serve<const N: usize>(
     machine: &mut Machine<N>,
     hopper: &mut Hopper,

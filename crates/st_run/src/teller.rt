@@ -1,4 +1,4 @@
-//! A run with the rows that wait to be told.
+//! A run with a queue of completed rows.
 ghost use Rattle.std.specs.Prelude.{◌≡◌, [], ◌∷◌, MatchOption};
 ghost use Rattle.st_refine.specs.Reached.{IsLedOn};
 ghost use Rattle.st_run.specs.Telling.{row_told, AreLeftOut};
@@ -8,16 +8,15 @@ use crate::progress::{Progress, event_of_row, make_rows, pass_entries, tell_next
 use crate::run_events::TimedRunEvent;
 use st_ahead::{Row, RowQueue};
 
-// How far a run has come, and the rows of entries that were done before, as far as they wait to be
-// told.
+// The progress of a run, and the queue of rows that completed but have not been returned as events.
 #[derive(Drop)]
 pub(crate) struct Teller<'a, const N: usize> {
     pub progress: Progress<'a, N>,
     pub rows: RowQueue,
 }
 
-// The next thing that is told: the first row that waits, or else what comes behind. `None` exactly
-// where all is told.
+// The next event: the first queued row, or the next event of the run. `None` if and only if the run
+// is over.
 pub(crate) fn next_of<const N: usize>(teller: &mut Teller<N>) -> Option<TimedRunEvent>
     requires run { IsUnderWay teller.old.progress }
     requires shut { teller.old.rows.room ≡ 0 }
@@ -34,7 +33,8 @@ pub(crate) fn next_of<const N: usize>(teller: &mut Teller<N>) -> Option<TimedRun
     tell_next(&mut teller.progress, &mut teller.rows)
 }
 
-// Where no row waits, rows are made, as long as nothing else is told between them.
+// If the queue is empty, completes entries and queues their rows, up to the next event of another
+// kind.
 #[inline(always)]
 fn make_ready<const N: usize>(teller: &mut Teller<N>)
     requires run { IsUnderWay teller.old.progress }
@@ -50,7 +50,7 @@ fn make_ready<const N: usize>(teller: &mut Teller<N>)
     make_rows(&mut teller.progress, &mut teller.rows);
 }
 
-// The next thing that is told, where that is a row: the first one that waits, or one that is made.
+// The next event if it is a row: the first queued one, or a new one.
 #[inline(always)]
 pub(crate) fn next_row_of<const N: usize>(teller: &mut Teller<N>) -> Option<Row>
     requires run { IsUnderWay teller.old.progress }
@@ -65,7 +65,7 @@ pub(crate) fn next_row_of<const N: usize>(teller: &mut Teller<N>) -> Option<Row>
     teller.rows.next()
 }
 
-// Passes over entries that are done, where no row waits.
+// Skips completions, with an empty queue.
 pub(crate) fn pass_over<const N: usize>(teller: &mut Teller<N>) -> Option<Row>
     requires run { IsUnderWay teller.old.progress }
     requires shut { teller.old.rows.room ≡ 0 }

@@ -1,4 +1,4 @@
-//! Ticks up to an entry that is told, or up to a snapshot.
+//! Ticks up to the next completion or snapshot.
 ghost use Rattle.std.specs.Prelude.{◌≡◌, ◌-◌, ◌<◌, ◌≤◌, ◌^◌, None, IfSome, option_map};
 ghost use Rattle.st_ahead.specs.Overlap.{oldest_row};
 ghost use Rattle.st_refine.specs.Reached.{IsLedOn};
@@ -13,8 +13,8 @@ use st_ahead::{Row, RowQueue};
 // The last tick that may be made.
 const LAST: u64 = (1 << 63) - 1;
 
-// Makes ticks until an entry is done, whose row is the result; or until that of the next snapshot
-// is made, if it comes before. Where there is no room in `rows`, none waits there.
+// Makes ticks until an entry completes, and returns its row; or up to the tick of the next snapshot
+// if it is earlier. With a queue without room, no row is queued.
 pub(crate) fn run_until<const N: usize>(
     driven: &mut Driven<N>,
     snap: Option<u64>,
@@ -25,7 +25,7 @@ pub(crate) fn run_until<const N: usize>(
     requires few { driven.old.machine.state.done < 2 ^ 63 }
     requires snap { IfSome snap (λ x. driven.old.machine.now - 1 ≤ x) }
 
-    // What is made.
+    // The ticks that were made.
     ensures made { AreMade (AreTicked result snap) driven.old driven.new }
     ensures led { IsLedOn driven.old.machine driven.new.machine }
     ensures rows { rows.old.room ≡ 0 → rows.new ≡ rows.old }
@@ -33,9 +33,9 @@ pub(crate) fn run_until<const N: usize>(
     driven.machine.run_to(0, last_of(snap), rows)
 }
 
-// Makes ticks until an entry is done behind which something may come, when `count` instructions are
-// done at the latest. Its row is the result; those of the entries done before wait, as far as there
-// is room.
+// Makes ticks until an entry completes after which an external event is possible, or until `count`
+// instructions have completed. Returns its row; the rows of the entries before it are queued as far
+// as there is room.
 pub(crate) fn run_many<const N: usize>(
     driven: &mut Driven<N>,
     count: u64,
@@ -53,7 +53,7 @@ pub(crate) fn run_many<const N: usize>(
     driven.machine.run_to(count, LAST, rows)
 }
 
-// The tick of a snapshot, or the last one that may be made.
+// The tick of the snapshot, or the last tick that may be made.
 fn last_of(snap: Option<u64>) -> u64
     ensures { result ≡ last_for snap }
 {

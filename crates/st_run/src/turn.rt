@@ -1,11 +1,11 @@
-//! Where a run stands between two things that it tells.
-// Where a run stands.
+//! The phase of a run between two events.
+// The phase of a run between two events.
 #[derive(Clone, Copy, Debug, PartialEq, Eq)]
 pub(crate) enum Turn {
     // Before the next entry.
     Before,
-    // At its end, at rest or with its budget used up.
+    // At its end: true at rest, false with the budget used up.
     AtEnd(bool),
-    // All is told.
+    // After the last event.
     Over,
 }

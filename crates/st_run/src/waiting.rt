@@ -1,4 +1,4 @@
-//! What is told between two entries.
+//! The pending events between two entries.
 ghost use Rattle.std.specs.Prelude.{◌≡◌, ℕ, [], ◌∷◌, None, MatchOption, IfSome, IsSome, List, true};
 ghost use Rattle.std.specs.Option.{IfNone};
 ghost use Rattle.st_state.specs.Machine.{Machine};
@@ -9,8 +9,8 @@ use crate::run_events::RunEvent;
 use arrayvec::{ArrayString, ArrayVec};
 use std::marker::Model;
 
-// What waits to be told: the entries that are dropped, each with its half-word address and the tick
-// at which it was prepared, oldest first; the text that is printed; the interrupt that is taken.
+// The pending events: the flushed entries, each with its half-word address and the tick at which it
+// was prepared, oldest first; the text that is printed; the interrupt that is taken.
 #[derive(Drop)]
 pub(crate) struct Waiting {
     pub drops: ArrayVec<(u32, u64), 8>,
@@ -34,7 +34,7 @@ impl Model for Waiting {
 impl Waiting {
     ghost use Rattle.st_run.specs.Telling.{Waiting};
 
-    /// Nothing waits.
+    /// No pending events.
     pub fn new() -> Waiting
         ensures { result ≡ record { drops = []; text = None; taken = None } }
     {
@@ -45,7 +45,7 @@ impl Waiting {
         }
     }
 
-    /// Whether nothing waits.
+    /// Whether there are no pending events.
     pub fn is_empty(&self) -> bool
         ensures { result ≡ true → (s : Machine) → waiting_events self.now s ≡ [] }
     {
@@ -61,8 +61,8 @@ impl Waiting {
         true
     }
 
-    /// What is told next, and no longer waits: the youngest entry that is dropped, the text, which
-    /// is then the one that was printed last, or the interrupt.
+    /// Removes the next pending event and returns it: the youngest flushed entry, the text, which
+    /// then becomes the last printed one, or the interrupt. None if there is none.
     pub fn next(&mut self, printed: &mut ArrayString<64>) -> Option<RunEvent>
         ensures told { (s : Machine) → MatchOption result (waiting_events self.old s ≡ [])
             (λ event. waiting_events self.old s ≡ reported_answer 0 s [] printed.new.bytes event

@@ -1,4 +1,4 @@
--- A write of a word keeps what each state keeps.
+-- A write of a word keeps the invariant of the state.
 use Rattle.std.proofs.Common.{◌≡◌, ◌≢◌, ℕ, ◌<◌, ◌^◌, List, length, sym, ◌∙◌, subst, arith, inl, inr, get_or}
 use Rattle.std.proofs.Math.ListN.{set}
 use Rattle.std.proofs.lemmas.List.{length-set, get_or-set_same, get_or-set_other}
@@ -8,7 +8,8 @@ use Rattle.st_bits.specs.Storage.{words_of_storage, words_of_storage_is}
 use Rattle.st_bits.proofs.RegisterLaws.{fixed-twice, fixed_below, fixed-zero}
 use Rattle.st_state.specs.Machine.{Machine, IsMachine, with_word, opening_state}
 
--- what holds of the new item in its place, and of the others before the write, holds of each place after it
+-- if P holds of x at w and of every item of the list before the write, it holds of every item after
+-- it
 pub each_after_set : (P : ℕ → ℕ → Type 0) (xs : List ℕ) (w x : ℕ) → w < length xs → P w x
     → ((i : ℕ) → i ≢ w → P i (get_or xs i 0)) → (i : ℕ) → P i (get_or (set xs w x) i 0)
 each_after_set P xs w x room here before i =
@@ -20,7 +21,7 @@ each_after_set P xs w x room here before i =
       | inr q ↦ let R : ℕ → Type 0 = λ y. P i y in subst R (sym (get_or-set_other xs w i x 0 q.1)) (before i q.1)
     ]
 
--- a state with another word w, whose fixed bits are as they should be
+-- a state with another word w, whose fixed bits are correct, keeps the invariant
 pub is_machine-with_word : (s : Machine) (w x : ℕ) → IsMachine s → w < words_of_storage → x < 2 ^ 64 → register_word w x ≡ x
     → IsMachine (with_word s w x)
 is_machine-with_word s w x m inside below fits =
@@ -35,7 +36,7 @@ is_machine-with_word s w x m inside below fits =
       printer_area = m.printer_area;
     }
 
--- the state at the start
+-- the initial state has the invariant
 pub is_machine-opening : (image : List ℕ) (start : ℕ) → length image ≡ words_of_storage
     → ((w : ℕ) → w < 32 → get_or image w 0 ≡ 0) → ((w : ℕ) → get_or image w 0 < 2 ^ 64) → start < 2 ^ 19
     → IsMachine (opening_state image start)

@@ -33,7 +33,7 @@ true_or_false : (b : Bool) → (b ≡ true) ⊎ (b ≡ false)
 true_or_false true = inl refl
 true_or_false false = inr refl
 
--- what passes first passes, lies among the numbers tried, and none before it passes
+-- the result of first_from passes the test, is in the range, and no earlier number passes
 pub first_from-is : (p : ℕ → Bool) (i n m : ℕ) → first_from p i n ≡ Some m
     → (p m ≡ true) × (i ≤ m) × (m < i + n) × ((k : ℕ) → i ≤ k → k < m → p k ≡ false)
 unfolding first_from
@@ -62,7 +62,7 @@ first_from-is p i (suc n) m e =
           )
     ]
 
--- an indicator as a bit counted from the right
+-- a bit of a word, counted from the right
 pub part-bit_at : (x k : ℕ) → part x k 1 ≡ bit_at x (63 - k)
 part-bit_at x k =
     let place : 64 - k - 1 ≡ 63 - k = omega arith in
@@ -71,14 +71,14 @@ part-bit_at x k =
 both_ones : (a b c : ℕ) → a < 2 → b < 2 → c ≡ min a b → (a == 1 && b == 1) ≡ (c == 1)
 both_ones a b c small little e = grind (arith, nat_tests)
 
--- pending indicators are the ones of the conjunction
+-- an indicator is pending if its bit in the conjunction of indicators and mask is one
 pub is_pending-and : (x m k : ℕ) → is_pending x m k ≡ (bit_at (bit_and x m) (63 - k) == 1)
 is_pending-and x m k =
     ap (λ a. a == 1 && (part m k 1 == 1)) (part-bit_at x k)
     ∙ ap (λ b. (bit_at x (63 - k) == 1) && b == 1) (part-bit_at m k)
     ∙ both_ones _ _ _ (bit_at-lt x (63 - k)) (bit_at-lt m (63 - k)) (bit_at_and x m (63 - k))
 
--- the highest one of a number
+-- the highest one bit of a number
 pub bit_at-top : (a j : ℕ) → 2 ^ j ≤ a → a < 2 ^ suc j → bit_at a j ≡ 1
 bit_at-top a j low high =
     let some : 0 < 2 ^ j = pow_pos j in

@@ -1,4 +1,4 @@
--- A put into storage is a store of the one or two words that it changes.
+-- A field write to storage is a store of the one or two words that it changes.
 use Rattle.std.proofs.Common.{◌≡◌, ℕ, suc, ◌+◌, ◌*◌, ◌/◌, ◌%◌, ◌<◌, ◌≤◌, ◌^◌, List, [], ◌∷◌, length, refl, sym, ◌∙◌, ap, arith, inl, inr, get_or, zero-add}
 use Rattle.std.proofs.Math.ListN.{set}
 use Rattle.std.proofs.lemmas.List.{length-set}
@@ -19,13 +19,13 @@ fixed-word s w m =
       | inr q ↦ m.registers w q.1
     ]
 
--- the words of a changed list, each below 2^64
+-- the words of a changed list are below 2^64
 words_of-changed : (ws changed : List ℕ) → length changed ≡ length ws → ((w : ℕ) → get_or changed w 0 < 2 ^ 64)
     → words_of (length ws) (all_bits changed) ≡ changed
 words_of-changed ws changed size below =
     ap (λ n. words_of n (all_bits changed)) (sym size) ∙ words_of-all_bits changed below
 
--- the words of a state have their fixed bits
+-- applying the fixed bits to the words of a state does not change them
 fixed-words : (s : Machine) → IsMachine s → fixed_from 0 s.words ≡ s.words
 fixed-words s m =
     fixed_from-kept 0 s.words (λ w. ap (λ k. register_word k (word s w)) (zero-add w) ∙ fixed-word s w m)
@@ -34,7 +34,7 @@ fixed-set : (ws : List ℕ) (w y : ℕ) → fixed_from 0 (set ws w y) ≡ set (f
 fixed-set ws w y =
     fixed_from-set 0 ws w y ∙ ap (λ k. set (fixed_from 0 ws) w (register_word k y)) (zero-add w)
 
--- bits put within one word
+-- a field write within one word is a store of that word
 pub placed-stored : (s : Machine) (w b : ℕ) (v : List ℕ) (y : ℕ) → IsMachine s → w < words_of_storage
     → b + length v ≤ 64 → y < 2 ^ 64
     → put (all_bits (word s w ∷ [])) b v ≡ all_bits (y ∷ []) → state_with_bits s (64 * w + b) v ≡ state_with_store s w y
@@ -50,7 +50,7 @@ placed-stored s w b v y m inside le below e =
     ∙ ap (λ xs. set xs w (register_word w y)) (fixed-words s m) in
     ap (λ xs. record s { words = xs }) words
 
--- bits put within two words
+-- a field write across two words is a store of both words
 pub placed-stored_two : (s : Machine) (w b : ℕ) (v : List ℕ) (y z : ℕ) → IsMachine s → suc w < words_of_storage
     → b + length v ≤ 128 → y < 2 ^ 64 → z < 2 ^ 64
     → put (all_bits (word s w ∷ word s (suc w) ∷ [])) b v ≡ all_bits (y ∷ z ∷ [])
@@ -86,7 +86,8 @@ two_items (x ∷ []) e = absurd (omega arith)
 two_items (x ∷ y ∷ []) e = refl
 two_items (x ∷ y ∷ z ∷ xs) e = absurd (omega arith)
 
--- the same by the address of the first bit, for a list of one word that was read, changed and is stored
+-- a field write within one word, by the bit address, where a list of one word is read, changed and
+-- stored
 pub placed-one : (s : Machine) (a x : ℕ) (v new : List ℕ) → IsMachine s → a / 64 < words_of_storage
     → a % 64 + length v ≤ 64 → x ≡ word s (a / 64) → length new ≡ 1 → get_or new 0 0 < 2 ^ 64
     → all_bits new ≡ put (all_bits (x ∷ [])) (a % 64) v → state_with_bits s a v ≡ state_with_store s (a / 64) (get_or new 0 0)
@@ -96,7 +97,8 @@ placed-one s a x v new m inside le read size below e =
     ∙ placed-stored s (a / 64) (a % 64) v (get_or new 0 0) m inside le below
     (ap (λ y. put (all_bits (y ∷ [])) (a % 64) v) (sym read) ∙ sym e ∙ ap all_bits (one_item new size))
 
--- the same for two words
+-- a field write across two words, by the bit address, where a list of two words is read, changed
+-- and stored
 pub placed-two : (s : Machine) (a x y : ℕ) (v new : List ℕ) → IsMachine s → a / 64 + 1 < words_of_storage
     → a % 64 + length v ≤ 128 → x ≡ word s (a / 64) → y ≡ word s (a / 64 + 1) → length new ≡ 2
     → get_or new 0 0 < 2 ^ 64 → get_or new 1 0 < 2 ^ 64

@@ -1,4 +1,4 @@
--- Indicators after their turn, bit by bit.
+-- Updates of the indicators bit by bit.
 use Rattle.std.proofs.Common.{◌≡◌, ◌≢◌, ℕ, zero, suc, ◌+◌, ◌-◌, ◌*◌, ◌<◌, ◌^◌, min, max, sym, ◌∙◌, ap, subst, arith, bit_and, bit_or, w64, inl, inr}
 use Rattle.std.specs.Int.{bit_at}
 use Rattle.std.proofs.lemmas.Bool.Decides.{nat_tests, eqb_tells}
@@ -43,7 +43,7 @@ bit_at-turned (suc n) on off x i h =
           bit_at_cat_low here n rest i under ∙ bit_at-turned n on off x i under
     ]
 
--- as and, or and not have it
+-- the update of an indicator by and, or and not
 pub turned_bit_is : (on off was : ℕ) → on < 2 → off < 2 → was < 2
     → max (min was (1 - off)) on ≡ turned_bit on off was
 turned_bit_is on off was h k l = grind (arith, nat_tests)

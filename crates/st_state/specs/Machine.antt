@@ -1,4 +1,4 @@
--- The state of the machine between two instructions.
+-- The architectural state of the machine between two instructions.
 use Rattle.std.specs.Prelude.{ℕ, ◌≡◌, ◌+◌, ◌<◌, ◌≤◌, ◌^◌, Bool, false, List, length, slice_index, slice_set, Option, None, Some}
 use Rattle.st_bits.specs.Bits.{all_bits, put, words_of}
 use Rattle.st_bits.specs.Registers.{register_word, fixed_from}
@@ -6,7 +6,8 @@ use Rattle.st_bits.specs.Storage.{words_of_storage}
 use Rattle.st_bits.specs.declared.register.TheConstants.{MASK, FIRST_STORAGE_WORD}
 use Rattle.st_state.specs.declared.devices.Order.{Order}
 
--- storage, the counter, the marks, the number done, and the order of each device
+-- the architectural state: storage, the program counter, the marks for interrupts and waiting, the
+-- count of completed instructions, and the order of each device
 pub record Machine : Type 0 where
   pub words : List ℕ
   pub ic : ℕ
@@ -16,27 +17,27 @@ pub record Machine : Type 0 where
   pub reader : Option Order
   pub printer : Option Order
 
--- word w of storage
+-- the contents of word w of storage
 abbrev pub word : Machine → ℕ → ℕ
 word s w = slice_index s.words w
 
--- the state with x as word w, and all else as it was
+-- the state with x in word w, and all else unchanged
 abbrev pub with_word : Machine → ℕ → ℕ → Machine
 with_word s w x = record s { words = slice_set s.words w x }
 
--- the state after x is written to word w
+-- the state after x is written to word w; fixed bits keep their value
 abbrev pub state_with_store : Machine → ℕ → ℕ → Machine
 state_with_store s w x = with_word s w (register_word w x)
 
--- the state after the bits b are put into storage from bit a on; the fixed bits stand
+-- the state after the bits b are written to storage from bit address a; fixed bits keep their value
 abbrev pub state_with_bits : Machine → ℕ → List ℕ → Machine
 state_with_bits s a b = record s {
   words = fixed_from 0
       (words_of (length s.words) (put (all_bits s.words) a b));
 }
 
--- the state at the start: the image with the fixed bits of the mask, and the counter at the start
--- address
+-- the initial state: storage is the image, the fixed bits of the mask are set, and the program
+-- counter is the start address
 abbrev pub opening_state : List ℕ → ℕ → Machine
 opening_state image start =
     record {
@@ -49,12 +50,12 @@ opening_state image start =
       printer = None;
     }
 
--- the area of an order lies in storage, above the registers
+-- the area of an order, if there is one, is eight words of storage above the registers
 abbrev pub HasArea : Option Order → Type 0
 HasArea None = Unit {0}
 HasArea (Some order) = (FIRST_STORAGE_WORD ≤ order.word) × (order.word + 8 ≤ words_of_storage)
 
--- what each state keeps
+-- the invariant of the state
 pub record IsMachine (s : Machine) : Type 0 where
   pub size : length s.words ≡ words_of_storage
   pub counter : s.ic < 2 ^ 19

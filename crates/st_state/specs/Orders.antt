@@ -5,19 +5,21 @@ use Rattle.st_state.specs.declared.devices.Order.{Order}
 use Rattle.st_state.specs.declared.devices.Device.{Device}
 use Rattle.st_state.specs.declared.devices.Device.TheVariants.{Reader, Printer}
 
--- there is an order, and that many instructions are done that it takes effect
+-- whether there is an order and the count of completed instructions has reached the count at which
+-- it takes effect
 abbrev pub is_due : ℕ → Option Order → Bool
 is_due done None = false
 is_due done (Some order) = nat_le order.due done
 
--- the device whose order takes effect first of those that are due
+-- the device whose order takes effect next among those that are due; the reader has priority
 abbrev pub due : Machine → Option Device
 due s =
     if is_due s.done s.reader then Some Reader
     else if is_due s.done s.printer then Some Printer
     else None
 
--- of two orders the one that is due earlier, the reader's where both are due at once
+-- the device of the order that is due earlier; the reader has priority if both are due at the same
+-- count
 abbrev pub earlier_device : Option Order → Option Order → Option Device
 earlier_device None None = None
 earlier_device (Some _) None = Some Reader
@@ -25,6 +27,6 @@ earlier_device None (Some _) = Some Printer
 earlier_device (Some reader) (Some printer) = if nat_le reader.due printer.due then Some Reader
     else Some Printer
 
--- the device whose order takes effect first in a wait
+-- the device whose order takes effect next while the machine waits
 abbrev pub next_device : Machine → Option Device
 next_device s = earlier_device s.reader s.printer

@@ -1,8 +1,8 @@
--- What contracts see of a state.
+-- The public view of a state.
 use Rattle.st_state.specs.Machine.{Machine}
 use Rattle.st_state.specs.declared.State.TheInside.{Inside}
 
--- the fields, with storage as a list
+-- the view of a state: its fields, with storage as a list
 abbrev pub machine : Inside → Machine
 machine a =
     record {

@@ -1,9 +1,9 @@
-//! The leftmost indicator that is on and not masked, and how indicators are turned.
+//! The leftmost pending indicator, and updates of the indicators.
 ghost use Rattle.std.specs.Prelude.{◌≡◌};
 ghost use Rattle.st_bits.specs.Indicators.{IsIndicatorIfAny};
 ghost use Rattle.st_state.specs.Interrupts.{first_from, is_pending, indicator_word as turned_of};
 
-/// The leftmost indicator that is on and whose mask bit is one.
+/// The leftmost indicator that is on and whose mask bit is one, None if there is none.
 pub fn leftmost(indicators: u64, mask: u64) -> Option<u8>
     ensures value { result ≡ first_from (is_pending indicators mask) 0 64 }
     ensures bound { IsIndicatorIfAny result }
@@ -16,7 +16,7 @@ pub fn leftmost(indicators: u64, mask: u64) -> Option<u8>
     }
 }
 
-/// The indicators with those of `on` turned on and the others of `off` turned off.
+/// The indicators after an update: those of `on` are turned on, the others of `off` are turned off.
 pub fn turned(indicators: u64, on: u64, off: u64) -> u64
     ensures { result ≡ turned_of 64 on off indicators }
 {

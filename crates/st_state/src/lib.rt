@@ -1,4 +1,4 @@
-//! The state of the machine: storage, the counter and the marks, and what is asked of them.
+//! The architectural state: storage, the program counter and the marks, with its reads and writes.
 //!
 //! Words 0 to 31 of storage are the registers. A letter is a bit that can be one, `.` is always
 //! zero and `1` always one; bit 0 is leftmost.
@@ -56,17 +56,17 @@ pub use indicators::turned;
 pub use protection::Access;
 pub use shown::{counter_in, done_in, is_enabled};
 
-/// The machine between two instructions.
+/// The architectural state of the machine between two instructions.
 #[derive(Drop)]
 pub struct State {
     words: Vec<u64>,
-    /// The counter, a half-word address below 2^19.
+    /// The program counter, a half-word address below 2^19.
     pub ic: u32,
     /// Whether interrupts are enabled.
     pub enabled: bool,
     /// Whether the machine waits.
     pub waiting: bool,
-    /// The number of instructions done.
+    /// The number of completed instructions.
     pub done: u64,
     /// The order of the card reader, if it has one.
     pub reader: Option<Order>,
@@ -93,8 +93,8 @@ impl State {
     ghost use Rattle.st_state.specs.Boundary.{indicator_of_access, is_protected};
     ghost use Rattle.st_state.specs.Orders.{due as due_of, next_device as next_device_of};
 
-    /// The state at the start: storage is the image, no register but the mask has a bit that is
-    /// one, and the counter is the half-word address `start`.
+    /// The initial state: storage is the image, all registers are zero except the fixed bits of the
+    /// mask, and the program counter is the half-word address `start`.
     pub fn new(alloc: Global, image: &[u64], start: u32) -> Result<State, NoMemory>
         requires image { IsImage image.now }
         requires counter { start < 2 ^ 19 }
@@ -116,16 +116,16 @@ impl State {
         })
     }
 
-    /// Makes known what holds of each state: storage has all its words, the counter is below 2^19,
-    /// registers have their fixed bits, and the area of an order lies in storage above the
-    /// registers.
+    /// Provides the invariant of the state to the caller's proof: storage has all its words, the
+    /// counter is below 2^19, registers have their fixed bits, and the area of an order lies in
+    /// storage above the registers.
     pub fn shape(&self)
         ensures { IsMachine self.now }
     {
         let _ = &self.ic;
     }
 
-    /// All words of storage, by their addresses.
+    /// All words of storage, in order of address.
     pub fn words(&self) -> &[u64]
         ensures words { result.now ≡ self.now.words }
         ensures machine { IsMachine self.now }
@@ -142,8 +142,8 @@ impl State {
         self.words[w as usize]
     }
 
-    /// Writes `value` to the word at the word address `w`, below WORDS: a register keeps its fixed
-    /// bits.
+    /// Writes `value` to the word at the word address `w`, below WORDS. Fixed bits of a register
+    /// keep their value.
     pub fn store(&mut self, w: u32, value: u64)
         requires { w < words_of_storage }
         ensures { self.new ≡ state_with_store self.old w value }
@@ -151,8 +151,8 @@ impl State {
         self.words[w as usize] = fixed_word(w, value);
     }
 
-    /// Puts the number `bits`, below 2^n, into the `n` bits, 1 to 64, of storage from the bit
-    /// address `a` on: a register keeps its fixed bits, and no other bit changes.
+    /// Writes the number `bits`, below 2^n, to the `n` bits, 1 to 64, of storage from the bit
+    /// address `a`. Fixed bits of a register keep their value, and no other bit changes.
     pub fn put_field(&mut self, a: u32, n: u8, bits: u64)
         requires some { 1 ≤ n }
         requires few { n ≤ 64 }
@@ -174,7 +174,7 @@ impl State {
         }
     }
 
-    /// The indicator that forbids the access to the word address `w`, None where it is allowed.
+    /// The indicator for a forbidden access to the word address `w`, None if the access is allowed.
     #[tactic(auto, unfolding(crate::specs::Boundary::forbidden_by), using(st_bits::specs::Storage::words_of_storage_is))]
     #[inline(always)]
     pub fn may(&self, access: Access, w: u32) -> Option<u8>
@@ -199,7 +199,7 @@ impl State {
         })
     }
 
-    // Whether the boundary register protects the word.
+    // Whether the boundary register protects the word `w`.
     fn protects(&self, w: u32) -> bool
         ensures { result ≡ is_protected (word_of self.now BOUNDS) self.now.enabled w }
     {
@@ -209,8 +209,7 @@ impl State {
         self.enabled && FIRST_STORAGE_WORD <= w && between == (part(bounds, 57, 1) == 0)
     }
 
-    /// The leftmost indicator that is on and whose mask bit is one, 0 to 63; None where there is
-    /// none.
+    /// The leftmost pending indicator, 0 to 63; None if there is none.
     pub fn pending(&self) -> Option<u8>
         ensures value { result ≡ pending_of self.now }
         ensures bound { IsIndicatorIfAny result }
@@ -218,7 +217,7 @@ impl State {
         leftmost(self.word(INDICATORS), self.word(MASK))
     }
 
-    /// Turns on the indicator `i`, none behind the channel signal, as a signal from outside does.
+    /// Turns on the indicator `i`, at most the channel signal, as an external signal does.
     pub fn signal(&mut self, i: u8)
         requires { i ≤ CHANNEL_SIGNAL }
         ensures value { self.new ≡ state_with_signal self.old i }
@@ -231,7 +230,7 @@ impl State {
         });
     }
 
-    /// Turns indicators on and off; one that is named for both is on.
+    /// Turns indicators on and off; an indicator that is in both words is on.
     pub fn apply(&mut self, ind: Ind)
         ensures value { self.new ≡ state_with_indicators ind self.old }
         ensures before { IsMachine self.old }
@@ -240,7 +239,7 @@ impl State {
         self.words[INDICATORS as usize] = turned(self.words[INDICATORS as usize], ind.on, ind.off);
     }
 
-    /// The device whose order takes effect first of those that are due; None where none is due.
+    /// The device whose order takes effect next among those that are due; None if none is due.
     pub fn due(&self) -> Option<Device>
         ensures { result ≡ due_of self.now }
     {
@@ -253,8 +252,7 @@ impl State {
         }
     }
 
-    /// The device whose order takes effect first while the machine waits; None where no order is
-    /// given.
+    /// The device whose order takes effect next while the machine waits; None if there is no order.
     pub fn next_device(&self) -> Option<Device>
         ensures { result ≡ next_device_of self.now }
     {
@@ -273,7 +271,7 @@ impl State {
     }
 }
 
-// What stands in word `w` after `value` is written to it.
+// The contents of word `w` after `value` is written to it.
 fn fixed_word(w: u32, value: u64) -> u64
     ensures { result ≡ register_word w value }
 {

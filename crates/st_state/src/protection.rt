@@ -1,12 +1,12 @@
-//! The kinds of access that the boundary may forbid.
+//! The kinds of access that the boundary can forbid.
 
-/// What is done with a word.
+/// A kind of access to a word.
 #[derive(Clone, Copy, Debug, PartialEq, Eq)]
 pub enum Access {
-    /// It is read as data.
+    /// The word is read as data.
     Read,
-    /// It is written.
+    /// The word is written.
     Write,
-    /// It is fetched as an instruction.
+    /// The word is fetched as an instruction.
     Fetch,
 }

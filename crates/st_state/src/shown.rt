@@ -1,10 +1,10 @@
-//! What is read off a state besides its words.
+//! Reads of the state other than words of storage.
 ghost use Rattle.std.specs.Prelude.{◌≡◌, ◌<◌, ◌^◌};
 ghost use Rattle.st_state.specs.Machine.{IsMachine};
 
 use crate::State;
 
-/// The counter of a state, a half-word address.
+/// The program counter of a state, a half-word address.
 pub fn counter_in(state: &State) -> u32
     ensures value { result ≡ state.now.ic }
     ensures bound { result < 2 ^ 19 }
@@ -20,7 +20,7 @@ pub fn is_enabled(state: &State) -> bool
     state.enabled
 }
 
-/// How many instructions are done.
+/// The number of completed instructions of a state.
 pub fn done_in(state: &State) -> u64
     ensures { result ≡ state.now.done }
 {

@@ -1,4 +1,4 @@
--- How it goes on whether a run is hazard-free.
+-- The recursion of hazard-freedom along a run.
 use Rattle.std.specs.Prelude.{◌&&◌, ◌||◌}
 use Rattle.std.proofs.Common.{◌≡◌, ℕ, zero, suc, List, ◌∷◌, arith}
 use Rattle.st_exec.specs.Step.{rests}

@@ -1,4 +1,4 @@
--- The ticks of a hazard-free run do not rise with the number of levels.
+-- The ticks of a hazard-free run are non-increasing in the number of levels.
 use Rattle.std.specs.Prelude.{IfOk, Result, Ok, Err}
 use Rattle.std.proofs.Common.{◌≡◌, ℕ, zero, suc, ◌+◌, ◌≤◌, ◌<◌, true, List, [], ◌∷◌, length, slice_index, sym, ◌∙◌, ap, subst, arith}
 use Rattle.st_run.specs.Run.{Scene}
@@ -8,7 +8,7 @@ use Rattle.st_sweep.specs.SideBySide.{side_by_side, AreNotRising}
 use Rattle.st_sweep.specs.declared.sweeping.Swept.{Swept}
 use Rattle.st_sweep.proofs.Segment.{hazard_free-ticks}
 
--- the values of a function at n numbers from k on
+-- the values of a function at n numbers from k
 values : (ℕ → ℕ) → ℕ → ℕ → List ℕ
 values f k zero = []
 values f k (suc n) = f k ∷ values f (k + 1) n

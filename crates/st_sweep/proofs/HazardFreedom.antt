@@ -1,4 +1,4 @@
--- What the tests of a hazard-free run say.
+-- Consequences of the tests for hazard-freedom.
 use Rattle.std.specs.Prelude.{◌==◌, ◌&&◌, ◌||◌, not, nat_lt, nat_le, if◌then◌else◌, is_none, IfSome}
 use Rattle.std.specs.List.{list_all, list_any}
 use Rattle.std.proofs.Common.{◌≡◌, ℕ, zero, suc, ◌+◌, ◌-◌, ◌<◌, ◌≤◌, inl, inr, Bool, true, false, List, [], ◌∷◌, length, All, Option, None, Some, refl, sym, ◌∙◌, subst, arith}
@@ -121,7 +121,7 @@ hazard_free-entry earlier s h =
       };
     }
 
--- ---- what comes between two entries
+-- ---- the transition between two entries
 
 pub record IsQuiet (c : Scene) : Type 0 where
   pub no_card : nat_lt (length (interlude c).scene.cards) (length c.cards) ≡ false

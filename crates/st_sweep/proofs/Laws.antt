@@ -1,4 +1,4 @@
--- What holds of each run that is hazard-free, proved.
+-- Proof of the law of hazard-free runs.
 use Rattle.st_sweep.proofs.Segment.{hazard_free-ticks}
 use Rattle.st_sweep.specs.Laws.{MoreLevelsAreNoSlower}
 

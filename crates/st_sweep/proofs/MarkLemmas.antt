@@ -1,4 +1,4 @@
--- Marks stand for the words that entries wrote.
+-- The marks are the words that entries wrote.
 use Rattle.std.specs.Prelude.{◌||◌}
 use Rattle.std.specs.List.{list_any}
 use Rattle.std.proofs.Common.{◌≡◌, ◌≢◌, ℕ, zero, suc, ◌+◌, ◌-◌, ◌<◌, ◌≤◌, inl, inr, Bool, true, false, List, [], ◌∷◌, length, get_or, set, replicate, refl, sym, ◌∙◌, ap, arith}
@@ -12,7 +12,7 @@ use Rattle.st_segment.specs.Entries.{words_to_write}
 use Rattle.st_sweep.specs.HazardFree.{is_among_written, are_written}
 use Rattle.st_sweep.specs.Marks.{AreMarks, marks_with}
 
--- ---- one word of a run after the other
+-- ---- the words of a range, one at a time
 
 pub written-next : (earlier : List WordRuns) (w n : ℕ) → 0 < n
     → are_written earlier w n ≡ (is_among_written earlier w || are_written earlier (w + 1) (n - 1))
@@ -40,7 +40,7 @@ pub marks-none : (n : ℕ) → AreMarks [] (replicate n false)
 unfolding is_among_written
 marks-none n = record { each = λ w. none-marked n w }
 
--- ---- marks after a run of words
+-- ---- marks after a range of words
 
 pub length-marked : (marks : List Bool) (w n : ℕ) → length (marks_with marks w n) ≡ length marks
 unfolding marks_with
@@ -106,7 +106,7 @@ marks-put earlier marks words are inside inside2 =
           ∙ regroup (one v) (two v) (list_any (is_among v) earlier);
     }
 
--- ---- a run, word by word
+-- ---- a range, word by word
 
 pub none-left : (earlier : List WordRuns) (w n : ℕ) → n ≡ 0 → false ≡ are_written earlier w n
 unfolding are_written

@@ -1,4 +1,4 @@
--- A plain run as far as it has come.
+-- The progress of a plain run.
 use Rattle.std.specs.Prelude.{◌&&◌, not, is_none}
 use Rattle.std.proofs.Common.{◌≡◌, ◌≢◌, ℕ, Option, zero, suc, ◌+◌, ◌-◌, ◌≤◌, ◌⊎◌, inl, inr, Bool, true, false, List, ◌∷◌, refl, sym, ◌∙◌, ap, subst, arith}
 use Rattle.st_bits.specs.declared.limits.TheConstants.{MOST_INSTRUCTIONS}
@@ -21,12 +21,12 @@ use Rattle.st_sweep.specs.Sweep.{without_cards}
 
 -- ---- one step
 
--- the entry that is made is the next step
+-- the executed entry is the next step
 pub entry-step : (s t : Machine) (taken : Option ℕ) → taken ≡ interrupt s → t ≡ state_after_execution taken s → t ≡ step s
 unfolding step
 entry-step s t taken is made = made ∙ ap (λ i. state_after_execution i s) is
 
--- whether it is a hazard-free entry
+-- the test whether the next entry is hazard-free
 pub entry-hazard_free : (earlier : List WordRuns) (s : Machine) (taken : Option ℕ) (p : Prepared) (straight side words : Bool) (q : Option ℕ)
     → taken ≡ interrupt s → p ≡ plan s taken → q ≡ (needs (sight s (place_of s taken))).index_read
     → straight ≡ (is_none taken && not (is_missed p s))
@@ -38,8 +38,8 @@ entry-hazard_free earlier s taken p straight side words q is plan_is side_is fir
 
 -- ---- the run
 
--- the run began so that it is hazard-free or not and ends with so many done; it was hazard-free or not so far, so many entries may still be
--- done, and it goes on with a scene
+-- the progress of a run: from this scene, with the given remaining budget, it ends with the count
+-- last, and the whole run is hazard-free if and only if it is so far and in its rest
 pub record IsSoFar (whole : Bool) (last : ℕ) (so : Bool) (left : ℕ) (s : Machine) (xs : List Signal) (written : List Bool) : Type 0 where
   pub earlier : List WordRuns
   pub marks : AreMarks earlier written
@@ -47,7 +47,7 @@ pub record IsSoFar (whole : Bool) (last : ℕ) (so : Bool) (left : ℕ) (s : Mac
   pub done : (state_next (scenes left (without_cards s xs)).last).done ≡ last
   pub few : s.done + left ≤ MOST_INSTRUCTIONS
 
--- at its end
+-- hazard-freedom at the end of a run
 hazard_free-ends : (earlier : List WordRuns) (left : ℕ) (c : Scene) → (left ≡ 0) ⊎ (rests (interlude c).scene.machine ≡ true)
     → is_hazard_free_behind earlier left c ≡ is_hazard_free_interlude c
 hazard_free-ends earlier zero c end = hazard_free-none earlier c
@@ -68,7 +68,7 @@ done-goes_on : (left : ℕ) (c : Scene) → left ≢ 0 → rests (interlude c).s
 unfolding run
 done-goes_on left c some going = ap (λ r. r.scene.machine.done) (run-goes_on left c some going)
 
--- it goes on by an entry
+-- hazard-freedom of a run that continues with an entry
 abbrev hazard_free_on : List WordRuns → ℕ → Scene → Bool
 hazard_free_on earlier left d =
     is_hazard_free_entry earlier d.machine && is_hazard_free_behind (next_writes d.machine ∷ earlier) left (scene_after_step d)
@@ -99,7 +99,7 @@ module _ (whole : Bool) (last : ℕ) (hazard_free quiet : Bool) (left : ℕ) (s 
     pub ends-done : t.done ≡ last
     ends-done = ap (λ c. c.machine.done) (sym came) ∙ sym (done-ends left (without_cards s xs) at_end) ∙ is.done
 
-  -- it goes on by an entry
+  -- the run continues with an entry
   module _ (some : left ≢ 0) (going : rests t ≡ false) where
     goes_on : rests (interlude (without_cards s xs)).scene.machine ≡ false
     goes_on = ap (λ c. rests c.machine) came ∙ going

@@ -1,4 +1,4 @@
--- A hazard-free run is one segment, and with more levels none of its entries is done later.
+-- A hazard-free run is a single segment, and with more levels no entry completes later.
 use Rattle.std.proofs.Common.{◌≡◌, ℕ, zero, suc, ◌-◌, ◌≤◌, inl, inr, true, false, List, [], ◌∷◌, ◌++◌, length, refl, ◌∙◌, ap, arith}
 use Rattle.std.proofs.lemmas.Bool.{cases_Bool, and_parts}
 use Rattle.st_exec.specs.Step.{interrupt, rests}
@@ -21,7 +21,7 @@ use Rattle.st_sweep.specs.HazardFree.{are_equal, is_hazard_free, is_hazard_free_
 use Rattle.st_sweep.specs.Sweep.{ticks}
 use Rattle.st_sweep.proofs.HazardFreedom.{same-delays, GoesOn, hazard_free-goes_on}
 
--- a moment at which no guess was wrong
+-- a moment without misprediction
 abbrev moment : Scene → ℕ → Front → List Ahead → LastAnswers → Moment
 moment c tick f dropped banks =
     record { scene = c; tick = tick; front = f; missed = false; dropped = dropped; banks = banks }
@@ -49,7 +49,7 @@ last-goes_on ds n left v m h =
     ∙ ap (λ xs. events_between m ++ xs) (behind-none ds n left p))
     ∙ last-append v (events_between m) (completion ds n p ∷ timed_from ds n left (next_moment ds n p) [])
 
--- ---- one entry
+-- ---- one more entry
 
 module _ (earlier : List WordRuns) (left : ℕ) (c : Scene) (going : rests (interlude c).scene.machine ≡ false) (on : GoesOn earlier left c) where
   stays : (tick : ℕ) (f : Front) (dropped : List Ahead) (banks : LastAnswers) → next_front (moment c tick f dropped banks) ≡ f

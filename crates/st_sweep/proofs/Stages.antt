@@ -1,4 +1,4 @@
--- What comes between two entries of a run without cards.
+-- The transition between two entries of a run without cards.
 use Rattle.std.specs.Prelude.{◌||◌, ◌&&◌, not, nat_lt}
 use Rattle.std.proofs.Common.{◌≡◌, ◌≤◌, ℕ, Bool, List, [], ◌∷◌, length, refl, sym, subst, ◌∙◌, ap, arith}
 use Rattle.st_state.specs.Machine.{Machine}
@@ -13,7 +13,7 @@ none-left : (cards : List (List ℕ)) → length cards ≤ 0 → cards ≡ []
 none-left [] few = refl
 none-left (card ∷ cards) few = absurd (omega (arith, few))
 
--- no card was there, and none is left
+-- there was no card, and there is none afterwards
 module _ (s t : Machine) (xs ys : List Signal) (x y : Coming) (is : x ≡ record { signals = xs; cards = [] })
     (scene : scene_at t y ≡ (interlude (scene_at s x)).scene) (fewer : length y.cards ≤ length x.cards) (left : ys ≡ y.signals) where
   pub settled-scene : (interlude (without_cards s xs)).scene ≡ without_cards t ys

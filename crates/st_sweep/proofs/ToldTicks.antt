@@ -1,4 +1,4 @@
--- The last tick that is told.
+-- The tick of the last event.
 use Rattle.st_card.specs.declared.control_cards.Signal.{Signal}
 use Rattle.std.proofs.Common.{◌≡◌, ℕ, ◌<◌, List, [], ◌∷◌, ◌++◌, length, refl, ◌∙◌, ap, arith}
 use Rattle.st_state.specs.Machine.{Machine}
@@ -26,7 +26,7 @@ pub last_told-end : (t : ℕ) (rest : List TimedReportedEvent) → rest ≡ [] �
 unfolding last_told
 last_told-end t rest same = rw same refl
 
--- entries that are left out
+-- skipped completions
 rows-last : (rows new : List TimedReportedEvent) (last : TimedReportedEvent) (t : ℕ) → last_told t (rows ++ last ∷ new) ≡ last_told last.tick new
 unfolding last_told
 rows-last [] new last t = refl
@@ -39,7 +39,7 @@ rows-fewer : (rows new : List TimedReportedEvent) (last : TimedReportedEvent) �
 rows-fewer [] new last = omega arith
 rows-fewer (x ∷ rows) new last = let fewer = rows-fewer rows new last in omega (arith, fewer)
 
--- what a whole run tells
+-- the events of a whole run
 pub told-whole : (ds : List ℕ) (n left : ℕ) (s : Machine) (xs : List Signal) (cards : List (List ℕ)) (rest : List TimedReportedEvent)
     → rest ≡ reported_events (timed_run ds n left (record { machine = s; signals = xs; cards = cards }) []) → cards ≡ []
     → last_told 0 rest ≡ ticks ds n left (without_cards s xs)

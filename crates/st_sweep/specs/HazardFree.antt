@@ -1,5 +1,5 @@
--- A run is hazard-free where all reads take the same time, nothing breaks off what runs ahead, and
--- no entry uses a word that an earlier one writes.
+-- Hazard-free runs: all reads have the same delay, the entries in flight are never flushed, and no
+-- entry uses a word that an earlier one writes.
 use Rattle.std.specs.Prelude.{ℕ, zero, suc, ◌+◌, map, Bool, true, false, not, ◌==◌, ◌&&◌, ◌||◌, nat_lt, is_none, List, [], ◌∷◌, length, Option, None, Some}
 use Rattle.std.specs.List.{list_all, list_any}
 use Rattle.st_state.specs.Machine.{Machine}
@@ -15,27 +15,27 @@ use Rattle.st_segment.specs.Entries.{words_to_write}
 
 -- ---- delays
 
--- all of them are the same
+-- whether all delays of the list are equal
 abbrev pub are_equal : List ℕ → Bool
 are_equal [] = true
 are_equal (d ∷ ds) = list_all (λ x. x == d) ds
 
 -- ---- words that earlier entries write
 
--- one of them writes the word w
+-- whether one of the earlier entries writes the word w
 unfoldable pub is_among_written : List WordRuns → ℕ → Bool
 is_among_written earlier w = list_any (is_among w) earlier
 
--- one of them writes one of the n words from the word w on
+-- whether one of the earlier entries writes one of the n words from the word w
 unfoldable pub are_written : List WordRuns → ℕ → ℕ → Bool
 are_written earlier w zero = false
 are_written earlier w (suc n) = is_among_written earlier w || are_written earlier (w + 1) n
 
--- one of them writes a word of two runs
+-- whether one of the earlier entries writes a word of two ranges
 unfoldable pub one_is_written : List WordRuns → Words → Bool
 one_is_written earlier w = are_written earlier w.first w.len || are_written earlier w.first2 w.len2
 
--- one of them writes the index-side word
+-- whether one of the earlier entries writes the index-side word, if there is one
 unfoldable pub side_is_written : List WordRuns → Option ℕ → Bool
 side_is_written earlier None = false
 side_is_written earlier (Some w) = is_among_written earlier w
@@ -46,12 +46,12 @@ side_is_written earlier (Some w) = is_among_written earlier w
 abbrev pub next_writes : Machine → WordRuns
 next_writes s = words_to_write (plan s (interrupt s)).writes
 
--- its index-side word
+-- the index-side word of the next entry of a state
 abbrev pub next_side : Machine → Option ℕ
 next_side s = (needs (sight s (place_of s (interrupt s)))).index_read
 
--- the next entry takes no interrupt and misses no branch, and no earlier entry writes its
--- index-side word or one of its operand words
+-- whether the next entry of a state takes no interrupt, is not mispredicted, and has no index-side
+-- word or operand word that an earlier entry writes
 unfoldable pub is_hazard_free_entry : List WordRuns → Machine → Bool
 is_hazard_free_entry earlier s =
     is_none (interrupt s)
@@ -59,9 +59,9 @@ is_hazard_free_entry earlier s =
     && not (side_is_written earlier (next_side s))
     && not (one_is_written earlier (plan s (interrupt s)).reads)
 
--- ---- what comes between two entries
+-- ---- the transition between two entries
 
--- no card is put into storage, and where the machine waits, nothing comes that ends the wait
+-- whether the transition between two entries reads no card into storage and does not end a wait
 unfoldable pub is_hazard_free_interlude : Scene → Bool
 is_hazard_free_interlude c =
     let after = (interlude c).scene in
@@ -71,20 +71,21 @@ is_hazard_free_interlude c =
 
 -- ---- the run
 
--- so are the next entries of these states, behind earlier ones that write these words
+-- whether the next entries of these states are hazard-free, after earlier entries that write the
+-- given words
 unfoldable pub are_hazard_free_entries : List WordRuns → List Machine → Bool
 are_hazard_free_entries earlier [] = true
 are_hazard_free_entries earlier (s ∷ ss) =
     is_hazard_free_entry earlier s && are_hazard_free_entries (next_writes s ∷ earlier) ss
 
--- the run from a scene on, in which so many entries may still be done, behind earlier entries that
--- write these words
+-- whether the run from a scene, with the given budget, is hazard-free except for the delays, after
+-- earlier entries that write the given words
 unfoldable pub is_hazard_free_behind : List WordRuns → ℕ → Scene → Bool
 is_hazard_free_behind earlier left c =
     let r = scenes left c in
     list_all is_hazard_free_interlude r.before && is_hazard_free_interlude r.last
     && are_hazard_free_entries earlier (map state_next r.before)
 
--- the whole run of a scene, with these delays
+-- whether the whole run of a scene with these delays is hazard-free
 abbrev pub is_hazard_free : List ℕ → ℕ → Scene → Bool
 is_hazard_free ds left c = are_equal ds && is_hazard_free_behind [] left c

@@ -1,13 +1,13 @@
--- Marks for the words that were written.
+-- Marks of the words that have been written.
 use Rattle.std.specs.Prelude.{ℕ, ◌≡◌, zero, suc, ◌+◌, Bool, true, false, List, get_or, set}
 use Rattle.st_rows.specs.declared.entry.WordRuns.{WordRuns}
 use Rattle.st_sweep.specs.HazardFree.{is_among_written}
 
--- a word has a mark exactly where one of the entries writes it
+-- a word is marked if and only if one of the entries writes it
 pub record AreMarks (earlier : List WordRuns) (marks : List Bool) : Type 0 where
   pub each : (w : ℕ) → get_or marks w false ≡ is_among_written earlier w
 
--- the n words from the word w on get their marks
+-- the marks with the n words from the word w marked
 unfoldable pub marks_with : List Bool → ℕ → ℕ → List Bool
 marks_with marks w zero = marks
 marks_with marks w (suc n) = marks_with (set marks w true) (w + 1) n

@@ -1,4 +1,4 @@
--- What a sweep tells of a run.
+-- The result of a sweep.
 use Rattle.std.specs.Prelude.{ℕ, ◌≤◌, ◌<◌, List, [], ◌∷◌, map, length, slice_index}
 use Rattle.st_run.specs.Run.{Scene, state_next, scenes}
 use Rattle.st_sweep.specs.HazardFree.{is_hazard_free}
@@ -7,8 +7,8 @@ use Rattle.st_sweep.specs.Starts.{Start}
 use Rattle.st_sweep.specs.declared.start.Four.{Four}
 use Rattle.st_sweep.specs.declared.sweeping.Swept.{Swept}
 
--- the ticks on machines of one to eight levels, the number done at the end, and whether the run is
--- hazard-free
+-- the ticks on machines of one to eight levels, the count of completed instructions, and whether
+-- the run is hazard-free
 abbrev pub side_by_side : List ℕ → ℕ → Scene → Swept
 side_by_side ds left c = record {
   ticks = map (λ n. ticks ds n left c) (1 ∷ 2 ∷ 3 ∷ 4 ∷ 5 ∷ 6 ∷ 7 ∷ 8 ∷ []);
@@ -16,10 +16,10 @@ side_by_side ds left c = record {
   hazard_free = is_hazard_free ds left c;
 }
 
--- four times the same machine
+-- four copies of a machine
 abbrev pub four_of : Start → Four
 four_of s = record { first = s; second = s; third = s; fourth = s }
 
--- none is greater than one before it
+-- the list is non-increasing
 abbrev pub AreNotRising : List ℕ → Type 0
 AreNotRising xs = (i j : ℕ) → i ≤ j → j < length xs → slice_index xs j ≤ slice_index xs i

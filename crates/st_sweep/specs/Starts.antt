@@ -5,16 +5,17 @@ use Rattle.st_state.specs.Machine.{Machine, opening_state}
 use Rattle.st_run.specs.ReportedEvents.{TimedReportedEvent}
 use Rattle.st_sweep.specs.Sweep.{without_cards, ticks}
 
--- a state and the delays
+-- a machine before its first entry: its state and delays
 pub record Start : Type 0 where
   pub machine : Machine
   pub delays : List ℕ
 
--- at the start of an image
+-- the machine with this image, start address and delays
 abbrev pub start_of_image : List ℕ → ℕ → List ℕ → Start
 start_of_image image start ds = record { machine = opening_state image start; delays = ds }
 
--- nothing has happened in the state
+-- an initial state: no instruction has completed, interrupts are disabled, the machine does not
+-- wait, and there are no orders
 pub record IsFreshStart (s : Machine) : Type 0 where
   pub done : s.done ≡ 0
   pub enabled : s.enabled ≡ false
@@ -22,11 +23,11 @@ pub record IsFreshStart (s : Machine) : Type 0 where
   pub reader : s.reader ≡ None
   pub printer : s.printer ≡ None
 
--- the ticks of its run, with these signals, on n levels
+-- the ticks of the run from this machine, with these signals, on n levels
 abbrev pub ticks_from : Start → ℕ → ℕ → List Signal → ℕ
 ticks_from s n left xs = ticks s.delays n left (without_cards s.machine xs)
 
--- the tick that is told last, or this one where nothing is told
+-- the tick of the last event, t if there is none
 unfoldable pub last_told : ℕ → List TimedReportedEvent → ℕ
 last_told t [] = t
 last_told t (x ∷ xs) = last_told x.tick xs

@@ -1,4 +1,4 @@
-//! Whether a run is hazard-free, by the plain run.
+//! The test whether a run is hazard-free, made on the plain run.
 ghost use Rattle.std.specs.Prelude.{◌≡◌, ◌==◌, ◌+◌, ◌≤◌, ◌<◌, ◌^◌, ◌&&◌, not, List, [], ◌∷◌, false, is_none};
 ghost use Rattle.std.specs.List.{AllPass, list_all};
 ghost use Rattle.st_bits.specs.declared.limits.TheConstants.{MOST_INSTRUCTIONS};
@@ -19,7 +19,7 @@ use st_exec::{complete_in, interrupt, is_at_rest, is_missed};
 use st_prep::{Prepared, plan_in};
 use st_state::State;
 
-// Whether each delay is this one.
+// Whether all delays equal the first argument.
 fn are_all(delay: u8, delays: &[u8]) -> bool
     ensures { result ≡ list_all (λ x. x == delay) delays.now }
 {
@@ -36,7 +36,7 @@ pub(crate) fn are_equal(delays: &[u8]) -> bool
     are_all(*first, rest)
 }
 
-// Whether an entry takes no interrupt and misses no branch.
+// Whether an entry takes no interrupt and is not mispredicted.
 fn goes_straight(taken: Option<u8>, p: &Prepared, state: &State) -> bool
     requires { IsPrepared p.now }
     ensures { result ≡ (is_none taken && not (is_missed_of p.now state.now)) }
@@ -45,15 +45,16 @@ fn goes_straight(taken: Option<u8>, p: &Prepared, state: &State) -> bool
     taken.is_none() && !missed
 }
 
-// Whether all of this is so: the entry goes straight on, and neither its index-side word nor an
-// operand word was written.
+// Whether an entry is hazard-free: it takes no interrupt and is not mispredicted, and neither its
+// index-side word nor an operand word was written.
 fn is_hazard_free(straight: bool, side: bool, words: bool) -> bool
     ensures { result ≡ (straight && not side && not words) }
 {
     straight && !side && !words
 }
 
-// Makes the next step, notes the words that it writes, and tells whether it is a hazard-free entry.
+// Makes the next step and marks the words that it writes. Returns whether it is a hazard-free
+// entry.
 fn step(state: &mut State, written: &mut WrittenWords) -> bool
     requires going { rests state.old ≡ false }
     requires few { state.old.done < 2 ^ 63 }
@@ -73,24 +74,24 @@ fn step(state: &mut State, written: &mut WrittenWords) -> bool
     is_hazard_free(straight, side, words)
 }
 
-// Whether both are so.
+// The conjunction.
 pub(crate) fn both(one: bool, two: bool) -> bool
     ensures { result ≡ (one && two) }
 {
     one && two
 }
 
-// What a plain run tells.
+// The result of a plain run.
 #[derive(Clone, Copy, Debug, PartialEq, Eq)]
 pub(crate) struct PlainOutcome {
-    // The number of instructions done at its end.
+    // The count of completed instructions.
     pub done: u64,
-    // Whether it is hazard-free, delays aside.
+    // Whether the run is hazard-free, except for the delays.
     pub hazard_free: bool,
 }
 
-// Runs a state in which nothing has happened, with these signals and no card, to its end, or until
-// so many instructions are done.
+// Runs an initial state, with these signals and without cards, until it is at rest or the budget is
+// used up.
 pub(crate) fn run_plain(
     state: &mut State,
     signals: &[Signal],

@@ -1,4 +1,4 @@
-//! What comes between two entries of a run without cards, and whether it is quiet.
+//! The transition between two entries of a run without cards, and whether it ends a wait.
 ghost use Rattle.std.specs.Prelude.{◌≡◌, ◌||◌, not};
 ghost use Rattle.std.specs.List.{AllPass};
 ghost use Rattle.st_card.specs.Limits.{is_signal};
@@ -13,24 +13,24 @@ use st_run::Coming;
 use st_run::between::between;
 use st_state::State;
 
-// What comes between two entries.
+// The result of the transition between two entries.
 #[derive(Drop)]
 pub(crate) struct InterludeEnd<'a> {
     // The signals that are still to come.
     pub signals: &'a [Signal],
-    // Whether nothing came that ends a wait.
+    // Whether no wait was ended.
     pub quiet: bool,
 }
 
-// Whether nothing came that ends a wait, by whether the machine rested before, and whether it rests
-// after.
+// Whether no wait was ended, by whether the machine was at rest before and after.
 fn is_kept(before: bool, after: bool) -> bool
     ensures { result ≡ (after || not before) }
 {
     after || !before
 }
 
-// Signals and orders come that are due, and what ends a wait.
+// Makes the transition between two entries: the due signals and orders, and the events that may end
+// a wait.
 pub(crate) fn pass_interlude<'a>(state: &mut State, signals: &'a [Signal]) -> InterludeEnd<'a>
     requires { AllPass is_signal signals.now }
     ensures rest { AllPass is_signal result.signals.now }

@@ -1,4 +1,4 @@
-//! One job on machines of one to eight levels, side by side. `docs/timetable.md` has the rules.
+//! One job on machines of one to eight levels. `docs/timetable.md` has the rules.
 #![tactic(auto, using(st_bits::specs::Storage::words_of_storage_is))]
 
 mod hazards;

@@ -34,8 +34,8 @@ impl Model for Start {
 }
 
 impl Start {
-    /// The machine that begins with this image at this address, and has these delays. The one error
-    /// is that memory ran out; no later call takes any.
+    /// The machine with this image, start address and delays. The only error is a failed
+    /// allocation; no later call allocates.
     pub fn new(alloc: Global, image: &[u64], start: u32, delays: &[u8]) -> Result<Start, NoMemory>
         requires image { IsImage image.now }
         requires counter { start < 2 ^ 19 }
@@ -52,7 +52,8 @@ impl Start {
     }
 }
 
-// The tick of what a run tells next, or of the last one of the entries that are passed over.
+// The tick of the next event of a run, or of the last of the completions that are skipped; None if
+// the run is over.
 fn next_tick<const N: usize>(run: &mut Run<'_, N>) -> Option<u64>
     ensures told { MatchOption result (run.old.rest ≡ [])
         (λ tick. (t : ℕ) → last_told t run.old.rest ≡ last_told tick run.new.rest) }
@@ -67,7 +68,7 @@ fn next_tick<const N: usize>(run: &mut Run<'_, N>) -> Option<u64>
     }
 }
 
-// The tick at which the last entry of a run is done on N levels, 0 where none is.
+// The tick of the last completion of a run on N levels, 0 if there is none.
 fn ticks<const N: usize>(start: Start, signals: &[Signal], budget: u64) -> u64
     requires some { 1 ≤ N }
     requires few { N ≤ 8 }
@@ -101,7 +102,7 @@ pub(crate) struct Four {
 }
 
 impl Four {
-    /// Four times the same machine. The one error is that memory ran out.
+    /// Four copies of a machine. The only error is a failed allocation.
     pub fn new(alloc: Global, image: &[u64], start: u32, delays: &[u8]) -> Result<Four, NoMemory>
         requires image { IsImage image.now }
         requires counter { start < 2 ^ 19 }

@@ -1,4 +1,4 @@
-//! One job on eight machines, one after the other.
+//! One job on eight machines, run in sequence.
 ghost use Rattle.std.specs.Prelude.{◌≡◌, ◌<◌, ◌≤◌, ◌^◌, true, length, All, IfOk};
 ghost use Rattle.std.specs.List.{AllPass};
 ghost use Rattle.st_bits.specs.Storage.{IsImage};
@@ -16,36 +16,36 @@ use st_card::Signal;
 use st_state::State;
 use std::alloc::Global;
 
-/// A job that is swept. Its reader is empty.
+/// The job of a sweep. Its reader is empty.
 #[derive(Clone, Copy)]
 pub struct SweptJob<'a> {
     /// The image of storage.
     pub image: &'a [u64],
-    /// The half-word address of its start.
+    /// The half-word address at which the program starts.
     pub start: u32,
     /// The delays of reads, 1 to 4,096 of them, each from 1 to 255 ticks.
     pub delays: &'a [u8],
-    /// The signals that come to it, in their order.
+    /// The signals, in order.
     pub signals: &'a [Signal],
-    /// How many instructions may be done, 1 to 10,000,000.
+    /// The budget: the greatest number of instructions, 1 to 10,000,000.
     pub budget: u64,
 }
 
-/// A run on machines of one to eight levels.
+/// The result of a sweep: the run on machines of one to eight levels.
 #[derive(Clone, Copy, Debug, PartialEq, Eq)]
 pub struct Swept {
-    /// The tick at which its last instruction is done, on the machine of one level first; 0 where
-    /// none is.
+    /// The tick of the last completion on each machine, the one with one level first; 0 if there is
+    /// none.
     pub ticks: [u64; 8],
-    /// The number of instructions done at its end.
+    /// The count of completed instructions.
     pub done: u64,
     /// Whether the run is hazard-free: all delays are equal; no interrupt is taken, no branch on an
-    /// indicator is missed, and a wait only ends the run; and no instruction has an index-side word
-    /// or an operand word that an earlier one writes.
+    /// indicator is mispredicted, and a wait only ends the run; and no instruction has an
+    /// index-side word or an operand word that an earlier one writes.
     pub hazard_free: bool,
 }
 
-// Takes all memory, and then runs the job on one machine after the other.
+// Allocates all memory, then runs the job on each machine in turn.
 fn run_all(alloc: Global, job: &SweptJob<'_>) -> Result<Swept, NoMemory>
     requires image { IsImage job.now.image.now }
     requires counter { job.now.start < 2 ^ 19 }
@@ -80,8 +80,9 @@ fn run_all(alloc: Global, job: &SweptJob<'_>) -> Result<Swept, NoMemory>
     })
 }
 
-/// Runs a job on machines of one to eight levels, one after the other. The one error is that memory
-/// ran out; all of it is taken before the first instruction. `docs/timetable.md` has the rules.
+/// Runs a job on machines of one to eight levels, in sequence. The only error is a failed
+/// allocation; all memory is allocated before the first instruction. `docs/timetable.md` has the
+/// rules.
 pub fn sweep(alloc: Global, job: &SweptJob<'_>) -> Result<Swept, NoMemory>
     requires image { IsImage job.now.image.now }
     requires counter { job.now.start < 2 ^ 19 }

@@ -1,4 +1,4 @@
-//! Which words the entries of a run wrote so far.
+//! The words that the entries of a run have written so far.
 ghost use Rattle.std.specs.Prelude.{◌≡◌, ◌+◌, ◌≤◌, List, [], ◌∷◌, IfOk, length, get_or, false};
 ghost use Rattle.st_prep.specs.Ranges.{IsRuns, AreInside};
 ghost use Rattle.st_rows.specs.declared.entry.WordRuns.{WordRuns};
@@ -11,13 +11,13 @@ use st_prep::Words;
 use std::alloc::Global;
 use std::marker::Model;
 
-// The words of storage that were written so far.
+// The set of words of storage that have been written so far.
 #[derive(Drop)]
 pub(crate) struct WrittenWords {
     marks: Vec<bool>,
 }
 
-// Clauses see a mark for each word.
+// Contracts see a mark for each word.
 impl Model for WrittenWords {
     ghost use Rattle.std.specs.Prelude.{◌≡◌, List, Bool, length};
     ghost use Rattle.st_bits.specs.Storage.{words_of_storage};
@@ -29,14 +29,14 @@ impl Model for WrittenWords {
     ghost invariant = { λ w. length w.marks.items ≡ words_of_storage };
 }
 
-// Whether a word has a mark.
+// Whether a word is marked.
 fn is_marked(marks: &[bool], w: usize) -> bool
     ensures { result ≡ get_or marks.now w false }
 {
     marks.get(w).copied().unwrap_or(false)
 }
 
-// Whether one of the words of a run has a mark.
+// Whether one of the `len` words from `first` is marked.
 fn has_mark(marks: &[bool], first: u32, len: u8) -> bool
     ensures { (earlier : List WordRuns) → AreMarks earlier marks.now → result
         ≡ are_written earlier first len }
@@ -53,7 +53,7 @@ fn has_mark(marks: &[bool], first: u32, len: u8) -> bool
     false
 }
 
-// The words of a run get their marks.
+// Marks the `len` words from `first`.
 fn mark(marks: &mut Vec<bool>, first: u32, len: u8)
     requires { 1 ≤ len → first + len ≤ length marks.old.items }
     ensures marked { marks.new.items ≡ marks_with marks.old.items first len }
@@ -71,7 +71,7 @@ fn mark(marks: &mut Vec<bool>, first: u32, len: u8)
 impl WrittenWords {
     ghost use Rattle.st_sweep.specs.Marks.{AreMarks, marks_with};
 
-    /// No word was written. The one error is that memory ran out.
+    /// The empty set. The only error is a failed allocation.
     pub fn new(alloc: Global) -> Result<WrittenWords, NoMemory>
         ensures { IfOk result (λ w. AreMarks [] w) }
     {
@@ -81,7 +81,7 @@ impl WrittenWords {
         Ok(WrittenWords { marks })
     }
 
-    /// Whether one of the words of two runs was.
+    /// Whether one of the words of two ranges has been written.
     #[tactic(auto, unfolding(crate::specs::HazardFree::one_is_written))]
     pub fn has_words(&self, words: Words) -> bool
         ensures { (earlier : List WordRuns) → AreMarks earlier self.now → result
@@ -91,7 +91,7 @@ impl WrittenWords {
             || has_mark(&self.marks, words.first2, words.len2)
     }
 
-    /// Whether the index-side word was, if there is one.
+    /// Whether the index-side word, if there is one, has been written.
     #[tactic(auto, unfolding(crate::specs::HazardFree::side_is_written))]
     pub fn has_side(&self, side: Option<u32>) -> bool
         ensures { (earlier : List WordRuns) → AreMarks earlier self.now → result
@@ -103,7 +103,7 @@ impl WrittenWords {
         }
     }
 
-    /// The words of two runs are written.
+    /// Marks the words of two ranges as written.
     pub fn put(&mut self, words: Words)
         requires runs { IsRuns words }
         requires inside { AreInside words }

@@ -1,4 +1,4 @@
--- Writing the report of a run: what is told, one thing after another, and the lines before and behind it.
+-- The writing of the report of a run, event by event, with the lines so far and the remaining ones.
 use Rattle.std.proofs.Common.{◌≡◌, ℕ, ◌≤◌, false, length, List, [], ◌∷◌, ◌++◌, arith, refl, sym, ◌∙◌, ap, subst}
 use Rattle.std.specs.Prelude.{map, Result, Ok, Err, IsErr}
 use Rattle.st_card.specs.Controls.{Asked}
@@ -15,9 +15,9 @@ use Rattle.st_telling.specs.Report.{report, lines_at, lines_told}
 use Rattle.st_telling.specs.Running.{WritesEvents, WritesNothing, moment_told, last_moment}
 use Rattle.st_telling.specs.declared.moment.Moment.{Moment}
 
--- ---- one thing told after another
+-- ---- events in order
 
--- of what is told the first part is written, and the rest is left
+-- the lines of the events so far are written, and the rest remains
 pub record ToldSoFar (s t : OutputState) (asked : Asked) (m now : Moment) (all rest : List TimedReportedEvent) : Type 0 where
   pub so_far : EventsSoFar s t (report asked all) (report asked rest)
   pub last : last_moment now rest ≡ last_moment m all
@@ -25,7 +25,7 @@ pub record ToldSoFar (s t : OutputState) (asked : Asked) (m now : Moment) (all r
 pub told_begins : (s : OutputState) (asked : Asked) (m : Moment) (all : List TimedReportedEvent) → ToldSoFar s s asked m m all all
 told_begins s asked m all = record { so_far = events_none s (report asked all); last = refl }
 
--- of what is left out nothing is written
+-- skipped events have no lines
 pub told_skips : (s t : OutputState) (asked : Asked) (m now n : Moment) (all rest more : List TimedReportedEvent) → WritesNothing asked now rest n more
     → ToldSoFar s t asked m now all rest → ToldSoFar s t asked m n all more
 told_skips s t asked m now n all rest more skips h = record {
@@ -55,7 +55,7 @@ rows-fewer : (rows new : List TimedReportedEvent) (last : TimedReportedEvent) �
 rows-fewer [] new last = omega arith
 rows-fewer (x ∷ rows) new last = let fewer = rows-fewer rows new last in omega (arith, fewer)
 
--- rows that are only counted
+-- completions that are only counted have no lines
 pub counted_skips : (asked : Asked) (m n : Moment) (last : Row) (old new : List TimedReportedEvent) → asked.trace ≡ false → asked.chart ≡ false
     → AreLeftOut last old new → n ≡ moment_told (row_told last) → WritesNothing asked m old n new
 counted_skips asked m n last old new trace chart is same = record {
@@ -72,7 +72,7 @@ none_skips asked m old new same = record {
   fewer = subst (λ xs. length xs ≤ length old) (sym same) (omega arith);
 }
 
--- the next part is written
+-- the lines of the next event are written
 pub told_more : (s t u : OutputState) (asked : Asked) (m now n : Moment) (all rest more : List TimedReportedEvent) (x : TimedReportedEvent) (y : Unit {0})
     → rest ≡ x ∷ more → n ≡ moment_told x → ToldSoFar s t asked m now all rest → WritesLines t u (lines_at asked n.done n.tick x.event) (Ok y)
     → ToldSoFar s u asked m n all more
@@ -87,7 +87,7 @@ told_more s t u asked m now n all rest more x y is same h w =
     } in
     subst (λ (k : Moment). ToldSoFar s u asked m k all more) (sym same) next
 
--- the writing stops in it
+-- the writing stops in the lines of the next event
 pub told_stops : (s t u : OutputState) (asked : Asked) (m now n : Moment) (all rest more : List TimedReportedEvent) (x : TimedReportedEvent) (e : Failed) (r : Result (Unit {0}) Failed)
     → IsErr r → rest ≡ x ∷ more → n ≡ moment_told x → ToldSoFar s t asked m now all rest → WritesLines t u (lines_at asked n.done n.tick x.event) (Err e)
     → WritesEvents s u (report asked all) (last_moment m all) n r
@@ -104,7 +104,7 @@ told_stops s t u asked m now n all rest more x e (Err y) f is same h w =
     } in
     subst (λ (k : Moment). WritesEvents s u (report asked all) (last_moment m all) k (Err y)) (sym same) next
 
--- the same of a row
+-- the lines of the next row are written
 pub row_more : (s t u : OutputState) (asked : Asked) (m now n : Moment) (all rest more : List TimedReportedEvent) (row : Row) (y : Unit {0})
     → rest ≡ row_told row ∷ more → n ≡ moment_told (row_told row) → ToldSoFar s t asked m now all rest
     → WritesLines t u (lines_at asked row.number row.c (row_told row).event) (Ok y) → ToldSoFar s u asked m n all more
@@ -119,7 +119,7 @@ row_stops s t u asked m now n all rest more row e r failed is same h w =
     told_stops s t u asked m now n all rest more (row_told row) e r failed is same h
     (subst (λ (k : Moment). WritesLines t u (lines_at asked k.done k.tick (row_told row).event) (Err e)) (sym same) w)
 
--- all is told
+-- no event remains
 pub told_all : (s t : OutputState) (asked : Asked) (m now : Moment) (all rest : List TimedReportedEvent) (y : Unit {0}) → rest ≡ []
     → ToldSoFar s t asked m now all rest → WritesEvents s t (report asked all) (last_moment m all) now (Ok y)
 unfolding report last_moment
@@ -152,7 +152,7 @@ lines_alone s t lines events last m e (Err y) f g h = record {
       (events_before s t (at_moment 0 0 lines) events 0 0 (stopped_at_moment s t 0 0 lines h.err));
 }
 
--- ---- lines behind events
+-- ---- lines after events
 
 pub events_cut : (s t : OutputState) (events more : List Event) (last m : Moment) (e : Failed) (r : Result (Unit {0}) Failed) → IsErr r → WritesEvents s t events last m (Err e) → WritesEvents s t (events ++ more) last m r
 events_cut s t events more last m e (Ok x) f h = absurd (cc)

@@ -1,4 +1,4 @@
--- The lines of a snapshot, from the levels that the machine shows.
+-- The lines of a snapshot, from the view of the levels.
 use Rattle.std.proofs.Common.{◌≡◌, ℕ, zero, suc, ◌-◌, List, [], ◌∷◌, ◌++◌, length, refl, sym, ◌∙◌, ap, subst}
 use Rattle.std.specs.Prelude.{Option, None, Some, map, replicate, Result, Ok, Err, IsErr}
 use Rattle.st_io.specs.Output.{OutputState}
@@ -38,7 +38,7 @@ unfolding slots views_lines
 levels-lines [] k = none-lines k
 levels-lines (v ∷ vs) k = ap (λ xs. level_line (level_of v) ∷ xs) (levels-lines vs k)
 
--- lines of a snapshot as they are written
+-- the lines of a snapshot, from the views of its levels
 abbrev pub lines_of_views : Asked → ℕ → ℕ → Machine → List (Option LevelView) → List (List ℕ)
 lines_of_views asked done at s shown = (snap_line at done (levels_standing shown) ∷ []) ++ (block asked.dumps s ++ views_lines shown)
 
@@ -54,7 +54,7 @@ views_are asked done at s shown levels are =
 pub writes_views : (t u : OutputState) (asked : Asked) (done at : ℕ) (s : Machine) (shown : List (Option LevelView)) (levels : List Level) (r : Result (Unit {0}) Failed) → AreLevelsShown shown levels → WritesLines t u (lines_of_views asked done at s shown) r → WritesLines t u (snapshot_lines asked done at s levels) r
 writes_views t u asked done at s shown levels r are w = subst (λ ls. WritesLines t u ls r) (views_are asked done at s shown levels are) w
 
--- ---- the levels, one after another
+-- ---- the levels in order
 
 pub levels_cut : (s t : OutputState) (all : List (List ℕ)) (line written : List ℕ) (rest : List (List ℕ)) (e : Failed) (r : Result (Unit {0}) Failed) → IsErr r → all ≡ line ∷ rest → written ≡ line → WritesLines s t (written ∷ []) (Err e) → WritesLines s t all r
 levels_cut s t all line written rest e r f is same w =

@@ -1,4 +1,4 @@
--- What is written of a run, and up to which moment.
+-- The written report of a run, and the moment up to which it is written.
 use Rattle.std.specs.Prelude.{◌≡◌, ℕ, ◌≤◌, length, List, [], ◌∷◌, Option, None, Some, Result, OnOk, OnErr}
 use Rattle.st_card.specs.Controls.{Asked}
 use Rattle.st_io.specs.Output.{OutputState, Wrote}
@@ -12,32 +12,32 @@ use Rattle.st_run.specs.ReportedEvents.{TimedReportedEvent}
 use Rattle.st_telling.specs.Report.{report}
 use Rattle.st_telling.specs.declared.moment.Moment.{Moment}
 
--- when something is told
+-- the moment of an event
 abbrev pub moment_told : TimedReportedEvent → Moment
 moment_told t = record { done = t.done; tick = t.tick }
 
--- the moment of what is told last, or this one where nothing is told
+-- the moment of the last event, m if there is none
 unfoldable pub last_moment : Moment → List TimedReportedEvent → Moment
 last_moment m [] = m
 last_moment m (t ∷ ts) = last_moment (moment_told t) ts
 
--- nothing is written of what is left out from one moment up to a later one, and the same is left to
--- write
+-- nothing is written about the events that are skipped from one moment to a later one, and the
+-- lines of the remaining events do not change
 pub record WritesNothing (asked : Asked) (m : Moment) (old : List TimedReportedEvent) (now : Moment)
     (new : List TimedReportedEvent) : Type 0 where
   pub lines : report asked old ≡ report asked new
   pub last : last_moment m old ≡ last_moment now new
   pub fewer : length new ≤ length old
 
--- the lines of the levels that are shown at the front
+-- the lines of the levels before the first empty place
 unfoldable pub views_lines : List (Option LevelView) → List (List ℕ)
 views_lines [] = []
 views_lines (None ∷ more) = []
 views_lines (Some level ∷ more) = lev_line level.address (change_shown level) level.ready
     ∷ views_lines more
 
--- at Ok all events are written, and the moment is that of the end; else the writing stopped, and
--- the moment is that of the line
+-- on Ok all events are written, and the moment is that of the last one; otherwise the writing
+-- stopped, and the moment is that of the line in which it stopped
 pub record WritesEvents (before after : OutputState) (events : List Event) (last moment : Moment)
     (result : Result (Unit {0}) Failed) : Type 0 where
   pub whole : OnOk result (Wrote before after (text (lines_of events)))

@@ -1,4 +1,4 @@
-//! The block of lines that shows a state.
+//! The lines of the state block.
 ghost use Rattle.std.specs.Prelude.{◌+◌, ◌-◌, ◌<◌, ◌≤◌, [], ◌∷◌};
 ghost use Rattle.std.specs.List.{AllPass};
 ghost use Rattle.st_bits.specs.declared.limits.TheConstants.{WORDS};
@@ -12,7 +12,7 @@ use st_io::{Failed, Sink};
 use st_report::{line_dump, line_en, line_ic, line_mem, line_reg, put};
 use st_run::Seen;
 
-// Writes the line of register `w`, where it is not zero.
+// Writes the line of register `w` if it is not zero.
 #[tactic(auto, using(st_io::proofs::Progress::wrote_nothing, st_bits::specs::Storage::words_of_storage_is))]
 fn write_register<K: Sink>(out: &mut K, seen: &Seen<'_>, w: u8) -> Result<(), Failed>
     requires { w < FIRST_STORAGE_WORD }
@@ -26,7 +26,7 @@ fn write_register<K: Sink>(out: &mut K, seen: &Seen<'_>, w: u8) -> Result<(), Fa
     put(out, &line_reg(w, word))
 }
 
-// Writes the lines of the registers that are not zero.
+// Writes the lines of the nonzero registers.
 fn write_registers<K: Sink>(out: &mut K, seen: &Seen<'_>) -> Result<(), Failed>
     ensures { WritesLines (K.output out.old) (K.output out.new)
         (lines_for (register_lines seen.now) 30 2) result }
@@ -37,7 +37,7 @@ fn write_registers<K: Sink>(out: &mut K, seen: &Seen<'_>) -> Result<(), Failed>
     Ok(())
 }
 
-// Writes the line of the word at `w`, where it is not zero.
+// Writes the line of the word at `w` if it is not zero.
 #[tactic(auto, using(st_io::proofs::Progress::wrote_nothing, st_bits::specs::Storage::words_of_storage_is))]
 fn write_memory<K: Sink>(out: &mut K, seen: &Seen<'_>, w: u32) -> Result<(), Failed>
     requires { w < WORDS }
@@ -50,7 +50,7 @@ fn write_memory<K: Sink>(out: &mut K, seen: &Seen<'_>, w: u32) -> Result<(), Fai
     put(out, &line_mem(w, content))
 }
 
-// Writes the lines of the words from `first` to `last` that are not zero.
+// Writes the lines of the nonzero words from `first` to `last`.
 fn write_words<K: Sink>(out: &mut K, seen: &Seen<'_>, first: u32, last: u32) -> Result<(), Failed>
     requires order { first ≤ last }
     requires within { last < WORDS }
@@ -63,14 +63,14 @@ fn write_words<K: Sink>(out: &mut K, seen: &Seen<'_>, first: u32, last: u32) -> 
     Ok(())
 }
 
-// Writes the line that a dump begins with.
+// Writes the first line of a dump, with its range.
 fn write_range<K: Sink>(out: &mut K, first: u32, last: u32) -> Result<(), Failed>
     ensures { WritesLines (K.output out.old) (K.output out.new) (dump_line first last ∷ []) result }
 {
     put(out, &line_dump(first, last))
 }
 
-// Writes a dump: the words from `first` to `last`.
+// Writes a dump: its range, and the nonzero words from `first` to `last`.
 fn write_dump<K: Sink>(out: &mut K, seen: &Seen<'_>, first: u32, last: u32) -> Result<(), Failed>
     requires order { first ≤ last }
     requires within { last < WORDS }
@@ -93,14 +93,14 @@ fn write_dumps<K: Sink>(out: &mut K, seen: &Seen<'_>, dumps: &[(u32, u32)]) -> R
     Ok(())
 }
 
-// Writes the line of the counter.
+// Writes the line of the program counter.
 fn write_counter<K: Sink>(out: &mut K, seen: &Seen<'_>) -> Result<(), Failed>
     ensures { WritesLines (K.output out.old) (K.output out.new) (ic_line seen.now.ic ∷ []) result }
 {
     put(out, &line_ic(seen.ic()))
 }
 
-// Writes the line that says whether interrupts are enabled.
+// Writes the line that shows whether interrupts are enabled.
 fn write_enabled<K: Sink>(out: &mut K, seen: &Seen<'_>) -> Result<(), Failed>
     ensures { WritesLines (K.output out.old) (K.output out.new)
         (en_line seen.now.enabled ∷ []) result }
@@ -108,7 +108,7 @@ fn write_enabled<K: Sink>(out: &mut K, seen: &Seen<'_>) -> Result<(), Failed>
     put(out, &line_en(seen.enabled()))
 }
 
-/// Writes the state block, with the dumps that are asked for.
+/// Writes the state block, with the requested dumps.
 pub fn write_block<K: Sink>(
     out: &mut K,
     seen: &Seen<'_>,

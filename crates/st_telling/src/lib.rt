@@ -1,4 +1,5 @@
-//! What a run tells, and what a state shows, as lines of a report. `docs/report.md` has the rules.
+//! The events of a run and the parts of a state as lines of a report. `docs/report.md` has the
+//! rules.
 #![tactic(auto, using(st_bits::specs::Storage::words_of_storage_is))]
 
 mod block;

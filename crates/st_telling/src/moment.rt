@@ -1,12 +1,12 @@
 //! The moments of a report.
 ghost use Rattle.std.specs.Prelude.{◌≡◌};
 
-/// When a line of a report is written.
+/// The moment at which a line of a report is written.
 #[derive(Clone, Copy, Debug, PartialEq, Eq)]
 pub struct Moment {
-    /// The number of instructions done.
+    /// The count of completed instructions.
     pub done: u64,
-    /// The tick at which the last of them was done, 0 before the first.
+    /// The tick of the last completion, 0 before the first.
     pub tick: u64,
 }
 

@@ -1,4 +1,4 @@
-//! What a run tells, as lines of its report.
+//! The events of a run as lines of its report.
 ghost use Rattle.std.specs.Prelude.{◌≡◌, ◌<◌, ◌||◌, [], ◌∷◌, List, length, MatchOption, IfSome};
 ghost use Rattle.std.specs.List.{AllPass};
 ghost use Rattle.st_card.specs.Limits.{is_part};
@@ -24,7 +24,7 @@ use st_report::{
 use st_run::{Run, RunEvent, Seen, TimedRunEvent};
 use st_time::{fill_chart, level_line, snap_line};
 
-/// Writes the state block, with the dumps that are asked for, line by line.
+/// Writes the state block, with the requested dumps, line by line.
 pub fn write_state<K: Sink>(out: &mut K, seen: &Seen<'_>, controls: &Controls) -> Result<(), Failed>
     requires { AllPass is_part controls.now.dumps }
     ensures { WritesLines (K.output out.old) (K.output out.new)
@@ -33,7 +33,7 @@ pub fn write_state<K: Sink>(out: &mut K, seen: &Seen<'_>, controls: &Controls) -
     write_block(out, seen, controls.dumps.as_slice())
 }
 
-// Whether something is written of each instruction that is done.
+// Whether completions have lines in the report.
 #[inline(always)]
 fn is_written(controls: &Controls) -> bool
     ensures { result ≡ (controls.now.trace || controls.now.chart) }
@@ -41,8 +41,7 @@ fn is_written(controls: &Controls) -> bool
     controls.trace || controls.chart
 }
 
-// Writes the line of an instruction that is done, where a trace is asked for. It is put together in
-// `line`.
+// Writes the trace line of a completed instruction, if a trace is requested. `line` is a buffer.
 #[tactic(auto, using(st_io::proofs::Progress::wrote_nothing))]
 #[inline(always)]
 fn write_trace<K: Sink>(
@@ -62,7 +61,7 @@ fn write_trace<K: Sink>(
     write_line(out, line.bytes.as_bytes())
 }
 
-// Writes the line of a row, where the timetable is asked for. It is put together in `line`.
+// Writes the line of a row, if the timetable is requested. `line` is a buffer.
 #[tactic(auto, using(st_io::proofs::Progress::wrote_nothing))]
 #[inline(always)]
 fn write_row<K: Sink>(
@@ -81,7 +80,7 @@ fn write_row<K: Sink>(
     write_line(out, line.bytes.as_bytes())
 }
 
-// Writes the lines of an entry that is done, each put together in `line`.
+// Writes the lines of a completion. `line` is a buffer.
 #[inline(always)]
 fn write_done<K: Sink>(
     out: &mut K,
@@ -96,7 +95,7 @@ fn write_done<K: Sink>(
     write_row(out, line, row, controls)
 }
 
-// Writes the line of an entry that is dropped, where the timetable is asked for.
+// Writes the line of a flushed entry, if the timetable is requested.
 #[tactic(auto, using(st_io::proofs::Progress::wrote_nothing))]
 fn write_dropped<K: Sink>(
     out: &mut K,
@@ -113,7 +112,7 @@ fn write_dropped<K: Sink>(
     put(out, &line_drop(address, p))
 }
 
-// Writes the line that is printed.
+// Writes the line of a print.
 fn write_printed<K: Sink>(out: &mut K, text: &ArrayString<64>) -> Result<(), Failed>
     ensures { WritesLines (K.output out.old) (K.output out.new)
         (prt_line text.now.bytes ∷ []) result }
@@ -121,14 +120,14 @@ fn write_printed<K: Sink>(out: &mut K, text: &ArrayString<64>) -> Result<(), Fai
     put(out, &line_prt(text))
 }
 
-// Writes the line that says which interrupt is taken, and when.
+// Writes the line of an interrupt, with its indicator and the count of completed instructions.
 fn write_taken<K: Sink>(out: &mut K, i: u8, done: u64) -> Result<(), Failed>
     ensures { WritesLines (K.output out.old) (K.output out.new) (int_line i done ∷ []) result }
 {
     put(out, &line_int(i, done))
 }
 
-// Writes the line of the tick of an interrupt, where ticks are asked for.
+// Writes the line of the tick of an interrupt, if ticks are requested.
 #[tactic(auto, using(st_io::proofs::Progress::wrote_nothing))]
 fn write_time<K: Sink>(out: &mut K, tick: u64, controls: &Controls) -> Result<(), Failed>
     ensures { WritesLines (K.output out.old) (K.output out.new)
@@ -157,7 +156,7 @@ fn write_interrupt<K: Sink>(
     write_state(out, seen, controls)
 }
 
-// Writes the line of a snapshot, which is of this moment.
+// Writes the first line of a snapshot at this moment.
 fn write_snap<K: Sink>(out: &mut K, moment: Moment, view: &View) -> Result<(), Failed>
     ensures { WritesLines (K.output out.old) (K.output out.new)
         (snap_line_of moment.tick moment.done (levels_standing view.now.levels) ∷ []) result }
@@ -170,7 +169,7 @@ fn write_snap<K: Sink>(out: &mut K, moment: Moment, view: &View) -> Result<(), F
     put(out, &snap_line(&view))
 }
 
-// The first of the levels at the front, and what is behind it.
+// The first of the levels and the rest; None if there is none.
 #[tactic(auto, unfolding(crate::specs::Running::views_lines))]
 fn first_level(levels: &[Option<LevelView>]) -> Option<(LevelView, &[Option<LevelView>])>
     ensures lines { MatchOption result (views_lines levels.now ≡ []) (λ r. views_lines levels.now
@@ -183,7 +182,7 @@ fn first_level(levels: &[Option<LevelView>]) -> Option<(LevelView, &[Option<Leve
     }
 }
 
-// Writes the lines of the levels at the front.
+// Writes the lines of the levels.
 #[tactic(auto, using(st_io::proofs::Progress::wrote_nothing))]
 fn write_levels<K: Sink>(out: &mut K, levels: &[Option<LevelView>]) -> Result<(), Failed>
     ensures { WritesLines (K.output out.old) (K.output out.new) (views_lines levels.now) result }
@@ -195,7 +194,7 @@ fn write_levels<K: Sink>(out: &mut K, levels: &[Option<LevelView>]) -> Result<()
     write_levels(out, more)
 }
 
-// Writes the lines of a snapshot, which is of this moment.
+// Writes the lines of a snapshot at this moment.
 fn write_snapshot<K: Sink>(
     out: &mut K,
     moment: Moment,
@@ -213,8 +212,8 @@ fn write_snapshot<K: Sink>(
     write_levels(out, &view.levels)
 }
 
-// Writes the snapshot that a run shows. It is apart, so that what is told without one makes no room
-// for a view.
+// Writes the snapshot that a run shows. It is a separate function, so that other events need no
+// stack space for a view.
 #[inline(never)]
 fn write_shown<K: Sink, const N: usize>(
     out: &mut K,
@@ -229,21 +228,21 @@ fn write_shown<K: Sink, const N: usize>(
     write_snapshot(out, moment, &run.seen(), &run.view(), controls)
 }
 
-// Writes the line that says how the run ended.
+// Writes the line of the end of the run: at rest, or with the budget used up.
 fn write_ended<K: Sink>(out: &mut K, rests: bool) -> Result<(), Failed>
     ensures { WritesLines (K.output out.old) (K.output out.new) (end_line rests ∷ []) result }
 {
     put(out, &line_end(rests))
 }
 
-// Writes the line with the number of instructions done.
+// Writes the line with the count of completed instructions.
 fn write_count<K: Sink>(out: &mut K, done: u64) -> Result<(), Failed>
     ensures { WritesLines (K.output out.old) (K.output out.new) (done_line done ∷ []) result }
 {
     put(out, &line_done(done))
 }
 
-// Writes the line of the tick of the last completion, where ticks are asked for.
+// Writes the line of the tick of the last completion, if ticks are requested.
 #[tactic(auto, using(st_io::proofs::Progress::wrote_nothing))]
 fn write_ticks<K: Sink>(out: &mut K, tick: u64, controls: &Controls) -> Result<(), Failed>
     ensures { WritesLines (K.output out.old) (K.output out.new)
@@ -255,7 +254,7 @@ fn write_ticks<K: Sink>(out: &mut K, tick: u64, controls: &Controls) -> Result<(
     put(out, &line_ticks(tick))
 }
 
-// Writes the lines of the end, at rest or with the budget used up.
+// Writes the lines of the end of the run: at rest, or with the budget used up.
 fn write_end<K: Sink>(
     out: &mut K,
     moment: Moment,
@@ -273,7 +272,7 @@ fn write_end<K: Sink>(
     write_state(out, seen, controls)
 }
 
-// The moment of what is told.
+// The moment of an event.
 fn moment_of(told: &TimedRunEvent) -> Moment
     ensures { result ≡ record { done = told.now.done; tick = told.now.tick } }
 {
@@ -293,8 +292,7 @@ fn moment_at(row: &Row) -> Moment
     }
 }
 
-// Writes the lines of what a run has just told. Those of an entry that is done are put together in
-// `line`.
+// Writes the lines of the last event of a run. `line` is a buffer for those of a completion.
 #[tactic(auto, using(st_io::proofs::Progress::wrote_nothing))]
 fn write_told<K: Sink, const N: usize>(
     out: &mut K,
@@ -309,7 +307,7 @@ fn write_told<K: Sink, const N: usize>(
 {
     let TimedRunEvent { done, tick, event } = told;
     let moment = Moment { done, tick };
-    // Of an entry that is only counted nothing is written.
+    // A completion that is only counted has no lines.
     if let RunEvent::Done { .. } = event {
         if !controls.is_traced() {
             if !controls.is_charted() {
@@ -336,8 +334,7 @@ fn write_told<K: Sink, const N: usize>(
     }
 }
 
-// Passes over entries that are done and of which nothing is written. The moment is that of the last
-// one.
+// Skips completions without lines. `moment` becomes that of the last one.
 fn pass_counted<const N: usize>(run: &mut Run<'_, N>, moment: &mut Moment, controls: &Controls)
     ensures { WritesNothing controls.now moment.old run.old.rest moment.new run.new.rest }
 {
@@ -352,7 +349,7 @@ fn pass_counted<const N: usize>(run: &mut Run<'_, N>, moment: &mut Moment, contr
     }
 }
 
-// The row of an entry that a run tells next, where such are written.
+// The row of the next completion, if completions have lines.
 #[inline(always)]
 fn next_written<const N: usize>(run: &mut Run<'_, N>, written: bool) -> Option<Row>
     ensures { MatchOption result (run.new.rest ≡ run.old.rest) (λ row. run.old.rest ≡ row_told row
@@ -364,7 +361,7 @@ fn next_written<const N: usize>(run: &mut Run<'_, N>, written: bool) -> Option<R
     run.next_row()
 }
 
-// What a run tells next, behind entries that are done and of which nothing is written.
+// The next event of a run, after completions without lines.
 fn next_told<const N: usize>(
     run: &mut Run<'_, N>,
     moment: &mut Moment,
@@ -378,7 +375,7 @@ fn next_told<const N: usize>(
     run.next()
 }
 
-// Writes the report of all that a run still has to tell.
+// Writes the report of the remaining events of a run.
 #[inline(always)]
 fn write_rest<K: Sink, const N: usize>(
     out: &mut K,
@@ -390,7 +387,7 @@ fn write_rest<K: Sink, const N: usize>(
     ensures { WritesEvents (K.output out.old) (K.output out.new) (report controls.now run.old.rest)
         (last_moment moment.old run.old.rest) moment.new result }
 {
-    // One line for all, since a new one is cleared first.
+    // One buffer for all lines, since clearing a new one takes time.
     let mut line = EntryLine::new();
     let written = is_written(controls);
     'telling: loop {
@@ -407,8 +404,8 @@ fn write_rest<K: Sink, const N: usize>(
     }
 }
 
-/// Writes the report of all that a run still has to tell. After a failed write `moment` is that of
-/// the line, else that of the end.
+/// Writes the report of the remaining events of a run. After a failed write `moment` is that of the
+/// line, otherwise that of the end.
 pub fn write_run<K: Sink, const N: usize>(
     out: &mut K,
     run: &mut Run<'_, N>,
@@ -419,7 +416,7 @@ pub fn write_run<K: Sink, const N: usize>(
     ensures { WritesEvents (K.output out.old) (K.output out.new) (report controls.now run.old.rest)
         (last_moment moment.old run.old.rest) moment.new result }
 {
-    // A moment of its own is changed for each line without a look at where that of the caller is.
+    // A local moment is updated for each line, without access to the caller's.
     let mut here = *moment;
     let written = write_rest(out, run, &mut here, controls);
     *moment = here;

@@ -1,11 +1,11 @@
--- The text without its last blanks, found by the place where they begin.
+-- The text without its trailing blanks, by the place where they begin.
 use Rattle.std.proofs.Common.{◌≡◌, ◌≢◌, ◌≤◌, ◌<◌, ◌-◌, ◌==◌, ℕ, List, length, take, slice_index, arith}
 use Rattle.std.proofs.lemmas.Grind.{common_steps}
 use Rattle.std.proofs.lemmas.List.Sums.{suffix_len_is}
 use Rattle.std.specs.List.{suffix_len}
 use Rattle.st_text.specs.Blanks.{without_end_blanks}
 
--- blanks from n on, and none before n
+-- all bytes from n are blanks, and the one before n is not
 pub take-filled : (text : List ℕ) (n : ℕ) → n ≤ length text
     → ((k : ℕ) → n ≤ k → k < length text → slice_index text k ≡ 32)
     → (0 < n → slice_index text (n - 1) ≢ 32)

@@ -1,20 +1,20 @@
--- Fronts of texts, and what stands behind them.
+-- Prefixes and suffixes of texts.
 use Rattle.std.proofs.Common.{◌≡◌, ◌≤◌, ◌+◌, ◌-◌, ℕ, List, [], ◌∷◌, ◌++◌, length, take, drop, ap, sym, ◌∙◌, arith, append_assoc, length-append}
 use Rattle.std.proofs.lemmas.List.{take-take, drop-drop, length-take-le}
 use Rattle.std.proofs.Math.Seq.{take-length, take-append_seam, drop-append_seam}
 use Rattle.st_text.specs.Pieces.{IsFront, IsBehind}
 
--- a text is a front of itself
+-- a text is a prefix of itself
 pub front_itself : (text : List ℕ) → IsFront text text
 front_itself text = record { same = sym (take-length text); within = omega arith }
 
--- so many bytes of a text are a front of it
+-- the first n bytes of a text are a prefix of it
 pub front_taken : (n : ℕ) (text : List ℕ) → n ≤ length text → IsFront (take n text) text
 front_taken n text few =
     let long : length (take n text) ≡ n = length-take-le n text few in
     record { same = ap (λ k. take k text) (sym long); within = omega (arith, long, few) }
 
--- a front of a front
+-- a prefix of a prefix is a prefix
 pub front_of_front : (a b text : List ℕ) → IsFront a b → IsFront b text → IsFront a text
 front_of_front a b text first second = record {
   same = first.same ∙ (ap (λ (s : List ℕ). take (length a) s) second.same
@@ -22,7 +22,7 @@ front_of_front a b text first second = record {
   within = omega arith;
 }
 
--- what stands before a byte, and what stands behind it
+-- the parts before and after a byte are a prefix and a suffix
 pub front_of_whole : (front back text : List ℕ) (c : ℕ) → text ≡ front ++ c ∷ back → IsFront front text
 front_of_whole front back text c whole = record {
   same = sym (ap (λ (s : List ℕ). take (length front) s) whole ∙ take-append_seam front (c ∷ back));
@@ -39,7 +39,7 @@ behind_whole front back text c whole =
       within = omega arith;
     }
 
--- what is behind a text that is behind another
+-- a suffix of a suffix is a suffix
 pub behind_behind : (a b text : List ℕ) → IsBehind a b → IsBehind b text → IsBehind a text
 behind_behind a b text first second =
     let count : (length text - length b) + (length b - length a) ≡ length text - length a =
@@ -50,7 +50,7 @@ behind_behind a b text first second =
       within = omega (arith, first.within, second.within);
     }
 
--- a text is behind itself
+-- a text is a suffix of itself
 pub behind_itself : (text : List ℕ) → IsBehind text text
 behind_itself text =
     let none : 0 ≡ length text - length text = omega arith in

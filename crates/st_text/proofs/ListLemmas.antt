@@ -1,9 +1,9 @@
--- A list by its first item and the rest, as the patterns of slices have them.
+-- A list as its first item and the rest, as slice patterns split it.
 use Rattle.std.proofs.Common.{◌≡◌, ◌≤◌, ◌<◌, ℕ, suc, ◌+◌, ◌-◌, List, [], ◌∷◌, ◌++◌, length, get_or, take, drop, ap, sym, ◌∙◌, arith, drop-cons, add-one}
 use Rattle.std.proofs.Math.Seq.{take-length}
 use Rattle.std.proofs.lemmas.List.{take_more}
 
--- a list that is not empty
+-- a nonempty list as its first item and the rest
 pub first_and_rest : {X : Type 0} (xs : List X) (other : X) → 1 ≤ length xs →
     xs ≡ get_or xs 0 other ∷ take (length xs - 1) (drop 1 xs)
 first_and_rest [] other h = absurd (omega arith)
@@ -11,7 +11,7 @@ first_and_rest (x ∷ xs) other h =
     let count : length xs ≡ suc (length xs) - 1 = omega arith in
     ap (λ t. x ∷ t) (sym (take-length xs) ∙ ap (λ n. take n xs) count)
 
--- an item further on: what stands before it, and what is left behind it
+-- one item further: the items before it, and those after it
 pub past_first : (text rest tail : List ℕ) (n x : ℕ) → rest ≡ drop n text → rest ≡ x ∷ tail → n < length text →
     (take (n + 1) text ≡ take n text ++ x ∷ []) × (tail ≡ drop (n + 1) text)
 past_first text rest tail n x here parts within =

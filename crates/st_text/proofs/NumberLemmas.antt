@@ -1,10 +1,10 @@
--- Reading a number under a cap.
+-- Reading a number with a cap.
 use Rattle.std.proofs.Common.{◌≡◌, ℕ, ◌+◌, ◌*◌, ◌-◌, ◌&&◌, Bool, true, List, [], ◌∷◌, min, ap, sym, ◌∙◌, arith}
 use Rattle.std.specs.Char.{is_ascii_digit}
 use Rattle.std.specs.List.{list_all}
 use Rattle.st_text.specs.Number.{value_after}
 
--- capping the digits read so far changes nothing under the cap
+-- capping the value of the digits so far does not change the capped value of all digits
 pub capped_value : (cap n : ℕ) (cs : List ℕ) → min (value_after (min n cap) cs) cap ≡ min (value_after n cs) cap
 capped_value cap n [] = omega arith
 capped_value cap n (c ∷ cs) =
@@ -13,7 +13,7 @@ capped_value cap n (c ∷ cs) =
     sym (capped_value cap (min n cap * 10 + d) cs)
     ∙ (ap (λ m. min (value_after m cs) cap) step ∙ capped_value cap (n * 10 + d) cs)
 
--- a digit further on
+-- one digit further
 pub value_step : (cap n m c : ℕ) (rest tail : List ℕ) → rest ≡ c ∷ tail → m ≡ min (n * 10 + (c - 48)) cap →
     min (value_after m tail) cap ≡ min (value_after n rest) cap
 value_step cap n m c rest tail parts longer =

@@ -1,4 +1,4 @@
--- The bytes that texts are cut at and made of, by their names.
+-- Names for the bytes at which texts are split and of which they consist.
 use Rattle.std.specs.Prelude.{ℕ, ◌&&◌, Bool, nat_le, List, [], ◌∷◌}
 use Rattle.std.specs.List.{list_all}
 
@@ -47,7 +47,7 @@ letter_a = 65
 abbrev pub letter_n : ℕ
 letter_n = 78
 
--- the last byte of ASCII that is visible
+-- the last printable byte of ASCII
 abbrev pub tilde : ℕ
 tilde = 126
 
@@ -55,10 +55,10 @@ tilde = 126
 abbrev pub lf : List ℕ
 lf = line_end ∷ []
 
--- whether a byte is a blank or a visible character of ASCII
+-- whether a byte is a blank or a printable character of ASCII
 abbrev pub is_printable_byte : ℕ → Bool
 is_printable_byte c = nat_le blank c && nat_le c tilde
 
--- whether a text has only blanks and visible characters of ASCII
+-- whether a text consists of blanks and printable characters of ASCII
 abbrev pub is_printable : List ℕ → Bool
 is_printable text = list_all is_printable_byte text

@@ -1,4 +1,4 @@
--- How numbers, addresses and marks are written.
+-- The formats of numbers, addresses and Boolean marks.
 use Rattle.std.specs.Prelude.{ℕ, suc, zero, ◌+◌, ◌-◌, ◌*◌, ◌/◌, ◌%◌, Bool, true, false, if◌then◌else◌, nat_lt, List, [], ◌∷◌, ◌++◌, codes, decimal}
 use Rattle.st_text.specs.Bytes.{digit_zero, letter_a}
 
@@ -27,7 +27,7 @@ bit_address b = place (b / 64) (b % 64)
 abbrev pub half_address : ℕ → List ℕ
 half_address h = place (h / 2) (32 * (h % 2))
 
--- yes or no
+-- a Boolean as 1 or 0
 abbrev pub flag : Bool → List ℕ
 flag true = codes "1"
 flag false = codes "0"

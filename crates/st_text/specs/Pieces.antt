@@ -1,33 +1,33 @@
--- A text cut into pieces at a byte.
+-- A text split at a byte.
 use Rattle.std.specs.Prelude.{◌≡◌, ◌≤◌, ◌-◌, ℕ, ◌==◌, Bool, not, List, [], ◌∷◌, length, take, drop, filter, if◌then◌else◌}
 use Rattle.std.specs.List.{list_all}
 use Rattle.st_text.specs.Bytes.{blank}
 use Rattle.st_text.specs.Number.{is_filled}
 
--- a byte put in front of the first piece
+-- the pieces with a byte put before the first one
 abbrev pub onto_first : ℕ → List (List ℕ) → List (List ℕ)
 onto_first c [] = (c ∷ []) ∷ []
 onto_first c (piece ∷ pieces) = (c ∷ piece) ∷ pieces
 
--- the pieces of a text between the places where a byte stands
+-- the pieces of a text between the occurrences of a byte
 abbrev pub pieces_of : ℕ → List ℕ → List (List ℕ)
 pieces_of at [] = [] ∷ []
 pieces_of at (c ∷ cs) = if c == at then [] ∷ pieces_of at cs else onto_first c (pieces_of at cs)
 
--- whether a text has no byte of a kind
+-- whether a text does not contain a byte
 abbrev pub lacks : ℕ → List ℕ → Bool
 lacks at text = list_all (λ c. not (c == at)) text
 
--- a text is a front of another
+-- front is a prefix of text
 pub record IsFront (front text : List ℕ) : Type 0 where
   pub same : front ≡ take (length front) text
   pub within : length front ≤ length text
 
--- a text is what stands behind a front of another
+-- back is a suffix of text
 pub record IsBehind (back text : List ℕ) : Type 0 where
   pub same : back ≡ drop (length text - length back) text
   pub within : length back ≤ length text
 
--- the words of a text: what stands between blanks
+-- the words of a text, which are separated by blanks
 abbrev pub words : List ℕ → List (List ℕ)
 words text = filter is_filled (pieces_of blank text)

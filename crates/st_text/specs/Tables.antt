@@ -1,18 +1,18 @@
--- Tables whose rows are found by a word.
+-- Tables whose rows are looked up by a word.
 use Rattle.std.specs.Prelude.{ℕ, Bool, nat_eq, List, map, Option}
 use Rattle.std.specs.Cmp.Lexicographic.{pointwise}
 use Rattle.std.specs.Map.{lookup}
 use Rattle.std.specs.Borrow.{Bor}
 
--- whether two words are the same
+-- whether two words are equal
 abbrev pub is_same : List ℕ → List ℕ → Bool
 is_same a b = pointwise nat_eq a b
 
 module _ {T : Type 0} where
-  -- the value of the first row with a word
+  -- the value of the first row with a word, None if there is none
   abbrev pub row_of : List ℕ → List (List ℕ × T) → Option T
   row_of word rows = lookup (λ key. is_same word key) rows
 
-  -- the rows that a table of the code holds
+  -- the rows of a table of the code
   abbrev pub rows_of : List (Bor (List ℕ) × T) → List (List ℕ × T)
   rows_of rows = map (λ row. (row.0.now, row.1)) rows

@@ -1,10 +1,10 @@
-//! The blanks at the ends of a text.
+//! Leading and trailing blanks of a text.
 
 ghost use Rattle.std.specs.Prelude.{◌≡◌, ◌<◌, ◌≤◌, length, take, slice_index};
 ghost use Rattle.st_text.specs.Bytes.{blank};
 ghost use Rattle.st_text.specs.Blanks as spec;
 
-/// How many bytes stand before the blanks at the end of a text.
+/// The length of a text without its trailing blanks.
 pub fn filled_len(text: &[u8]) -> usize
     ensures within { result ≤ length text.now }
     ensures value { take result text.now ≡ spec.without_end_blanks text.now }
@@ -15,7 +15,7 @@ pub fn filled_len(text: &[u8]) -> usize
         .map_or(0, |last| last + 1)
 }
 
-/// A text without the blanks at its end.
+/// A text without its trailing blanks.
 pub fn without_end_blanks(text: &[u8]) -> &[u8]
     ensures text { result.now ≡ spec.without_end_blanks text.now }
     ensures shorter { length result.now ≤ length text.now }
@@ -23,7 +23,7 @@ pub fn without_end_blanks(text: &[u8]) -> &[u8]
     text.split_at(filled_len(text)).0
 }
 
-/// A text without the blanks at its front.
+/// A text without its leading blanks.
 pub fn without_front_blanks(text: &[u8]) -> &[u8]
     ensures text { result.now ≡ spec.without_front_blanks text.now }
     ensures shorter { length result.now ≤ length text.now }

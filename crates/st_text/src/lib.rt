@@ -1,4 +1,5 @@
-//! Texts: cut into pieces and words, read as numbers, found in tables, and put together to lines.
+//! Texts: split into pieces and words, read as numbers, looked up in tables, and composed into
+//! lines.
 #![tactic(auto)]
 
 mod blanks;

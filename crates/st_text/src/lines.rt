@@ -1,4 +1,4 @@
-//! Lines of text, and the pieces that they are put together from.
+//! Lines of text, and the pieces of which they are composed.
 
 ghost use Rattle.std.specs.Prelude.{◌≡◌, ◌+◌, ◌<◌, ◌≤◌, ◌++◌, length, decimal};
 ghost use Rattle.arrayvec.specs.ArrayString.{array_string_len};
@@ -13,7 +13,7 @@ use itoa::Buffer;
 /// A line of at most 128 bytes.
 pub type Line = ArrayString<128>;
 
-/// A line that begins with this word, of at most 128 bytes.
+/// A line that starts with this word, of at most 128 bytes.
 pub fn begun(word: &str) -> Line
     requires { length word.now ≤ 128 }
     ensures { result.bytes ≡ word.now }
@@ -23,7 +23,7 @@ pub fn begun(word: &str) -> Line
     line
 }
 
-/// The line with its line end.
+/// The line with its line end appended.
 pub fn ended(mut line: Line) -> Line
     requires { array_string_len line < 128 }
     ensures { result.bytes ≡ line.bytes ++ lf }
@@ -32,7 +32,7 @@ pub fn ended(mut line: Line) -> Line
     line
 }
 
-/// Appends a number in decimal digits, of which there are at most 20.
+/// Appends a number in decimal; it has at most 20 digits.
 pub fn push_decimal(line: &mut Line, n: u64)
     requires { array_string_len line.old + 20 ≤ 128 }
     ensures bytes { line.new.bytes ≡ line.old.bytes ++ decimal n }
@@ -41,7 +41,7 @@ pub fn push_decimal(line: &mut Line, n: u64)
     line.push_str(Buffer::new().format(n));
 }
 
-/// Appends a number below 2^32 in decimal digits, of which there are at most ten.
+/// Appends a number below 2^32 in decimal; it has at most ten digits.
 pub fn push_short_decimal(line: &mut Line, n: u32)
     requires { array_string_len line.old + 10 ≤ 128 }
     ensures bytes { line.new.bytes ≡ line.old.bytes ++ decimal n }
@@ -64,7 +64,7 @@ fn hex_char(digit: u8) -> char
     char::from(code)
 }
 
-/// Appends the last `digits` digits of a number in hexadecimal, in capitals.
+/// Appends the last `digits` digits of a number in upper-case hexadecimal.
 pub fn push_hex(line: &mut Line, digits: u8, n: u64)
     requires { array_string_len line.old + digits ≤ 128 }
     ensures bytes { line.new.bytes ≡ line.old.bytes ++ hex_text digits n }
@@ -111,7 +111,7 @@ pub fn push_half_address(line: &mut Line, address: u32)
     }
 }
 
-/// Appends 1 for yes, 0 for no.
+/// Appends 1 for true, 0 for false.
 pub fn push_flag(line: &mut Line, yes: bool)
     requires { array_string_len line.old < 128 }
     ensures bytes { line.new.bytes ≡ line.old.bytes ++ flag yes }
@@ -120,7 +120,7 @@ pub fn push_flag(line: &mut Line, yes: bool)
     line.push_str(if yes { "1" } else { "0" });
 }
 
-/// Drops the blanks at the end of a text.
+/// Removes the trailing blanks of a text.
 pub fn drop_end_blanks<const N: usize>(text: &mut ArrayString<N>)
     ensures bytes { text.new.bytes ≡ without_end_blanks text.old.bytes }
     ensures room { array_string_len text.new ≤ array_string_len text.old }

@@ -1,22 +1,22 @@
-//! Plain decimal numbers: one digit or more, without a sign.
+//! Plain decimal numbers: one or more digits, without a sign.
 
 ghost use Rattle.std.specs.Prelude.{◌≡◌, ◌+◌, ◌*◌, ◌^◌, ◌≤◌, min, IfSome, Some, None, if◌then◌else◌};
 ghost use Rattle.std.specs.Char.{is_ascii_digit};
 ghost use Rattle.std.specs.List.{list_all};
 ghost use Rattle.st_text.specs.Number as spec;
 
-/// What a text says where a number is wanted.
+/// The result of reading a text as a number.
 #[derive(Clone, Copy, Debug, PartialEq, Eq)]
 pub enum Reading {
-    /// It is no number.
+    /// The text is not a number.
     Bad,
-    /// It is a number above the most that may stand there.
+    /// The text is a number above the maximum.
     Large,
-    /// It is this number.
+    /// The text is this number.
     Good(u64),
 }
 
-/// What `text` says where a number is wanted that is at most `most`.
+/// Reads `text` as a number of at most `most`.
 pub fn read_number(text: &[u8], most: u64) -> Reading
     ensures value { result ≡ spec.reading most text.now }
     ensures within { spec.IsWithin most result }
@@ -31,7 +31,7 @@ pub fn read_number(text: &[u8], most: u64) -> Reading
     }
 }
 
-/// The number that `text` is, where it is one of at most `most`.
+/// The number that `text` spells if it is at most `most`, otherwise None.
 pub fn number_up_to(text: &[u8], most: u64) -> Option<u64>
     ensures value { result ≡ spec.number_up_to most text.now }
     ensures within { IfSome result (λ n. n ≤ most) }
@@ -42,7 +42,7 @@ pub fn number_up_to(text: &[u8], most: u64) -> Option<u64>
     }
 }
 
-// The value of a text of digits alone, or `cap` where it is above that.
+// The value of a text of digits, at most `cap`; None if another byte occurs.
 fn read_digits(text: &[u8], cap: u128) -> Option<u128>
     requires { cap ≤ 2 ^ 64 }
     ensures { result
@@ -61,7 +61,7 @@ fn read_digits(text: &[u8], cap: u128) -> Option<u128>
     Some(number)
 }
 
-// A number with one digit more at its end, or `cap` where it is above that.
+// A number with one more digit appended, at most `cap`.
 fn with_digit(number: u128, digit: u8, cap: u128) -> u128
     requires { number ≤ 2 ^ 64 }
     ensures { result ≡ min (number * 10 + digit) cap }

@@ -1,13 +1,13 @@
-//! Cutting a text: at a byte, and behind so many bytes.
+//! Splitting a text at a byte, and at a length.
 
 ghost use Rattle.std.specs.Prelude.{◌≡◌, ◌+◌, length, take, drop, [], ◌∷◌, ◌++◌, IsTrue, MatchOption, IfSome};
 ghost use Rattle.st_text.specs.Pieces.{pieces_of, lacks};
 
 use memchr::memchr;
 
-/// What stands before the first byte `at` of `text`, and what stands behind it.
+/// The parts of `text` before and after the first byte `at`.
 ///
-/// `None` where the text has no such byte.
+/// `None` if the text has no such byte.
 pub fn cut(text: &[u8], at: u8) -> Option<(&[u8], &[u8])>
     ensures pieces { MatchOption result (pieces_of at text.now ≡ text.now ∷ [])
         (λ p. pieces_of at text.now ≡ p.0.now ∷ pieces_of at p.1.now) }
@@ -23,14 +23,14 @@ pub fn cut(text: &[u8], at: u8) -> Option<(&[u8], &[u8])>
     Some((front, behind.split_at(1).1))
 }
 
-/// The first `count` bytes of a text, or all of it where it has no more.
+/// The first `count` bytes of a text, or all of it if it is shorter.
 pub fn front(text: &[u8], count: usize) -> &[u8]
     ensures { result.now ≡ take count text.now }
 {
     text.split_at(count.min(text.len())).0
 }
 
-/// What stands behind the first `count` bytes of a text, nothing where it has no more.
+/// The text without its first `count` bytes, empty if it is not longer.
 pub fn behind(text: &[u8], count: usize) -> &[u8]
     ensures { result.now ≡ drop count text.now }
 {

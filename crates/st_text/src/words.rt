@@ -5,9 +5,9 @@ ghost use Rattle.st_text.specs.Pieces.{words};
 
 use crate::pieces::cut;
 
-/// The first word of a text, and what stands behind it. Words stand between blanks.
+/// The first word of a text and the rest after it. Words are separated by blanks.
 ///
-/// `None` where the text has none.
+/// `None` if the text has no word.
 pub fn first_word(text: &[u8]) -> Option<(&[u8], &[u8])>
     ensures words { MatchOption result (words text.now ≡ [])
         (λ p. words text.now ≡ p.0.now ∷ words p.1.now) }

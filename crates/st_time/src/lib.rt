@@ -1,5 +1,5 @@
-//! The lines that show the timetable: rows, entries that are dropped, snapshots and their levels,
-//! each made of what the overlapped machine shows. `docs/report.md` has the rules.
+//! The lines of the timetable, from views of the overlapped machine: rows, flushed entries,
+//! snapshots and their levels. `docs/report.md` has the rules.
 #![tactic(auto)]
 
 ghost use Rattle.std.specs.Prelude.{◌≡◌, ◌≤◌, length, option_map};
@@ -9,7 +9,7 @@ ghost use Rattle.st_time.specs.Shown.{levels_standing, change_shown};
 use st_ahead::{LevelView, Row, View};
 use st_report::{EntryLine, EntryRow, Line, fill_row, line_drop, line_lev, line_row, line_snap};
 
-// A row as its line takes it.
+// A row as the fields of its line.
 #[inline(always)]
 fn entry_row(row: &Row) -> EntryRow
     ensures { result ≡ record {
@@ -29,14 +29,14 @@ fn entry_row(row: &Row) -> EntryRow
     }
 }
 
-/// `ROW n a P p R r C c`: an entry that is done.
+/// `ROW n a P p R r C c`: the line of a completed entry.
 pub fn chart(row: &Row) -> Line
     ensures { result.bytes ≡ row_line row.now.number row.now.address row.now.p row.now.r row.now.c }
 {
     line_row(&entry_row(row))
 }
 
-/// The same, filled into a line; what the line had is gone.
+/// As `chart`, written to a line that is already there; its previous bytes are removed.
 #[inline(always)]
 pub fn fill_chart(line: &mut EntryLine, row: &Row)
     ensures { line.new.bytes
@@ -45,23 +45,23 @@ pub fn fill_chart(line: &mut EntryLine, row: &Row)
     fill_row(line, &entry_row(row));
 }
 
-/// `DROP a P p`: a level that is dropped.
+/// `DROP a P p`: the line of a flushed level.
 pub fn drop_line(level: &LevelView) -> Line
     ensures { result.bytes ≡ drop_line_of level.now.address level.now.p }
 {
     line_drop(level.address, level.p)
 }
 
-/// `LEV a X x OLD h READY r`, or `LEV a X - READY r` where it changed no index word: a level of a
-/// snapshot.
+/// `LEV a X x OLD h READY r`, or `LEV a X - READY r` if it changed no index word: the line of a
+/// level of a snapshot.
 pub fn level_line(level: &LevelView) -> Line
     ensures { result.bytes ≡ lev_line level.now.address (change_shown level.now) level.now.ready }
 {
     line_lev(level.address, change(level.index, level.kept), level.ready)
 }
 
-/// `SNAP t DONE q AHEAD k`: a snapshot at the tick that was made last. The levels stand at the
-/// front of `levels`.
+/// `SNAP t DONE q AHEAD k`: the line of a snapshot at the last tick that was made. The levels are
+/// in the first places of `levels`.
 pub fn snap_line(view: &View) -> Line
     ensures { result.bytes ≡ snap_line_of view.now.tick view.now.done
         (levels_standing view.now.levels) }
@@ -69,7 +69,7 @@ pub fn snap_line(view: &View) -> Line
     line_snap(view.tick, view.done, count(&view.levels))
 }
 
-// The index word that was changed early, with what it held before.
+// The number and the previous contents of the index word that was changed early, if one was.
 fn change(index: Option<u8>, kept: u64) -> Option<(u8, u64)>
     ensures { result ≡ option_map (λ number. (number, kept)) index }
 {
@@ -79,7 +79,7 @@ fn change(index: Option<u8>, kept: u64) -> Option<(u8, u64)>
     }
 }
 
-// How many levels stand at the front, of at most eight.
+// The number of levels before the first empty place, at most eight.
 #[tactic(auto, unfolding(crate::specs::Shown::levels_standing))]
 fn count(levels: &[Option<LevelView>]) -> u8
     requires { length levels.now ≤ 8 }

@@ -4,7 +4,7 @@ use Rattle.std.proofs.lemmas.Nat.Bits.{bit_at-lt, bit_at_and, bit_at_or, bit_at_
 use Rattle.st_conn.proofs.TableRows.{bit_at-times, one_row}
 use Rattle.st_conn.proofs.logic.combined.Goals as goal
 
--- what one row of the table gives at one position
+-- the result of one row of the table at one position
 row_at : (table row x y s j a b : ℕ) → s ≡ bit_at table row * bit_and x y → bit_at x j ≡ a → bit_at y j ≡ b
     → bit_at s j ≡ min (bit_at table row) (min a b)
 row_at table row x y s j a b e p q =
@@ -12,7 +12,7 @@ row_at table row x y s j a b e p q =
     ∙ bit_at-times (bit_at table row) (bit_and x y) j (bit_at-lt table row)
     ∙ ap (λ z. min (bit_at table row) z) (bit_at_and x y j ∙ ap (λ z. min z (bit_at y j)) p ∙ ap (λ z. min a z) q)
 
--- four numbers together at one position
+-- the or of four numbers at one position
 together : (p q r s j a b d e : ℕ) → bit_at p j ≡ a → bit_at q j ≡ b → bit_at r j ≡ d → bit_at s j ≡ e
     → bit_at (bit_or (bit_or (bit_or p q) r) s) j ≡ max (max (max a b) d) e
 together p q r s j a b d e pa qb rd se =

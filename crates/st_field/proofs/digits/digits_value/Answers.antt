@@ -9,7 +9,7 @@ pub places-init : goal.places-init
 unfolding value_of_digits
 places-init c = record { place = 0; few = omega arith; so_far = refl; left = omega arith; weighed = refl }
 
--- the sum of the digits so far and one more
+-- the sum of the digits so far and one more fits
 sum_fits : (d n v w rest : ℕ) → n < 32 → v ≡ value_of_digits n d → w ≡ 10 ^ n → v + rest % 16 * w < 2 ^ 128
 sum_fits d n v w rest few is weight =
     let bound : 3 * v + 5 ≤ 5 * w = rw (is, weight) (value_of-bound n d) in

@@ -2,7 +2,7 @@ use Rattle.std.proofs.Common.{◌≡◌, ◌≤◌, ◌/◌, ◌^◌, ℕ}
 use Rattle.st_field.specs.Digits.{value_of_digits}
 use Rattle.st_field.proofs.digits.digits_value.Given as goal
 
--- so many digits are added up
+-- the loop's invariant: a number of digits is added up
 pub record AddedUp (digits value rest weight : ℕ) : Type 0 where
   pub place : ℕ
   pub few : place ≤ 32

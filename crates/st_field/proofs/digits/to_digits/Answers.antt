@@ -8,7 +8,7 @@ pub loop-place-init : goal.loop-place-init
 unfolding digits_of
 loop-place-init c = record { so_far = refl; left = omega arith }
 
--- a digit in its place has room
+-- a digit in its place fits in 128 bits
 digit_placed : (r n : ℕ) → n < 32 → r % 10 * 2 ^ (4 * n) % 2 ^ 128 ≡ r % 10 * 16 ^ n
 digit_placed r n few =
     let place : n ≤ 31 = omega arith in
@@ -16,11 +16,11 @@ digit_placed r n few =
     let digit : r % 10 * 16 ^ n ≤ 9 * 16 ^ n = mul-le-mul_right (16 ^ n) (omega arith) in
     rw power_16 (mod-eq_of_lt (omega arith))
 
--- one digit more
+-- the first n + 1 digits
 next : (v n digits rest : ℕ) → n < 32 → digits ≡ digits_of n v → rest ≡ v / 10 ^ n → digits + rest % 10 * 2 ^ (4 * n) % 2 ^ 128 ≡ digits_of (n + 1) v
 next v n digits rest few is left = rw (digit_placed rest n few) (digits_of-next v n digits rest is left)
 
--- 32 digits at most have room
+-- at most 32 digits fit in 128 bits
 next_fits : (v n : ℕ) → n < 32 → digits_of (n + 1) v < 2 ^ 128
 next_fits v n few =
     let place : n + 1 ≤ 32 = omega arith in

@@ -1,4 +1,4 @@
--- As many blanks stand behind the line as rounds are done.
+-- The number of appended blanks is the number of rounds.
 use Rattle.std.proofs.Common.{◌≡◌, ◌++◌}
 use Rattle.st_report.specs.Listing.{blanks}
 use Rattle.st_report.proofs.cards.push_blanks.Given as goal

@@ -1,4 +1,4 @@
--- The shift loses no bit, since the digits are at most sixteen.
+-- The shift loses no bit, since there are at most sixteen digits.
 use Rattle.std.proofs.Common.{ℕ, ◌≤◌, ◌+◌, ◌*◌, ◌-◌, arith}
 use Rattle.std.specs.Int.{div_ceil}
 use Rattle.st_report.proofs.Shifts.{shifted_whole}

@@ -6,7 +6,7 @@ use Rattle.st_state.specs.Machine.{Machine}
 use Rattle.st_telling.specs.Report.{block, register_lines, dumps_lines}
 use Rattle.st_telling.proofs.block.write_block.Goals as goal
 
--- the lines of a state block, part by part
+-- the lines of a state block, by part
 abbrev counter : Machine → List (List ℕ)
 counter s = ic_line s.ic ∷ []
 

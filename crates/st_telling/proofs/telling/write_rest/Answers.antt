@@ -10,7 +10,7 @@ use Rattle.st_telling.proofs.telling.write_rest.Goals as goal
 pub telling-init : goal.telling-init
 telling-init g c = told_begins _ c.args.controls.now c.args.moment.now c.args.run.now.rest
 
--- a row
+-- the next event is a row
 pub telling-preserved-in-Some : goal.telling-preserved-in-Some
 telling-preserved-in-Some g c =
     row_more _ _ _ c.args.controls.now _ _ _ _ _ _ c.in-Some.row c.in_ok-write_done.field-0 c.in-Some.ensures c.moment_at.ensures c.telling.invariant
@@ -21,7 +21,7 @@ returns-in_err-write_done g c =
     row_stops _ _ _ c.args.controls.now _ _ _ _ _ _ c.in-Some.row c.in_err-write_done.field-0.0 _ c.from_residual.ensures.0 c.in-Some.ensures c.moment_at.ensures
     c.telling.invariant c.in_err-write_done.ensures
 
--- what else is told; the tick of the moment is that of it
+-- the next event is another one, whose tick is that of the moment
 pub telling-preserved : goal.telling-preserved
 telling-preserved g c =
     let run = c.next_told.new.run in

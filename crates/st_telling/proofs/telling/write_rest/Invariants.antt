@@ -2,7 +2,7 @@ use Rattle.std.proofs.Common.{length}
 use Rattle.st_telling.proofs.Runs.{ToldSoFar}
 use Rattle.st_telling.proofs.telling.write_rest.Given as goal
 
--- what is left to write is what the run still has to tell
+-- the remaining lines are those of the remaining events of the run
 abbrev pub invariant-telling : goal.invariant-telling
 invariant-telling g l =
     ToldSoFar (g.K.Sink.output l.fn.out) (g.K.Sink.output l.out) l.controls l.fn.moment l.moment l.fn.run.rest l.run.rest

@@ -1,4 +1,4 @@
--- The place that is found has blanks behind it and none before it.
+-- All bytes from the place found are blanks, and the one before it is not.
 use Rattle.std.proofs.Common.{rules}
 use Rattle.st_text.proofs.Filled.{take-filled}
 use Rattle.st_text.proofs.blanks.filled_len.Goals as goal

@@ -1,4 +1,4 @@
--- The digit that is pushed is the last one, behind those of the quotient.
+-- The appended digit is the last one, after those of the quotient.
 use Rattle.std.proofs.Common.{append_assoc, arith}
 use Rattle.std.proofs.lemmas.List.{append-nil}
 use Rattle.st_text.proofs.Hexadecimal.{hex_text-zero, hex_text-last}

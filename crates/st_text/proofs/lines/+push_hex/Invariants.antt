@@ -1,4 +1,4 @@
--- One digit fewer is left at each call.
+-- One digit fewer remains at each call.
 use Rattle.st_text.proofs.lines.+push_hex.Given as goal
 
 abbrev pub decreases-push_hex : goal.decreases-push_hex

@@ -3,7 +3,7 @@ use Rattle.std.specs.Fmt.{digits}
 use Rattle.st_text.specs.Numerals.{half_address}
 use Rattle.st_text.proofs.lines.push_half_address.Goals as goal
 
--- a word, and the bit at which a half of it begins
+-- a word, and the first bit of one of its halves
 word_and_half : (old : List ℕ) (h r : ℕ) (half : List ℕ) → half ≡ codes "." ++ decimal (32 * r) → h % 2 ≡ r
     → (old ++ decimal (h / 2)) ++ half ≡ old ++ half_address h
 word_and_half old h r half spelled rest =

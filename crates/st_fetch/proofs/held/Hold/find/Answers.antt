@@ -12,7 +12,7 @@ loop-place-preserved c =
     let q = c.self.inside in
     found-next c.args.w c.loop-place.place q.words.words q.contents.of c.loop-place.here _ c.found_next-here.ensures c.loop-place.invariant
 
--- their number is kept beside them
+-- the bound of the number of held words is stored with them
 pub returns-clause-few : goal.returns-clause-few
 returns-clause-few c =
     let q = c.self.inside in

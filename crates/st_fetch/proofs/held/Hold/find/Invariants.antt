@@ -3,6 +3,6 @@ use Rattle.st_fetch.specs.HeldWords.{found}
 use Rattle.st_fetch.specs.Planned.{oldest_first}
 use Rattle.st_fetch.proofs.held.Hold.find.Given as goal
 
--- what is found among the newest words so far
+-- the result of the search among the newest words so far
 abbrev pub invariant-loop-place : goal.invariant-loop-place
 invariant-loop-place l = l.here ≡ found (oldest_first l.place l.self-inside.words.words l.self-inside.contents.of) l.w

@@ -2,7 +2,7 @@ use Rattle.std.proofs.Common.{◌<◌, drop, length, ap, ◌∙◌, arith}
 use Rattle.st_fetch.proofs.Windows.{length-window, window-pop}
 use Rattle.st_fetch.proofs.wants.Wants.pop.Goals as goal
 
--- the window goes on by one slot
+-- the window moves by one slot
 pub returns : goal.returns
 returns c =
     let q = c.self.inside in

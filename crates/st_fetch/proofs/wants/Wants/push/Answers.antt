@@ -3,7 +3,7 @@ use Rattle.st_fetch.specs.declared.wants.Want.{Want}
 use Rattle.st_fetch.proofs.Windows.{length-window, window-push}
 use Rattle.st_fetch.proofs.wants.Wants.push.Goals as goal
 
--- the write is behind the last want, since there is room
+-- the write is after the last pending read, since the queue is not full
 pub returns : goal.returns
 returns c =
     let q = c.self.inside in

@@ -10,7 +10,7 @@ second_half : codes ".32" ≡ codes "." ++ decimal (32 * 1)
 unfolding digits
 second_half = refl
 
--- the bit before the line
+-- the first bit of the half is put before the line
 half_before : (line : List ℕ) (k half : ℕ) (bit : List ℕ) → bit ≡ codes "." ++ decimal (32 * k) → k ≡ half
     → bit ++ line ≡ (codes "." ++ decimal (32 * half)) ++ line
 half_before line k half bit spelled same =
