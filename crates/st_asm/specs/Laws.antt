@@ -1,4 +1,4 @@
--- What holds of the three passes, whatever the job.
+-- Laws of the three passes for all jobs.
 use Rattle.std.specs.Prelude.{◌≡◌, List, ℕ, Bool}
 use Rattle.st_card.specs.declared.cards.Card.{Card}
 use Rattle.st_asm.specs.Forming.{Found, form_card, found_at_start}
