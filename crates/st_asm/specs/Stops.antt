@@ -83,9 +83,9 @@ abbrev pub asking_fault : Option Asked → Option Fault
 asking_fault None = Some BadControlCard
 asking_fault (Some asked) = None
 
--- the faults of a card in the form pass, in the order in which they count. Those of its bytes stand
--- first; of a control card then that it stands before the end, and what it asks for; of a statement
--- card that it stands behind the end, then its column 1, then its statement
+-- the fault of a card in the form pass that counts first. Faults of its bytes precede all others;
+-- for a control card, a position before END precedes faults of its request; for a statement card, a
+-- position after END precedes a bad column 1, and that precedes faults of its statement
 abbrev pub form_fault : CardKind → List ℕ → Found → Card → Option Fault
 form_fault Comment job found card = card.fault
 form_fault Control job found card = option_or card.fault
