@@ -25,7 +25,8 @@ pub struct Changeable {
     pub card: Option<u32>,
 }
 
-// The first address from `w` on among `len` words from `first` on; `WORDS` if there is none.
+// An address of at least `w` and at most `WORDS` such that no address from `w` up to it is one of
+// the `len` words from `first` on.
 fn next_in(first: u32, len: u8, w: u32) -> u32
     requires { w ≤ WORDS }
     ensures least { w ≤ result }

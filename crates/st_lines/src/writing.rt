@@ -364,10 +364,11 @@ fn write_standing<K: Sink>(
     write_words(out, k == 0, old, state, between.may)
 }
 
-/// Writes what is printed, the counter, whether interrupts are enabled, where that is told, and the
-/// words: at the start of a run, before the segment 1, those that are not zero, and else those that
-/// changed. Before the last entry the words were `old`, which then has them as they are; of the
-/// words that are no registers those may have changed that `between` has.
+/// Writes the printed lines, the instruction counter, whether interrupts are enabled if that line
+/// is due, and the words: at the start of a run, before segment 1, those that are not zero, and
+/// otherwise those that changed. `old` has the words as they were before the last entry, and is
+/// updated to those of the state. Of the words that are not registers, only those that `between`
+/// names may have changed.
 pub fn write_marks<K: Sink>(
     out: &mut K,
     between: &Between<'_>,
