@@ -193,10 +193,10 @@ fn run_levels<S: Source, K: Sink>(alloc: Global, n: u8, job: &mut S, out: &mut K
     }
 }
 
-/// Writes the ledger of a job of at most 2,000,000 bytes. The words of the command line, after the
-/// program's name, are none, for a machine of 4 levels, or one digit from 1 to 8, the number of
-/// levels. Each line is written by itself, and all memory is taken before the first one.
-/// `docs/ledger.md` has the rules.
+/// Writes the ledger of a job of at most 2,000,000 bytes. `words` are the words of the command line
+/// after the program's name: none, for a machine of 4 levels, or one digit from 1 to 8, the number
+/// of levels. Each line is written with a call of its own, and all memory is allocated before the
+/// first one. `docs/ledger.md` has the rules.
 pub fn ledger<S: Source, K: Sink>(
     alloc: Global,
     words: &[String],
