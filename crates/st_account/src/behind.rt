@@ -19,10 +19,10 @@ use st_state::State;
 /// The events after a completed entry, and the entries that ran ahead of it.
 #[derive(Drop)]
 pub(crate) struct Behind {
-    /// The entries that were prepared before it completed, and the next one after them, if its
-    /// segment ends.
+    /// The entries that were prepared before the entry completed, and the next one after them, if
+    /// the entry's segment ends.
     pub ahead: FoundAhead,
-    /// The last answers of the banks, if its segment ends.
+    /// The last answers of the banks, if the entry's segment ends.
     pub banks: LastAnswers,
     /// The printed lines.
     pub printed: Printed,
@@ -30,7 +30,7 @@ pub(crate) struct Behind {
     pub card: bool,
     /// Whether the machine waited after all due events.
     pub waited: bool,
-    /// The words that may have changed since the previous entry.
+    /// The words that may have changed since the entry before.
     pub may: Changeable,
 }
 
