@@ -25,13 +25,13 @@ pub enum Why {
 /// Why an entry is serialized.
 #[derive(Clone, Copy, Debug, PartialEq, Eq)]
 pub enum Alone {
-    /// It is the instruction in an interrupt table, for this indicator, 0 to 63.
+    /// The entry is the instruction in an interrupt table, for this indicator, 0 to 63.
     Table(u8),
-    /// It is EX.
+    /// The entry is EX.
     Execute,
-    /// It uses or writes a register as a word.
+    /// The entry uses or writes a register as a word.
     Register,
-    /// Its operation is one that serializes.
+    /// The entry's operation is one that serializes.
     Operation,
 }
 
