@@ -46,21 +46,21 @@ unless_zero n x = if n == 0 then [] else x ∷ []
 
 -- the results of applying `made` to each request, in the order in which requests are written
 module _ {X : Type 0} (made : Control → X) where
-  -- for the budget, delays, signals and parts of storage
+  -- the results for the budget, delays, signals and parts of storage
   abbrev pub orders : Asked → List X
   orders a = unless_zero a.budget (made (Budget a.budget))
       ++ map (λ d. made (Delay d)) a.delays
       ++ map (λ s. made (Signal s.count s.indicator)) a.signals
       ++ map (λ p. made (Dump p.0 p.1)) a.dumps
 
-  -- for the trace, timing, timetable, snapshots and steps back
+  -- the results for the trace, timing, timetable, snapshots and steps back
   abbrev pub shows : Asked → List X
   shows a = where_asked a.trace (made Trace) ++ where_asked a.time (made Time)
       ++ where_asked a.chart (made Chart)
       ++ map (λ t. made (Snap t)) a.snaps
       ++ unless_zero a.back (made (Back a.back))
 
-  -- for all requests
+  -- the results for all requests
   abbrev pub controls_made : Asked → List X
   controls_made a = orders a ++ shows a
 
