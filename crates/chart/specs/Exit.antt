@@ -1,9 +1,9 @@
--- The number that the program ends with.
+-- The exit status of the program.
 use Rattle.std.specs.Prelude.{ℕ}
 use Rattle.st_draw.specs.declared.status.Status.{Status}
 use Rattle.st_draw.specs.declared.status.Status.TheVariants.{Done, NoRows, Usage, ReportTooLong, ReadFault, WriteFault, NoMemory}
 
--- the exit status, by how the call of `draw` ended
+-- the exit status for a status of the call of `draw`
 abbrev pub number_of : Status → ℕ
 number_of Done = 0
 number_of NoRows = 1

@@ -1,4 +1,4 @@
-//! The program: standard input, standard output and the words of the command line, handed to
+//! The program: it passes standard input, standard output and the words of the command line to
 //! `draw`.
 #![tactic(auto)]
 
@@ -23,7 +23,7 @@ fn main(rt: HostRuntime) -> ExitCode {
     exit(status)
 }
 
-// Ends the program with the number of a status.
+// The exit code of a status.
 fn exit(status: Status) -> ExitCode
     ensures { exit_status result ≡ number_of status }
 {

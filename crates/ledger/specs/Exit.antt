@@ -1,9 +1,9 @@
--- The number that the program ends with.
+-- The exit status of the program.
 use Rattle.std.specs.Prelude.{ℕ}
 use Rattle.st_account.specs.declared.status.Status.{Status}
 use Rattle.st_account.specs.declared.status.Status.TheVariants.{Done, Refused, Usage, JobTooLong, ReadFault, WriteFault, NoMemory}
 
--- the exit status, by how the call of `ledger` ended
+-- the exit status for a status of the call of `ledger`
 abbrev pub number_of : Status → ℕ
 number_of Done = 0
 number_of Refused = 1

@@ -1,4 +1,4 @@
--- What the program writes of a job, and what each of its answers says.
+-- The output of the program for a job, and the meaning of each status.
 use Rattle.std.specs.Prelude.{◌≡◌, ℕ, ◌-◌, ◌&&◌, nat_le, if◌then◌else◌, List, [], ◌∷◌, Option, None, Some, Result, Ok, Err}
 use Rattle.st_bits.specs.declared.limits.TheConstants.{LONGEST_JOB}
 use Rattle.st_io.specs.Count.{HasRisen}
@@ -18,13 +18,13 @@ use Rattle.st_account.specs.Text.{ledger}
 use Rattle.st_account.specs.declared.status.Status.{Status}
 use Rattle.st_account.specs.declared.status.Status.TheVariants.{Done, Refused, Usage, JobTooLong, ReadFault, WriteFault, NoMemory}
 
--- ---- words
+-- ---- words of the command line
 
--- the number of levels that a digit is, 1 to 8
+-- the number of levels of a digit, 1 to 8
 abbrev pub levels_by : ℕ → Option ℕ
 levels_by c = if nat_le 49 c && nat_le c 56 then Some (c - 48) else None
 
--- the number of levels that the words of a command line mean: four where there is no word
+-- the number of levels that the words of a command line request: four if there is no word
 abbrev pub levels_asked : List (List ℕ) → Option ℕ
 levels_asked [] = Some 4
 levels_asked ([] ∷ []) = None
@@ -34,12 +34,12 @@ levels_asked (word ∷ more ∷ words) = None
 
 -- ---- jobs
 
--- the start of the run of a job that is assembled: the machine, the signals that are asked for, and
--- the cards of the job's reader
+-- the start of the run of an assembled job: the machine, the requested signals, and the cards of
+-- the job's reader
 abbrev pub start_of : List ℕ → Assembly → Scene
 start_of job a = at_hand (opening_state a.image a.start) a.asked.signals (reader_cards job)
 
--- the lines of a job, by what it gives: its ledger, or the first card that is refused
+-- the lines of a job: its ledger, or the line of the first refused card
 abbrev pub lines_by : ℕ → List ℕ → Result Assembly Refusal → List (List ℕ)
 lines_by n job (Ok a) = ledger (origin_of a) a.asked.delays n a.asked.budget (start_of job a)
 lines_by n job (Err r) = fault_line r.card (name_of r.fault) ∷ []
@@ -47,7 +47,7 @@ lines_by n job (Err r) = fault_line r.card (name_of r.fault) ∷ []
 unfoldable pub ledger_lines_of : ℕ → List ℕ → List (List ℕ)
 ledger_lines_of n job = lines_by n job (assembly job)
 
--- the status once they are written
+-- the status after all lines of a job are written
 abbrev pub status_by : Result Assembly Refusal → Status
 status_by (Ok a) = Done
 status_by (Err r) = Refused
@@ -55,10 +55,10 @@ status_by (Err r) = Refused
 unfoldable pub status_of : List ℕ → Status
 status_of job = status_by (assembly job)
 
--- ---- answers
+-- ---- statuses
 
--- how lines were written, by the status: wholly; or up to a write that failed; or not at all, for
--- want of memory
+-- how lines were written, by the status: all of them; or up to a write that failed; or none,
+-- because memory ran out
 abbrev pub Writes : Status → OutputState → OutputState → List (List ℕ) → Status → Type 0
 Writes Done before after lines status = Wrote before after (text lines) × (status ≡ Done)
 Writes Refused before after lines status = Wrote before after (text lines) × (status ≡ Refused)
@@ -68,14 +68,14 @@ Writes Usage before after lines status = ⊥
 Writes JobTooLong before after lines status = ⊥
 Writes ReadFault before after lines status = ⊥
 
--- a job was read whole, and its lines written
+-- a job was read completely, and its lines were written
 pub record WroteLines (n : ℕ) (status : Status) (input input' : InputState)
     (before after : OutputState) : Type 0 where
   pub job : List ℕ
   pub read : CameWhole input input' LONGEST_JOB job
   pub written : Writes status before after (ledger_lines_of n job) (status_of job)
 
--- what a call did to its source and its sink on a machine of n levels, by the status
+-- the effect of a call on its source and its sink on a machine of n levels, by the status
 abbrev pub Did : ℕ → Status → InputState → InputState → OutputState → OutputState → Type 0
 Did n Done input input' before after = WroteLines n Done input input' before after
 Did n Refused input input' before after = WroteLines n Refused input input' before after
@@ -88,8 +88,7 @@ Did n NoMemory input input' before after =
     CameWithin input input' LONGEST_JOB × (input'.faults ≡ input.faults) × (after ≡ before)
 Did n Usage input input' before after = ⊥
 
--- what a call did, by the meaning of its words: words that mean nothing touch neither source nor
--- sink
+-- the effect of a call, given the meaning of its words: invalid words touch neither source nor sink
 abbrev pub IsAnswer : Option ℕ → Status → InputState → InputState → OutputState → OutputState →
     Type 0
 IsAnswer None status input input' before after = (status ≡ Usage) × (input' ≡ input)

@@ -1,14 +1,14 @@
--- A scene by its parts, and what is printed on the way to the next one.
+-- A scene from its parts, and the printed words among events.
 use Rattle.std.specs.Prelude.{ℕ, List, [], ◌∷◌}
 use Rattle.st_state.specs.Machine.{Machine}
 use Rattle.st_card.specs.declared.control_cards.Signal.{Signal}
 use Rattle.st_run.specs.Run.{Scene, PlainEvent, Prints, Interrupts, Executes, Ends}
 
--- a machine, the signals that are still to come, and the cards of its reader
+-- the scene of a machine, the pending signals, and the remaining cards of its reader
 abbrev pub at_hand : Machine → List Signal → List (List ℕ) → Scene
 at_hand s xs cards = record { machine = s; signals = xs; cards = cards }
 
--- the words that are printed, eight each time
+-- the printed words among events, eight for each line
 unfoldable pub words_printed : List PlainEvent → List (List ℕ)
 words_printed [] = []
 words_printed (Prints s words ∷ es) = words ∷ words_printed es

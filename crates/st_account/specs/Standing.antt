@@ -1,5 +1,5 @@
--- What is at hand of a moment of a run, besides its scene. The machine has the delays ds and n
--- levels.
+-- The facts that the code has of a moment of a run, except its scene. The machine has the delays ds
+-- and n levels.
 use Rattle.std.specs.Prelude.{ℕ, suc, ◌+◌, ◌≡◌, ◌≢◌, ◌<◌, ◌≤◌, ◌^◌, length, true, not, ◌&&◌, nat_eq, if◌then◌else◌, is_none, Bool, List, [], ◌∷◌, ◌++◌, map, All, Option, None}
 use Rattle.st_bits.specs.declared.limits.TheConstants.{MOST_DELAY}
 use Rattle.st_state.specs.Machine.{Machine, word}
@@ -32,12 +32,12 @@ use Rattle.st_account.specs.declared.last.Last.{Last}
 use Rattle.st_account.specs.Settling.{at_hand}
 use Rattle.st_account.specs.Text.{begun_at, words_behind, segment_ends}
 
--- the state from which guessed steps go on: the counter is that of the guess
+-- the state from which predicted steps continue: its instruction counter is that of the prediction
 abbrev pub guessing : ℕ → Machine → Machine
 guessing ic s = record s { ic = ic }
 
--- The log has these reads, which were made from the bus `start` on and leave the bus `bus`; all but
--- the last few of them are accepted before the tick t.
+-- The log has these reads, which were made from the bus `start` on and leave the bus `bus`; all
+-- except the last few of them are accepted before tick t.
 pub record HasReads (ds : List ℕ) (t : ℕ) (reads : List Read) (start bus : Bus)
     (log : List Made) : Type 0 where
   pub logged : IsLogged ds t reads start log
@@ -50,8 +50,8 @@ pub record HasReads (ds : List ℕ) (t : ℕ) (reads : List Read) (start bus : B
   pub near : IsNear MOST_DELAY start
   pub free : start.free ≤ t
 
--- it stands for the moment: its tick and its front, whether the guess was wrong, and what the
--- entries that run ahead and the reads that are made follow from
+-- the facts agree with the moment: its tick and its front, whether the entry was mispredicted, and
+-- the values that determine the entries that run ahead and the reads that are made
 pub record IsLast (ds : List ℕ) (n : ℕ) (m : Moment) (l : Last) (log : List Made) : Type 0 where
   pub tick : m.tick ≡ l.tick
   pub front : m.front ≡ l.front
@@ -67,15 +67,15 @@ pub record IsLast (ds : List ℕ) (n : ℕ) (m : Moment) (l : Last) (log : List 
   pub past : l.past ≡ l.front.past
   pub counter : l.ic < 2 ^ 19
 
--- the next entry is to be done in this state, and these are the tick of the one before and the
+-- the next entry is executed in this state, and the facts have the tick of the last entry and the
 -- front
 pub record IsStanding (p : Standing) (s : Machine) (l : Last) : Type 0 where
   pub machine : p.scene.machine ≡ s
   pub tick : p.tick ≡ l.tick
   pub front : p.front ≡ l.front
 
--- the lines of the entry that was done last, in a segment k; before the first one there are none.
--- Its segment ends at the tick `end`, or goes on
+-- the lines of the last completed entry, in segment k, which ends at tick `end` or continues; none
+-- before the first entry
 unfoldable pub kept_lines : ℕ → Last → Option ℕ → List (List ℕ)
 kept_lines k l end =
     if nat_eq k 0 then []
@@ -91,31 +91,33 @@ kept_lines k l end =
       because = l.because;
     }) l.plan l.done.known l.uses.items l.before.items
 
--- its charges
+-- the charges of the last completed entry
 abbrev pub charges_kept : Last → List Charge
 charges_kept l = charges_behind l.done.before (parts_of_row l.done.start l.done.row.ticks)
 
--- the ticks of its waits for one thing in a stage; before the first entry there are none
+-- the ticks of one kind of wait in a stage of the last completed entry; 0 before the first entry
 unfoldable pub kept_stalled : Stage → Stall → ℕ → Last → ℕ
 kept_stalled r s k l =
     if nat_eq k 0 then 0 else row_stalled r s l.uses.items l.before.items (charges_kept l)
 
--- Its waits can be told: its words and those of the entry before it are in time, its charges end
--- where it was done, and no sum of waits is greater than the tick at which they begin.
+-- The waits of the last completed entry can be written: its words and those of the entry before it
+-- are in time, its charges end at its completion, and no total of waits is greater than the tick at
+-- which they begin.
 pub record IsWaiting (l : Last) (sums : WaitTotals) : Type 0 where
   pub uses : All IsReadInTime l.uses.items
   pub before : All IsReadInTime l.before.items
   pub reach : l.done.before + all_ticks (charges_kept l) ≡ l.tick
   pub within : AreWaitsWithin l.done.before sums
 
--- its waits are added to the sums; before the first entry there are none
+-- the waits of the last completed entry are added to the totals; before the first entry there are
+-- none
 pub record AddsKeptWaits (k : ℕ) (l : Last) (old new : WaitTotals) : Type 0 where
   pub within : AreWaitsWithin l.tick new
   pub sums : (r : Stage) (s : Stall) → is_parted r ≡ true →
       waited_at r s new ≡ waited_at r s old + kept_stalled r s k l
 
--- The run stands at the moment, which the entry before made of the state b: this is at hand of it,
--- and these signals and cards are still to come.
+-- The account agrees with a moment of the run, which the last entry reached from state b, with
+-- these pending signals and remaining cards.
 pub record IsAt (ds : List ℕ) (n : ℕ) (b : Machine) (m : Moment) (a : Account) (xs : List Signal)
     (cards : List (List ℕ)) : Type 0 where
   pub scene : m.scene ≡ at_hand a.state xs cards
@@ -127,8 +129,8 @@ pub record IsAt (ds : List ℕ) (n : ℕ) (b : Machine) (m : Moment) (a : Accoun
   pub unwritten : a.k ≢ 0 → (w : ℕ) → 32 ≤ w → IsNotAmong w a.last.plan.writes →
       word a.state w ≡ word b w
 
--- What comes behind the moment is over, and so many entries may still be done: this is at hand of
--- it, and of what came.
+-- The account agrees with the state after the events at a moment, if `left` entries may still
+-- complete, and with those events.
 pub record IsBehindMoment (ds : List ℕ) (n left : ℕ) (b : Machine) (m : Moment) (a : Account)
     (xs : List Signal) (cards : List (List ℕ)) : Type 0 where
   pub scene : next_scene m ≡ at_hand a.state xs cards
@@ -146,8 +148,8 @@ pub record IsBehindMoment (ds : List ℕ) (n left : ℕ) (b : Machine) (m : Mome
   pub words : a.k ≢ 0 → a.words.items ≡ b.words
   pub unchanged : IsCopyBehind a.k a.behind.may a.words.items a.state
 
--- the guess was right, and nothing comes: no signal is due, no device has an order, the machine
--- does not wait, and no interrupt is taken
+-- whether the prediction was right and no event comes: no signal is due, no device has an order,
+-- the machine does not wait, and no interrupt is taken
 abbrev pub still_by : Machine → Bool → List Signal → Bool
 still_by s missed xs =
     not missed && not (signal_due s.done xs) && is_none s.reader && is_none s.printer

@@ -1,7 +1,7 @@
 -- The ledger of a run: its lines, from the moments of the run. The machine has the delays ds and n
--- levels. Segments are numbered from 1 on; k is the number of the segment of the entry that has
--- just been done, 0 before the first one, and us are the words that it uses. Of the half-word at an
--- address in a state `o` says where it comes from.
+-- levels. Segments are numbered from 1 on; k is the number of the segment of the last completed
+-- entry, 0 before the first entry, and us are the words that this entry uses. The function `o`
+-- gives the card that a half-word of a state comes from.
 use Rattle.std.specs.Prelude.{ℕ, zero, suc, ◌+◌, Bool, true, false, ◌||◌, nat_eq, if◌then◌else◌, List, [], ◌∷◌, ◌++◌, Option, None, Some, map}
 use Rattle.st_state.specs.Machine.{Machine}
 use Rattle.st_prep.specs.Plan.{plan}
@@ -33,44 +33,45 @@ use Rattle.st_lines.specs.declared.lines.Why.{Why}
 use Rattle.st_lines.specs.declared.lines.Why.TheVariants.{Run, Interrupt, Missed, Card}
 use Rattle.st_account.specs.Settling.{words_printed}
 
--- ---- where a segment ends
+-- ---- the end of a segment
 
--- the entry that was begun when an entry was done at a moment: of those behind its guess the first
--- one that was not prepared by then; b is the state before the entry that was done
+-- the entry that had begun when the last entry completed at a moment: the first in its predicted
+-- sequence that was not prepared by then; b is the state before the last entry
 unfoldable pub begun_at : List ℕ → ℕ → Machine → Moment → List Ahead
 begun_at ds n b m =
     map (seen_ahead ds n)
     (first_late m.tick (ahead ds n (suc n) None (guess (interrupt b) b) m.front))
 
--- at a moment
+-- the lines of the end of a segment at a moment
 abbrev pub end_lines_at : (Machine → ℕ → Option Origin) → List ℕ → ℕ → ℕ → Machine → Moment →
     List (List ℕ)
 end_lines_at o ds n k b m =
     segment_end_lines (o (next_state m)) k m.tick (m.scene.machine.done + 1)
     (map (seen_ahead ds n) m.dropped) (begun_at ds n b m)
 
--- where it ends
+-- the lines of the end of a segment, if it ends at a moment
 abbrev pub lines_at_end : (Machine → ℕ → Option Origin) → List ℕ → ℕ → ℕ → Machine → Moment →
     List (List ℕ)
 lines_at_end o ds n k b m = if ends_segment m then end_lines_at o ds n k b m else []
 
--- ---- the state behind an entry
+-- ---- the state after an entry
 
--- what is printed behind a moment
+-- the printed words after a moment
 abbrev pub words_behind : Moment → List (List ℕ)
 words_behind m = words_printed (interlude m.scene).happened
 
--- of a state, and of the one before the last entry
+-- the lines of a state, given the state b before the last entry
 abbrev pub state_lines_at : List (List ℕ) → ℕ → Machine → Machine → List (List ℕ)
 state_lines_at words k b s = state_lines words k b.enabled b.words s (interrupt s) s.done
 
--- ---- where a segment begins
+-- ---- the start of a segment
 
--- the next entry is the first one of a segment
+-- whether the next entry is the first of a segment
 abbrev pub begins_segment : ℕ → Moment → Bool
 begins_segment k m = nat_eq k 0 || ends_segment m
 
--- why it begins, but at the start of the run: by an interrupt, a wrong guess, or else a card
+-- why a segment begins, except at the start of the run: by an interrupt, a misprediction, or else a
+-- card
 abbrev pub why_by : Option ℕ → Bool → Why
 why_by (Some i) missed = Interrupt i
 why_by None true = Missed
@@ -88,7 +89,7 @@ segment_start_lines k m =
 abbrev pub segment_after : ℕ → Moment → ℕ
 segment_after k m = if begins_segment k m then k + 1 else k
 
--- the run goes on: the end of a segment, the state, and the start of the next segment
+-- the lines between two entries: the end of a segment, the state, and the start of the next segment
 unfoldable pub segment_lines : (Machine → ℕ → Option Origin) → List ℕ → ℕ → ℕ → Machine → Moment →
     List (List ℕ)
 segment_lines o ds n k b m =
@@ -103,19 +104,19 @@ formed_at ds p =
     let s = p.scene.machine in
     formed_uses ds p.front (entry (interrupt s) s) (side_at (interrupt s) s)
 
--- and all that it uses
+-- all words that the next entry uses
 unfoldable pub uses_at : List ℕ → ℕ → Standing → List Use
 uses_at ds n p =
     let s = p.scene.machine in
     uses_of_entry ds n p.front (entry (interrupt s) s) (side_at (interrupt s) s)
     (plan s (interrupt s)).reads
 
--- those of the entry before it in its segment, none where it is the first one of that
+-- the words that the previous entry in the segment uses; none before the first entry of a segment
 abbrev pub words_before : Moment → List Use → List Use
 words_before m us = if ends_segment m then [] else us
 
--- the lines of the next entry, where the one before it uses some words; its segment ends at the
--- tick `end`, or goes on where there is none
+-- the lines of the next entry, given the words that the previous entry uses; its segment ends at
+-- tick `end`, or continues if there is none
 unfoldable pub lines_of_entry : (Machine → ℕ → Option Origin) → List ℕ → ℕ → Option ℕ → List Use →
     Standing → List (List ℕ)
 lines_of_entry o ds n end before p =
@@ -137,31 +138,30 @@ lines_of_entry o ds n end before p =
 
 -- ---- the end
 
--- the run ends at a moment in which so many entries may still be done
+-- whether the run ends at a moment in which `left` entries may still complete
 abbrev pub run_ends : ℕ → Moment → Bool
 run_ends left m = nat_eq left 0 || rests (next_state m)
 
--- and so does the segment of the entry that has just been done, or it does by itself
+-- whether the segment of the last entry ends at a moment, either with the run or before its end
 abbrev pub segment_ends : ℕ → Moment → Bool
 segment_ends left m = run_ends left m || ends_segment m
 
--- the tick at which it ends, where it does
+-- the tick at which the segment of the last entry ends, if it does
 unfoldable pub segment_end_at : ℕ → Moment → Option ℕ
 segment_end_at left m = if segment_ends left m then Some m.tick else None
 
--- the last segment ends, and the run
+-- the lines of the end of the last segment and of the run
 unfoldable pub last_lines : (Machine → ℕ → Option Origin) → List ℕ → ℕ → ℕ → Machine → Moment →
     List (List ℕ)
 last_lines o ds n k b m =
     (end_lines_at o ds n k b m ++ marks_lines (words_behind m) k b.enabled b.words (next_state m))
     ++ run_end_line (rests (next_state m)) ∷ done_line (next_state m).done ∷ ticks_line m.tick ∷ []
 
--- the ticks of all charges, stage by stage
+-- the lines of the ticks of all charges, by stage
 abbrev pub totals_lines : List Charge → List (List ℕ)
 totals_lines xs = sum_lines (sums_by (λ s. ticks_for s xs) stages)
 
--- the ticks of waits for one thing in the charges of a stage, from a moment on, in which so many
--- entries may still be done
+-- the ticks of one kind of wait in the charges of a stage, from a moment on with a remaining budget
 unfoldable pub stalled_from : Stage → Stall → List ℕ → ℕ → ℕ → List Use → Moment → ℕ
 stalled_from r s ds n zero us m = 0
 stalled_from r s ds n (suc left) us m =
@@ -170,14 +170,14 @@ stalled_from r s ds n (suc left) us m =
     else row_stalled r s (uses_at ds n p) (words_before m us) (charges_at ds n p)
     + stalled_from r s ds n left (uses_at ds n p) (next_moment ds n p)
 
--- those of each stage and thing
+-- the lines of the ticks of all waits, by stage and kind of wait
 abbrev pub wait_totals_lines : (Stage → Stall → ℕ) → List (List ℕ)
 wait_totals_lines f = wait_sum_lines (wait_sums_by f)
 
--- ---- the whole
+-- ---- the whole ledger
 
--- from a moment on, in which so many entries may still be done; a rest is tried before the budget.
--- b is the state before the entry that has just been done
+-- the lines from a moment on with a remaining budget; the end by WAIT is checked before the budget.
+-- b is the state before the last completed entry
 unfoldable pub lines_from : (Machine → ℕ → Option Origin) → List ℕ → ℕ → ℕ → ℕ → Machine →
     List Use → Moment → List (List ℕ)
 lines_from o ds n zero k b us m = last_lines o ds n k b m

@@ -1,4 +1,4 @@
-//! The ledger of a run as far as it is written, and how it goes on from one entry to the next.
+//! The ledger of a run so far, and how it proceeds from one entry to the next.
 ghost use Rattle.std.specs.Prelude.{◌≡◌, ◌≢◌, List, true, false, ℕ, ◌+◌, ◌<◌, ◌≤◌, ◌^◌, ◌∷◌, ◌++◌, ◌||◌, nat_eq, suc, [], if◌then◌else◌, length, map, replicate, All, IsOk, is_some, None, Option};
 ghost use Rattle.st_bits.specs.declared.limits.TheConstants.{MOST_DELAY, MOST_INSTRUCTIONS};
 ghost use Rattle.st_bits.specs.Storage.{words_of_storage};
@@ -50,32 +50,32 @@ use st_rows::{Log, Timing};
 use st_run::Coming;
 use st_state::{State, counter_in, done_in, is_enabled};
 
-/// The ledger of a run as far as it is written: the lines of the entry that was done last, and all
-/// that comes behind them, are to be written.
+/// The ledger of a run so far. The lines of the last completed entry, and of the events after it,
+/// are still to be written.
 #[derive(Drop)]
 pub(crate) struct Account {
-    /// The state that the last entry has left, and then what came behind it.
+    /// The state that the last entry has left; later the state after the events that follow it.
     pub state: State,
-    /// The words of storage and the registers, as they were told last.
+    /// The words of storage and the registers as of the lines written so far.
     pub words: Vec<u64>,
-    /// What is at hand of the last entry.
+    /// The facts about the last entry.
     pub last: Last,
-    /// Its reads.
+    /// The reads of the last entry.
     pub log: Log,
-    /// What came behind it.
+    /// The events after the last entry.
     pub behind: Behind,
-    /// Where the half-words of the program come from.
+    /// The cards that the half-words of the program come from.
     pub origins: Origins,
     /// The ticks of each stage so far.
     pub sums: Totals,
-    /// What the waits of the last entry are told with, and the sums of those before it.
+    /// The buffers for the waits of the last entry, and the totals of the waits before it.
     pub waiting: RowTelling,
-    /// The number of its segment, 0 before the first entry.
+    /// The number of the last entry's segment; 0 before the first entry.
     pub k: u32,
 }
 
-// Writes the lines of the last entry, whose segment, k, ends at a tick or not, and adds its waits
-// to the sums; before the first entry there are none.
+// Writes the lines of the last entry, in segment `k`, which ends at a tick or continues, and adds
+// the entry's waits to the totals. Before the first entry nothing is written.
 fn write_row<K: Sink>(
     out: &mut K,
     last: &Last,
@@ -114,15 +114,15 @@ fn write_row<K: Sink>(
 }
 
 impl Account {
-    /// Before the first entry of a machine in which nothing has happened; the words are as many as
-    /// storage has, whatever they are.
+    /// The ledger before the first entry of a machine in its initial state. `words` must have as
+    /// many words as storage; their values do not matter.
     pub fn new(state: State, words: Vec<u64>, origins: Origins) -> Account
         ensures state { result.state ≡ state }
         ensures machine { IsMachine state }
         ensures words { result.words.items ≡ words.items }
         ensures origins { result.origins ≡ origins }
 
-        // Nothing has been done.
+        // No tick has passed.
         ensures tick { result.last.tick ≡ 0 }
         ensures front { result.last.front
             ≡ opening_front (record { ticks = replicate BANKS 0 }) 0 }
@@ -134,7 +134,7 @@ impl Account {
         ensures tight { IsTight MOST_DELAY result.last.front }
         ensures log { result.log ≡ [] }
 
-        // No row is written.
+        // No row has been written.
         ensures none { AreWithin 0 result.sums }
         ensures unused { result.last.uses.items ≡ [] }
         ensures waiting { IsWaiting result.last result.waiting.totals }
@@ -160,7 +160,7 @@ impl Account {
         }
     }
 
-    // Looks at what ran ahead of the last entry, where it is asked for.
+    // Determines the entries that ran ahead of the last entry, if `looks` is set.
     fn look_if(&mut self, timing: &Timing<'_>, looks: bool)
         requires few { self.old.state.done + 8 < 2 ^ 63 }
         requires tight { IsTight MOST_DELAY self.old.last.front }
@@ -211,8 +211,8 @@ impl Account {
         );
     }
 
-    /// What comes behind the last entry takes effect: of the signals and cards that are still to
-    /// come what is due, and what ends a wait. So many entries may still be done.
+    /// Applies the events after the last entry: the signals and cards in `coming` that are due, and
+    /// the end of a wait. `left` is the number of entries that may still complete.
     pub fn pass(&mut self, timing: &Timing<'_>, left: u64, coming: &mut Coming<'_>)
         requires few { self.old.state.done + 8 < 2 ^ 63 }
         requires tight { IsTight MOST_DELAY self.old.last.front }
@@ -245,15 +245,15 @@ impl Account {
         self.behind.waited = came.waited;
     }
 
-    /// Whether the run ends, where so many entries may still be done.
+    /// Whether the run ends, if `left` entries may still complete.
     pub fn is_over(&self, left: u64) -> bool
         ensures { result ≡ (nat_eq left 0 || rests self.now.state) }
     {
         left == 0 || is_at_rest(&self.state)
     }
 
-    // What stands between the last entry and the next one; the front and the segment are then those
-    // of the next one.
+    // The border between the last entry and the next one; afterwards the front and the segment are
+    // those of the next entry.
     fn open(&mut self) -> Border
         requires number { self.old.k ≤ MOST_INSTRUCTIONS }
         requires early { self.old.last.tick ≤ 2 ^ 62 }
@@ -315,8 +315,9 @@ impl Account {
         }
     }
 
-    /// Writes the lines of the last entry and of what came behind it, and where a segment ends or
-    /// begins. The front and the segment are then those of the next entry.
+    /// Writes the lines of the last entry and of the events after it, with the end and the start of
+    /// a segment if there are any. Afterwards the front and the segment are those of the next
+    /// entry.
     pub fn cross<K: Sink>(&mut self, out: &mut K) -> Result<(), Failed>
         requires few { self.old.state.done ≤ MOST_INSTRUCTIONS }
         requires number { self.old.k ≤ MOST_INSTRUCTIONS }
@@ -384,7 +385,7 @@ impl Account {
         write_border(out, &border, &between, &mut self.words, &self.state)
     }
 
-    /// Writes the lines of the last entry, of what came behind it, and of the end of the run.
+    /// Writes the lines of the last entry, of the events after it, and of the end of the run.
     pub fn finish<K: Sink>(&mut self, out: &mut K) -> Result<(), Failed>
         requires few { self.old.state.done ≤ MOST_INSTRUCTIONS }
         requires dropped { length self.old.behind.ahead.found.items ≤ 8 }
@@ -408,7 +409,7 @@ impl Account {
         self.write_last(out)
     }
 
-    // Writes what came behind the last entry, and the end of the run.
+    // Writes the events after the last entry, and the end of the run.
     fn write_last<K: Sink>(&mut self, out: &mut K) -> Result<(), Failed>
         requires few { self.old.state.done ≤ MOST_INSTRUCTIONS }
         requires dropped { length self.old.behind.ahead.found.items ≤ 8 }
@@ -447,7 +448,7 @@ impl Account {
         )
     }
 
-    /// The next entry is executed; its lines are then to be written.
+    /// Executes the next entry, whose lines are then to be written.
     pub fn step(&mut self, timing: &Timing<'_>)
         requires few { self.old.state.done < MOST_INSTRUCTIONS }
         requires tight { IsTight MOST_DELAY self.old.last.front }

@@ -1,4 +1,4 @@
-//! What comes behind an entry that has been done, and what ran ahead of it.
+//! The events after a completed entry, and the entries that ran ahead of it.
 ghost use Rattle.std.specs.Prelude.{◌≡◌, List, suc, ◌+◌, ◌≤◌, ◌<◌, ◌^◌, ◌++◌, ◌∷◌, [], map, length, None, All};
 ghost use Rattle.st_bits.specs.declared.limits.TheConstants.{MOST_DELAY};
 ghost use Rattle.st_rows.specs.Asked.{made_before};
@@ -16,25 +16,25 @@ use st_plain::{FoundAhead, Reach, look};
 use st_rows::{Log, Timing};
 use st_state::State;
 
-/// What comes behind an entry that has been done, and what ran ahead of it.
+/// The events after a completed entry, and the entries that ran ahead of it.
 #[derive(Drop)]
 pub(crate) struct Behind {
-    /// The entries that were prepared before it was done, and the one behind them, where its
-    /// segment ends.
+    /// The entries that were prepared before the entry completed, and the next one after them, if
+    /// the entry's segment ends.
     pub ahead: FoundAhead,
-    /// The last answers of the banks, where its segment ends.
+    /// The last answers of the banks, if the entry's segment ends.
     pub banks: LastAnswers,
-    /// What is printed.
+    /// The printed lines.
     pub printed: Printed,
-    /// Whether a card came into storage.
+    /// Whether a card was read into storage.
     pub card: bool,
-    /// Whether the machine waited once all was there that was due.
+    /// Whether the machine waited after all due events.
     pub waited: bool,
-    /// The words that may have changed since the entry before it.
+    /// The words that may have changed since the entry before.
     pub may: Changeable,
 }
 
-/// Nothing has come.
+/// No events and no entries that ran ahead.
 pub(crate) fn nothing_came() -> Behind
     ensures { length result.ahead.found.items ≡ 0 }
 {
@@ -48,9 +48,9 @@ pub(crate) fn nothing_came() -> Behind
     }
 }
 
-/// Looks at what ran ahead of the entry that has just been done, whose reads the log has: the
-/// entries that were prepared before it was done, the one behind them, and the last answers of the
-/// banks, where the segment ends here. The state stays as it was; the log is used up.
+/// Determines the entries that ran ahead of the last completed entry, whose reads are in the log:
+/// the entries that were prepared before it completed, the next one after them, and the last
+/// answers of the banks if the segment ends here. The state is unchanged; the log is consumed.
 pub(crate) fn look_behind(
     state: &mut State,
     last: &Last,

@@ -4,12 +4,12 @@ ghost use Rattle.st_card.specs.Cards.{cards_of};
 
 use st_card::Card;
 
-/// A job that is cut into its cards.
+/// A job that is split into its cards.
 #[derive(Clone, Copy)]
 pub(crate) struct Job<'a> {
     /// The bytes of the job.
     pub text: &'a [u8],
-    /// Its cards, all of them and in order.
+    /// All cards of the job, in order.
     pub cards: &'a [Card],
     ghost cards_are: { cards.now ≡ cards_of text.now },
 }

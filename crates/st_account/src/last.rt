@@ -1,4 +1,4 @@
-//! What is at hand when an entry has just been done.
+//! The facts about the last completed entry.
 ghost use Rattle.std.specs.Prelude.{◌≡◌, ◌+◌, ◌≤◌, ◌^◌, if◌then◌else◌, replicate, All, false, []};
 ghost use Rattle.st_bits.specs.declared.limits.TheConstants.{MOST_DELAY};
 ghost use Rattle.st_banks.specs.declared.answers.TheConstants.{BANKS};
@@ -12,52 +12,52 @@ use st_prep::Prepared;
 use st_reasons::Because;
 use st_rows::{Front, LastEntries, Past};
 
-/// What is told of an entry that has been done, besides how it was prepared.
+/// The facts about a completed entry, except its preparation.
 #[derive(Clone, Copy, Debug, Default, PartialEq, Eq)]
 pub(crate) struct DoneEntry {
-    /// The number of its row.
+    /// The number of the entry's row.
     pub n: u32,
-    /// Its half-word address.
+    /// The entry's half-word address.
     pub address: u32,
-    /// Where its half-words come from.
+    /// The card that the entry's half-words come from.
     pub origin: Option<Origin>,
     pub row: WaitedRow,
-    /// What is known of it by itself.
+    /// Facts about the entry that do not concern its ticks.
     pub known: Known,
-    /// The tick at which the entry before it was done.
+    /// The tick at which the previous entry completed.
     pub before: u64,
-    /// The tick at which its segment starts, if it is the first one of that.
+    /// The tick at which the entry's segment starts, if the entry is the first in it.
     pub start: u64,
 }
 
-/// What is at hand when an entry has just been done.
+/// The facts about the last completed entry, and the timetable after it.
 #[derive(Drop)]
 pub(crate) struct Last {
-    /// The tick at which it was done, 0 before the first one.
+    /// The tick at which the entry completed; 0 before the first entry.
     pub tick: u64,
-    /// What the row of the next entry is computed from, if the segment goes on.
+    /// The front from which the row of the next entry is computed, if the segment continues.
     pub front: Front,
-    /// The last eight entries of the front, the newest one first.
+    /// The last eight entries of the front, newest first.
     pub past: [Past; 8],
-    /// Whether the guess was wrong by which others ran ahead of it.
+    /// Whether the entry was mispredicted, so that the entries that ran ahead of it were wrong.
     pub missed: bool,
-    /// The counter by that guess.
+    /// The instruction counter by the prediction.
     pub ic: u32,
-    /// Whether interrupts were enabled before it.
+    /// Whether interrupts were enabled before the entry.
     pub enabled: bool,
-    /// How it was prepared.
+    /// The preparation of the entry.
     pub plan: Prepared,
-    /// What else is told of it.
+    /// Further facts about the entry.
     pub done: DoneEntry,
-    /// The words that it uses.
+    /// The words that the entry uses.
     pub uses: Uses,
-    /// Those that the entry before it in its segment uses.
+    /// The words that the previous entry in the segment uses.
     pub before: Uses,
-    /// What kept it back.
+    /// The cause that delayed the entry.
     pub because: Because,
 }
 
-// A list of eight entries as a front keeps it, the newest one first.
+// A list of eight entries in the form that a front has, newest first.
 fn entries_of(past: &[Past; 8]) -> LastEntries
     ensures { result ≡ past.now }
 {
@@ -73,7 +73,7 @@ fn entries_of(past: &[Past; 8]) -> LastEntries
     entries
 }
 
-/// The same front once more.
+/// The front after the last entry, as a copy.
 pub(crate) fn front_of(last: &Last) -> Front
     requires { last.now.past ≡ last.now.front.past }
     ensures { result ≡ last.now.front }
@@ -88,7 +88,7 @@ pub(crate) fn front_of(last: &Last) -> Front
     }
 }
 
-/// What is at hand before the first entry of a run, whose counter is given, and whether interrupts
+/// The facts before the first entry of a run, given its instruction counter and whether interrupts
 /// are enabled.
 pub(crate) fn at_start(ic: u32, enabled: bool) -> Last
     ensures tick { result.tick ≡ 0 }
@@ -121,7 +121,7 @@ pub(crate) fn at_start(ic: u32, enabled: bool) -> Last
     }
 }
 
-/// The next entry begins a segment, behind so many that are dropped, at most 8.
+/// Begins a segment with the next entry, after `dropped` dropped entries, at most 8.
 pub(crate) fn open_segment(last: &mut Last, banks: LastAnswers, dropped: u64)
     requires dropped { dropped ≤ 8 }
     requires early { last.old.tick ≤ 2 ^ 62 }
@@ -140,7 +140,7 @@ pub(crate) fn open_segment(last: &mut Last, banks: LastAnswers, dropped: u64)
     last.past = [Past::default(); 8];
 }
 
-/// The same where a segment ends; else the front goes on.
+/// Begins a segment with the next entry if the last one ends; otherwise the front is unchanged.
 pub(crate) fn open_if(ends: bool, last: &mut Last, banks: LastAnswers, dropped: u64)
     requires dropped { dropped ≤ 8 }
     requires early { last.old.tick ≤ 2 ^ 62 }
@@ -165,7 +165,7 @@ pub(crate) fn open_if(ends: bool, last: &mut Last, banks: LastAnswers, dropped: 
     }
 }
 
-/// No words are left where a segment ends.
+/// Clears the words if a segment ends.
 pub(crate) fn clear_if(ends: bool, uses: &mut Uses)
     ensures { uses.new.items ≡ (if ends then [] else uses.old.items) }
 {

@@ -1,4 +1,5 @@
-//! The ledger of a run: where its ticks went, line by line. `docs/ledger.md` has the rules.
+//! The ledger of a run: it accounts for each tick of the run, line by line. `docs/ledger.md` has
+//! the rules.
 #![tactic(auto, using(st_bits::specs::Storage::words_of_storage_is))]
 
 mod account;

@@ -9,7 +9,7 @@ use st_asm::Listed;
 use st_bits::NoMemory;
 use std::alloc::Global;
 
-// The half-word in which the bits of a card begin, if it lays any.
+// The address of the half-word in which the bits of a card begin, if it assembles to any.
 fn beginning(row: &Listed) -> Option<u32>
     ensures value { result ≡ beginning_of row.now }
     ensures inside { IfSome result (λ h. h < 2 ^ 27) }
@@ -23,8 +23,8 @@ fn beginning(row: &Listed) -> Option<u32>
     }
 }
 
-// The least number that is not less than another, and greater than the half-word in which the bits
-// of a card begin.
+// The least number that is at least `n` and greater than the address of the half-word in which the
+// bits of a card begin.
 fn reach(n: u32, row: &Listed) -> u32
     ensures least { n ≤ result }
     ensures within { IfSome (beginning_of row.now) (λ h. h < result) }
@@ -35,7 +35,7 @@ fn reach(n: u32, row: &Listed) -> u32
     }
 }
 
-// How many half-words there are up to the last one in which the bits of a card begin.
+// The number of half-words up to and including the last one in which the bits of a card begin.
 fn extent(rows: &[Listed]) -> u32
     ensures { All (λ row. IfSome (beginning_of row) (λ h. h < result)) rows.now }
 {
@@ -46,7 +46,7 @@ fn extent(rows: &[Listed]) -> u32
     n
 }
 
-// Enters a card at a half-word, unless an earlier one stands there.
+// Enters a card at a half-word, unless an earlier card is entered there.
 fn enter(cards: &mut Vec<u32>, h: u32, card: u32)
     requires { h < length cards.old.items }
     ensures free { slice_index cards.old.items h ≡ 0 →
@@ -59,7 +59,7 @@ fn enter(cards: &mut Vec<u32>, h: u32, card: u32)
     }
 }
 
-// Enters a card where its bits begin, if it lays any.
+// Enters a card at the half-word in which its bits begin, if it assembles to any.
 fn enter_row(cards: &mut Vec<u32>, row: &Listed)
     requires within { IfSome (beginning_of row.now) (λ h. h < length cards.old.items) }
     requires number { 1 ≤ row.now.card }
@@ -73,8 +73,8 @@ fn enter_row(cards: &mut Vec<u32>, row: &Listed)
     }
 }
 
-/// By half-word addresses the number of the first card whose bits begin there, or 0, as far as
-/// there are any; these are the rows of a listing.
+/// For each half-word address the number of the first card whose bits begin there, or 0, up to the
+/// last such half-word; `rows` are the rows of a listing.
 pub(crate) fn first_cards(alloc: Global, rows: &[Listed]) -> Result<Vec<u32>, NoMemory>
     requires { All (λ row. 1 ≤ row.card) rows.now }
     ensures { IfOk result (λ cards. (h : ℕ) → card_by (slice_index cards.items h)

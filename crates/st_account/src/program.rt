@@ -1,4 +1,4 @@
-//! The program: a job in, its ledger out.
+//! The program: it reads a job and writes its ledger.
 ghost use Rattle.std.specs.Prelude.{◌≡◌, ◌↔◌, ◌≤◌, ◌<◌, ◌^◌, ◌∷◌, [], IfOk, IfSome, None, Ok, All, map, length};
 ghost use Rattle.std.specs.String.{string_bytes};
 ghost use Rattle.st_bits.specs.Storage.{words_of_storage};
@@ -30,10 +30,10 @@ use st_run::{delays_asked, reader_of_job};
 use st_state::State;
 use std::alloc::Global;
 
-// The number of levels where no word says it.
+// The default number of levels.
 const LEVELS: u8 = 4;
 
-// The number of levels that a digit is.
+// The number of levels of a digit, 1 to 8; `None` for any other byte.
 fn levels_by(c: u8) -> Option<u8>
     ensures value { result ≡ levels_by c }
     ensures range { IfSome result (λ n. (1 ≤ n) × (n ≤ 8)) }
@@ -45,7 +45,7 @@ fn levels_by(c: u8) -> Option<u8>
     }
 }
 
-// The number of levels that the words mean.
+// The number of levels that the words of the command line request; `None` if they are invalid.
 fn read_words(words: &[String]) -> Option<u8>
     ensures value { result ≡ levels_asked (map string_bytes words.now) }
     ensures range { IfSome result (λ n. (1 ≤ n) × (n ≤ 8)) }
@@ -60,7 +60,7 @@ fn read_words(words: &[String]) -> Option<u8>
     }
 }
 
-// Writes the line of a card that is refused.
+// Writes the line of a refused card.
 fn write_refusal<K: Sink>(out: &mut K, card: u32, fault: Fault) -> Result<(), Failed>
     ensures { WritesLines (K.output out.old) (K.output out.new)
         (fault_line card (name_of fault) ∷ []) result }
@@ -68,7 +68,7 @@ fn write_refusal<K: Sink>(out: &mut K, card: u32, fault: Fault) -> Result<(), Fa
     put(out, &line_fault(card, &fault.name()))
 }
 
-// Refuses a job at a card.
+// Refuses a job at a card: writes its line and returns the status.
 fn refuse<K: Sink>(out: &mut K, card: u32, fault: Fault) -> Status
     ensures { Writes result (K.output out.old) (K.output out.new)
         (fault_line card (name_of fault) ∷ []) Status.Refused }
@@ -79,7 +79,7 @@ fn refuse<K: Sink>(out: &mut K, card: u32, fault: Fault) -> Status
     }
 }
 
-// Room for as many words as storage has.
+// Allocates as many words as storage has.
 fn words(alloc: Global, image: &[u64]) -> Result<Vec<u64>, NoMemory>
     ensures { IfOk result (λ words. words.items ≡ image.now) }
 {
@@ -89,7 +89,7 @@ fn words(alloc: Global, image: &[u64]) -> Result<Vec<u64>, NoMemory>
     }
 }
 
-// Takes all memory of a run on a machine with so many levels, and gives back what is asked for.
+// Allocates all memory of a run on a machine with `n` levels, and returns it with the requests.
 fn prepare(
     alloc: Global,
     levels: u8,
@@ -135,7 +135,7 @@ fn prepare(
     Ok((ready, controls))
 }
 
-// Writes the ledger of a job that is assembled, or says why it does not.
+// Writes the ledger of an assembled job, or returns why it does not.
 fn run_program<K: Sink>(
     alloc: Global,
     n: u8,
@@ -157,7 +157,7 @@ fn run_program<K: Sink>(
     }
 }
 
-// Writes the ledger of a job that was read, or says why it does not.
+// Writes the ledger of a job that has been read, or returns why it does not.
 #[tactic(auto, unfolding(crate::specs::Answers::ledger_lines_of, crate::specs::Answers::status_of))]
 fn run_job<K: Sink>(alloc: Global, n: u8, job: &[u8], out: &mut K) -> Status
     requires levels { (1 ≤ n) × (n ≤ 8) }
@@ -179,7 +179,7 @@ fn run_job<K: Sink>(alloc: Global, n: u8, job: &[u8], out: &mut K) -> Status
     }
 }
 
-// Reads a job and writes its ledger, or says why it does not.
+// Reads a job and writes its ledger, or returns why it does not.
 fn run_levels<S: Source, K: Sink>(alloc: Global, n: u8, job: &mut S, out: &mut K) -> Status
     requires levels { (1 ≤ n) × (n ≤ 8) }
     ensures { Did n result
@@ -193,21 +193,22 @@ fn run_levels<S: Source, K: Sink>(alloc: Global, n: u8, job: &mut S, out: &mut K
     }
 }
 
-/// Writes the ledger of a job of at most 2,000,000 bytes. The words of the command line, after the
-/// program's name, are none, for a machine of 4 levels, or one digit from 1 to 8, the number of
-/// levels. Each line is written by itself, and all memory is taken before the first one.
-/// `docs/ledger.md` has the rules.
+/// Writes the ledger of a job of at most 2,000,000 bytes. `words` are the words of the command line
+/// after the program's name: none, for a machine of 4 levels, or one digit from 1 to 8, the number
+/// of levels. Each line is written with a call of its own, and all memory is allocated before the
+/// first one. `docs/ledger.md` has the rules.
 pub fn ledger<S: Source, K: Sink>(
     alloc: Global,
     words: &[String],
     job: &mut S,
     out: &mut K,
 ) -> Status
-    // By the meaning of the words and the status: what was read, and exactly what was written.
+    // For each meaning of the words and each status: the bytes that were read, and exactly the
+    // bytes that were written.
     ensures answer { IsAnswer (levels_asked (map string_bytes words.now)) result
         (S.input job.old) (S.input job.new) (K.output out.old) (K.output out.new) }
 
-    // The answer is a bad command line exactly where the words mean nothing.
+    // The status is that of a bad command line if and only if the words are invalid.
     ensures usage { result ≡ Status.Usage ↔ levels_asked (map string_bytes words.now) ≡ None }
 {
     match read_words(words) {

@@ -1,4 +1,4 @@
-//! The run, line by line.
+//! Writes the run line by line.
 ghost use Rattle.std.specs.Prelude.{◌≡◌, ◌≤◌, true, [], IsOk, All, length};
 ghost use Rattle.std.specs.List.{AllPass};
 ghost use Rattle.st_bits.specs.declared.limits.TheConstants.{MOST_INSTRUCTIONS};
@@ -29,24 +29,24 @@ use st_rows::Timing;
 use st_run::Coming;
 use st_state::State;
 
-/// A run that is ready to be written: nothing has happened in the machine.
+/// A run that is ready to be written: the machine is in its initial state.
 #[derive(Drop)]
 pub struct Ready {
     pub state: State,
-    /// As many words as storage has, whatever they are.
+    /// As many words as storage has; their values do not matter.
     pub words: Vec<u64>,
-    /// Where the half-words of the program come from.
+    /// The cards that the half-words of the program come from.
     pub origins: Origins,
     /// The cards of the reader.
     pub cards: Hopper,
     /// The delays of storage.
     pub delays: Delays,
-    /// How many levels the machine has, 1 to 8.
+    /// The number of levels of the machine, 1 to 8.
     pub levels: u8,
 }
 
-// Writes the run, until it ends or so many instructions are done as are asked for. `sums` are then
-// the ticks of its charges, and `waits` those of its waits.
+// Writes the run until it ends or its budget is used up. Afterwards `sums` are the ticks of its
+// charges, and `waits` those of its waits.
 fn write_run<K: Sink>(
     out: &mut K,
     ready: Ready,
@@ -102,9 +102,9 @@ fn write_run<K: Sink>(
     }
 }
 
-/// Writes the ledger of a run, until it ends or so many instructions are done as are asked for, at
-/// most 10,000,000. The delays are those that are asked for. Each line is written by itself.
-/// `docs/ledger.md` has the rules.
+/// Writes the ledger of a run until it ends or the requested budget, at most 10,000,000
+/// instructions, is used up. The delays must be the requested ones. Each line is written with a
+/// call of its own. `docs/ledger.md` has the rules.
 pub fn write_ledger<K: Sink>(out: &mut K, ready: Ready, controls: &Controls) -> Result<(), Failed>
     requires fresh { ready.state.done ≡ 0 }
     requires cards { All IsCard ready.cards }

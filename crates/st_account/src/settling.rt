@@ -1,4 +1,4 @@
-//! What comes between two entries.
+//! Applies the events between two entries.
 ghost use Rattle.std.specs.Prelude.{◌≡◌, Bool, true, nat_lt, length};
 ghost use Rattle.st_exec.specs.Step.{rests};
 ghost use Rattle.st_run.specs.Outside.{scene_at};
@@ -11,8 +11,9 @@ use st_run::Coming;
 use st_run::between::{Interlude, between};
 use st_state::State;
 
-/// Signals and orders come that are due, and what ends a wait; nothing, where it is said to be
-/// still. `printed` is then what is printed, whatever it was.
+/// Applies the signals and orders that are due, and the end of a wait; nothing if the caller says
+/// that no event is due. `printed` receives the printed lines; its previous contents are
+/// overwritten.
 pub(crate) fn settle(
     still: bool,
     state: &mut State,

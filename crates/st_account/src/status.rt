@@ -1,20 +1,20 @@
-//! The answers of the program.
+//! The exit statuses of the program.
 
-/// How a call of `ledger` ended. The number is the program's exit status.
+/// The status of a call of `ledger`. The number is the program's exit status.
 #[derive(Clone, Copy, Debug, PartialEq, Eq)]
 pub enum Status {
     /// The whole ledger was written.
     Done = 0,
-    /// The job was refused, and the line that says so was written.
+    /// The job was refused, and the line of the refusal was written.
     Refused = 1,
-    /// The words mean nothing. Nothing was read or written.
+    /// The words of the command line are invalid. Nothing was read or written.
     Usage = 2,
     /// The job has more than 2,000,000 bytes. Nothing was written.
     JobTooLong = 3,
     /// A read of the job failed. Nothing was written.
     ReadFault = 4,
-    /// A write failed. A proper front of the lines was written.
+    /// A write failed. A prefix of the lines, not all of them, was written.
     WriteFault = 5,
-    /// There was no memory. Nothing was written.
+    /// There was not enough memory. Nothing was written.
     NoMemory = 6,
 }

@@ -1,4 +1,4 @@
-//! What is asked of a state and of an entry on the way from one entry to the next.
+//! Properties of a state and of an entry that are needed between two entries.
 ghost use Rattle.std.specs.Prelude.{◌≡◌, ◌+◌, ◌<◌, ◌≤◌, ◌^◌, ◌||◌, [], not, nat_eq, if◌then◌else◌, is_some, option_map, Some, None};
 ghost use Rattle.st_bits.specs.Indicators.{IsIndicatorIfAny};
 ghost use Rattle.st_bits.specs.declared.limits.TheConstants.{MOST_DELAY, MOST_INSTRUCTIONS};
@@ -28,8 +28,8 @@ use st_rows::{Log, Past, Timing};
 use st_run::plain::{is_signal_due, printer_is_free, reader_is_free};
 use st_state::{State, is_enabled};
 
-/// Why a segment begins: the run does, or an interrupt is taken, a guess was wrong, or else a card
-/// came.
+/// Why a segment begins: the run begins, an interrupt is taken, an entry was mispredicted, or a
+/// card was read, the first that applies.
 pub(crate) fn why_of(first: bool, taken: Option<u8>, missed: bool) -> Why
     ensures { result ≡ (if first then RunBegins else why_by taken missed) }
 {
@@ -49,14 +49,14 @@ pub(crate) fn is_end(missed: bool, card: bool, waited: bool, taken: Option<u8>) 
     missed || card || waited || taken.is_some()
 }
 
-/// The tick at which a segment ends, where it does.
+/// The tick at which a segment ends, if it does.
 pub(crate) fn end_of(ends: bool, tick: u64) -> Option<u64>
     ensures { result ≡ (if ends then Some tick else None) }
 {
     if ends { Some(tick) } else { None }
 }
 
-/// Whether nothing comes between the last entry and the next one, and the guess was right.
+/// Whether no event comes between the last entry and the next one, and the prediction was right.
 pub(crate) fn is_still(state: &State, missed: bool, signals: &[Signal]) -> bool
     ensures { result ≡ still_by state.now missed signals.now }
 {
@@ -70,14 +70,14 @@ pub(crate) fn is_still(state: &State, missed: bool, signals: &[Signal]) -> bool
         && taken.is_none()
 }
 
-/// Whether it is to be seen what ran ahead: where a segment or the run may end.
+/// Whether the entries that ran ahead must be determined: if a segment or the run may end.
 pub(crate) fn is_end_near(left: u64, still: bool) -> bool
     ensures { result ≡ (nat_eq left 0 || not still) }
 {
     left == 0 || !still
 }
 
-/// The numbers of the next entry, and what is at hand behind it.
+/// Computes the row of the next entry and the facts after it.
 #[tactic(auto, unfolding(st_plain::specs::Uses::uses_of_entry), using(st_bits::specs::Storage::words_of_storage_is))]
 pub(crate) fn count_on(
     state: &State,
@@ -153,7 +153,7 @@ pub(crate) fn count_on(
     last.done.known = planned.known;
 }
 
-// The counter by the guess of an entry that was prepared as `p` and is now done.
+// The instruction counter by the prediction of a completed entry with the preparation `p`.
 fn guessed_counter(p: &Prepared, state: &State) -> u32
     requires counter { p.now.following < 2 ^ 19 }
     ensures value { result ≡ (if p.now.serial then state.now.ic else p.now.following) }
@@ -162,7 +162,7 @@ fn guessed_counter(p: &Prepared, state: &State) -> u32
     if p.serial { state.ic } else { p.following }
 }
 
-/// The next entry is executed, which is prepared as it stands in `last`.
+/// Executes the next entry, whose preparation is in `last`.
 pub(crate) fn execute(state: &mut State, taken: Option<u8>, last: &mut Last)
     requires prepared { IsPrepared last.old.plan }
     requires plan { last.old.plan ≡ plan_of state.old taken }
@@ -200,7 +200,7 @@ pub(crate) fn next_number(begins: bool, k: u32) -> u32
     if begins { k + 1 } else { k }
 }
 
-// Where the area begins into which the reader may bring a card, where it has an order.
+// The address of the area into which the reader may read a card, if it has an order.
 fn card_area(state: &State) -> Option<u32>
     ensures { result ≡ option_map (λ order. order.word) state.now.reader }
 {
@@ -210,7 +210,7 @@ fn card_area(state: &State) -> Option<u32>
     }
 }
 
-/// The words that may change behind an entry that is prepared as `p` and has left a state.
+/// The words that may change after an entry with the preparation `p` that has left a state.
 pub(crate) fn changeable(p: &Prepared, state: &State) -> Changeable
     ensures { result ≡ record {
       writes = p.now.writes;

@@ -1,4 +1,4 @@
--- What holds where the value pass finds no fault.
+-- Consequences of a statement without a fault in the value pass.
 use Rattle.std.proofs.Common.{◌≡◌, ◌≤◌, ◌<◌, ◌+◌, ◌*◌, ◌==◌, ◌^◌, ◌&&◌, ℕ, ℤ, pos, negsuc, Bool, true, false, not, List, [], ◌∷◌, None, nat_lt, nat_le, length, is_some, unsigned_abs, refl, arith}
 use Rattle.std.proofs.lemmas.Bool.{and_parts as both}
 use Rattle.st_card.specs.Cards.{first_fault}
@@ -44,7 +44,7 @@ unfolding in_range
 second-below (IndexWord value count refill flags) v is = address-below v.second is
 second-below _ v is = address-below v.second (both (is_address v.first) (is_address v.second) is).1
 
--- the first one is an address, or the value of an index word
+-- the first value is an address, or the value of an index word
 pub first-below : (s : Statement) (v : Values) → in_range s v ≡ true → fits s v ≡ true → unsigned_abs v.first < 2 ^ 24
 unfolding in_range fits
 first-below (IndexWord value count refill flags) v is good =
@@ -53,7 +53,7 @@ first-below (IndexWord value count refill flags) v is good =
     grind arith
 first-below _ v is good = address-below v.first (both (is_address v.first) (is_address v.second) is).0
 
--- what is laid is in storage where what is laid or passed over is
+-- the assembled bits are in storage if the assembled or skipped bits are
 pub laid-in_storage : (placing : Placing) (value : ℤ) (place : ℕ) → in_storage place (extent placing value) ≡ true →
     in_storage place (length_in placing) ≡ true
 unfolding in_storage
@@ -63,12 +63,12 @@ laid-in_storage Sets value place is = refl
 laid-in_storage Names value place is = refl
 laid-in_storage Ends value place is = refl
 
--- where there is no fault, the first test fails
+-- if there is no fault, the first test is false
 pub first-passes : (b : Bool) (fault : Fault) (rows : List (Bool × Fault)) → first_fault ((b, fault) ∷ rows) ≡ None → b ≡ false
 first-passes true fault rows none = let no : ⊥ = cc in absurd no
 first-passes false fault rows none = refl
 
--- a card without a fault has a fresh name
+-- a card without a fault has a new name
 pub fresh-name : (on_cards : List ℕ → Bool) (named : Named) (line : ReadCard) → name_fault on_cards named line ≡ None →
     is_name_taken (table named.symbols) line.name ≡ false
 unfolding name_fault
@@ -79,7 +79,7 @@ fresh-name on_cards named line none =
     ∷ (not (is_earlier symbols line.statement), SymbolNotEarlier)
     ∷ (is_some line.name && nat_le 4000 (length named.symbols), TooManyNames) ∷ []) none
 
--- bits in storage, if there are any, are behind the registers and before the end
+-- a nonempty range of bits in storage is after the registers and before the end
 pub storage-means : (place count : ℕ) → in_storage place count ≡ true → (count ≡ 0 → ⊥) →
     (2048 ≤ place) × (place + count ≤ 64 * 98304)
 unfolding in_storage

@@ -1,4 +1,4 @@
--- The cards of a job that is assembled have no faults by themselves.
+-- No card of a job that is assembled has a fault by itself.
 use Rattle.std.proofs.Common.{◌≡◌, ℕ, List, [], ◌∷◌, Bool, true, false, Option, Some, None, Result, Ok, Err, All, length, refl, if◌then◌else◌}
 use Rattle.std.proofs.lemmas.List.Elements.{All-cons, All-nil}
 use Rattle.st_card.specs.Cards.{text_in}
@@ -10,7 +10,7 @@ use Rattle.st_card.specs.declared.faults.Fault.TheVariants.{CardAfterEnd}
 use Rattle.st_asm.specs.Pass.{Refusal, pass, onward, unless_faulty, pass_then}
 use Rattle.st_asm.specs.Forming.{Found, first_fault_of, before_end, form_kind, form_statement, form_card, form_pass, found_at_start, with_end}
 
--- what follows where nothing is faulty
+-- a result after an optional fault is good only if there is no fault
 unless-none : {S : Type 0} (o : Option Fault) (r : Result S Fault) (s : S) → unless_faulty o r ≡ Ok s → (o ≡ None) × (r ≡ Ok s)
 unless-none None r s h = (refl, h)
 unless-none (Some f) r s h = let no : ⊥ = cc in absurd no
@@ -35,7 +35,7 @@ card-faultless : (job : List ℕ) (found after : Found) (card : Card) → form_c
 unfolding form_card
 card-faultless job found after card h = kind-faultless card.kind card.fault found card.number (text_in job card) after h
 
--- a pass that goes on
+-- a pass that continues after a card
 record GoesOn {S T : Type 0} (rest : S → Result T Refusal) (r : Result S Fault) (t : T) : Type 0 where
   state : S
   good : r ≡ Ok state
@@ -51,7 +51,7 @@ pass-faultless job found after (card ∷ cards) h =
     let on = onward-ok (λ s. pass (form_card job) (λ x. x.number) s cards) card.number (form_card job found card) after h in
     All-cons (λ x. x.fault ≡ None) card cards (card-faultless job found on.state card on.good) (pass-faultless job on.state after cards on.next)
 
--- what comes first, where something comes next
+-- a first result after which another step follows
 record ComesNext {A B : Type 0} (next : A → Result B Refusal) (r : Result A Refusal) (b : B) : Type 0 where
   first : A
   is : r ≡ Ok first

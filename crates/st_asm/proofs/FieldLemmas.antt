@@ -1,4 +1,4 @@
--- Numbers put together in fields.
+-- Lemmas on numbers that are combined into fields.
 use Rattle.std.proofs.Common.{mod-eq_of_lt, ◌≡◌, ◌≤◌, ◌<◌, ◌+◌, ◌-◌, ◌*◌, ◌/◌, ◌%◌, ◌^◌, ◌&&◌, ◌||◌, ◌==◌, ℕ, zero, suc, Bool, true, false, not, nat_lt, subst, refl, ap, sym, ◌∙◌, arith, if◌then◌else◌}
 use Rattle.std.proofs.lemmas.Bool.{not-false as not_true, or_parts as either_false}
 use Rattle.std.proofs.Math.Pow.{pow_mono, pow-lt}
@@ -10,7 +10,7 @@ use Rattle.st_mnemonic.specs.declared.form.Form.{Form}
 use Rattle.st_asm.specs.Numbers.{holds, packed_digits, capacity, magnitude_bits_of}
 use Rattle.st_strap.specs.WellFormed.{IsNumberForm}
 
--- a high part above n low bits: nothing is lost, and the whole has k bits
+-- a high part of m bits before n low bits: no bit is lost, and the combination has k bits
 pub joined-parts : (h l m n k : ℕ) → h < 2 ^ m → l < 2 ^ n → k ≡ m + n → k ≤ 64 →
     (h * 2 ^ n % 2 ^ 64 + l ≡ h * 2 ^ n + l) × (h * 2 ^ n + l < 2 ^ k) × (h * 2 ^ n + l < 2 ^ 64)
 joined-parts h l m n k high low size few =
@@ -22,7 +22,7 @@ joined-parts h l m n k high low size few =
 times-suc : (b k : ℕ) → b * suc k ≡ b * k + b
 times-suc b k = omega arith
 
--- one digit more
+-- the width of one more digit
 pub more-digits : (b count : ℕ) → (count ≡ 0 → ⊥) → b * count ≡ b * (count - 1) + b
 more-digits b zero some = absurd (some refl)
 more-digits b (suc k) some =
@@ -58,7 +58,7 @@ sign-below byte place within =
     let kept : 1 * 2 ^ place % 2 ^ 64 ≤ 1 * 2 ^ place = mod-le (1 * 2 ^ place) (2 ^ 64) in
     omega arith
 
--- a decimal field is made of whole bytes
+-- a decimal field consists of whole bytes
 pub whole_bytes : (unsigned : Bool) (bits byte : ℕ) → IsFalse (misfits true unsigned bits byte) → bits % byte ≡ 0
 whole_bytes unsigned bits byte fits =
     let first = (either_false (nat_lt byte 4 || not (bits % byte == 0)) (not unsigned && nat_lt bits byte) fits).0 in
@@ -72,7 +72,7 @@ sign_room decimal bits byte fits =
     let second = (either_false (decimal && (nat_lt byte 4 || not (bits % byte == 0))) (nat_lt bits byte) fits).1 in
     grind arith
 
--- whole bytes less one are whole bytes
+-- whole bytes without one byte are whole bytes
 pub less-whole : (bits byte : ℕ) → 1 ≤ byte → byte ≤ bits → bits % byte ≡ 0 → byte * ((bits - byte) / byte) ≡ bits - byte
 less-whole bits byte some room whole =
     let x = bits - byte in
@@ -83,7 +83,7 @@ less-whole bits byte some room whole =
 pub all-whole : (bits byte : ℕ) → 1 ≤ byte → bits % byte ≡ 0 → byte * (bits / byte) ≡ bits
 all-whole bits byte some whole = omega arith
 
--- a number that a field holds is below its capacity
+-- a number that fits in a field is below its capacity
 pub holds-below : (form : Form) (minus : Bool) (number : ℕ) → IsTrue (holds form minus number) → number < capacity form
 unfolding holds
 holds-below form minus number held =
@@ -112,7 +112,7 @@ digits-whole form is decimal = sized form.unsigned refl
         less-whole form.length form.byte is.sizes.some_byte (sign_room true form.length form.byte (fits false e))
         (whole_bytes false form.length form.byte (fits false e))
 
--- a magnitude and a sign byte make a signed field
+-- a magnitude and a sign byte fill a signed field
 pub signed-parts : (form : Form) (m s : ℕ) → IsNumberForm form → form.unsigned ≡ false → m < 2 ^ magnitude_bits_of form →
     s < 2 ^ form.byte →
     (m * 2 ^ form.byte % 2 ^ 64 + s ≡ m * 2 ^ form.byte + s) × (m * 2 ^ form.byte + s < 2 ^ form.length)

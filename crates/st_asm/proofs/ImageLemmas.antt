@@ -1,11 +1,11 @@
--- The image after a card's bits are put into it.
+-- Lemmas on the image after a card's bits are written into it.
 use Rattle.std.proofs.Common.{◌≡◌, ◌≤◌, ◌<◌, ◌+◌, ◌*◌, ◌^◌, ◌==◌, ℕ, false, List, length, get_or, ap, sym, ◌∙◌, arith, if◌then◌else◌}
 use Rattle.st_bits.specs.Bits.{bits, all_bits, put, words_of}
 use Rattle.st_bits.proofs.Windows.{words_of-all_bits}
 use Rattle.st_asm.specs.Valuing.{image_with}
 use Rattle.st_bits.specs.Storage.{IsImage}
 
--- words whose bits are the old ones with a number put in
+-- words whose bits are the old ones with a number written into them
 pub image-put : (old new : List ℕ) (place count number : ℕ) → (count ≡ 0 → ⊥) → length new ≡ length old →
     ((w : ℕ) → get_or new w 0 < 2 ^ 64) → all_bits new ≡ put (all_bits old) place (bits count number) →
     new ≡ image_with old place count number
@@ -17,7 +17,7 @@ image-put old new place count number some size below is =
     ∙ (ap (λ b. words_of (length old) b) is
     ∙ sym (ap (λ b. if b then old else words_of (length old) (put (all_bits old) place (bits count number))) counted)))
 
--- a place behind the registers leaves them as they were
+-- writing at a location after the registers does not change the registers
 pub image-kept : (old new : List ℕ) (place : ℕ) → IsImage old → length new ≡ length old → 2048 ≤ place →
     ((w : ℕ) → 64 * w + 64 ≤ place → get_or new w 0 ≡ get_or old w 0) → IsImage new
 image-kept old new place is size behind same = record {

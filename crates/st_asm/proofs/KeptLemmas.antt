@@ -1,4 +1,4 @@
--- What the passes keep.
+-- Invariants of the passes.
 use Rattle.std.proofs.Common.{◌≡◌, ◌≤◌, ◌<◌, ◌+◌, ◌-◌, ◌^◌, ◌&&◌, ◌==◌, ℕ, zero, suc, ℤ, pos, negsuc, Bool, true, false, not, nat_le, List, [], ◌∷◌, ◌++◌, length, map, get_or, replicate, Option, Some, None, unwrap_or, Result, Ok, Err, refl, ap, sym, ◌∙◌, subst, append_assoc, append-nil, length-append, lit≤, lit<, arith, if◌then◌else◌}
 use Rattle.std.proofs.lemmas.Bool.{and_parts as both}
 use Rattle.std.specs.List.{All, zip, list_all}
@@ -42,7 +42,7 @@ use Rattle.st_asm.specs.declared.places.Placing.{Placing}
 use Rattle.st_asm.specs.declared.places.Placing.TheVariants.{Lays, Passes, Sets, Names, Ends}
 use Rattle.st_asm.specs.declared.valuing.Listed.{Listed}
 
--- the numbers of the cards of lines, and of rows
+-- the numbers of the cards of lines
 abbrev cards_in : List ReadCard → List ℕ
 cards_in lines = map (λ line. line.card) lines
 
@@ -56,7 +56,7 @@ onward-kept : {S T : Type 0} (P : T → Type 0) (R : S → Type 0) (rest : S →
 onward-kept P R rest card (Ok s) is next = next s is
 onward-kept P R rest card (Err f) is next = tt
 
--- what each card keeps, a pass keeps
+-- a pass preserves a property that each card preserves
 pub pass-kept : {S X : Type 0} (next : S → X → Result S Fault) (number : X → ℕ) (P : S → Type 0) (Q : X → Type 0) →
     ((s : S) (x : X) → P s → Q x → IfOk (next s x) P) → (state : S) (xs : List X) → P state → All Q xs →
     IfOk (pass next number state xs) P
@@ -82,7 +82,7 @@ pass-numbers next number view grows state (x ∷ xs) =
     (λ t is. is ∙ (ap (λ l. l ++ map number xs) grown ∙ append_assoc (view state) (number x ∷ []) (map number xs)))
     (pass-numbers next number view grows s xs))
 
--- a count that grows by one at each card
+-- a count that grows by one at each card grows by the number of cards
 pub pass-counts : {S X : Type 0} (next : S → X → Result S Fault) (number : X → ℕ) (size : S → ℕ) →
     ((s : S) (x : X) → IfOk (next s x) (λ t. size t ≡ size s + 1)) → (state : S) (xs : List X) →
     IfOk (pass next number state xs) (λ t. size t ≡ size state + length xs)
@@ -236,7 +236,7 @@ ended-kept : (P : Found → Type 0) (cards : ℕ) (r : Result Found Refusal) →
 ended-kept P cards (Ok found) is = ok-if P found.ended (Ok found) _ (λ e. is) (λ e. tt)
 ended-kept P cards (Err e) is = tt
 
--- what the form pass leaves
+-- the result of the form pass satisfies its invariant
 pub form_pass-deck : (job : List ℕ) (cards : List Card) (found : Found) → form_pass job cards ≡ Ok found → IsDeck found
 unfolding form_pass
 form_pass-deck job cards found is =
@@ -294,7 +294,7 @@ name-counts on_cards named line =
     ok-unless (λ t. length t.places ≡ length named.places + 1) (name_fault on_cards named line) _
     (length-append named.places (place_of_card (table named.symbols) named.location line.statement ∷ []))
 
--- what the name pass leaves
+-- the result of the name pass satisfies its invariant
 pub name_pass-named : (lines : List ReadCard) (named : Named) → name_pass lines ≡ Ok named → All IsReadCard lines → IsNamed named
 unfolding name_pass
 name_pass-named lines named is good =
@@ -342,7 +342,7 @@ value_pass-numbers symbols lines places laid is same =
     (pass-numbers (value_card symbols) (λ p. p.0.card) (λ t. numbers_in t.rows) (value-numbers symbols) laying_at_start (zip lines places))
     ∙ zip-cards lines places same
 
--- ---- the whole
+-- ---- the whole assembly
 
 -- the k-th card of lines has the k-th number
 numbered : (n place k : ℕ) (lines : List (List ℕ)) (d : Card) → k < length (cards_from n place lines) →
@@ -430,7 +430,7 @@ defaults-within asked is =
       delays.1,
     )
 
--- what the three passes leave is sound
+-- the combined result of the three passes is sound
 pub together-sound : (job : List ℕ) (found : Found) (named : Named) (laid : Laid) → form_pass job (cards_of job) ≡ Ok found →
     name_pass found.lines ≡ Ok named → value_pass (table named.symbols) found.lines named.places ≡ Ok laid →
     IsSoundLayout laid → IsAssemblySound (length (cards_of job)) (together found named laid)

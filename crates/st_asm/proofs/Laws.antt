@@ -1,4 +1,4 @@
--- What holds of the three passes, whatever the job, proved.
+-- Proofs of the laws of the three passes.
 use Rattle.st_asm.specs.Forming.{form_card, found_at_start}
 use Rattle.st_asm.specs.Naming.{name_card, naming_at_start}
 use Rattle.st_asm.specs.Valuing.{value_card, laying_at_start}

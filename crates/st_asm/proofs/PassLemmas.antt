@@ -1,8 +1,8 @@
--- Lists as a slice pattern has them.
+-- Lemmas on lists in the form that slice patterns give.
 use Rattle.std.proofs.Common.{◌≡◌, ◌≤◌, ◌<◌, ◌-◌, refl, List, [], ◌∷◌, length, get_or, take, drop, ap, sym, ◌∙◌, arith}
 use Rattle.st_text.proofs.ListLemmas.{first_and_rest}
 
--- a list that is not empty, as a slice pattern has it
+-- a nonempty list in the form that a slice pattern gives
 pub with_first : {X : Type 0} (xs : List X) (first : X) → 1 ≤ length xs → first ≡ get_or xs 0 first →
     xs ≡ first ∷ take (length xs - 1) (drop 1 xs)
 with_first xs first some is_first =

@@ -22,7 +22,7 @@ use Rattle.st_asm.specs.Assembly.{Assembly, together, assembly}
 use Rattle.st_asm.specs.Stops.{Leads, HasFirst, StopsAtFirst, LacksEnd, StopsForm, StopsAtNames, StopsAtValues, StopsInOrder, asking_fault, form_fault}
 use Rattle.std.specs.Result.{result_err}
 
--- the refusal that an answer is
+-- the refusal in a result, or a default
 abbrev refusal-in : {S : Type 0} → Refusal → Result S Refusal → Refusal
 refusal-in other (Ok s) = other
 refusal-in other (Err r) = r
@@ -53,14 +53,14 @@ first-here next number from x xs r fault bad same = record {
   card = ap (λ q. q.card) same;
 }
 
--- a card without a fault, and the others
+-- a pass over a card without a fault and over the remaining cards
 passed-on : {S X : Type 0} (next : S → X → Result S Fault) (number : X → ℕ) (from to : S) (x : X) (xs : List X) →
     ((state : S) → pass next number state xs ≡ Ok to → Leads next state xs to) → (answer : Result S Fault) →
     next from x ≡ answer → onward (λ s. pass next number s xs) (number x) answer ≡ Ok to → Leads next from (x ∷ xs) to
 passed-on next number from to x xs further (Ok state) is went = (state, is, further state went)
 passed-on next number from to x xs further (Err fault) is went = let no : ⊥ = cc in absurd no
 
--- what a refused pass says of its first card
+-- the consequences of a refused pass for its first card
 first-of : {S X : Type 0} (next : S → X → Result S Fault) (number : X → ℕ) (from : S) (x : X) (xs : List X) (r : Refusal) →
     ((state : S) → pass next number state xs ≡ Err r → HasFirst next number state xs r) → (answer : Result S Fault) →
     next from x ≡ answer → onward (λ s. pass next number s xs) (number x) answer ≡ Err r →
@@ -93,7 +93,7 @@ stops-at-first next number from xs r = (
       ∙ refused-there next number from first.state first.before first.after first.here r first.good first.bad first.card,
 )
 
--- what comes next where there is something, is refused by itself or by what is first
+-- a refusal of two consecutive steps comes from the first or from the second
 and_then-refused : {A B : Type 0} (next : A → Result B Refusal) (r : Result A Refusal) (refusal : Refusal) → pass_then r next ≡ Err refusal →
     (r ≡ Err refusal) ⊎ ((a : A) × (r ≡ Ok a) × (next a ≡ Err refusal))
 and_then-refused next (Ok a) refusal refused = inr (a, refl, refused)
@@ -106,7 +106,7 @@ and_then-next : {A B : Type 0} (next : A → Result B Refusal) (r : Result A Ref
     pass_then r next ≡ Err refusal
 and_then-next next r a refusal is refused = ap (λ x. pass_then x next) is ∙ refused
 
--- a pass that goes to its end
+-- a pass that reaches its end
 passed : {S X : Type 0} (next : S → X → Result S Fault) (number : X → ℕ) (from to : S) (xs : List X) → pass next number from xs ≡ Ok to → Leads next from xs to
 passed next number from to [] went = let same : from ≡ to = cc in same
 passed next number from to (x ∷ xs) went = passed-on next number from to x xs (λ state again. passed next number state to xs again) (next from x) refl went
@@ -151,7 +151,7 @@ form-stopped job cards refusal (inr lacks) =
     (ap (λ (b : Bool). if b then Ok lacks.found else Err (record { card = length cards + 1; fault = NoEnd })) lacks.endless
     ∙ ap (λ (q : Refusal). Err q) (sym lacks.behind))
 
--- the form pass
+-- the form pass stops at its first faulty card or at the missing END
 pub stops-form : (job : List ℕ) (cards : List Card) → StopsForm job cards
 unfolding form_pass
 stops-form job cards refusal =
@@ -161,7 +161,7 @@ stops-form job cards refusal =
       λ stops. form-stopped job cards refusal stops,
     )
 
--- the passes in their order
+-- the passes after the form pass, in order
 abbrev after-names : Found → Named → Result Assembly Refusal
 after-names found named = pass_then (value_pass (table named.symbols) found.lines named.places) (λ laid. Ok (together found named laid))
 

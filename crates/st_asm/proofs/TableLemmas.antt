@@ -1,4 +1,4 @@
--- Tables of names, and which names are in them.
+-- Lemmas on tables of names and on the names in them.
 use Rattle.std.proofs.Common.{◌≡◌, ◌||◌, ℕ, Bool, true, false, cond, List, [], ◌∷◌, ◌++◌, Some, None, is_some, refl, ap, sym, ◌∙◌}
 use Rattle.std.specs.List.{cons_option}
 use Rattle.st_text.specs.Tables.{is_same, row_of}
@@ -7,7 +7,7 @@ use Rattle.st_mnemonic.proofs.Apart.{same_words}
 use Rattle.st_asm.specs.Symbols.{has_name, is_defined, names_of}
 use Rattle.st_asm.specs.declared.line.ReadCard.{ReadCard}
 
--- a name put at the end of a table
+-- looking up a name after another one was appended to a table
 pub defined-behind : (table : List (List ℕ × ℕ)) (name query : List ℕ) (value : ℕ) →
     is_defined (table ++ (name, value) ∷ []) query ≡ (is_defined table query || is_same query name)
 defined-behind [] name query value =
@@ -24,7 +24,7 @@ or-same true s h = refl
 or-same false true h = h refl
 or-same false false h = refl
 
--- a name that was defined, or was there
+-- a name is in the table after its definition
 pub defined-now : (old new : List (List ℕ × ℕ)) (name : List ℕ) (value : ℕ) (fresh : Bool) → Defines old new name value fresh →
     (query : List ℕ) → is_defined new query ≡ (is_defined old query || is_same query name)
 defined-now old new name value true (absent, added) query =
@@ -38,7 +38,7 @@ or-assoc : (a b c : Bool) → ((a || b) || c) ≡ (a || (b || c))
 or-assoc true b c = refl
 or-assoc false b c = refl
 
--- what is left of the names: a card with a name, and one without
+-- the remaining names after a card with or without a name
 pub names-named : (old new : List (List ℕ × ℕ)) (name : List ℕ) (line : ReadCard) (lines all : List ReadCard) →
     all ≡ line ∷ lines → line.name ≡ Some name →
     ((query : List ℕ) → is_defined new query ≡ (is_defined old query || is_same query name)) →
@@ -63,7 +63,7 @@ or-false : (b : Bool) → b ≡ (b || false)
 or-false true = refl
 or-false false = refl
 
--- no names are left
+-- all names are in the table if no card remains
 pub names-none : (table : List (List ℕ × ℕ)) (lines : List ReadCard) → lines ≡ [] → (query : List ℕ) →
     is_defined table query ≡ (is_defined table query || has_name (names_of lines) query)
 unfolding names_of

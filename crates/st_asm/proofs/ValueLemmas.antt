@@ -1,4 +1,4 @@
--- When an expression has a value.
+-- An expression has a value if its names are defined.
 use Rattle.std.proofs.Common.{◌≡◌, ◌&&◌, ℕ, ℤ, List, [], ◌∷◌, Option, Some, None, is_some, refl, ap, ◌∙◌}
 use Rattle.std.specs.Option.{option_map}
 use Rattle.st_expr.specs.Value.{atom_value, signed_value, plus, sum_of_terms}
@@ -16,7 +16,7 @@ sum-known f None sum = refl
 sum-known f (Some n) None = refl
 sum-known f (Some n) (Some s) = refl
 
--- an expression has a value where each of its names is known
+-- an expression has a value if and only if each of its names is in the table
 pub terms-known : (symbols : List (List ℕ × ℕ)) (terms : List Term) → is_some (sum_of_terms symbols terms) ≡ accepts (is_defined symbols) terms
 terms-known symbols [] = refl
 terms-known symbols (term ∷ terms) =

@@ -1,4 +1,4 @@
--- What a statement lays by itself: on a card without a name, where words may be laid.
+-- The bits that a single statement assembles to, on a card without a name at a location in storage.
 use Rattle.std.specs.Prelude.{ℕ, List, [], Option, Some, None, is_none, Result, Ok, Err, if◌then◌else◌}
 use Rattle.st_card.specs.declared.faults.Fault.{Fault}
 use Rattle.st_strap.specs.Saying.{statement_of}
@@ -12,22 +12,23 @@ use Rattle.st_asm.specs.Laying.{bits_of}
 use Rattle.st_asm.specs.declared.values.Values.{Values}
 use Rattle.st_asm.specs.declared.alone.LaidBits.{LaidBits}
 
--- what a statement lays with its values, if it has no fault at the first location
+-- the bits that a statement with these values assembles to, if it has no fault at the first
+-- location
 abbrev pub laid_with : Statement → Values → Option LaidBits
 laid_with s v =
     if is_none (value_fault s v naming_at_start.location)
     then Some (record { length = length_in (placing_of s); bits = bits_of s v }) else None
 
--- what a statement lays whose names are all in a table
+-- the bits that a statement assembles to, if its names are all in a table and it has no fault
 unfoldable pub laid_by : List (List ℕ × ℕ) → Statement → Option LaidBits
 laid_by symbols s =
     if accepts_all (is_defined symbols) s then laid_with s (values_of symbols s) else None
 
--- what a reading lays
+-- the bits that a statement assembles to, if it was read without a fault
 abbrev pub laid_if_read : List (List ℕ × ℕ) → Result Statement Fault → Option LaidBits
 laid_if_read symbols (Ok s) = laid_by symbols s
 laid_if_read symbols (Err fault) = None
 
--- what a text lays
+-- the bits that a statement's text assembles to, if it has no fault
 unfoldable pub laid_alone : List (List ℕ × ℕ) → List ℕ → Option LaidBits
 laid_alone symbols text = laid_if_read symbols (statement_of [] text)

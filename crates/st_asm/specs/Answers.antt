@@ -1,4 +1,4 @@
--- What answers say of what is wanted.
+-- The errors of passes and of the assembler, related to the specified results.
 use Rattle.std.specs.Prelude.{◌≡◌, ℕ, ⊤, Result, Err}
 use Rattle.st_card.specs.declared.faults.Fault.{Fault}
 use Rattle.st_asm.specs.Pass.{Refusal}
@@ -7,17 +7,17 @@ use Rattle.st_asm.specs.declared.stop.PassStop.TheVariants.{Faulty, NoMemory}
 use Rattle.st_asm.specs.declared.stop.AsmError.{AsmError}
 use Rattle.st_asm.specs.declared.stop.AsmError.TheVariants.{Refused, NoMemory as OutOfMemory}
 
--- why a pass stops at a card: it has the fault that is wanted, or memory ran out
+-- why a pass stops at a card: the specified result is this fault, or memory ran out
 abbrev pub Stops : {A : Type 0} → Result A Fault → PassStop → Type 0
 Stops wanted (Faulty fault) = wanted ≡ Err fault
 Stops wanted NoMemory = ⊤
 
--- why there is no answer: the wanted one is this refusal, or memory ran out
+-- why a job is not assembled: the specified result is this refusal, or memory ran out
 abbrev pub Explains : {A : Type 0} → Result A Refusal → AsmError → Type 0
 Explains wanted (Refused card fault) = wanted ≡ Err (record { card = card; fault = fault })
 Explains wanted OutOfMemory = ⊤
 
--- why a pass stops, with the number of the card at which it does
+-- the error of a pass that stops at card n
 abbrev pub stopped_at : ℕ → PassStop → AsmError
 stopped_at card (Faulty fault) = Refused card fault
 stopped_at card NoMemory = OutOfMemory

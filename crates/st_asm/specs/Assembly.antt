@@ -1,4 +1,4 @@
--- A job assembled: the form pass, the name pass and the value pass, one after the other.
+-- The assembly of a job: the form pass, then the name pass, then the value pass.
 use Rattle.std.specs.Prelude.{ℕ, ◌==◌, List, [], ◌∷◌, length, Result, Ok, if◌then◌else◌}
 use Rattle.st_card.specs.Cards.{cards_of}
 use Rattle.st_card.specs.Controls.{Asked}
@@ -11,8 +11,8 @@ use Rattle.st_asm.specs.declared.naming.Symbol.{Symbol}
 use Rattle.st_asm.specs.declared.valuing.Listed.{Listed}
 use Rattle.st_asm.specs.declared.assembling.Assembled.{Assembled}
 
--- what a job gives: the words of storage, the start, the rows of the listing, the symbols, and what
--- its control cards ask for
+-- the result of assembling a job: the words of storage, the start, the rows of the listing, the
+-- symbols, and the requests of its control cards
 pub record Assembly : Type 0 where
   pub image : List ℕ
   pub start : ℕ
@@ -20,14 +20,15 @@ pub record Assembly : Type 0 where
   pub symbols : List Symbol
   pub asked : Asked
 
--- what is asked for with what counts where no card says it: 1000 instructions, and one delay of 1
+-- requests with defaults if no card sets them: a budget of 1000 instructions, and one delay of 1
+-- tick
 unfoldable pub with_defaults : Asked → Asked
 with_defaults asked = record asked {
   budget = if asked.budget == 0 then 1000 else asked.budget;
   delays = if length asked.delays == 0 then 1 ∷ [] else asked.delays;
 }
 
--- what the three passes leave together
+-- the results of the three passes combined
 abbrev pub together : Found → Named → Laid → Assembly
 together found named laid = record {
   image = laid.image;
@@ -37,7 +38,8 @@ together found named laid = record {
   asked = with_defaults found.asked;
 }
 
--- what a job gives, or the first faulty card of the earliest pass that finds one
+-- the result of assembling a job, or the refusal of the first faulty card in the earliest pass that
+-- finds a fault
 unfoldable pub assembly : List ℕ → Result Assembly Refusal
 assembly job =
     pass_then (form_pass job (cards_of job)) (λ found.
@@ -45,7 +47,7 @@ assembly job =
     pass_then (value_pass (table named.symbols) found.lines named.places) (λ laid.
     Ok (together found named laid))))
 
--- the parts of what the assembler answers
+-- the parts of the assembler's result
 abbrev pub assembly_parts : Assembled → Assembly
 assembly_parts a = record {
   image = a.image.items;

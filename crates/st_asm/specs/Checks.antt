@@ -14,22 +14,23 @@ use Rattle.st_asm.specs.declared.places.Placing.TheVariants.{Lays, Passes}
 use Rattle.st_asm.specs.Numbers.{holds}
 use Rattle.st_asm.specs.Places.{placing_of}
 
--- whether a number is an address: 0 to 2^24 - 1
+-- whether a number is a bit address: 0 to 2^24 - 1
 abbrev pub is_address : ℤ → Bool
 is_address (pos n) = nat_lt n (2 ^ 24)
 is_address (negsuc n) = false
 
--- whether each address of a statement is one; the value of an index word is no address
+-- whether each address of a statement is in the range of addresses; the value of an index word is
+-- not an address
 unfoldable pub in_range : Statement → Values → Bool
 in_range (IndexWord value count refill flags) v = is_address v.second
 in_range _ v = is_address v.first && is_address v.second
 
--- whether the value, the count and the flags of an index word fit
+-- whether the value, the count and the flags of an index word fit in their fields
 abbrev pub fits_index_word : ℤ → ℕ → ℕ → Bool
 fits_index_word value count flags =
     nat_lt (unsigned_abs value) (2 ^ 24) && nat_le count MOST_COUNT && nat_le flags MOST_FLAGS
 
--- whether each value fits its place
+-- whether each value of a statement fits in its field
 unfoldable pub fits : Statement → Values → Bool
 fits (Vfl op negated form at offset) v = nat_le offset MOST_OFFSET
 fits (Connect kind truth form at offset) v = nat_le offset MOST_OFFSET
@@ -39,12 +40,12 @@ fits (Data form minus number) v = holds form minus number
 fits (IndexWord value count refill flags) v = fits_index_word v.first count flags
 fits _ v = true
 
--- whether a bit address is a multiple
+-- whether a bit address is a multiple of a unit
 abbrev pub is_multiple : ℕ → ℤ → Bool
 is_multiple unit a = unsigned_abs a % unit == 0
 
--- whether each address is on the boundary that its use asks for: addresses of half-word
--- instructions, second addresses and the start are half-words, a refill address is a word
+-- whether each address is on the boundary that its use requires: half-word boundaries for addresses
+-- of half-word instructions, second addresses and the start, word boundaries for refill addresses
 unfoldable pub on_boundary : Statement → Values → Bool
 on_boundary (Half op j at) v = is_multiple 32 v.first
 on_boundary (Branch op at) v = is_multiple 32 v.first
@@ -57,18 +58,18 @@ on_boundary (IndexWord value count refill flags) v = is_multiple 64 v.second
 on_boundary (End at) v = is_multiple 32 v.first
 on_boundary _ v = true
 
--- how many bits a statement lays or passes over
+-- the number of bits that a statement assembles to or skips
 abbrev pub extent : Placing → ℤ → ℕ
 extent (Lays unit bits) value = bits
 extent Passes value = unsigned_abs value
 extent _ value = 0
 
--- whether bits from a place on are all in storage, behind the registers
+-- whether a number of bits from a bit address on are all in storage after the registers
 unfoldable pub in_storage : ℕ → ℕ → Bool
 in_storage place bits = bits == 0 || (nat_le (64 * FIRST_STORAGE_WORD) place
     && nat_le (place + bits) (64 * WORDS))
 
--- the fault of a statement with its values at its place, if it has one
+-- the fault of a statement with these values at this location, if it has one
 unfoldable pub value_fault : Statement → Values → ℕ → Option Fault
 value_fault s v place = first_fault (
     (not (in_range s v), AddressOutOfRange)

@@ -1,4 +1,5 @@
--- The form pass: each card by itself, what the control cards ask for, and where the end is.
+-- The form pass: it checks each card by itself, collects the requests of control cards, and finds
+-- the END card.
 use Rattle.std.specs.Prelude.{ℕ, ◌+◌, Bool, true, false, List, [], ◌∷◌, ◌++◌, length, Option, Some, None, Result, Ok, Err, if◌then◌else◌}
 use Rattle.st_card.specs.Cards.{text_in}
 use Rattle.st_card.specs.Controls.{Asked, nothing_asked, asked_with_card}
@@ -16,43 +17,43 @@ use Rattle.st_asm.specs.Lines.{name_field, statement_field, name_in, silent_line
 use Rattle.st_asm.specs.declared.line.ReadCard.{ReadCard}
 use Rattle.st_asm.specs.declared.forming.Deck.{Deck}
 
--- what has been read so far: whether the end was there, what is asked for, and the cards
+-- the result of the form pass so far: whether END has been read, the requests, and the cards
 pub record Found : Type 0 where
   pub ended : Bool
   pub asked : Asked
   pub lines : List ReadCard
 
--- what a deck of the code has
+-- the state of the form pass that the code's deck represents
 abbrev pub found_in : Deck → Found
 found_in d = record { ended = d.ended; asked = d.controls; lines = d.lines.items }
 
--- before the first card
+-- the result of the form pass over no cards
 abbrev pub found_at_start : Found
 found_at_start = record { ended = false; asked = nothing_asked; lines = [] }
 
--- the faults of a statement card that count also behind the end: all that it has by itself but a
--- bad column 1
+-- the fault of a statement card that precedes CardAfterEnd: any that it has by itself except a bad
+-- column 1
 abbrev pub before_end : Option Fault → Option Fault
 before_end None = None
 before_end (Some BadName) = None
 before_end (Some fault) = Some fault
 
--- the faults that a card has by itself and that count first
+-- the fault of a card that precedes the checks of the form pass, by its kind
 abbrev pub first_fault_of : CardKind → Option Fault → Option Fault
 first_fault_of Comment fault = fault
 first_fault_of Control fault = fault
 first_fault_of StatementCard fault = before_end fault
 
--- whether a statement is the end
+-- whether a statement is END
 abbrev pub is_end : Statement → Bool
 is_end (End at) = true
 is_end _ = false
 
--- a card more
+-- the result with one more card that has been read
 abbrev pub with_line : Found → ReadCard → Found
 with_line found line = record found { lines = found.lines ++ line ∷ [] }
 
--- a statement card more
+-- the result with one more statement card
 abbrev pub with_statement : Found → ℕ → List ℕ → Statement → Found
 with_statement found card name statement = record {
   ended = is_end statement;
@@ -60,38 +61,37 @@ with_statement found card name statement = record {
   lines = found.lines ++ saying card (name_in name) statement ∷ [];
 }
 
--- a control card more, with all that is asked for then
+-- the result with one more control card and the requests after it
 abbrev pub with_control : Found → ℕ → Asked → Found
 with_control found card asked =
     record { ended = found.ended; asked = asked; lines = found.lines ++ silent_line card ∷ [] }
 
--- what a control card does
+-- the form pass over one control card
 unfoldable pub form_control : Found → ℕ → List ℕ → Result Found Fault
 form_control found card text =
     if found.ended then next_reading BadControlCard (asked_with_card found.asked text)
     (λ asked. Ok (with_control found card asked))
     else Err BadControlCard
 
--- what a statement card does, with the fault that it has by itself
+-- the form pass over one statement card, given the fault that it has by itself
 unfoldable pub form_statement : Found → ℕ → Option Fault → List ℕ → Result Found Fault
 form_statement found card fault text =
     if found.ended then Err CardAfterEnd
     else unless_faulty fault (reading_map (λ s. with_statement found card (name_field text) s)
     (statement_of (name_field text) (statement_field text)))
 
--- what a card of a kind does
+-- the form pass over one card of a kind
 abbrev pub form_kind : CardKind → Found → ℕ → Option Fault → List ℕ → Result Found Fault
 form_kind Comment found card fault text = Ok (with_line found (silent_line card))
 form_kind Control found card fault text = form_control found card text
 form_kind StatementCard found card fault text = form_statement found card fault text
 
--- what a card does
+-- the form pass over one card
 unfoldable pub form_card : List ℕ → Found → Card → Result Found Fault
 form_card job found card = unless_faulty (first_fault_of card.kind card.fault)
     (form_kind card.kind found card.number card.fault (text_in job card))
 
--- what is left of the form pass over so many cards: a job without an end is refused at the card
--- after the last
+-- the result of the form pass over n cards: a job without END is refused at card n + 1
 abbrev pub with_end : ℕ → Found → Result Found Refusal
 with_end cards found =
     if found.ended then Ok found else Err (record { card = cards + 1; fault = NoEnd })

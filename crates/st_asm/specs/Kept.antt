@@ -1,4 +1,4 @@
--- What the passes keep of what they hand on.
+-- Invariants of the results that the passes hand on.
 use Rattle.std.specs.Prelude.{◌<◌, ◌^◌, All, IsAscii, IfSome}
 use Rattle.st_bits.specs.Storage.{IsImage}
 use Rattle.st_card.specs.Limits.{IsWithinLimits}
@@ -9,22 +9,22 @@ use Rattle.st_asm.specs.Valuing.{Laid}
 use Rattle.st_asm.specs.Sound.{IsLocation, IsRow, IsSymbol}
 use Rattle.st_asm.specs.declared.line.ReadCard.{ReadCard}
 
--- a card that was read says a well-formed statement, and its name is printable
+-- a card that has been read has a well-formed statement and a printable name, if any
 pub record IsReadCard (line : ReadCard) : Type 0 where
   pub well : IsWellFormedIfAny line.statement
   pub name : IfSome line.name IsAscii
 
--- each card of a deck does, and its controls keep their limits
+-- all cards of a form pass's result have been read, and the requests are within their limits
 pub record IsDeck (found : Found) : Type 0 where
   pub lines : All IsReadCard found.lines
   pub limits : IsWithinLimits found.asked
 
--- the symbols and the places that are known so far
+-- the symbols and locations of the name pass so far are sound
 pub record IsNamed (named : Named) : Type 0 where
   pub symbols : All IsSymbol named.symbols
   pub places : All IsLocation named.places
 
--- what is laid so far is an image, a start and rows
+-- the image, the start and the rows of the value pass so far are sound
 pub record IsSoundLayout (laid : Laid) : Type 0 where
   pub image : IsImage laid.image
   pub start : laid.start < 2 ^ 19

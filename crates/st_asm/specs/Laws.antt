@@ -1,4 +1,4 @@
--- What holds of the three passes, whatever the job.
+-- Laws of the three passes for all jobs.
 use Rattle.std.specs.Prelude.{◌≡◌, List, ℕ, Bool}
 use Rattle.st_card.specs.declared.cards.Card.{Card}
 use Rattle.st_asm.specs.Forming.{Found, form_card, found_at_start}
@@ -7,10 +7,10 @@ use Rattle.st_asm.specs.Stops.{StopsAtFirst, StopsForm, StopsInOrder, form_fault
 use Rattle.st_asm.specs.Valuing.{value_card, laying_at_start}
 use Rattle.std.specs.Result.{result_err}
 
--- Each pass is refused exactly where some card has a fault in the state which the cards before it
--- leave, and none of those before it has one: at that card, for that fault. The form pass is also
--- refused where no card is faulty and none says the end; and a job is refused by the earliest pass
--- that is.
+-- A pass is refused if and only if some card has a fault in the state that the cards before it
+-- leave and none of those has a fault; it is refused at that card and for that fault. The form pass
+-- is also refused if no card is faulty and none is END. A job is refused by the earliest pass that
+-- is refused.
 pub record PassesStopAtTheFirstFault : Type 0 where
   pub form : (job : List ℕ) → StopsAtFirst (form_card job) (λ card. card.number) found_at_start
   pub name : (on_cards : List ℕ → Bool)
@@ -20,7 +20,7 @@ pub record PassesStopAtTheFirstFault : Type 0 where
   pub end : (job : List ℕ) (cards : List Card) → StopsForm job cards
   pub order : (job : List ℕ) → StopsInOrder job
 
--- A card is refused in the form pass for the first of its faults in the order in which they count.
+-- The form pass refuses a card for the first of its faults, in the order in which they count.
 abbrev pub CardsHaveTheirFirstFault : Type 0
 CardsHaveTheirFirstFault = (job : List ℕ) (found : Found) (card : Card) →
     result_err (form_card job found card) ≡ form_fault card.kind job found card

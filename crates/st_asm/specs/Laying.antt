@@ -1,4 +1,4 @@
--- The bits that a statement lays.
+-- The bits that a statement assembles to.
 use Rattle.std.specs.Prelude.{ℕ, ℤ, ◌+◌, ◌*◌, ◌/◌, ◌^◌, unsigned_abs, Option, Some, None}
 use Rattle.st_bits.specs.Bits.{with_part}
 use Rattle.st_bits.specs.IndexWord.{index_word_with_value, with_count, with_refill}
@@ -11,31 +11,32 @@ use Rattle.st_strap.specs.declared.statement.Statement.TheVariants.{Half, Sum, R
 use Rattle.st_asm.specs.declared.values.Values.{Values}
 use Rattle.st_asm.specs.Numbers.{field_bits_of}
 
--- a half-word address
+-- the half-word address of a bit address
 abbrev pub half_word_bits : ℤ → ℕ
 half_word_bits a = unsigned_abs a / 32
 
--- the index that an address may have
+-- the index word of an address, 0 if there is no address
 abbrev pub spot_index : Option Spot → ℕ
 spot_index None = 0
 spot_index (Some at) = at.index
 
--- the two half-words of an instruction as one number, or the one
+-- the one or two half-words of an instruction as one number
 abbrev pub number_of_halves : ℕ → Option ℕ → ℕ
 number_of_halves first None = first
 number_of_halves first (Some second) = first * 2 ^ 32 + second
 
--- the bits of an instruction
+-- the bits of an instruction, as a number
 abbrev pub instruction_bits : Instr → ℕ
 instruction_bits instr = number_of_halves (first_half instr) (second_half instr)
 
--- an index word: a value, a count, a refill address, a bit address, and flags in bits 25 to 27
+-- the bits of an index word: a value, a count, a refill address (given as a bit address), and flags
+-- in bits 25 to 27
 unfoldable pub index_word_bits : ℤ → ℕ → ℤ → ℕ → ℕ
 index_word_bits value count refill flags =
     with_part (with_refill (with_count (index_word_with_value 0 value) count)
     (unsigned_abs refill / 64)) 25 3 flags
 
--- the bits that a statement lays, as a number; the list of LVS stands in the first 16 of the 19
+-- the bits that a statement assembles to, as a number; the list of LVS is in the first 16 of the 19
 -- bits of the address
 unfoldable pub bits_of : Statement → Values → ℕ
 bits_of (Half op j at) v = instruction_bits (laid.Half op (half_word_bits v.first) j at.index)

@@ -1,4 +1,4 @@
--- What a card is to the passes behind the first one: its number, its name and its statement.
+-- A card as the form pass hands it to the later passes: its number, its name and its statement.
 use Rattle.std.specs.Prelude.{ℕ, List, [], ◌∷◌, take, drop, Option, Some, None}
 use Rattle.st_text.specs.Blanks.{without_front_blanks, without_end_blanks}
 use Rattle.st_expr.specs.Name.{padded_name}
@@ -9,19 +9,19 @@ use Rattle.st_asm.specs.declared.line.ReadCard.{ReadCard}
 unfoldable pub name_field : List ℕ → List ℕ
 name_field text = without_end_blanks (without_front_blanks (take 8 (drop 1 text)))
 
--- its statement: columns 10 to 72
+-- the statement of a statement card: columns 10 to 72
 unfoldable pub statement_field : List ℕ → List ℕ
 statement_field text = drop 9 (take 72 text)
 
--- a name filled with blanks to eight bytes, where there is one
+-- the name in a field, padded with blanks to eight bytes; None for an empty field
 unfoldable pub name_in : List ℕ → Option (List ℕ)
 name_in [] = None
 name_in (c ∷ cs) = Some (padded_name (c ∷ cs))
 
--- a card that says nothing to the later passes: a comment or a control card
+-- a card without a name and statement: a comment or a control card
 abbrev pub silent_line : ℕ → ReadCard
 silent_line card = record { card = card; name = None; statement = None }
 
--- a statement card
+-- a statement card with its number, name and statement
 abbrev pub saying : ℕ → Option (List ℕ) → Statement → ReadCard
 saying card name statement = record { card = card; name = name; statement = Some statement }

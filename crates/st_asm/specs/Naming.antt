@@ -1,4 +1,4 @@
--- The name pass: which names are defined, and the place of each card.
+-- The name pass: it defines names and assigns a location to each card.
 use Rattle.std.specs.Prelude.{◌≡◌, ◌<◌, ◌^◌, ℕ, ℤ, ◌&&◌, Bool, true, false, not, nat_le, List, [], ◌∷◌, ◌++◌, length, Option, Some, None, unwrap_or, is_some, Result, Ok, if◌then◌else◌}
 use Rattle.st_card.specs.Cards.{first_fault}
 use Rattle.st_card.specs.declared.faults.Fault.{Fault}
@@ -13,47 +13,48 @@ use Rattle.st_asm.specs.declared.naming.Symbol.{Symbol}
 use Rattle.st_asm.specs.declared.naming.Names.{Names}
 use Rattle.st_asm.specs.declared.naming.TheConstants.{MOST_NAMES}
 
--- what is known so far: the location, the symbols in order of definition, and the places of the
--- cards
+-- the result of the name pass so far: the location counter, the symbols in order of definition, and
+-- the locations of the cards
 pub record Named : Type 0 where
   pub location : ℕ
   pub symbols : List Symbol
   pub places : List (Option ℕ)
 
--- what the names of the code have
+-- the state of the name pass that the code's names represent
 abbrev pub named_in : Names → Named
 named_in n = record { location = n.location; symbols = n.symbols.items; places = n.places.items }
 
--- the table by which names are found has the symbols, and the location is a bit address
+-- the look-up table has exactly the symbols, and the location counter is a bit address
 pub record AreNamesKept (names : Names) : Type 0 where
   pub table_is : names.table ≡ table names.symbols.items
   pub location_fits : names.location < 2 ^ 24
 
--- before the first card: the location is bit 0 of word 32
+-- the result of the name pass over no cards: the location counter is bit 0 of word 32
 abbrev pub naming_at_start : Named
 naming_at_start = record { location = 2048; symbols = []; places = [] }
 
--- whether a card's name is in the table already
+-- whether a card's name is already in the table
 abbrev pub is_name_taken : List (List ℕ × ℕ) → Option (List ℕ) → Bool
 is_name_taken symbols None = false
 is_name_taken symbols (Some name) = is_defined symbols name
 
--- whether a test accepts the names that a card speaks of
+-- whether a test accepts the names in a card's expressions
 abbrev pub is_known : (List ℕ → Bool) → Option Statement → Bool
 is_known test None = true
 is_known test (Some s) = accepts_all test s
 
--- whether the names of a statement are in the table, where they have to be
+-- whether the names in a statement's expressions are in the table, if they must be
 abbrev pub is_statement_earlier : List (List ℕ × ℕ) → Statement → Bool
 is_statement_earlier symbols s =
     if needs_earlier (placing_of s) then accepts_all (is_defined symbols) s else true
 
--- the same of a card, which may have no statement
+-- whether the names in a card's expressions are in the table, if it has a statement and they must
+-- be
 abbrev pub is_earlier : List (List ℕ × ℕ) → Option Statement → Bool
 is_earlier symbols None = true
 is_earlier symbols (Some s) = is_statement_earlier symbols s
 
--- the fault of a card, if it has one; the test says which names are on cards at all
+-- the fault of a card in the name pass, if it has one; the test says which names any card defines
 unfoldable pub name_fault : (List ℕ → Bool) → Named → ReadCard → Option Fault
 name_fault on_cards named line = let symbols = table named.symbols in first_fault (
     (is_name_taken symbols line.name, NameTwice)
@@ -62,34 +63,34 @@ name_fault on_cards named line = let symbols = table named.symbols in first_faul
     ∷ (is_some line.name && nat_le MOST_NAMES (length named.symbols), TooManyNames)
     ∷ [])
 
--- the value of a statement's first expression, as far as its names are defined
+-- the value of a statement's first expression; 0 if one of its names is not defined
 abbrev pub value_at : List (List ℕ × ℕ) → Statement → ℤ
 value_at symbols s = (values_of symbols s).first
 
--- the place of a statement that is met at a location
+-- the location of a statement, given the location counter, if it has one
 abbrev pub place_of_statement : List (List ℕ × ℕ) → ℕ → Statement → Option ℕ
 place_of_statement symbols location s = place_in (placing_of s) location (value_at symbols s)
 
--- the place of a card, which may have none
+-- the location of a card, if it has a statement and that has one
 abbrev pub place_of_card : List (List ℕ × ℕ) → ℕ → Option Statement → Option ℕ
 place_of_card symbols location None = None
 place_of_card symbols location (Some s) = place_of_statement symbols location s
 
--- the location behind a statement
+-- the location counter after a statement
 abbrev pub behind_statement : List (List ℕ × ℕ) → ℕ → Statement → ℕ
 behind_statement symbols location s = behind_in (placing_of s) location (value_at symbols s)
 
--- the location behind a card
+-- the location counter after a card
 abbrev pub location_behind : List (List ℕ × ℕ) → ℕ → Option Statement → ℕ
 location_behind symbols location None = location
 location_behind symbols location (Some s) = behind_statement symbols location s
 
--- the symbol that a name becomes at a place, if there is a name
+-- the symbol of a name with a location, if both are present
 abbrev pub symbol_of : Option (List ℕ) → Option ℕ → List Symbol
 symbol_of None place = []
 symbol_of (Some name) place = record { name = name; value = unwrap_or place 0 } ∷ []
 
--- what is known behind a card without a fault
+-- the result of the name pass with one more card that has no fault
 unfoldable pub name_step : Named → ReadCard → Named
 name_step named line =
     let place = place_of_card (table named.symbols) named.location line.statement in record {
@@ -98,12 +99,12 @@ name_step named line =
       places = named.places ++ place ∷ [];
     }
 
--- what a card does
+-- the name pass over one card
 unfoldable pub name_card : (List ℕ → Bool) → Named → ReadCard → Result Named Fault
 name_card on_cards named line =
     unless_faulty (name_fault on_cards named line) (Ok (name_step named line))
 
--- the name pass
+-- the name pass over the cards of a job
 unfoldable pub name_pass : List ReadCard → Result Named Refusal
 name_pass lines =
     pass (name_card (has_name (names_of lines))) (λ line. line.card) naming_at_start lines

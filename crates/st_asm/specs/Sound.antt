@@ -1,4 +1,4 @@
--- What always holds of what the assembler gives.
+-- Invariants of the assembler's result.
 use Rattle.std.specs.Prelude.{◌≡◌, ℕ, ◌+◌, ◌<◌, ◌≤◌, ◌^◌, length, slice_index_or, All, IsAscii, Option, IfSome}
 use Rattle.st_bits.specs.Storage.{IsImage}
 use Rattle.st_card.specs.Limits.{IsWithinLimits}
@@ -6,7 +6,7 @@ use Rattle.st_asm.specs.Assembly.{Assembly}
 use Rattle.st_asm.specs.declared.naming.Symbol.{Symbol}
 use Rattle.st_asm.specs.declared.valuing.Listed.{Listed}
 
--- a location is a bit address
+-- a location, if there is one, is a bit address below 2^24
 abbrev pub IsLocation : Option ℕ → Type 0
 IsLocation location = IfSome location (λ a. a < 2 ^ 24)
 
@@ -21,8 +21,8 @@ pub record IsSymbol (symbol : Symbol) : Type 0 where
   pub ascii : IsAscii symbol.name
   pub value : symbol.value < 2 ^ 24
 
--- what a job of so many cards gives: an image, a start, a row for each card in order, symbols, and
--- controls within their limits that say how many instructions may be done and have a delay
+-- the result for a job with this number of cards: an image, a start, one row for each card in
+-- order, symbols, and controls within their limits with a budget and at least one delay
 pub record IsAssemblySound (cards : ℕ) (a : Assembly) : Type 0 where
   pub image : IsImage a.image
   pub start : a.start < 2 ^ 19

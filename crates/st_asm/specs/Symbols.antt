@@ -1,4 +1,4 @@
--- Which names a statement speaks of, and whether they are known.
+-- The names in a statement's expressions, and whether they are defined.
 use Rattle.std.specs.Prelude.{ℕ, Bool, true, List, [], ◌∷◌, map, Some, None, is_some}
 use Rattle.std.specs.List.{list_all, list_any, filter_map}
 use Rattle.arrayvec.specs.ArrayVec.{ArrayVec}
@@ -11,7 +11,7 @@ use Rattle.st_strap.specs.declared.statement.Statement.TheVariants.{Half, Sum, R
 use Rattle.st_asm.specs.declared.line.ReadCard.{ReadCard}
 use Rattle.st_asm.specs.declared.naming.Symbol.{Symbol}
 
--- symbols as a table of values
+-- symbols as a table from names to values
 abbrev pub table : List Symbol → List (List ℕ × ℕ)
 table symbols = map (λ s. (s.name, s.value)) symbols
 
@@ -37,20 +37,20 @@ expressions (SetLocation at) = at ∷ []
 expressions (Reserve at) = at ∷ []
 expressions (End at) = at ∷ []
 
--- whether a test accepts the name of a term, if it has one
+-- whether a test accepts the name of a term; true for a number
 abbrev pub accepts_atom : (List ℕ → Bool) → Atom → Bool
 accepts_atom test (Number n) = true
 accepts_atom test (Name name) = test name
 
--- whether a test accepts each name of an expression
+-- whether a test accepts each name in an expression
 abbrev pub accepts : (List ℕ → Bool) → List Term → Bool
 accepts test terms = list_all (λ term. accepts_atom test term.atom) terms
 
--- whether a test accepts each name that a statement speaks of
+-- whether a test accepts each name in a statement's expressions
 unfoldable pub accepts_all : (List ℕ → Bool) → Statement → Bool
 accepts_all test statement = list_all (λ e. accepts test e.items) (expressions statement)
 
--- whether a name is one of a list
+-- whether a name is in a list
 abbrev pub has_name : List (List ℕ) → List ℕ → Bool
 has_name names name = list_any (λ other. is_same name other) names
 
@@ -58,6 +58,6 @@ has_name names name = list_any (λ other. is_same name other) names
 abbrev pub is_defined : List (List ℕ × ℕ) → List ℕ → Bool
 is_defined symbols name = is_some (row_of name symbols)
 
--- the names of cards
+-- the names that cards define
 unfoldable pub names_of : List ReadCard → List (List ℕ)
 names_of lines = filter_map (λ line. line.name) lines

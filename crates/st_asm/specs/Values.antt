@@ -1,4 +1,4 @@
--- What the expressions of a statement are worth.
+-- The values of a statement's expressions.
 use Rattle.std.specs.Prelude.{ℕ, ℤ, pos, negsuc, ◌-◌, ◌%◌, ◌^◌, List, [], ◌∷◌, unwrap_or}
 use Rattle.arrayvec.specs.ArrayVec.{ArrayVec}
 use Rattle.st_expr.specs.Value.{sum_of_terms}
@@ -7,11 +7,11 @@ use Rattle.st_strap.specs.Statements.{Statement}
 use Rattle.st_asm.specs.declared.values.Values.{Values}
 use Rattle.st_asm.specs.Symbols.{expressions}
 
--- the value of an expression, 0 where a name is not defined
+-- the value of an expression; 0 if one of its names is not defined
 abbrev pub value_in : List (List ℕ × ℕ) → ArrayVec Term → ℤ
 value_in symbols e = unwrap_or (sum_of_terms symbols e.items) (pos 0)
 
--- the values of two expressions, one or none: 0 where there is none
+-- the values of at most two expressions; 0 for one that is not present
 abbrev pub values_in : List (List ℕ × ℕ) → List (ArrayVec Term) → Values
 values_in symbols [] = record { first = pos 0; second = pos 0 }
 values_in symbols (e ∷ []) = record { first = value_in symbols e; second = pos 0 }

@@ -1,4 +1,4 @@
--- The value pass: the image, the start, and the rows of the listing.
+-- The value pass: it assembles the image, the start, and the rows of the listing.
 use Rattle.std.specs.Prelude.{ℕ, ◌==◌, List, [], ◌∷◌, ◌++◌, length, replicate, Option, Some, None, unwrap_or, Result, Ok, if◌then◌else◌}
 use Rattle.std.specs.List.{zip}
 use Rattle.st_bits.specs.Bits.{bits, all_bits, put, words_of}
@@ -16,28 +16,28 @@ use Rattle.st_asm.specs.declared.values.Values.{Values}
 use Rattle.st_asm.specs.declared.valuing.Listed.{Listed}
 use Rattle.st_asm.specs.declared.valuing.Layout.{Layout}
 
--- what is laid so far: the words of storage, the start, a half-word address, and a row for each
--- card
+-- the result of the value pass so far: the words of storage, the start as a half-word address, and
+-- one row for each card
 pub record Laid : Type 0 where
   pub image : List ℕ
   pub start : ℕ
   pub rows : List Listed
 
--- what the layout of the code has
+-- the state of the value pass that the code's layout represents
 abbrev pub laid_in : Layout → Laid
 laid_in l = record { image = l.image.items; start = l.start; rows = l.rows.items }
 
--- before the first card
+-- the result of the value pass over no cards
 abbrev pub laying_at_start : Laid
 laying_at_start = record { image = replicate words_of_storage 0; start = 0; rows = [] }
 
--- the image in which so many bits from a place on are those of a number
+-- the image with a number written to a number of bits from a bit address on
 unfoldable pub image_with : List ℕ → ℕ → ℕ → ℕ → List ℕ
 image_with image place count number =
     if count == 0 then image else words_of (length image)
     (put (all_bits image) place (bits count number))
 
--- what is laid with a statement of a card, its values and its place
+-- the result with a card's statement, its values and its location added
 abbrev pub with_laid : Laid → ℕ → Statement → Values → Option ℕ → Laid
 with_laid so_far card s v place = let count = length_in (placing_of s) in record {
   image = image_with so_far.image (unwrap_or place 0) count (bits_of s v);
@@ -46,29 +46,29 @@ with_laid so_far card s v place = let count = length_in (placing_of s) in record
       ∷ [];
 }
 
--- what is laid with a card that says nothing
+-- the result with a card without a statement added
 abbrev pub with_silent : Laid → ℕ → Option ℕ → Laid
 with_silent so_far card place = record so_far {
   rows = so_far.rows ++ record { card = card; location = place; bits = 0; length = 0 } ∷ [];
 }
 
--- what a statement on a card does at its place
+-- the value pass over a card's statement at its location
 unfoldable pub value_statement : Laid → ℕ → Statement → Values → Option ℕ → Result Laid Fault
 value_statement so_far card s v place =
     unless_faulty (value_fault s v (unwrap_or place 0)) (Ok (with_laid so_far card s v place))
 
--- what a card does, with its statement, if it has one, and its place
+-- the value pass over a card with an optional statement and location
 abbrev pub value_saying : List (List ℕ × ℕ) → Laid → ℕ → Option Statement → Option ℕ →
     Result Laid Fault
 value_saying symbols so_far card None place = Ok (with_silent so_far card place)
 value_saying symbols so_far card (Some s) place = value_statement so_far card s
     (values_of symbols s) place
 
--- what a card with its place does
+-- the value pass over one card with its location
 unfoldable pub value_card : List (List ℕ × ℕ) → Laid → ReadCard × Option ℕ → Result Laid Fault
 value_card symbols so_far p = value_saying symbols so_far p.0.card p.0.statement p.1
 
--- the value pass
+-- the value pass over the cards of a job
 unfoldable pub value_pass : List (List ℕ × ℕ) → List ReadCard → List (Option ℕ) →
     Result Laid Refusal
 value_pass symbols lines places = pass (value_card symbols) (λ p. p.0.card) laying_at_start

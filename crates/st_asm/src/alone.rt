@@ -1,4 +1,4 @@
-//! What a statement lays by itself.
+//! The bits that a single statement assembles to.
 
 ghost use Rattle.std.specs.Prelude.{◌≡◌, ◌≤◌, length};
 ghost use Rattle.st_asm.specs.Alone as spec;
@@ -13,17 +13,18 @@ use crate::values::{Values, values_of};
 use st_expr::Symbols;
 use st_strap::{CompactStatement, read_compact};
 
-/// What a statement lays: so many bits, at most 64, as a number.
+/// The bits that a statement assembles to: at most 64, as a number.
 #[derive(Clone, Copy, Debug, PartialEq, Eq)]
 pub struct LaidBits {
-    /// How many bits are laid.
+    /// The number of bits.
     pub length: u8,
     /// The bits, as a number below 2^length.
     pub bits: u64,
 }
 
-/// What a text lays that stands on a card without a name, where the names of a table are defined;
-/// none where it has a fault of any pass. The text is what columns 10 to 72 hold, at most 63 bytes.
+/// Assembles the statement of a card without a name, whose symbols are defined by `symbols`. The
+/// text is columns 10 to 72, at most 63 bytes. `None` if the statement has a fault of any pass, or
+/// assembles to no bits.
 pub fn laid_alone(symbols: &Symbols, text: &[u8]) -> Option<LaidBits>
     requires { length text.now ≤ 63 }
     ensures { result ≡ spec.laid_alone symbols.now text.now }
@@ -34,7 +35,7 @@ pub fn laid_alone(symbols: &Symbols, text: &[u8]) -> Option<LaidBits>
     }
 }
 
-// What a statement lays whose names are all in a table.
+// Assembles a statement whose names are all defined by `symbols`.
 fn laid_by(symbols: &Symbols, s: &CompactStatement) -> Option<LaidBits>
     requires { IsWellFormed s.now }
     ensures { result ≡ spec.laid_by symbols.now s.now }
@@ -45,7 +46,7 @@ fn laid_by(symbols: &Symbols, s: &CompactStatement) -> Option<LaidBits>
     laid_with(s, values_of(symbols, s))
 }
 
-// What a statement lays with its values.
+// Assembles a statement whose values are known.
 fn laid_with(s: &CompactStatement, v: Values) -> Option<LaidBits>
     requires { IsWellFormed s.now }
     ensures { result ≡ spec.laid_with s.now v }

@@ -1,4 +1,4 @@
-//! A job assembled.
+//! Assembles a job.
 
 ghost use Rattle.std.specs.Prelude.{◌≡◌, ◌<◌, ◌^◌, All, None, IfOk, IfErr, length, ◌==◌, if◌then◌else◌};
 ghost use Rattle.st_card.specs.Cards.{cards_of};
@@ -13,43 +13,45 @@ use crate::valuing::{Listed, value_pass};
 use st_card::{Card, Controls, split};
 use std::alloc::Global;
 
-// How many instructions may be done where no card says it.
+// The budget in instructions if no card sets it.
 const USUAL_BUDGET: u64 = 1_000;
 
-// The delay of storage, in ticks, where no card says one.
+// The delay of storage, in ticks, if no card sets one.
 const USUAL_DELAY: u8 = 1;
 
-/// What a job gives.
+/// The result of assembling a job.
 #[derive(Debug, Drop)]
 pub struct Assembled {
     /// The words of storage, 98,304 from word 0 on; words 0 to 31 are zero.
     pub image: Vec<u64>,
     /// The half-word address of the first instruction, below 2^19.
     pub start: u32,
-    /// A row for each card, in order.
+    /// One row for each card, in order.
     pub listing: Vec<Listed>,
     /// The symbols in order of definition.
     pub symbols: Vec<Symbol>,
-    /// What the control cards ask for, with 1,000 instructions and one delay of 1 tick where none
-    /// says it.
+    /// The requests of the control cards. Without such cards the budget is 1,000 instructions and
+    /// there is one delay of 1 tick.
     pub controls: Controls,
 }
 
-/// The image, the start, the listing, the symbols and the controls of a job, or the first faulty
-/// card.
+/// Assembles a job: returns its image, start, listing, symbols and controls, or refuses the first
+/// faulty card.
 ///
-/// The cards are gone over three times: for what each says by itself, for the names and places, and
-/// for the values. docs/strap.md has the rules and all faults. `NoMemory` where memory ran out.
+/// There are three passes over the cards: the form pass checks each card by itself, the name pass
+/// assigns locations and defines names, and the value pass evaluates the expressions. docs/strap.md
+/// has the rules and all faults. `NoMemory` means that memory ran out.
 pub fn assemble(alloc: Global, job: &[u8]) -> Result<Assembled, AsmError>
     requires { length job.now < 2 ^ 32 }
     ensures ok { IfOk result (λ a. spec.assembly job.now ≡ Ok (spec.assembly_parts a)) }
     ensures err { IfErr result (Explains (spec.assembly job.now)) }
 
-    // A row for each card, and what the machine asks of an image, a start and controls.
+    // The listing has one row for each card, and image, start and controls satisfy the machine's
+    // preconditions.
     ensures sound { IfOk result (λ a. IsAssemblySound (length (cards_of job.now))
         (spec.assembly_parts a)) }
 
-    // No card has a fault by itself, so each text can be printed.
+    // No card has a fault by itself, so each card's text is printable.
     ensures faultless { IfOk result (λ a. All (λ card. card.fault ≡ None) (cards_of job.now)) }
 {
     let Ok(cards) = split(alloc, job) else {
@@ -58,20 +60,21 @@ pub fn assemble(alloc: Global, job: &[u8]) -> Result<Assembled, AsmError>
     assemble_cards(alloc, job, cards.as_slice())
 }
 
-/// The same of a job whose cards are cut already: `cards` are those of `job`, all of them and in
-/// order.
+/// Assembles a job whose cards are already split: `cards` must be all cards of `job`, in order. The
+/// result is that of `assemble`.
 ///
-/// `NoMemory` where memory ran out.
+/// `NoMemory` means that memory ran out.
 pub fn assemble_cards(alloc: Global, job: &[u8], cards: &[Card]) -> Result<Assembled, AsmError>
     requires { cards.now ≡ cards_of job.now }
     ensures ok { IfOk result (λ a. spec.assembly job.now ≡ Ok (spec.assembly_parts a)) }
     ensures err { IfErr result (Explains (spec.assembly job.now)) }
 
-    // A row for each card, and what the machine asks of an image, a start and controls.
+    // The listing has one row for each card, and image, start and controls satisfy the machine's
+    // preconditions.
     ensures sound { IfOk result (λ a. IsAssemblySound (length (cards_of job.now))
         (spec.assembly_parts a)) }
 
-    // No card has a fault by itself, so each text can be printed.
+    // No card has a fault by itself, so each card's text is printable.
     ensures faultless { IfOk result (λ a. All (λ card. card.fault ≡ None) (cards_of job.now)) }
 {
     let deck = form_pass(alloc, job, cards)?;
@@ -92,7 +95,7 @@ pub fn assemble_cards(alloc: Global, job: &[u8], cards: &[Card]) -> Result<Assem
     })
 }
 
-// Controls with what counts where no card says it.
+// The controls, with the default budget and delay if no card sets them.
 fn with_defaults(mut controls: Controls) -> Result<Controls, AsmError>
     ensures defaults { IfOk result (λ c. c ≡ spec.with_defaults controls) }
     ensures err { IfErr result (λ e. e ≡ AsmError.NoMemory) }

@@ -13,28 +13,28 @@ use st_bits::register::FIRST_STORAGE_WORD;
 use st_card::Fault;
 use st_strap::{CompactStatement, Statement};
 
-// The first bit behind the addresses.
+// One more than the greatest bit address.
 const ADDRESSES: u64 = 1 << 24;
 
-/// The most bits that an operand stands left of the accumulator's last one.
+/// The greatest offset of an operand: the number of bits to the right of it in the accumulator.
 pub const MOST_OFFSET: u64 = 127;
 
-/// The most words that are moved.
+/// The most words that a move instruction moves.
 pub const MOST_MOVED: u64 = 16;
 
-/// The most instructions that an order waits for.
+/// The greatest number of instructions after which a transfer order takes effect.
 pub const MOST_WAITED: u64 = 1_000;
 
 /// The greatest count of an index word.
 pub const MOST_COUNT: u64 = 262_143;
 
-/// Its greatest flags.
+/// The greatest flags of an index word, three bits.
 pub const MOST_FLAGS: u64 = 7;
 
-// The first bit that may be laid.
+// The bit address of the first bit to which a statement may be assembled.
 const FIRST_BIT: u64 = 64 * FIRST_STORAGE_WORD as u64;
 
-// The fault of a statement with its values at its place, if it has one.
+// The fault of a statement with these values at this location, if it has one.
 pub(crate) fn value_fault(
     s: &CompactStatement,
     placing: Placing,
@@ -58,7 +58,7 @@ pub(crate) fn value_fault(
     }
 }
 
-// Whether each address is one.
+// Whether each address of a statement is in the range of addresses, 0 to 2^24 - 1.
 fn in_range(s: &CompactStatement, v: Values) -> bool
     ensures { result ≡ spec.in_range s.now v }
 {
@@ -74,7 +74,7 @@ fn is_address(a: i64) -> bool
     a >= 0 && a.unsigned_abs() < ADDRESSES
 }
 
-// Whether each value fits its place.
+// Whether each value of a statement fits in its field.
 fn fits(s: &CompactStatement, v: Values) -> bool
     requires { IsWellFormed s.now }
     ensures { result ≡ spec.fits s.now v }
@@ -99,7 +99,7 @@ fn fits_index_word(value: i64, count: u64, flags: u64) -> bool
     value.unsigned_abs() < ADDRESSES && count <= MOST_COUNT && flags <= MOST_FLAGS
 }
 
-// Whether each address is on the boundary that its use asks for.
+// Whether each address of a statement is on the boundary that its use requires.
 fn on_boundary(s: &CompactStatement, v: Values) -> bool
     ensures { result ≡ spec.on_boundary s.now v }
 {
@@ -124,7 +124,7 @@ fn is_multiple(unit: u64, a: i64) -> bool
     a.unsigned_abs() % unit == 0
 }
 
-// How many bits are laid or passed over.
+// The number of bits that a statement assembles to or skips.
 fn extent(placing: Placing, value: i64) -> u64
     requires { IsPlacing placing }
     ensures extent { result ≡ spec.extent placing value }
@@ -137,7 +137,8 @@ fn extent(placing: Placing, value: i64) -> u64
     }
 }
 
-// Whether bits from a place on are all in the words of storage that are no registers.
+// Whether `bits` bits from bit address `place` on are all in the words of storage after the
+// registers.
 fn in_storage(place: u32, bits: u64) -> bool
     requires { bits ≤ 2 ^ 63 }
     ensures { result ≡ spec.in_storage place bits }

@@ -1,4 +1,5 @@
-//! The form pass: each card by itself, what the control cards ask for, and where the end is.
+//! The form pass: it checks each card by itself, collects the requests of control cards, and finds
+//! the END card.
 
 ghost use Rattle.std.specs.Prelude.{◌≡◌, ◌≤◌, ◌+◌, length, All, IfOk, IfErr, OnOk, Option};
 ghost use Rattle.st_bits.specs.declared.limits.TheConstants.{MOST_CARDS};
@@ -13,14 +14,14 @@ use st_card::{Card, CardError, CardKind, Controls, Fault};
 use st_strap::{CompactStatement, Statement, read_compact};
 use std::alloc::Global;
 
-// What has been read of a job.
+// The result of the form pass over the cards so far.
 #[derive(Drop)]
 pub(crate) struct Deck {
-    // The cards, in order.
+    // The cards so far, in order.
     pub lines: Vec<ReadCard>,
-    // What the control cards ask for.
+    // The requests of the control cards so far.
     pub controls: Controls,
-    // Whether the end was there.
+    // Whether the END card has been read.
     pub ended: bool,
 }
 
@@ -42,7 +43,7 @@ pub(crate) fn form_pass(alloc: Global, job: &[u8], cards: &[Card]) -> Result<Dec
     }
 }
 
-// What all cards together are.
+// Runs the form pass over all cards, without the check for an END card.
 fn read_cards(alloc: Global, job: &[u8], cards: &[Card]) -> Result<Deck, AsmError>
     requires texts { All (IsCardOf job.now) cards.now }
     ensures ok { IfOk result (λ d. pass (spec.form_card job.now) (λ card. card.number)
@@ -61,7 +62,7 @@ fn read_cards(alloc: Global, job: &[u8], cards: &[Card]) -> Result<Deck, AsmErro
     Ok(deck)
 }
 
-// The deck before the first card.
+// The result of the form pass over no cards.
 fn empty_deck(alloc: Global) -> Deck
     ensures found { spec.found_in result ≡ spec.found_at_start }
 {
@@ -72,7 +73,7 @@ fn empty_deck(alloc: Global) -> Deck
     }
 }
 
-// A card more.
+// Adds a card.
 fn add_card(deck: &mut Deck, job: &[u8], card: Card) -> Result<(), PassStop>
     requires { IsCardOf job.now card }
     ensures ok { OnOk result (spec.form_card job.now (spec.found_in deck.old) card
@@ -90,8 +91,8 @@ fn add_card(deck: &mut Deck, job: &[u8], card: Card) -> Result<(), PassStop>
     }
 }
 
-// The fault that a card has by itself and that counts first: a bad column 1 of a statement card
-// does not, behind the end.
+// The fault of a card that precedes the checks of the form pass; a bad column 1 of a statement card
+// does not, because `CardAfterEnd` precedes it.
 fn first_fault_of(kind: CardKind, fault: Option<Fault>) -> Option<Fault>
     ensures { result ≡ spec.first_fault_of kind fault }
 {
@@ -101,7 +102,7 @@ fn first_fault_of(kind: CardKind, fault: Option<Fault>) -> Option<Fault>
     }
 }
 
-// The fault of a statement card that counts also behind the end.
+// The fault of a statement card that precedes `CardAfterEnd`.
 fn before_end(fault: Option<Fault>) -> Option<Fault>
     ensures { result ≡ spec.before_end fault }
 {
@@ -111,7 +112,7 @@ fn before_end(fault: Option<Fault>) -> Option<Fault>
     }
 }
 
-// A line more.
+// Adds a card that has been read.
 fn add_line(deck: &mut Deck, line: ReadCard) -> Result<(), PassStop>
     ensures ok { OnOk result (spec.found_in deck.new
         ≡ spec.with_line (spec.found_in deck.old) line) }
@@ -120,7 +121,7 @@ fn add_line(deck: &mut Deck, line: ReadCard) -> Result<(), PassStop>
     deck.lines.push(line).map_err(|_| PassStop::NoMemory)
 }
 
-// A control card more.
+// Adds a control card.
 fn add_control(deck: &mut Deck, card: u32, text: &[u8]) -> Result<(), PassStop>
     ensures ok { OnOk result (spec.form_control (spec.found_in deck.old) card text.now
         ≡ Ok (spec.found_in deck.new)) }
@@ -136,7 +137,7 @@ fn add_control(deck: &mut Deck, card: u32, text: &[u8]) -> Result<(), PassStop>
     }
 }
 
-// A statement card more, with the fault that it has by itself.
+// Adds a statement card; `fault` is the fault that it has by itself.
 fn add_statement(
     deck: &mut Deck,
     card: u32,
@@ -161,7 +162,7 @@ fn add_statement(
     }
 }
 
-// A statement card more, which was read.
+// Adds a statement card whose statement has been parsed.
 fn add_read(
     deck: &mut Deck,
     card: u32,
@@ -184,7 +185,7 @@ fn add_read(
     )
 }
 
-// Whether a statement is the end.
+// Whether a statement is END.
 pub(crate) fn is_end(statement: &CompactStatement) -> bool
     ensures { result ≡ spec.is_end statement.now }
 {

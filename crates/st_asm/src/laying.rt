@@ -1,4 +1,4 @@
-//! The bits that a statement lays.
+//! The bits that a statement assembles to.
 
 ghost use Rattle.std.specs.Prelude.{◌≡◌, ◌<◌, ◌^◌, unsigned_abs, IsTrue, None};
 ghost use Rattle.st_format.specs.Formats.{IsShape, second_half};
@@ -13,7 +13,7 @@ use st_bits::{HalfOp, with_count, with_part, with_refill, with_value};
 use st_format::{Instr, encode};
 use st_strap::{CompactSpot, CompactStatement, Statement};
 
-// The bits that a statement lays, as a number; its values were found to fit.
+// The bits that a statement assembles to, as a number. Its values have been checked to fit.
 pub(crate) fn bits_of(s: &CompactStatement, v: Values) -> u64
     requires well { IsWellFormed s.now }
     requires first { unsigned_abs v.first < 2 ^ 24 }
@@ -143,7 +143,7 @@ pub(crate) fn bits_of(s: &CompactStatement, v: Values) -> u64
     }
 }
 
-// A bit address.
+// A value as a bit address.
 fn address(a: i64) -> u32
     requires { unsigned_abs a < 2 ^ 24 }
     ensures address { result ≡ unsigned_abs a }
@@ -160,7 +160,7 @@ pub(crate) fn half_word(a: i64) -> u32
     (a.unsigned_abs() / 32) as u32
 }
 
-// The index that an address may have.
+// The index word of an address, 0 if there is no address.
 fn index_of(at: &Option<CompactSpot>) -> u8
     requires { IsSpotOrNone at.now }
     ensures index { result ≡ spec.spot_index at.now }
@@ -182,7 +182,7 @@ fn instruction_bits(instr: Instr) -> u64
     joined(first, second)
 }
 
-// The two half-words of an instruction as one number, or the one.
+// The one or two half-words of an instruction as one number.
 fn joined(first: u32, second: Option<u32>) -> u64
     ensures bits { result ≡ spec.number_of_halves first second }
     ensures short { second ≡ None → result < 2 ^ 32 }
@@ -193,7 +193,7 @@ fn joined(first: u32, second: Option<u32>) -> u64
     }
 }
 
-// An index word.
+// The bits of an index word with these parts.
 fn index_word_bits(value: i64, count: u32, refill: i64, flags: u64) -> u64
     requires value { unsigned_abs value < 2 ^ 24 }
     requires count { count < 2 ^ 18 }

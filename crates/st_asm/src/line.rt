@@ -1,4 +1,4 @@
-//! What a card is to the passes behind the first one.
+//! A card as the form pass hands it to the later passes.
 
 ghost use Rattle.std.specs.Prelude.{◌≡◌, ◌≤◌, length};
 ghost use Rattle.st_asm.specs.Lines as spec;
@@ -8,10 +8,10 @@ use st_expr::padded;
 use st_strap::CompactStatement;
 use st_text::{behind, front, without_end_blanks, without_front_blanks};
 
-// How many columns stand before the statement.
+// The number of columns before the statement.
 const BEFORE_STATEMENT: usize = 9;
 
-// How many columns the name has.
+// The number of columns of the name.
 const NAME_COLUMNS: usize = 8;
 
 // A card without a fault of the form pass.
@@ -19,13 +19,13 @@ const NAME_COLUMNS: usize = 8;
 pub(crate) struct ReadCard {
     // The card's number.
     pub card: u32,
-    // The name, filled with blanks to eight bytes.
+    // The card's name, padded with blanks to eight bytes.
     pub name: Option<[u8; 8]>,
-    // What the card says; comments and control cards say nothing here.
+    // The card's statement; `None` for comments and control cards.
     pub statement: Option<CompactStatement>,
 }
 
-// A comment or a control card.
+// A card without a name and statement: a comment or a control card.
 pub(crate) fn silent(card: u32) -> ReadCard
     ensures { result ≡ spec.silent_line card }
 {
@@ -52,7 +52,7 @@ pub(crate) fn statement_field(text: &[u8]) -> &[u8]
     behind(columns(text), BEFORE_STATEMENT)
 }
 
-// A name filled with blanks to eight bytes, where there is one.
+// The name in a field, padded with blanks to eight bytes; `None` for an empty field.
 pub(crate) fn name_in(field: &[u8]) -> Option<[u8; 8]>
     requires { length field.now ≤ 8 }
     ensures { result ≡ spec.name_in field.now }

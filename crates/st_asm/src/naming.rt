@@ -1,4 +1,4 @@
-//! The name pass: which names are defined, and the place of each card.
+//! The name pass: it defines names and assigns a location to each card.
 
 ghost use Rattle.std.specs.Prelude.{◌≡◌, ◌<◌, ◌^◌, ℕ, All, IfOk, IfErr, OnOk, false, ◌++◌, ◌∷◌, []};
 ghost use Rattle.st_asm.specs.Answers.{Stops, Explains};
@@ -19,7 +19,7 @@ use st_expr::Symbols;
 use st_strap::CompactStatement;
 use std::alloc::Global;
 
-/// How many names a job may define.
+/// The most names that a job may define.
 pub const MOST_NAMES: usize = 4_000;
 
 // The bit address of the first location: word 32.
@@ -28,26 +28,27 @@ pub(crate) const FIRST_LOCATION: u32 = 64 * 32;
 /// A symbol: a name that a card defines.
 #[derive(Clone, Copy, Debug, PartialEq, Eq)]
 pub struct Symbol {
-    /// The name, filled with blanks to eight bytes.
+    /// The name, padded with blanks to eight bytes.
     pub name: [u8; 8],
-    /// Its value, a bit address below 2^24: the card's place, or on SYN the value of the field.
+    /// The symbol's value, a bit address below 2^24: the card's location, or for SYN the value of
+    /// its field.
     pub value: u32,
 }
 
-// What is known of names and places.
+// The result of the name pass over the cards so far.
 #[derive(Drop)]
 pub(crate) struct Names {
-    // The location, a bit address below 2^24.
+    // The location counter, a bit address below 2^24.
     pub location: u32,
     // The symbols in order of definition.
     pub symbols: Vec<Symbol>,
-    // The table in which they are found.
+    // The symbols as a table for look-up.
     pub table: Symbols,
-    // The places of the cards, bit addresses below 2^24.
+    // The locations of the cards, bit addresses below 2^24.
     pub places: Vec<Option<u32>>,
 }
 
-// The name pass.
+// Runs the name pass over the cards.
 pub(crate) fn name_pass(alloc: Global, lines: &[ReadCard]) -> Result<Names, AsmError>
     requires { All (λ line. IsWellFormedIfAny line.statement) lines.now }
     ensures ok { IfOk result (λ n. spec.name_pass lines.now ≡ Ok (spec.named_in n)) }
@@ -60,7 +61,7 @@ pub(crate) fn name_pass(alloc: Global, lines: &[ReadCard]) -> Result<Names, AsmE
     name_lines(alloc, &all, lines)
 }
 
-// What is known behind all cards, with a table in which all names are.
+// Runs the name pass over the cards, given a table `all` of all names that cards define.
 fn name_lines(alloc: Global, all: &Symbols, lines: &[ReadCard]) -> Result<Names, AsmError>
     requires well { All (λ line. IsWellFormedIfAny line.statement) lines.now }
     ensures ok { IfOk result (λ n. pass (spec.name_card (is_defined all.now)) (λ line. line.card)
@@ -81,7 +82,7 @@ fn name_lines(alloc: Global, all: &Symbols, lines: &[ReadCard]) -> Result<Names,
     Ok(names)
 }
 
-// What is known before the first card.
+// The result of the name pass over no cards.
 fn no_names(alloc: Global) -> Names
     ensures named { spec.named_in result ≡ spec.naming_at_start }
     ensures kept { spec.AreNamesKept result }
@@ -94,7 +95,7 @@ fn no_names(alloc: Global) -> Names
     }
 }
 
-// A card more.
+// Adds a card.
 #[tactic(auto, unfolding(crate::specs::Naming::name_card))]
 fn name_line(names: &mut Names, all: &Symbols, line: &ReadCard) -> Result<(), PassStop>
     requires well { IsWellFormedIfAny line.now.statement }
@@ -111,7 +112,7 @@ fn name_line(names: &mut Names, all: &Symbols, line: &ReadCard) -> Result<(), Pa
     }
 }
 
-// The fault of a card, if it has one.
+// The fault of a card in the name pass, if it has one.
 fn name_fault(names: &Names, all: &Symbols, line: &ReadCard) -> Option<Fault>
     requires well { IsWellFormedIfAny line.now.statement }
     requires kept { spec.AreNamesKept names.now }
@@ -130,7 +131,7 @@ fn name_fault(names: &Names, all: &Symbols, line: &ReadCard) -> Option<Fault>
     }
 }
 
-// Whether a card's name is defined already.
+// Whether a card's name is already defined.
 fn is_taken(symbols: &Symbols, name: Option<[u8; 8]>) -> bool
     ensures { result ≡ spec.is_name_taken symbols.now name }
 {
@@ -140,7 +141,7 @@ fn is_taken(symbols: &Symbols, name: Option<[u8; 8]>) -> bool
     }
 }
 
-// Whether the names that a card speaks of are in a table.
+// Whether the names in a card's expressions are in a table.
 fn is_known(all: &Symbols, statement: &Option<CompactStatement>) -> bool
     ensures { result ≡ spec.is_known (is_defined all.now) statement.now }
 {
@@ -150,7 +151,7 @@ fn is_known(all: &Symbols, statement: &Option<CompactStatement>) -> bool
     }
 }
 
-// Whether they are defined by earlier cards, where they have to be.
+// Whether the names in a card's expressions are defined by earlier cards, if they must be.
 fn is_earlier(symbols: &Symbols, statement: &Option<CompactStatement>) -> bool
     requires { IsWellFormedIfAny statement.now }
     ensures { result ≡ spec.is_earlier symbols.now statement.now }
@@ -172,7 +173,7 @@ fn is_statement_earlier(symbols: &Symbols, statement: &CompactStatement) -> bool
     }
 }
 
-// A card more, which has no fault.
+// Adds a card without a fault.
 fn add_line(names: &mut Names, line: &ReadCard) -> Result<(), PassStop>
     requires well { IsWellFormedIfAny line.now.statement }
     requires kept { spec.AreNamesKept names.old }
@@ -191,7 +192,7 @@ fn add_line(names: &mut Names, line: &ReadCard) -> Result<(), PassStop>
     names.places.push(place).map_err(|_| PassStop::NoMemory)
 }
 
-// The place of a card, and the location behind it.
+// The location of a card, and the location counter after it.
 fn place_and_behind(
     symbols: &Symbols,
     location: u32,
@@ -228,7 +229,7 @@ fn place_and_behind_statement(
     )
 }
 
-// The value that says where a statement is placed, 0 where none does.
+// The value that determines a statement's location or length; 0 if it does not depend on one.
 fn placing_value(placing: Placing, symbols: &Symbols, statement: &CompactStatement) -> i64
     ensures place { (location : ℕ) → place_in placing location result
         ≡ place_in placing location (values_by symbols.now statement.now).first }
@@ -242,7 +243,7 @@ fn placing_value(placing: Placing, symbols: &Symbols, statement: &CompactStateme
     }
 }
 
-// A name more.
+// Defines a name.
 fn define(names: &mut Names, name: [u8; 8], value: u32) -> Result<(), PassStop>
     requires kept { spec.AreNamesKept names.old }
     requires fresh { is_defined names.old.table name ≡ false }

@@ -1,4 +1,4 @@
-//! Numbers laid as fields.
+//! Numbers as the bits of fields.
 
 ghost use Rattle.std.specs.Prelude.{◌≡◌, ◌*◌, ◌^◌, ◌<◌, ◌≤◌, IsTrue};
 ghost use Rattle.st_asm.specs.Numbers as spec;
@@ -6,7 +6,7 @@ ghost use Rattle.st_strap.specs.WellFormed.{IsNumberForm};
 
 use st_strap::Form;
 
-// The bits of a field that are its magnitude.
+// The number of bits of a field's magnitude.
 fn magnitude_bits(form: Form) -> u8
     requires { IsNumberForm form }
     ensures bits { result ≡ spec.magnitude_bits_of form }
@@ -19,7 +19,7 @@ fn magnitude_bits(form: Form) -> u8
     }
 }
 
-// How many digits a decimal field has.
+// The number of digits of a decimal field.
 fn digit_count(form: Form) -> u8
     requires form { IsNumberForm form }
     requires decimal { IsTrue form.decimal }
@@ -30,7 +30,7 @@ fn digit_count(form: Form) -> u8
     magnitude_bits(form) / form.byte
 }
 
-// The first number that is too large for a field.
+// The least number that is too large for a field.
 fn capacity(form: Form) -> u128
     requires { IsNumberForm form }
     ensures { result ≡ spec.capacity form }
@@ -42,7 +42,7 @@ fn capacity(form: Form) -> u128
     }
 }
 
-// Whether a field can hold a number.
+// Whether a number fits in a field.
 pub(crate) fn holds(form: Form, minus: bool, number: u64) -> bool
     requires { IsNumberForm form }
     ensures { result ≡ spec.holds form minus number }
@@ -50,7 +50,7 @@ pub(crate) fn holds(form: Form, minus: bool, number: u64) -> bool
     !(form.unsigned && minus) && u128::from(number) < capacity(form)
 }
 
-// The last digits of a number, so many of them, each right in a byte of so many bits.
+// The last `count` digits of a number, each right-aligned in a byte of `byte` bits.
 fn packed(byte: u8, count: u8, number: u64) -> u64
     requires some { 4 ≤ byte }
     requires room { byte * count ≤ 64 }
@@ -64,7 +64,7 @@ fn packed(byte: u8, count: u8, number: u64) -> u64
     (packed(byte, count - 1, number / 10) << byte) + number % 10
 }
 
-// The magnitude of a field.
+// The bits of a number's magnitude in a field.
 fn magnitude(form: Form, number: u64) -> u64
     requires form { IsNumberForm form }
     requires few { number < spec.capacity form }
@@ -78,7 +78,7 @@ fn magnitude(form: Form, number: u64) -> u64
     }
 }
 
-// A sign byte without flags and zone.
+// A sign byte whose flags and zone are 0.
 fn sign_byte(byte: u8, minus: bool) -> u64
     requires some { 1 ≤ byte }
     requires few { byte ≤ 8 }
@@ -88,7 +88,7 @@ fn sign_byte(byte: u8, minus: bool) -> u64
     if minus { 1 << (byte.min(4) - 1) } else { 0 }
 }
 
-// The bits of a field that holds a number.
+// The bits of a field that contains a number.
 pub(crate) fn field_of(form: Form, minus: bool, number: u64) -> u64
     requires form { IsNumberForm form }
     requires few { number < spec.capacity form }

@@ -1,4 +1,4 @@
-//! Where statements are laid: the location, and what becomes of it.
+//! The locations of statements, and how statements change the location counter.
 
 ghost use Rattle.std.specs.Prelude.{◌≡◌, ◌<◌, ◌≤◌, ◌^◌, IfSome};
 ghost use Rattle.st_asm.specs.Places as spec;
@@ -8,27 +8,27 @@ ghost use Rattle.st_strap.specs.WellFormed.{IsWellFormed};
 use crate::values::wrapped;
 use st_strap::{CompactStatement, Statement};
 
-// How many bits a half-word and a word have.
+// The number of bits of a half-word.
 const HALF: u32 = 32;
 
 const WORD: u32 = 64;
 
-// What a statement does to the location.
+// The effect of a statement on the location counter.
 #[derive(Clone, Copy)]
 pub(crate) enum Placing {
-    // So many bits are laid from the next multiple of the unit on.
+    // The statement assembles to `bits` bits, from the next multiple of `unit` on.
     Lays { unit: u32, bits: u32 },
-    // As many bits as the field says are passed over from the next word on.
+    // The statement skips the number of bits in its field, from the next word on.
     Passes,
-    // The location is set to the field's value.
+    // The location counter is set to the field's value.
     Sets,
-    // The card's name gets the field's value.
+    // The card's name is defined as the field's value.
     Names,
-    // The end.
+    // The statement is END.
     Ends,
 }
 
-// What a statement does to the location.
+// The effect of a statement on the location counter.
 pub(crate) fn placing_of(statement: &CompactStatement) -> Placing
     requires { IsWellFormed statement.now }
     ensures placing { result ≡ spec.placing_of statement.now }
@@ -69,7 +69,7 @@ pub(crate) fn placing_of(statement: &CompactStatement) -> Placing
 }
 
 impl Placing {
-    // How many bits are laid.
+    // The number of bits that the statement assembles to.
     pub(crate) fn length(self) -> u32
         requires { IsPlacing self }
         ensures length { result ≡ spec.length_in self }
@@ -81,7 +81,7 @@ impl Placing {
         }
     }
 
-    // The place of a statement that is met at a location, if it has one.
+    // The location of the statement, given the location counter, if it has one.
     pub(crate) fn place(self, location: u32, value: i64) -> Option<u32>
         requires placing { IsPlacing self }
         requires location { location < 2 ^ 24 }
@@ -96,7 +96,7 @@ impl Placing {
         }
     }
 
-    // The location behind it.
+    // The location counter after the statement.
     pub(crate) fn behind(self, location: u32, value: i64) -> u32
         requires placing { IsPlacing self }
         requires location { location < 2 ^ 24 }
@@ -111,7 +111,7 @@ impl Placing {
         }
     }
 
-    // Whether the names of the field have to be defined by earlier cards.
+    // Whether the names in the field must be defined by earlier cards.
     pub(crate) fn needs_earlier(self) -> bool
         ensures { result ≡ spec.needs_earlier self }
     {
@@ -119,7 +119,7 @@ impl Placing {
     }
 }
 
-// The next multiple of a unit, modulo 2^24.
+// The next multiple of a unit at or after a location, modulo 2^24.
 fn aligned(unit: u32, location: u32) -> u32
     requires some { 1 ≤ unit }
     requires small { unit ≤ 64 }

@@ -1,15 +1,15 @@
-//! Why a job has no image.
+//! The errors of the assembler.
 
 ghost use Rattle.std.specs.Prelude.{◌≡◌};
 ghost use Rattle.st_asm.specs.Answers as spec;
 
 use st_card::Fault;
 
-/// Why a job has no image.
+/// Why a job is not assembled.
 #[derive(Clone, Copy, Debug, PartialEq, Eq)]
 pub enum AsmError {
-    /// A card is refused: the first faulty one, by its number from 1 on, of the earliest pass that
-    /// finds any, and the first of its faults in that pass.
+    /// A card is refused. `card` is the number, from 1 on, of the first faulty card in the earliest
+    /// pass that finds a fault, and `fault` is the first of its faults in that pass.
     Refused { card: u32, fault: Fault },
     /// Memory ran out.
     NoMemory,
@@ -23,7 +23,7 @@ pub(crate) enum PassStop {
 }
 
 impl PassStop {
-    // The same with the card's number.
+    // The error with the number of the card at which the pass stopped.
     pub(crate) fn at(self, card: u32) -> AsmError
         ensures { result ≡ spec.stopped_at card self }
     {

@@ -1,4 +1,4 @@
-//! Which names a statement speaks of, and whether they are known.
+//! The names in a statement's expressions, and whether they are defined.
 
 ghost use Rattle.std.specs.Prelude.{◌≡◌, ◌||◌, List, ℕ, IfOk, OnOk};
 ghost use Rattle.st_text.specs.Tables.{is_same};
@@ -10,7 +10,7 @@ use st_expr::{ExprText, Symbols};
 use st_strap::{CompactStatement, Statement};
 use std::alloc::Global;
 
-// Whether each name that a statement speaks of is in a table.
+// Whether each name in a statement's expressions is in a table.
 pub(crate) fn knows_all(symbols: &Symbols, statement: &CompactStatement) -> bool
     ensures { result ≡ spec.accepts_all (spec.is_defined symbols.now) statement.now }
 {
@@ -41,14 +41,14 @@ pub(crate) fn knows_all(symbols: &Symbols, statement: &CompactStatement) -> bool
     }
 }
 
-// Whether each name of an expression is in a table.
+// Whether each name in an expression is in a table.
 fn knows(symbols: &Symbols, expr: &ExprText) -> bool
     ensures { result ≡ spec.accepts (spec.is_defined symbols.now) expr.now.items }
 {
     expr.value(symbols).is_some()
 }
 
-// A table in which the names of all cards are, whatever their values.
+// A table of the names of all cards; their values are not meaningful.
 pub(crate) fn names_in(alloc: Global, lines: &[ReadCard]) -> Result<Symbols, NoMemory>
     ensures { IfOk result (λ t. (name : List ℕ)
         → spec.is_defined t name ≡ spec.has_name (spec.names_of lines.now) name) }
@@ -64,7 +64,7 @@ pub(crate) fn names_in(alloc: Global, lines: &[ReadCard]) -> Result<Symbols, NoM
     Ok(names)
 }
 
-// Puts a name into a table.
+// Adds a name to a table.
 fn add_name(names: &mut Symbols, name: [u8; 8]) -> Result<(), NoMemory>
     ensures { OnOk result ((query : List ℕ) → spec.is_defined names.new query
         ≡ (spec.is_defined names.old query || is_same query name)) }

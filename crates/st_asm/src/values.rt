@@ -1,4 +1,4 @@
-//! What the expressions of a statement are worth.
+//! The values of a statement's expressions.
 
 ghost use Rattle.std.specs.Prelude.{◌≡◌, ◌<◌, ◌^◌, pos};
 ghost use Rattle.st_asm.specs.Values as spec;
@@ -6,14 +6,16 @@ ghost use Rattle.st_asm.specs.Values as spec;
 use st_expr::{ExprText, Symbols};
 use st_strap::{CompactStatement, Statement};
 
-// The values of a statement's first and second expression, in bits; 0 where there is none.
+// The values of a statement's first and second expression, in bits; 0 if there is no such
+// expression.
 #[derive(Clone, Copy)]
 pub(crate) struct Values {
     pub first: i64,
     pub second: i64,
 }
 
-// The values of a statement's expressions; a name that is not defined makes its expression 0.
+// The values of a statement's expressions; an expression with a name that is not defined has the
+// value 0.
 pub(crate) fn values_of(symbols: &Symbols, statement: &CompactStatement) -> Values
     ensures { result ≡ spec.values_of symbols.now statement.now }
 {

@@ -1,4 +1,4 @@
-//! The value pass: the image, the start, and the rows of the listing.
+//! The value pass: it assembles the image, the start, and the rows of the listing.
 
 ghost use Rattle.std.specs.Prelude.{◌≡◌, ◌<◌, ◌≤◌, ◌^◌, ◌++◌, ◌∷◌, [], All, IfOk, IfErr, OnOk, IsTrue, None, length, unwrap_or, unsigned_abs, if◌then◌else◌};
 ghost use Rattle.st_asm.specs.Answers.{Stops, Explains};
@@ -23,32 +23,32 @@ use st_expr::Symbols;
 use st_strap::CompactStatement;
 use std::alloc::{AllocError, Global};
 
-/// A row of the listing: what a card lays, and where.
+/// A row of the listing: the bits that a card assembles to, and their location.
 #[derive(Clone, Copy, Debug, PartialEq, Eq)]
 pub struct Listed {
     /// The card's number, from 1 on.
     pub card: u32,
-    /// The place of what the card lays, passes over or names, a bit address below 2^24; none for
-    /// comments, control cards and the end.
+    /// The location of the bits that the card assembles to or skips, or the value of its name, as a
+    /// bit address below 2^24; `None` for comments, control cards and END.
     pub location: Option<u32>,
-    /// The bits that the card lays, as a number below 2^length.
+    /// The bits that the card assembles to, as a number below 2^length.
     pub bits: u64,
-    /// How many bits the card lays, at most 64.
+    /// The number of bits that the card assembles to, at most 64.
     pub length: u8,
 }
 
-// What is laid.
+// The result of the value pass over the cards so far.
 #[derive(Drop)]
 pub(crate) struct Layout {
     // The words of storage.
     pub image: Vec<u64>,
     // The half-word address of the first instruction.
     pub start: u32,
-    // A row for each card.
+    // The rows of the listing, one for each card.
     pub rows: Vec<Listed>,
 }
 
-// The value pass.
+// Runs the value pass over the cards.
 pub(crate) fn value_pass(
     alloc: Global,
     symbols: &Symbols,
@@ -80,7 +80,7 @@ pub(crate) fn value_pass(
     Ok(layout)
 }
 
-// What is laid before the first card.
+// The result of the value pass over no cards.
 fn empty_layout(alloc: Global) -> Result<Layout, AllocError>
     ensures laid { IfOk result (λ l. spec.laid_in l ≡ spec.laying_at_start) }
     ensures sound { IfOk result (λ l. IsSoundLayout (spec.laid_in l)) }
@@ -92,7 +92,7 @@ fn empty_layout(alloc: Global) -> Result<Layout, AllocError>
     })
 }
 
-// A card more.
+// Adds a card.
 fn value_line(
     layout: &mut Layout,
     symbols: &Symbols,
@@ -115,7 +115,7 @@ fn value_line(
     }
 }
 
-// A card more that says nothing.
+// Adds a card without a statement.
 fn add_silent(layout: &mut Layout, card: u32, place: Option<u32>) -> Result<(), PassStop>
     requires located { IsLocation place }
     requires sound { IsSoundLayout (spec.laid_in layout.old) }
@@ -135,7 +135,7 @@ fn add_silent(layout: &mut Layout, card: u32, place: Option<u32>) -> Result<(), 
     )
 }
 
-// A row more.
+// Adds a row to the listing.
 fn add_row(layout: &mut Layout, row: Listed) -> Result<(), PassStop>
     requires row { IsRow row }
     requires sound { IsSoundLayout (spec.laid_in layout.old) }
@@ -148,7 +148,7 @@ fn add_row(layout: &mut Layout, row: Listed) -> Result<(), PassStop>
     layout.rows.push(row).map_err(|_| PassStop::NoMemory)
 }
 
-// A statement card more.
+// Adds a statement card.
 fn value_statement(
     layout: &mut Layout,
     card: u32,
@@ -172,7 +172,7 @@ fn value_statement(
     }
 }
 
-// A statement card more, which has no fault.
+// Adds a statement card without a fault.
 fn lay(
     layout: &mut Layout,
     card: u32,
@@ -210,7 +210,7 @@ fn lay(
     )
 }
 
-// The start, as far as it is known behind a statement.
+// The start after a statement: that of END, or else unchanged.
 fn start_behind(start: u32, s: &CompactStatement, v: Values) -> u32
     requires { unsigned_abs v.first < 2 ^ 24 }
     ensures start { result ≡ (if is_end s.now then half_word_bits v.first else start) }
@@ -219,7 +219,7 @@ fn start_behind(start: u32, s: &CompactStatement, v: Values) -> u32
     if is_end(s) { half_word(v.first) } else { start }
 }
 
-// Puts so many bits into the image from a place on.
+// Writes `length` bits into the image, from bit address `place` on.
 fn put_bits(image: &mut [u64], place: u32, length: u8, bits: u64)
     requires few { length ≤ 64 }
     requires image { IsImage image.old }

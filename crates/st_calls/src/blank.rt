@@ -1,4 +1,4 @@
-//! The state that tests begin with.
+//! The initial state of the tests.
 ghost use Rattle.std.specs.Prelude.{◌≡◌, ℕ, length, slice_index, IfOk};
 
 use st_bits::WORDS;
@@ -6,7 +6,7 @@ use st_state::State;
 use std::alloc::{AllocError, Global};
 use std::test::Fail;
 
-// A list of `n` words with no bit that is one.
+// A list of `n` zero words.
 fn zeros(alloc: Global, n: usize) -> Result<Vec<u64>, AllocError>
     ensures size { IfOk result (λ v. length v.items ≡ n) }
     ensures zeros { IfOk result (λ v. (w : ℕ) → slice_index v.items w ≡ 0) }
@@ -14,7 +14,7 @@ fn zeros(alloc: Global, n: usize) -> Result<Vec<u64>, AllocError>
     vec![in alloc; 0; n]
 }
 
-/// The state that a blank image opens with, its counter at the left half of word 32.
+/// The state at the start of a blank image; the instruction counter is at the left half of word 32.
 pub fn opened(alloc: Global) -> Result<State, Fail>
     ensures { IfOk result (λ s. s.done ≡ 0) }
 {

@@ -1,5 +1,6 @@
-//! What no clause of the devices says: how often a reader or a writer is called, how much it is
-//! asked for or handed at a time, and that those of the standard library are reached.
+//! Tests of properties of the devices that no clause states: how often a reader or a writer is
+//! called, how many bytes each call requests or hands over, and that the readers and writers of the
+//! standard library can be used.
 ghost use Rattle.st_io.specs.Memory.{sure_input};
 
 use st_io::{Failed, ReadError, Sink, Source, StdSink, StdSource, SureSource, read_all, write_all};
@@ -7,7 +8,7 @@ use std::io;
 use std::io::{ErrorKind, Read, Write};
 use std::test::Fail;
 
-// A source that keeps how much each read asked for.
+// A source that records how many bytes each read requests.
 #[derive(Drop)]
 struct Asking {
     source: SureSource,
@@ -39,7 +40,7 @@ fn a_read_asks_for_a_piece_or_for_one_byte_past_the_limit(rt: HostRuntime) -> Re
     Ok(())
 }
 
-// A reader whose first call fails, and whose others give the byte `A`.
+// A reader whose first call fails, and whose later calls give the byte `A`.
 #[derive(Drop)]
 struct Waking {
     calls: u32,
@@ -82,7 +83,7 @@ fn an_error_is_answered_and_not_tried_again(rt: HostRuntime) -> Result<(), Fail>
     Ok(())
 }
 
-// A writer that takes at most three bytes a call, and keeps how many it was handed.
+// A writer that takes at most three bytes a call, and records how many bytes it was given.
 #[derive(Drop)]
 struct Counting {
     handed: Vec<usize>,
@@ -117,7 +118,7 @@ fn the_readers_and_writers_of_the_library_are_reached(rt: HostRuntime) -> Result
     let read = read_all(rt.alloc(), &mut source, 3)?;
     assert_eq!(rt; read.as_slice(), b"A,B".as_slice());
 
-    // The slice is full behind two bytes.
+    // The slice is full after two bytes.
     let mut written = [0; 2];
     let mut sink = StdSink::new(written.as_mut_slice());
     assert_eq!(rt; sink.write(b""), Ok(0));

@@ -1,6 +1,6 @@
-//! Public calls that no program makes, tried from above against values from outside. What a run of
-//! a program shows stands in `vectors/`. A crate with tests is proved twice, with and without them,
-//! so these stand in a crate of their own.
+//! Tests of public calls that no program makes, against values from outside. The tests of the
+//! programs are in `vectors/`. A crate with tests is proved twice, with and without them, so these
+//! tests have a crate of their own.
 #![tactic(auto, using(st_bits::specs::Storage::words_of_storage_is))]
 
 #[cfg(test)]

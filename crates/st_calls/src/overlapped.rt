@@ -1,5 +1,5 @@
-//! A machine that is stopped between two entries, which no run does, against an independent model
-//! of it.
+//! A test that stops a machine between two entries, as no run does, and compares it with an
+//! independent model.
 ghost use Rattle.std.specs.Prelude.{◌≡◌, ◌+◌, ◌<◌, ◌≤◌, true, false, IfOk};
 
 use crate::blank;
@@ -11,7 +11,7 @@ use std::process::Abort;
 use std::test::Fail;
 
 // The state before a multiplication, which takes 12 ticks, an addition to index word 1, and a wait;
-// they start at word 32.
+// these instructions begin at word 32.
 fn opened(alloc: Global) -> Result<State, Fail> {
     let mut state = blank::opened(alloc)?;
     state.store(32, 0x000A_00F0_0000_0520);
@@ -20,7 +20,7 @@ fn opened(alloc: Global) -> Result<State, Fail> {
     Ok(state)
 }
 
-// A machine of four levels before its first tick, each read of which takes one tick.
+// A machine of four levels before its first tick, whose reads take one tick each.
 fn begun(rt: &impl Abort, alloc: Global, state: State) -> Result<Machine<4>, Fail>
     ensures settled { IfOk result (λ m. m.owed ≡ false) }
     ensures first { IfOk result (λ m. m.now ≡ 0) }
@@ -34,7 +34,7 @@ fn begun(rt: &impl Abort, alloc: Global, state: State) -> Result<Machine<4>, Fai
     }
 }
 
-// Makes a tick at which no entry is done.
+// Makes a tick at which no entry completes.
 fn make_tick(rt: &impl Abort, machine: &mut Machine<4>)
     requires settled { machine.old.owed ≡ false }
     requires early { machine.old.now < 1000 }
@@ -51,7 +51,7 @@ fn make_tick(rt: &impl Abort, machine: &mut Machine<4>)
     };
 }
 
-// Settles it; the machine goes on.
+// Settles the machine, which continues.
 fn settle(rt: &impl Abort, machine: &mut Machine<4>)
     requires owed { machine.old.owed ≡ true }
     requires done { machine.old.state.done ≡ 0 }
@@ -67,7 +67,7 @@ fn settle(rt: &impl Abort, machine: &mut Machine<4>)
     };
 }
 
-// Makes so many ticks at which no entry is done, and settles them.
+// Makes `count` ticks at which no entry completes, and settles the machine.
 fn make_ticks(rt: &impl Abort, machine: &mut Machine<4>, count: u64)
     requires settled { machine.old.owed ≡ false }
     requires early { machine.old.now + count ≤ 1000 }

@@ -1,5 +1,5 @@
-//! What no run shows: what bits of the floating group spell, how many instructions a made deck asks
-//! for, and a step of a plain state.
+//! Tests that no run covers: the decoding of the floating group, the budget of a generated deck,
+//! and a step of a plain state.
 
 use crate::blank;
 use st_exec::{Step, one};
@@ -37,8 +37,8 @@ fn a_made_deck_asks_for_two_instructions_more_than_cards(rt: HostRuntime) -> Res
     }
 }
 
-// A state whose interrupt table begins at word 200, at whose word 213 an addition to index word 1
-// stands, and another one at the counter.
+// A state whose interrupt table begins at word 200; word 213 contains an addition to index word 1,
+// and so does the word at the instruction counter.
 fn opened(alloc: Global) -> Result<State, Fail> {
     let mut state = blank::opened(alloc)?;
     state.store(2, 0x0032_0000_0000_0000);

@@ -1,5 +1,5 @@
-//! Banks, held words and levels, call by call: the machine itself plans its reads and its levels in
-//! place.
+//! Tests of banks, held words and levels, call by call; the machine itself plans its reads and its
+//! levels in place.
 ghost use Rattle.std.specs.Prelude.{◌<◌};
 ghost use Rattle.st_ring.specs.OneLevel.{HasNumber};
 
@@ -12,7 +12,7 @@ use std::alloc::{AllocError, Global};
 use std::process::Abort;
 use std::test::Fail;
 
-// The delays of a list.
+// The delays of storage with this list.
 fn delays_of(alloc: Global, list: &[u8; 2]) -> Result<Delays, Fail> {
     match Delays::new(alloc, list) {
         Ok(delays) => Ok(delays),
@@ -29,11 +29,11 @@ fn a_list_is_refused_for_its_first_zero(rt: HostRuntime) {
     assert_eq!(rt; refused, Some(2));
 }
 
-// A word that is read at a tick, and when it is answered.
+// A read: the word's address, the tick of the request, and the tick of the answer.
 type Read = (u32, u64, Option<u64>);
 
 // Reads over the six banks, where a read takes 3 ticks at even and 5 at odd ticks: banks 0, 1, 3,
-// 4, 5, 2, and 4 again.
+// 4, 5, 2, and again 4.
 const READS: [Read; 13] = [
     (32, 0, Some(3)),
     (36, 2, None),
@@ -50,7 +50,7 @@ const READS: [Read; 13] = [
     (98_302, 16, Some(19)),
 ];
 
-// Makes a read of the table, and says when it is answered.
+// Makes a read of the table, and returns the tick of its answer.
 fn accepted(rt: &impl Abort, banks: &mut Banks, w: u32, tick: u64) -> Option<u64> {
     assert!(rt; 32 <= w && w < WORDS && tick < 100);
     banks.accept(w, tick)
@@ -65,7 +65,7 @@ fn reads_wait_for_their_bank(rt: HostRuntime) -> Result<(), Fail> {
     Ok(())
 }
 
-// Asks for a word, if it is not held.
+// Requests a word, if it is not held.
 fn ask(hold: &mut Hold, w: u32) {
     if !hold.held(w) {
         hold.request(w);
@@ -99,7 +99,7 @@ fn a_fifth_word_drops_the_oldest_and_a_store_changes_answered_ones(rt: HostRunti
     assert!(rt; !hold.held(42));
 }
 
-// A level prepared at a tick, that changes an index word.
+// A level that is prepared at a tick and changes an index word.
 fn changing(p: u64, number: u8, kept: u64, word: u64) -> Level
     requires { number < 16 }
     ensures { HasNumber result }
@@ -114,7 +114,7 @@ fn changing(p: u64, number: u8, kept: u64, word: u64) -> Level
     }
 }
 
-// Puts a level behind the others, if there is room.
+// Appends a level to the ring, if there is room.
 fn push(ring: &mut SpecRing<4>, level: Level)
     requires { HasNumber level }
 {
@@ -123,7 +123,7 @@ fn push(ring: &mut SpecRing<4>, level: Level)
     }
 }
 
-// The tick at which the oldest level was prepared, which is taken away.
+// Removes the oldest level, and returns the tick at which it was prepared.
 fn retire(ring: &mut SpecRing<4>) -> Option<u64> {
     if ring.len() == 0 {
         return None;

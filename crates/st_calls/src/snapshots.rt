@@ -1,4 +1,4 @@
-//! What snapshots of a run show, against single steps of a plain state.
+//! Tests that compare the snapshots of a run with single steps of a plain state.
 ghost use Rattle.std.specs.Prelude.{◌≡◌, true};
 ghost use Rattle.std.specs.List.{AllPass};
 ghost use Rattle.std.specs.List.Sorted.{IsStrictlyIncreasing};
@@ -18,8 +18,8 @@ use std::alloc::{AllocError, Global};
 use std::process::Abort;
 use std::test::Fail;
 
-// A job that adds three numbers in a loop, which an interrupt comes into behind six instructions;
-// it starts at word 32.
+// A job that adds three numbers in a loop, with an interrupt after six instructions; it starts at
+// word 32.
 const SUM: [(u32, u64); 11] = [
     (32, 0x0032_0500_0000_8450),
     (33, 0x0009_C210_0008_8570),
@@ -45,7 +45,7 @@ fn ticks() -> [u64; 20]
     ticks
 }
 
-// The state that the job opens with.
+// The state at the start of the job.
 fn opened(rt: &impl Abort, alloc: Global) -> Result<State, Fail> {
     let mut state = blank::opened(alloc)?;
     for (w, word) in &SUM {
@@ -55,7 +55,7 @@ fn opened(rt: &impl Abort, alloc: Global) -> Result<State, Fail> {
     Ok(state)
 }
 
-// Reads that take one tick each.
+// Delays of storage of one tick for each read.
 fn one_tick(alloc: Global) -> Result<Delays, Fail> {
     match Delays::new(alloc, &[1]) {
         Ok(delays) => Ok(delays),
@@ -63,7 +63,7 @@ fn one_tick(alloc: Global) -> Result<Delays, Fail> {
     }
 }
 
-// The signal that comes behind six instructions.
+// The signal that comes after six instructions.
 fn signal() -> Signal
     ensures { is_signal result ≡ true }
 {
@@ -73,7 +73,7 @@ fn signal() -> Signal
     }
 }
 
-// A run of a state in which nothing has happened, on four levels.
+// A run on four levels from a state in which nothing has happened.
 fn begun<'a>(
     rt: &impl Abort,
     state: State,
@@ -94,7 +94,7 @@ fn begun<'a>(
     Run::new(state, delays, Hopper::empty(), &controls)
 }
 
-// How many instructions are done at the next snapshot; what is told before it is passed over.
+// The number of completed instructions at the next snapshot; earlier events are skipped.
 fn next_shown(run: &mut Run<4>) -> Option<u64> {
     for _ in 0..9 {
         let told = run.next()?;
@@ -105,7 +105,7 @@ fn next_shown(run: &mut Run<4>) -> Option<u64> {
     None
 }
 
-// The step of a state, and the signal that comes behind it.
+// Makes a step of a state, with the signal that comes after it.
 fn go(rt: &impl Abort, state: &mut State) {
     assert!(rt; state.done < 15);
     one(state);
@@ -114,7 +114,7 @@ fn go(rt: &impl Abort, state: &mut State) {
     }
 }
 
-// The state behind so many steps.
+// The state after `done` steps.
 fn stepped(rt: &impl Abort, alloc: Global, done: u64) -> Result<State, Fail> {
     let mut state = opened(rt, alloc)?;
     for _ in 0..done {
@@ -123,7 +123,7 @@ fn stepped(rt: &impl Abort, alloc: Global, done: u64) -> Result<State, Fail> {
     Ok(state)
 }
 
-// Changes the index word that the next entry changes early.
+// Makes the early change of an index word by the next entry.
 fn begin(state: &mut State) {
     let mut entry = Prepared::default();
     plan_in(interrupt(state), state, &mut entry);
@@ -132,14 +132,14 @@ fn begin(state: &mut State) {
     }
 }
 
-// The guessed step of a state, which is a step but for the counter.
+// Makes a predicted step of a state, which is a step except for the instruction counter.
 fn guess(rt: &impl Abort, state: &mut State, counter: u32) {
     assert!(rt; state.done < 15 && counter < 512);
     one(state);
     state.ic = counter;
 }
 
-// Makes the guessed steps of these levels, of the last of them the early change alone.
+// Makes the predicted steps of these levels; of the last one only the early change.
 fn go_ahead(rt: &impl Abort, state: &mut State, levels: &[Option<LevelView>]) {
     if let [Some(_), after @ ..] = levels {
         for level in after {
@@ -151,7 +151,8 @@ fn go_ahead(rt: &impl Abort, state: &mut State, levels: &[Option<LevelView>]) {
     }
 }
 
-// Whether a run shows the index words of one state, and all else that the job uses of another.
+// Whether a run shows the index words of one state, and everything else that the job uses of
+// another.
 fn is_split(run: &Run<4>, ahead: &State, state: &State) -> bool {
     let seen = run.seen();
     for w in 0..256 {

@@ -1,4 +1,4 @@
--- Cards, line by line.
+-- Lemmas on reading cards line by line.
 use Rattle.std.proofs.Common.{◌≡◌, ◌≤◌, ◌<◌, ◌+◌, ◌-◌, ℕ, List, [], ◌∷◌, ◌++◌, length, take, All, refl, ap, sym, subst, ◌∙◌, arith, append_assoc, append-nil}
 use Rattle.std.proofs.lemmas.List.{take_all}
 use Rattle.std.proofs.Math.Seq.{take-append_seam}
@@ -10,7 +10,7 @@ use Rattle.st_card.proofs.TextLemmas.{card_described}
 use Rattle.st_card.specs.Cards.{card_at, cards_from, IsCardOf}
 use Rattle.st_card.specs.declared.cards.Card.{Card}
 
--- a line that ends is a card
+-- a line with a line end becomes a card
 pub card_first : (text line shown after : List ℕ) → pieces_of 10 text ≡ line ∷ pieces_of 10 after →
     shown ≡ strip_carriage_return line → length line + 1 + length after ≡ length text → (n place : ℕ) →
     cards_from n place (pieces_of 10 text)
@@ -26,7 +26,7 @@ card_first text line shown after parts stripped lengths n place =
     ∙ (ap (λ (s : List ℕ). card_at n place s ∷ cards_from (n + 1) (place + length line + 1) (pieces_of 10 after)) (sym stripped)
     ∙ ap (λ k. card_at n place shown ∷ cards_from (n + 1) k (pieces_of 10 after)) next))
 
--- a card further on
+-- reading one more card extends the cards read so far
 pub cards_further : (n : ℕ) (job rest after shown : List ℕ) (cards longer all : List Card) (card : Card) →
     cards ++ cards_from n (length job - length rest) (pieces_of 10 rest) ≡ all →
     ((m place : ℕ) → cards_from m place (pieces_of 10 rest)
@@ -45,18 +45,18 @@ cards_further n job rest after shown cards longer all card so_far parts is_card 
     ap (λ (x : List Card). x ++ later) more
     ∙ (append_assoc cards (card ∷ []) later ∙ (ap (λ (x : List Card). cards ++ x) (sym here) ∙ so_far))
 
--- no card is left
+-- the cards read are all cards if no text remains
 pub cards_done : (n : ℕ) (cards rest all : List Card) → cards ++ rest ≡ all → rest ≡ [] → length cards ≤ n → cards ≡ take n all
 cards_done n cards rest all so_far none few =
     let same : cards ≡ all = sym (append-nil cards) ∙ (ap (λ (x : List Card). cards ++ x) (sym none) ∙ so_far) in
     sym (ap (λ (x : List Card). take n x) (sym same) ∙ take_all n cards few)
 
--- as many cards as are taken
+-- the cards read are the whole result if the maximum is reached
 pub cards_full : (n : ℕ) (cards rest all : List Card) → cards ++ rest ≡ all → length cards ≡ n → cards ≡ take n all
 cards_full n cards rest all so_far full =
     sym (take-append_seam cards rest) ∙ (ap (λ k. take k (cards ++ rest)) full ∙ ap (λ (x : List Card). take n x) so_far)
 
--- a card further on, and what each says of its text
+-- one more card and its agreement with its text
 pub texts_further : (n : ℕ) (job rest shown : List ℕ) (cards longer : List Card) (card : Card) →
     All (IsCardOf job) cards → IsBehind rest job → IsFront shown rest →
     card ≡ card_at n (length job - length rest) shown → longer ≡ cards ++ card ∷ [] → All (IsCardOf job) longer

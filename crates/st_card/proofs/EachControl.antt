@@ -1,4 +1,4 @@
--- What holds of each thing that is asked for holds of what is made of it.
+-- A property of each request holds of everything derived from the requests.
 use Rattle.std.proofs.Common.{◌≡◌, ◌≤◌, ℕ, ◌==◌, Bool, true, false, [], ◌∷◌, get_or, if◌then◌else◌, arith}
 use Rattle.std.specs.List.{All}
 use Rattle.std.proofs.lemmas.Bool.Decides.{nat_tests}
@@ -10,7 +10,7 @@ use Rattle.st_card.specs.declared.control_cards.Signal.{Signal}
 use Rattle.st_card.specs.declared.written.Control.{Control}
 use Rattle.st_card.specs.declared.written.Control.TheVariants as asks
 
--- something holds of each thing that is asked for
+-- a property holds of each request
 pub record OfEach (P : Control → Type 0) (a : Asked) : Type 0 where
   pub budget : P (asks.Budget a.budget)
   pub delays : All (λ d. P (asks.Delay d)) a.delays
@@ -23,7 +23,7 @@ pub record OfEach (P : Control → Type 0) (a : Asked) : Type 0 where
   pub back : P (asks.Back a.back)
 
 module _ (P : Control → Type 0) where
-  -- it holds of anything
+  -- a property of every control holds of each request
   pub of_any : ((c : Control) → P c) → (a : Asked) → OfEach P a
   of_any each a = record {
     budget = each (asks.Budget a.budget);
@@ -56,7 +56,8 @@ tick_short : (t : ℕ) → is_tick t ≡ true → IsShort t
 tick_short t is = grind (arith, nat_tests, is)
 
 module _ (P : Control → Type 0) where
-  -- it holds of what has short numbers, and what is asked for is within its limits
+  -- a property of every control with short numbers holds of each request, if the requests are
+  -- within their limits
   pub of_short : ((c : Control) → IsShortControl c → P c) → (a : Asked) → IsWithinLimits a → OfEach P a
   of_short each a limits =
       let budget = limits.budget in
@@ -75,7 +76,7 @@ module _ (P : Control → Type 0) where
         back = each (asks.Back a.back) (omega (arith, back));
       }
 
--- then it holds of all that is made of these things
+-- a property of each request's result holds of all results
 module _ {X : Type 0} (Q : X → Type 0) (made : Control → X) where
   where_all : (b : Bool) (c : Control) → Q (made c) → All Q (where_asked b (made c))
   where_all true c holds = All-cons Q (made c) [] holds (All-nil Q)

@@ -1,4 +1,4 @@
--- What holds of the cards of each job, proved.
+-- Proofs of the laws of the cards of any job.
 use Rattle.st_card.proofs.StandingLemmas.{cards_stand}
 use Rattle.st_card.specs.Laws.{CardsStandInTheirJob}
 

@@ -22,7 +22,7 @@ use Rattle.st_card.specs.declared.control_cards.Signal.{Signal}
 use Rattle.st_card.specs.declared.keywords.Keyword.{Keyword}
 use Rattle.st_card.specs.declared.keywords.Keyword.TheVariants.{Budget, Delays, Signals, Dump, Snap, Back, Listing, Trace, Time, Chart}
 
--- what is given is what the test allows
+-- a conditional result is present only if its test is true
 given : (b : Bool) (x new : Asked) → (if b then Some x else None) ≡ Some new → (b ≡ true) × (x ≡ new)
 given true x new same = (refl, cc)
 given false x new same = cc
@@ -30,7 +30,7 @@ given false x new same = cc
 only : {X : Type 0} (p : X → Bool) (x : X) → p x ≡ true → AllPass p (x ∷ [])
 only p x holds = AllPass-from_list_all p (x ∷ []) (ap (λ b. b && true) holds)
 
--- what is given keeps the limits where the rest is as before
+-- adding the card of one keyword keeps the limits if the rest is unchanged
 pub budget-kept : (kept new : Asked) (numbers : List ℕ) → spec.with_budget kept numbers ≡ Some new →
     IsWithinLimits kept → IsWithinLimits new
 budget-kept kept new [] same limits = cc
@@ -105,7 +105,7 @@ dump-kept kept new (first ∷ last ∷ []) same limits =
     })
 dump-kept kept new (first ∷ last ∷ n ∷ ns) same limits = cc
 
--- a test of the last item is one of the item at the last place
+-- the test of the last item is a test of the item at the last index
 last_item : {X : Type 0} (test : X → Bool) (items : List X) → last_passes test items ≡ true → (d : X) → 0 < length items →
     test (get_or items (length items - 1) d) ≡ true
 last_item test [] passes d some = absurd (omega (arith, some))
@@ -141,7 +141,7 @@ signal-kept kept new (count ∷ indicator ∷ []) same limits =
     })
 signal-kept kept new (count ∷ indicator ∷ n ∷ ns) same limits = cc
 
--- a number above the last keeps numbers rising
+-- a number above the last one keeps a list increasing
 rising-push : (xs : List ℕ) (x : ℕ) → IsStrictlyIncreasing xs → (0 < length xs → get_or xs (length xs - 1) 0 < x) →
     IsStrictlyIncreasing (xs ++ x ∷ [])
 rising-push xs x rising above k within =
@@ -186,7 +186,7 @@ snap-kept kept new (tick ∷ []) short same limits =
     })
 snap-kept kept new (tick ∷ n ∷ ns) short same limits = cc
 
--- marks have no limits
+-- flags have no limits, so changing them keeps the limits
 marks-kept : (kept : Asked) (list trace time chart : Bool) → IsWithinLimits kept →
     IsWithinLimits (record kept { list = list; trace = trace; time = time; chart = chart })
 marks-kept kept list trace time chart limits = record {
@@ -266,7 +266,7 @@ before-parts (Some n) (Some ns) numbers same = (n, (ns, (refl, refl, cc)))
 before-parts (Some n) None numbers same = cc
 before-parts None os numbers same = cc
 
--- so each of its numbers has
+-- each number of a control card has at most 12 digits
 numbers-short : (words : List (List ℕ)) (numbers : List ℕ) → card_numbers words ≡ Some numbers → AllPass is_tick numbers
 numbers-short [] numbers same =
     let none : [] ≡ numbers = cc in

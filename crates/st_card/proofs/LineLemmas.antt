@@ -1,4 +1,4 @@
--- Lines that are written one group behind the other.
+-- Lemmas on lines that are appended in consecutive groups.
 use Rattle.std.proofs.Common.{◌≡◌, ℕ, ◌==◌, Bool, true, false, List, [], ◌∷◌, ◌++◌, map, Result, Ok, Err, OnOk, if◌then◌else◌, refl, ap, append_assoc}
 use Rattle.std.specs.List.{flat_map}
 use Rattle.std.proofs.lemmas.List.Concat.{flat_map-append}
@@ -9,7 +9,7 @@ use Rattle.st_card.specs.declared.written.Control.{Control}
 use Rattle.st_card.specs.declared.written.Control.TheVariants.{Budget, Delay, Signal, Dump, Trace, Time, Chart, Snap, Back}
 
 module _ {X E : Type 0} (f : X → List ℕ) where
-  -- three groups, where there was memory for the last
+  -- the text of three groups, if memory sufficed for the last
   pub three_written : (r : Result (Unit {0}) E) (old one two new : List ℕ) (a b c : List X) →
       one ≡ old ++ flat_map f a → two ≡ one ++ flat_map f b →
       OnOk r (new ≡ two ++ flat_map f c) → OnOk r (new ≡ old ++ flat_map f (a ++ b ++ c))
@@ -17,7 +17,7 @@ module _ {X E : Type 0} (f : X → List ℕ) where
       rw (last, second, first, flat_map-append f (a ++ b) c, flat_map-append f a b) (simp append_assoc)
   three_written (Err e) old one two new a b c first second last = tt
 
-  -- four groups
+  -- the text of four groups, if memory sufficed for the last
   pub four_written : (r : Result (Unit {0}) E) (old one two three new : List ℕ) (a b c d : List X) →
       one ≡ old ++ flat_map f a → two ≡ one ++ flat_map f b → three ≡ two ++ flat_map f c →
       OnOk r (new ≡ three ++ flat_map f d) → OnOk r (new ≡ old ++ flat_map f (a ++ b ++ c ++ d))
@@ -25,7 +25,7 @@ module _ {X E : Type 0} (f : X → List ℕ) where
       three_written r old two three new (a ++ b) c d
       (rw (second, first, flat_map-append f a b) (simp append_assoc)) third last
 
-  -- five groups
+  -- the text of five groups, if memory sufficed for the last
   pub five_written : (r : Result (Unit {0}) E) (old one two three four new : List ℕ) (a b c d e : List X) →
       one ≡ old ++ flat_map f a → two ≡ one ++ flat_map f b → three ≡ two ++ flat_map f c → four ≡ three ++ flat_map f d →
       OnOk r (new ≡ four ++ flat_map f e) → OnOk r (new ≡ old ++ flat_map f (a ++ b ++ c ++ d ++ e))
@@ -33,7 +33,7 @@ module _ {X E : Type 0} (f : X → List ℕ) where
       four_written r old two three four new (a ++ b) c d e
       (rw (second, first, flat_map-append f a b) (simp append_assoc)) third fourth last
 
--- Lines of what is asked for, said as items of another kind.
+-- lines of requests, expressed as items of another kind
 module _ {X : Type 0} (f : X → List ℕ) (made : Control → X) (line : Control → List ℕ) (same : (c : Control) → line c ++ lf ≡ f (made c)) where
   where-same : (b : Bool) (c : Control) → text_of_lines (where_asked b (line c)) ≡ flat_map f (where_asked b (made c))
   where-same true c = ap (λ l. l ++ []) (same c)

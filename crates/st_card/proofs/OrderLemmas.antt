@@ -1,4 +1,4 @@
--- What is within its limits can be asked for, one after another.
+-- Requests within their limits can be added one by one.
 use Rattle.std.proofs.Common.{◌≡◌, ◌≤◌, ◌<◌, ◌+◌, ◌-◌, ◌==◌, ℕ, Bool, true, false, nat_le, nat_lt, List, [], ◌∷◌, ◌++◌, length, get_or, Option, Some, None, if◌then◌else◌, refl, ap, sym, ◌∙◌, length-append, arith}
 use Rattle.std.specs.List.{AllPass}
 use Rattle.std.specs.List.Sorted.{IsNonDecreasingBy, IsStrictlyIncreasing}
@@ -10,18 +10,18 @@ use Rattle.st_card.specs.Controls.{Asked, is_in_range, last_passes, with_budget,
 use Rattle.st_card.specs.Limits.{is_signal, is_part, is_tick, AreDelays, AreSignals, AreDumps, AreSnaps}
 use Rattle.st_card.specs.declared.control_cards.Signal.{Signal}
 
--- what a test that holds gives
+-- a conditional result is present if its test is true
 taken : (test : Bool) (new : Asked) → test ≡ true → (if test then Some new else None) ≡ Some new
 taken true new holds = refl
 taken false new holds = cc
 
--- what passes in a list passes where it stands
+-- a test that all items of a list pass is passed by an item in its middle
 pub one_passes : {X : Type 0} (p : X → Bool) (done rest : List X) (x : X) → AllPass p (done ++ x ∷ rest) → p x ≡ true
 one_passes p done rest x each =
     let within : length done < length (done ++ x ∷ rest) = omega (arith, length-append done (x ∷ rest)) in
     sym (ap p (get_or_at done x rest x (length done) refl)) ∙ each (length done) x within
 
--- a test of the last item passes, where it passes at the last place
+-- the last item passes a test if the item at the last index does
 last_ok : {X : Type 0} (test : X → Bool) (items : List X) →
     ((d : X) → 0 < length items → test (get_or items (length items - 1) d) ≡ true) → last_passes test items ≡ true
 last_ok test [] passes = refl
@@ -30,7 +30,7 @@ last_ok {X} test (x ∷ xs) passes =
     ap (λ (o : Option X). option_map_or test o true) (slice_get-get_or (x ∷ xs) (length xs) x (omega arith))
     ∙ ap (λ k. test (get_or (x ∷ xs) k x)) here ∙ passes x (omega arith)
 
--- counts that do not fall
+-- a signal after earlier ones of a nondecreasing list keeps the order of counts
 last_count : (done rest : List Signal) (s : Signal) → IsNonDecreasingBy (λ x. x.count) (done ++ s ∷ rest) →
     last_passes (λ x. nat_le x.count s.count) done ≡ true
 last_count done rest s order =
@@ -45,7 +45,7 @@ last_count done rest s order =
     let right = ap (λ (x : Signal). x.count) (get_or_at done s rest d (length done) refl) in
     at_most _ s.count (omega (arith, ordered, left, right)))
 
--- ticks that rise
+-- a tick after earlier ones of an increasing list is greater than the last
 last_tick : (done rest : List ℕ) (t : ℕ) → IsStrictlyIncreasing (done ++ t ∷ rest) → last_passes (λ x. nat_lt x t) done ≡ true
 last_tick done rest t order =
     last_ok (λ x. nat_lt x t) done
@@ -97,7 +97,7 @@ module _ (a : Asked) where
   back-asked k none some few =
       taken _ _ (both_true (a.back == 0) (is_in_range 1 64 k) none (both_true _ _ (at_most 1 k some) (at_most k 64 few)))
 
--- the numbers that are asked for have 12 digits at most
+-- a requested number has at most 12 digits
 abbrev IsShort : ℕ → Type 0
 IsShort n = n ≤ 999999999999
 

@@ -1,4 +1,4 @@
--- Each card of a job stands in it.
+-- Each card of a job lies within the job.
 use Rattle.std.proofs.Common.{◌≡◌, ◌⊎◌, inl, inr, ◌≤◌, ◌<◌, ◌+◌, ◌-◌, ◌==◌, ℕ, zero, suc, true, false, List, [], ◌∷◌, ◌++◌, length, take, All, refl, ap, sym, subst, arith, length-append, if◌then◌else◌}
 use Rattle.std.specs.Prelude.{slice_index}
 use Rattle.std.specs.Str.Lines.{strip_carriage_return}
@@ -10,7 +10,7 @@ use Rattle.st_card.proofs.CardLemmas.{card_first}
 use Rattle.st_text.proofs.FrontLemmas.{front_of_front, front_of_whole, front_itself, front_taken, behind_whole, behind_behind, behind_itself}
 use Rattle.st_card.proofs.TextLemmas.{card_described}
 
--- a line is one of itself without its return
+-- a line without its carriage return is a prefix of the line
 front_stripped : (text : List ℕ) → IsFront (strip_carriage_return text) text
 front_stripped text =
     elim (slice_index text (length text - 1) == 13) as (λ b. IsFront (if b then take (length text - 1) text else text) text) [
@@ -18,7 +18,7 @@ front_stripped text =
       | false ↦ front_itself text
     ]
 
--- a text has a line that ends, and these are its lines
+-- a text whose first line has a line end, with its lines
 record HasParts (parts : List (List ℕ)) (text : List ℕ) : Type 0 where
   line : List ℕ
   after : List ℕ

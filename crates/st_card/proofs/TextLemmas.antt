@@ -1,4 +1,4 @@
--- Where the text of a card stands.
+-- Lemmas on the position of a card's text in its job.
 use Rattle.std.proofs.Common.{◌≡◌, ◌≤◌, ◌-◌, ◌==◌, ◌||◌, ℕ, Bool, nat_lt, List, [], ◌∷◌, true, false, not, Option, Some, None, if◌then◌else◌, length, take, min, refl, ap, sym, ◌∙◌, arith}
 use Rattle.std.proofs.lemmas.Bool.{not-false as not_false}
 use Rattle.std.proofs.lemmas.List.{take_all, take_min, take-take}
@@ -12,7 +12,7 @@ use Rattle.st_card.specs.declared.faults.Fault.TheVariants.{NotAscii, CardTooLon
 use Rattle.st_card.specs.declared.cards.CardKind.{CardKind}
 use Rattle.st_card.specs.declared.cards.CardKind.TheVariants.{Comment, Control, Statement}
 
--- a test that did not hold, and the tests behind it
+-- a test that is false leaves the fault to the later tests
 test_passed : (b : Bool) (fault : Fault) (later : Option Fault) → (if b then Some fault else later) ≡ None →
     (b ≡ false) × (later ≡ None)
 test_passed true fault later none = cc
@@ -39,7 +39,7 @@ kind_of-take text =
     let K : ℕ → List ℕ → CardKind = λ c s. if c == 42 || is_blank s then Comment else (if c == 47 then Control else Statement) in
     ap (λ c. K c (columns (take 80 text))) first ∙ ap (λ (s : List ℕ). K (first_column text) s) read
 
--- what a card says of its text
+-- a card agrees with its text
 pub card_described : (n : ℕ) (job rest shown : List ℕ) → IsBehind rest job → IsFront shown rest →
     IsCardOf job (card_at n (length job - length rest) shown)
 card_described n job rest shown behind front =

@@ -1,4 +1,4 @@
--- What adding a control card answers.
+-- The results of adding a control card, related to the controls before and after.
 use Rattle.std.specs.Prelude.{◌≡◌, ◌≢◌, ℕ, Bool, true, false, List, [], ◌++◌, length, Option, Some, None, IsSome}
 use Rattle.st_card.specs.Controls.{Asked}
 use Rattle.st_card.specs.declared.faults.Fault.TheVariants.{BadControlCard}
@@ -7,25 +7,26 @@ use Rattle.st_card.specs.declared.keywords.Addition.TheVariants.{Added, Refused,
 use Rattle.st_card.specs.declared.control_cards.CardError.{CardError}
 use Rattle.st_card.specs.declared.control_cards.CardError.TheVariants.{Refused as CardRefused, NoMemory as CardNoMemory}
 
--- what an addition says of the controls before and after, and of those with the card
+-- relation of an addition's outcome to the controls before and after it and to the controls with
+-- the card's request
 abbrev pub Settles : Asked → Asked → Option Asked → Addition → Type 0
 Settles old new wanted Added = wanted ≡ Some new
 Settles old new wanted Refused = (wanted ≡ None) × (new ≡ old)
 Settles old new wanted NoMemory = IsSome wanted × (new ≡ old)
 
--- what an addition says of a list before and after items are appended
+-- relation of an addition's outcome to a list before and after items are appended
 abbrev pub Appends : {X : Type 0} → List X → List X → List X → Addition → Type 0
 Appends old new items Added = new ≡ old ++ items
 Appends old new items Refused = ⊥
 Appends old new items NoMemory = new ≡ old
 
--- what an addition says of a mark before and after numbers stand behind its word
+-- relation of an addition's outcome to a flag before and after a keyword with these numbers sets it
 abbrev pub Marks : Bool → Bool → List ℕ → Addition → Type 0
 Marks old new numbers Added = (old ≡ false) × (new ≡ true) × (numbers ≡ [])
 Marks old new numbers Refused = (new ≡ old) × ((old ≡ false) → length numbers ≢ 0)
 Marks old new numbers NoMemory = ⊥
 
--- why a card was not added: it asks for nothing, or there was no memory for what it asks
+-- why a card was not added: its request is not allowed (`wanted` is None), or memory ran out
 abbrev pub Explains : Option Asked → ℕ → CardError → Type 0
 Explains wanted number (CardRefused card fault) =
     (wanted ≡ None) × (card ≡ number) × (fault ≡ BadControlCard)

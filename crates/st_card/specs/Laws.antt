@@ -1,8 +1,8 @@
--- What holds of the cards of each job.
+-- Laws of the cards of any job.
 use Rattle.std.specs.Prelude.{ℕ, List, All}
 use Rattle.st_card.specs.Cards.{cards_of, IsCardOf}
 
--- Each card of a job stands in it and has the kind of its text; the text of one without a fault can
--- be printed.
+-- Each card of a job lies within the job and has the kind of its text; a card without a fault has
+-- only printable bytes.
 abbrev pub CardsStandInTheirJob : Type 0
 CardsStandInTheirJob = (job : List ℕ) → All (IsCardOf job) (cards_of job)

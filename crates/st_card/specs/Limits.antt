@@ -1,4 +1,4 @@
--- The limits that control cards keep.
+-- The limits of the requests that control cards can make.
 use Rattle.std.specs.Prelude.{ℕ, ◌≤◌, ◌&&◌, Bool, nat_le, List, length}
 use Rattle.std.specs.List.{AllPass}
 use Rattle.std.specs.List.Sorted.{IsNonDecreasingBy, IsStrictlyIncreasing}
@@ -8,41 +8,41 @@ use Rattle.st_card.specs.declared.limits.TheConstants.{MOST_DUMPS, MOST_SNAPS, M
 use Rattle.st_card.specs.Controls.{Asked, is_in_range}
 use Rattle.st_card.specs.declared.control_cards.Signal.{Signal}
 
--- whether a count and an indicator are within their limits
+-- whether a signal's count is at most 10,000,000 and its indicator is 0 to 13
 abbrev pub is_signal : Signal → Bool
 is_signal s = nat_le s.count MOST_INSTRUCTIONS && nat_le s.indicator CHANNEL_SIGNAL
 
--- whether two words are the first and the last of a part of storage
+-- whether a pair is the first and the last word address of a part of storage
 abbrev pub is_part : ℕ × ℕ → Bool
 is_part p = nat_le p.0 p.1 && nat_le p.1 LAST_WORD
 
--- whether a number has 12 digits at most
+-- whether a number has at most 12 digits
 abbrev pub is_tick : ℕ → Bool
 is_tick tick = nat_le tick MOST_NUMBER
 
--- delays of 1 to 255 ticks, at most 4,096
+-- delays of 1 to 255 ticks each, at most 4,096 of them
 pub record AreDelays (delays : List ℕ) : Type 0 where
   pub each : AllPass (is_in_range 1 MOST_DELAY) delays
   pub few : length delays ≤ LONGEST_LIST
 
--- signals in the order of their counts, at most 4,096
+-- signals in nondecreasing order of their counts, at most 4,096 of them
 pub record AreSignals (signals : List Signal) : Type 0 where
   pub each : AllPass is_signal signals
   pub counts : IsNonDecreasingBy (λ s. s.count) signals
   pub few : length signals ≤ LONGEST_LIST
 
--- parts of storage, at most 16
+-- parts of storage to be dumped, at most 16 of them
 pub record AreDumps (dumps : List (ℕ × ℕ)) : Type 0 where
   pub each : AllPass is_part dumps
   pub few : length dumps ≤ MOST_DUMPS
 
--- rising ticks, at most 64
+-- increasing ticks of snapshots, at most 64 of them
 pub record AreSnaps (ticks : List ℕ) : Type 0 where
   pub each : AllPass is_tick ticks
   pub rising : IsStrictlyIncreasing ticks
   pub few : length ticks ≤ MOST_SNAPS
 
--- what control cards can ask for
+-- requests that control cards can make
 pub record IsWithinLimits (asked : Asked) : Type 0 where
   pub budget : asked.budget ≤ MOST_INSTRUCTIONS
   pub delays : AreDelays asked.delays

@@ -1,4 +1,4 @@
-//! A job cut into cards.
+//! The cards of a job: its lines, each with its number, kind and fault.
 
 ghost use Rattle.std.specs.Prelude.{◌≡◌, ◌+◌, ◌-◌, ◌^◌, ◌<◌, ◌≤◌, ℕ, length, [], ◌∷◌, ◌++◌, OnOk, All, MatchOption, IfSome, IfOk};
 ghost use Rattle.std.specs.Str.Lines.{strip_carriage_return};
@@ -12,41 +12,41 @@ use st_bits::limits::MOST_CARDS;
 use st_text::{cut, front, is_printable_byte};
 use std::alloc::Global;
 
-// How many characters a card may have.
+// The most characters that a card may have.
 const MOST_CHARACTERS: usize = 80;
 
-// How many columns of a card are read.
+// The number of columns of a card that are read.
 const COLUMNS: usize = 72;
 
-/// What a card is for.
+/// The kind of a card.
 #[derive(Clone, Copy, Debug, PartialEq, Eq)]
 pub enum CardKind {
     /// Column 1 is `*`, or columns 1 to 72 are blank.
     Comment,
     /// Column 1 is `/`.
     Control,
-    /// Any other card, also one whose column 1 is wrong.
+    /// Any other card, including one with a wrong column 1.
     Statement,
 }
 
-/// A card of a job: a line, and where it stands.
+/// A card of a job: one line, with its position in the job's bytes.
 #[derive(Clone, Copy, Debug, PartialEq, Eq)]
 pub struct Card {
-    /// The card's number, counted from 1.
+    /// The card's number in the job, counted from 1.
     pub number: u32,
-    /// What the card is for.
+    /// The card's kind.
     pub kind: CardKind,
-    /// The place of the card's first byte in the job.
+    /// The offset of the card's first byte in the job, in bytes.
     pub start: u32,
-    /// The number of the card's bytes without the line's end, 80 where there are more.
+    /// The length of the card's text in bytes, without the line end; at most 80.
     pub len: u8,
-    /// The fault that the card has by itself: a byte that is not printable, too many characters,
-    /// a wrong column 1, or that the job has too many cards.
+    /// The fault that this card has regardless of the other cards: a byte that is not printable,
+    /// too many characters, a wrong column 1, or a card number above 20,000.
     pub fault: Option<Fault>,
 }
 
 impl Card {
-    /// The card's text in its job: all but its line's end, and at most 80 bytes.
+    /// The card's text, cut from the bytes of its job: without the line end, and at most 80 bytes.
     pub fn text<'a>(&self, job: &'a [u8]) -> &'a [u8]
         requires { self.now.start + self.now.len ≤ length job.now }
         ensures { result.now ≡ spec.text_in job.now self.now }
@@ -56,11 +56,11 @@ impl Card {
     }
 }
 
-/// The cards of a job.
+/// Splits a job into its cards.
 ///
-/// A line ends at a line feed, with a carriage return before it or none. The last line may lack its
-/// line feed, and is no card where it is empty. The 20,001st card has the fault of too many cards,
-/// and none follows it. The one error is that memory ran out.
+/// A line ends at a line feed, and one carriage return before it is part of the line end. The last
+/// line may lack its line feed; if it is empty, it is not a card. Card 20,001 has the fault
+/// `TooManyCards`, and no card after it is returned. The only error is that memory ran out.
 pub fn split(alloc: Global, job: &[u8]) -> Result<Vec<Card>, NoMemory>
     requires { length job.now < 2 ^ 32 }
     ensures cards { IfOk result (λ cards. cards.items ≡ spec.cards_of job.now) }
@@ -88,14 +88,14 @@ fn push_card(cards: &mut Vec<Card>, card: Card) -> Result<(), NoMemory>
     cards.push(card).map_err(|_| NoMemory)
 }
 
-/// The columns of a card that are read: all but those behind the 72nd.
+/// The columns of a card that are read: the first 72 bytes of its text.
 pub fn columns(text: &[u8]) -> &[u8]
     ensures { result.now ≡ spec.columns text.now }
 {
     front(text, COLUMNS)
 }
 
-// The first line of a text without its end, and what stands behind it.
+// The first line of a text without its line end, and the text after it; `None` for an empty text.
 fn first_line(text: &[u8]) -> Option<(&[u8], &[u8])>
     ensures cards { MatchOption result
         ((n place : ℕ) → spec.cards_from n place (pieces_of 10 text.now) ≡ [])
@@ -113,7 +113,7 @@ fn first_line(text: &[u8]) -> Option<(&[u8], &[u8])>
     }
 }
 
-// A line without the carriage return at its end, if it has one.
+// A line without its last byte if that is a carriage return.
 fn without_return(line: &[u8]) -> &[u8]
     ensures text { result.now ≡ strip_carriage_return line.now }
     ensures front { IsFront result.now line.now }
@@ -124,7 +124,7 @@ fn without_return(line: &[u8]) -> &[u8]
     }
 }
 
-// The card with a number, whose text begins at a place of the job.
+// The card with number `number`, whose text `text` begins at offset `start` of the job.
 fn card_at(number: u32, start: u32, text: &[u8]) -> Card
     ensures { result ≡ spec.card_at number start text.now }
 {
@@ -166,7 +166,7 @@ fn fault_of(number: u32, text: &[u8]) -> Option<Fault>
     }
 }
 
-// Column 1, blank where the card has none.
+// The byte in column 1; a blank for an empty card.
 fn first_column(text: &[u8]) -> u8
     ensures { result ≡ spec.first_column text.now }
 {
@@ -182,7 +182,7 @@ fn is_blank(text: &[u8]) -> bool
     text.iter().all(|byte| *byte == b' ')
 }
 
-// Whether a text has only blanks and visible characters of ASCII.
+// Whether a text has only blanks and visible ASCII characters.
 fn is_printable(text: &[u8]) -> bool
     ensures { result ≡ is_printable text.now }
 {

@@ -1,4 +1,4 @@
-//! What the control cards of a job ask for.
+//! The requests of a job's control cards.
 
 ghost use Rattle.std.specs.Prelude.{◌≡◌, ◌≤◌, [], ◌∷◌, length, Some, None, if◌then◌else◌, OnOk, OnErr, IfErr};
 ghost use Rattle.std.specs.List.{list_all};
@@ -19,47 +19,51 @@ use st_text::first_word;
 use std::alloc::Global;
 use std::marker::Model;
 
-/// A signal from outside: after so many instructions an indicator is turned on.
+/// An external signal: it turns on an indicator after a number of completed instructions.
 #[derive(Clone, Copy, Debug, PartialEq, Eq)]
 pub struct Signal {
-    /// How many instructions are done when the signal comes, up to 10,000,000.
+    /// The number of completed instructions at which the signal comes, up to 10,000,000.
     pub count: u64,
-    /// The indicator that it turns on, 0 to 13.
+    /// The indicator that the signal turns on, 0 to 13.
     pub indicator: u8,
 }
 
 /// Why a control card was not added.
 #[derive(Clone, Copy, Debug, PartialEq, Eq)]
 pub enum CardError {
-    /// The card, by its number, is unknown, malformed, given twice or past a limit.
+    /// The card with number `card` is unknown, malformed, repeated where only one is allowed, or
+    /// past a limit.
     Refused { card: u32, fault: Fault },
-    /// There was no memory for what the card asks for.
+    /// There was not enough memory for the card's request.
     NoMemory,
 }
 
-/// What the control cards of a job ask for.
+/// The requests of a job's control cards.
 #[derive(Debug, Drop)]
 pub struct Controls {
-    /// How many instructions may be done, up to 10,000,000; 0 where no card says it.
+    /// The budget: the most instructions that the run may complete, up to 10,000,000; 0 if no card
+    /// sets it.
     pub budget: u64,
-    /// The delays of storage in ticks, 1 to 255, at most 4,096.
+    /// The delays of storage in ticks, each 1 to 255, at most 4,096 of them.
     pub delays: Vec<u8>,
-    /// The signals, at most 4,096, with counts that do not fall.
+    /// The signals in nondecreasing order of their counts, at most 4,096 of them.
     pub signals: Vec<Signal>,
-    /// The word addresses, first and last, up to 98,303, of the parts of storage that are to be
-    /// printed, at most 16.
+    /// The parts of storage to be dumped, each as its first and last word address, up to 98,303; at
+    /// most 16 parts.
     pub dumps: ArrayVec<(u32, u32), MOST_DUMPS>,
-    /// The ticks, rising and of at most 12 digits, at which the machine is to be shown, at most 64.
+    /// The ticks of the snapshots in increasing order, each of at most 12 digits; at most 64 of
+    /// them.
     pub snaps: ArrayVec<u64, MOST_SNAPS>,
-    /// Whether the listing is asked for.
+    /// Whether a listing is requested.
     pub list: bool,
-    /// Whether a line for each instruction is asked for.
+    /// Whether a trace, one line for each instruction, is requested.
     pub trace: bool,
-    /// Whether ticks are asked for.
+    /// Whether the timing of the run in ticks is requested.
     pub time: bool,
-    /// Whether the timetable is asked for.
+    /// Whether the timetable is requested.
     pub chart: bool,
-    /// How many instructions are to be stepped back at the end, 1 to 64; 0 where no card asks.
+    /// The number of instructions to step back at the end of the run, 1 to 64; 0 if no card
+    /// requests it.
     pub back: u8,
 }
 
@@ -83,7 +87,7 @@ impl Model for Controls {
 }
 
 impl Controls {
-    /// Controls that ask for nothing.
+    /// Controls without any request.
     pub fn new(alloc: Global) -> Controls
         ensures nothing { result ≡ spec.nothing_asked }
         ensures limits { IsWithinLimits result }
@@ -102,42 +106,42 @@ impl Controls {
         }
     }
 
-    /// The most instructions of a run that is asked for; 0 where none is.
+    /// The budget of the run in instructions; 0 if no card sets it.
     pub fn budget(&self) -> u64
         ensures { result ≡ self.now.budget }
     {
         self.budget
     }
 
-    /// The delays of storage that are asked for, in ticks.
+    /// The requested delays of storage, in ticks.
     pub fn delays(&self) -> &[u8]
         ensures { result.now ≡ self.now.delays }
     {
         self.delays.as_slice()
     }
 
-    /// The signals that are asked for.
+    /// The requested signals.
     pub fn signals(&self) -> &[Signal]
         ensures { result.now ≡ self.now.signals }
     {
         self.signals.as_slice()
     }
 
-    /// The ticks of the snapshots that are asked for.
+    /// The ticks of the requested snapshots.
     pub fn snaps(&self) -> &[u64]
         ensures { result.now ≡ self.now.snaps }
     {
         self.snaps.as_slice()
     }
 
-    /// Whether the listing is asked for.
+    /// Whether a listing is requested.
     pub fn is_listed(&self) -> bool
         ensures { result ≡ self.now.list }
     {
         self.list
     }
 
-    /// Whether a line for each instruction is asked for.
+    /// Whether a trace, one line for each instruction, is requested.
     #[inline(always)]
     pub fn is_traced(&self) -> bool
         ensures { result ≡ self.now.trace }
@@ -145,7 +149,7 @@ impl Controls {
         self.trace
     }
 
-    /// Whether ticks are asked for.
+    /// Whether the timing of the run in ticks is requested.
     #[inline(always)]
     pub fn is_timed(&self) -> bool
         ensures { result ≡ self.now.time }
@@ -153,7 +157,7 @@ impl Controls {
         self.time
     }
 
-    /// Whether the timetable is asked for.
+    /// Whether the timetable is requested.
     #[inline(always)]
     pub fn is_charted(&self) -> bool
         ensures { result ≡ self.now.chart }
@@ -161,17 +165,18 @@ impl Controls {
         self.chart
     }
 
-    /// Adds what a control card asks for.
+    /// Adds the request of a control card.
     ///
-    /// `card` is the card's number, and of its `text` the first 72 characters are read. A card that
-    /// is unknown, malformed, given twice where once is allowed, or past a limit is refused as a
-    /// bad control card. After a refusal, and after want of memory, the controls are as before.
+    /// `card` is the card's number. Only the first 72 characters of its `text` are read. A card
+    /// that is unknown, malformed, repeated where only one is allowed, or past a limit is refused
+    /// with `BadControlCard`. After a refusal, and after a lack of memory, the controls are
+    /// unchanged.
     pub fn add(&mut self, card: u32, text: &[u8]) -> Result<(), CardError>
         ensures ok { OnOk result (spec.asked_with_card self.old text.now ≡ Some self.new) }
         ensures err { IfErr result (Explains (spec.asked_with_card self.old text.now) card) }
         ensures unchanged { OnErr result (self.new ≡ self.old) }
 
-        // Controls that are made by control cards alone keep the limits of control cards.
+        // Controls that only control cards have changed stay within the limits of control cards.
         ensures limits { IsWithinLimits self.old → IsWithinLimits self.new }
     {
         match self.add_text(columns(text)) {
@@ -184,10 +189,11 @@ impl Controls {
         }
     }
 
-    /// Adds what a keyword asks for with its numbers, 36 of them at most.
+    /// Adds the request of a keyword with its numbers, at most 36.
     ///
-    /// It is refused with another count of numbers, past a limit, or a second time where once is
-    /// allowed. After a refusal, and after want of memory, the controls are as before.
+    /// The request is refused if the count of numbers is wrong, if it is past a limit, or if it is
+    /// repeated where only one is allowed. After a refusal, and after a lack of memory, the
+    /// controls are unchanged.
     pub fn ask(&mut self, keyword: Keyword, numbers: &[u64]) -> Addition
         requires { length numbers.now ≤ 36 }
         ensures { Settles self.old self.new
@@ -207,7 +213,7 @@ impl Controls {
         }
     }
 
-    // Adds what the words of a control card ask for.
+    // Adds the request of a control card with this text.
     fn add_text(&mut self, text: &[u8]) -> Addition
         requires { length text.now ≤ 72 }
         ensures { Settles self.old self.new (spec.with_words self.old (words text.now)) result }
@@ -306,7 +312,7 @@ impl Controls {
     }
 }
 
-// Sets a mark that is not set yet, where no numbers stand behind its word.
+// Sets a flag that is not set yet, if no numbers follow its keyword.
 fn set_mark(mark: &mut bool, numbers: &[u64]) -> Addition
     ensures { Marks mark.old mark.new numbers.now result }
 {
@@ -317,7 +323,7 @@ fn set_mark(mark: &mut bool, numbers: &[u64]) -> Addition
     Addition::Added
 }
 
-// The delays that numbers are, where each may be one.
+// The numbers as delays, if each is 1 to 255.
 fn delays_in(numbers: &[u64]) -> Option<ArrayVec<u8, 36>>
     requires { length numbers.now ≤ 36 }
     ensures { option_map (λ v. v.items) result
@@ -336,7 +342,7 @@ fn delays_in(numbers: &[u64]) -> Option<ArrayVec<u8, 36>>
     Some(delays)
 }
 
-// Appends delays.
+// Appends delays to a list.
 fn push_delays(delays: &mut Vec<u8>, more: &[u8]) -> Addition
     ensures { Appends delays.old.items delays.new.items more.now result }
 {
@@ -346,7 +352,7 @@ fn push_delays(delays: &mut Vec<u8>, more: &[u8]) -> Addition
     }
 }
 
-// Appends a signal.
+// Appends a signal to a list.
 fn push_signal(signals: &mut Vec<Signal>, signal: Signal) -> Addition
     ensures { Appends signals.old.items signals.new.items (signal ∷ []) result }
 {

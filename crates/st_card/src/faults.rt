@@ -1,65 +1,68 @@
-//! What may be wrong with a card.
+//! The faults of cards.
 
 ghost use Rattle.std.specs.Prelude.{◌≡◌, ◌≤◌, length};
 ghost use Rattle.st_card.specs.Faults.{name_of};
 
 use arrayvec::ArrayString;
 
-/// Why a card is refused. On one card and in one pass the first fault of this list counts; but
-/// behind the end `CardAfterEnd` comes before `BadName`, and on the 20,001st card `TooManyCards`
-/// before all.
+/// Why a card is refused. If a card has several faults in one pass, the first in this list counts,
+/// with two exceptions: after the END card `CardAfterEnd` precedes `BadName`, and on card 20,001
+/// `TooManyCards` precedes every other fault.
 #[derive(Clone, Copy, Debug, PartialEq, Eq)]
 pub enum Fault {
-    /// A byte is not a blank or a visible character of ASCII.
+    /// A byte is neither a blank nor a visible ASCII character.
     NotAscii,
     /// The card has more than 80 characters.
     CardTooLong,
-    /// Column 1 is wrong, the name is none, or it stands where none may or lacks where one must.
+    /// Column 1 is wrong, the name is malformed, or a name is present where none is allowed or
+    /// absent where one is required.
     BadName,
-    /// There is no such operation.
+    /// The operation is unknown.
     UnknownOperation,
     /// The data description is malformed, not valid, or not allowed with the operation.
     BadDataDescription,
-    /// The progressive form is unknown or not allowed here, or a parenthesis is in excess.
+    /// The progressive form is unknown or not allowed here, or there is an extra parenthesis.
     BadProgressive,
-    /// The operation has another number of fields.
+    /// The number of fields is wrong for the operation.
     BadFieldCount,
-    /// A field is not the expression or number that the operation asks for.
+    /// A field is not the expression or number that the operation requires.
     BadExpression,
-    /// An index field or index part is none, stands where none may, or lacks where one must.
+    /// An index field or index part is malformed, present where none is allowed, or absent where
+    /// one is required.
     BadIndex,
-    /// A number is above the most that may stand there.
+    /// A number is above the greatest value that its place allows.
     NumberTooLarge,
-    /// A control card stands before the end, is unknown, malformed, given twice or past a limit.
+    /// A control card comes before the END card, or is unknown, malformed, repeated or past a
+    /// limit.
     BadControlCard,
-    /// A statement card stands behind the end.
+    /// A statement card comes after the END card.
     CardAfterEnd,
-    /// No card says the end.
+    /// The job has no END card.
     NoEnd,
     /// The job has more than 20,000 cards.
     TooManyCards,
-    /// The name stands on an earlier card.
+    /// An earlier card defines the same name.
     NameTwice,
-    /// No card defines the symbol, and it is no system symbol.
+    /// No card defines the symbol, and it is not a system symbol.
     UndefinedSymbol,
-    /// The symbol has to be defined by an earlier card, and is not.
+    /// The symbol must be defined by an earlier card, and no earlier card defines it.
     SymbolNotEarlier,
-    /// The card defines one name more than a job may have.
+    /// The card defines one name more than a job may define.
     TooManyNames,
     /// The address is outside 0 to 2^24 - 1.
     AddressOutOfRange,
-    /// A value does not fit its place.
+    /// A value does not fit in its field.
     ValueDoesNotFit,
-    /// An address is not on the boundary that its use asks for.
+    /// An address is not on the boundary that its use requires.
     NotOnABoundary,
-    /// A bit is laid or passed outside the words from 32 on that storage has.
+    /// A bit is assembled or skipped outside the words of storage from 32 on.
     LocationOutOfStorage,
-    /// The line does not continue an object text.
+    /// The line is not a valid next line of an object text.
     BadObjectCard,
 }
 
 impl Fault {
-    /// The fault's name, as a refusal prints it.
+    /// The fault's name, as it is printed with the refused card.
     pub fn name(&self) -> ArrayString<32>
         ensures { result.bytes ≡ name_of self.now }
     {
@@ -69,7 +72,7 @@ impl Fault {
     }
 }
 
-// The fault's name as a text.
+// The fault's name as a string.
 fn text_of(fault: Fault) -> &'static str
     ensures text { result.now ≡ name_of fault }
     ensures short { length result.now ≤ 32 }

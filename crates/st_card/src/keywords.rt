@@ -1,4 +1,5 @@
-//! What can be asked for, and the words and numbers of control cards.
+//! The requests that control cards and object texts can make, and the keywords and numbers of
+//! control cards.
 
 ghost use Rattle.std.specs.Prelude.{◌≡◌, ◌≤◌, length};
 ghost use Rattle.std.specs.Option.{option_map};
@@ -10,42 +11,46 @@ use crate::limits::MOST_NUMBER;
 use arrayvec::ArrayVec;
 use st_text::{first_word, number_up_to, row_of};
 
-/// What can be asked for, by control cards and by the lines of an object text; each with the
-/// numbers that it takes.
+/// A kind of request, made by a control card or by a line of an object text. Each variant states
+/// the numbers that it takes.
 #[derive(Clone, Copy, Debug, PartialEq, Eq)]
 pub enum Keyword {
-    /// How many instructions may be done: one number, 1 to 10,000,000; once.
+    /// The budget, the most instructions that the run may complete: one number, 1 to 10,000,000;
+    /// allowed once.
     Budget,
-    /// Delays of storage in ticks: one number or more, each 1 to 255; at most 4,096 delays.
+    /// Delays of storage in ticks: one or more numbers, each 1 to 255; at most 4,096 delays in all.
     Delays,
-    /// A signal: how many instructions are done when it comes, up to 10,000,000 and not below the
-    /// last, and its indicator, 0 to 13; at most 4,096 signals.
+    /// An external signal: the number of completed instructions at which it comes, up to 10,000,000
+    /// and not less than that of the last signal, and its indicator, 0 to 13; at most 4,096
+    /// signals.
     Signals,
-    /// A part of storage that is to be printed: its first and its last word, up to 98,303; at most
-    /// 16 parts.
+    /// A part of storage to be dumped: its first and last word address, up to 98,303; at most 16
+    /// parts.
     Dump,
-    /// A tick at which the machine is to be shown: one number, above the last; at most 64 ticks.
+    /// A tick at which a snapshot of the machine is printed: one number, greater than the last one;
+    /// at most 64 ticks.
     Snap,
-    /// How many instructions are to be stepped back at the end: one number, 1 to 64; once.
+    /// The number of instructions to step back at the end of the run: one number, 1 to 64; allowed
+    /// once.
     Back,
-    /// The listing: no number; once.
+    /// The listing: no number; allowed once.
     Listing,
-    /// A line for each instruction: no number; once.
+    /// The trace, one line for each instruction: no number; allowed once.
     Trace,
-    /// Ticks: no number; once.
+    /// The timing of the run in ticks: no number; allowed once.
     Time,
-    /// The timetable: no number; once.
+    /// The timetable: no number; allowed once.
     Chart,
 }
 
-/// What comes of something that is asked for.
+/// The outcome of adding a request.
 #[derive(Clone, Copy, Debug, PartialEq, Eq)]
 pub enum Addition {
-    /// It was added.
+    /// The request was added.
     Added,
-    /// It was refused, and nothing changed.
+    /// The request was refused, and nothing changed.
     Refused,
-    /// There was no memory for it, and nothing changed.
+    /// There was not enough memory for the request, and nothing changed.
     NoMemory,
 }
 
@@ -62,7 +67,7 @@ const KEYWORDS: [(&[u8], Keyword); 10] = [
     (b"/CHART", Keyword::Chart),
 ];
 
-// The numbers of a control card: 72 columns have no more words than this.
+// The numbers of a control card: 72 columns hold at most 36 words.
 pub(crate) type Numbers = ArrayVec<u64, 36>;
 
 pub(crate) fn keyword_of(word: &[u8]) -> Option<Keyword>
@@ -71,7 +76,7 @@ pub(crate) fn keyword_of(word: &[u8]) -> Option<Keyword>
     row_of(&KEYWORDS, word)
 }
 
-// The numbers that the words of a text are, where each is one.
+// The words of a text as numbers; `None` if a word is not a number.
 pub(crate) fn read_numbers(text: &[u8]) -> Option<Numbers>
     requires { length text.now ≤ 72 }
     ensures { option_map (λ v. v.items) result ≡ card_numbers (words text.now) }
@@ -85,7 +90,7 @@ pub(crate) fn read_numbers(text: &[u8]) -> Option<Numbers>
     Some(numbers)
 }
 
-// The number that a word is: 1 to 12 digits.
+// The number that a word spells with 1 to 12 digits; `None` for any other word.
 fn card_number(word: &[u8]) -> Option<u64>
     ensures { result ≡ card_number word.now }
 {

@@ -1,4 +1,4 @@
-//! The cards of a job, and what its control cards ask for, by the rules of `docs/strap.md`.
+//! The cards of a job and the requests of its control cards, by the rules of `docs/strap.md`.
 #![tactic(auto)]
 
 mod cards;

@@ -1,9 +1,9 @@
-//! The limits of what the control cards of a job ask for, but for those that `st_bits` has.
+//! The limits of control cards' requests, except those that `st_bits` defines.
 
-/// How many parts of storage may be dumped.
+/// The most parts of storage that may be dumped.
 pub const MOST_DUMPS: usize = 16;
 
-/// How many snaps there may be.
+/// The most snapshots that may be requested.
 pub const MOST_SNAPS: usize = 64;
 
 /// The most instructions that `/BACK` steps back.

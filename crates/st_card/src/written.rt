@@ -1,4 +1,4 @@
-//! What is asked for, written one thing a line: as control cards, and in an object text.
+//! The text of requests, one request a line: as control cards, and as lines of an object text.
 
 ghost use Rattle.std.specs.Prelude.{◌≡◌, ◌≤◌, ◌++◌, [], ◌∷◌, OnOk, map, codes, decimal, length};
 ghost use Rattle.arrayvec.specs.ArrayString.{array_string_len};
@@ -9,39 +9,40 @@ use crate::control_cards::{Controls, Signal};
 use st_text::{Line, begun, push_decimal};
 use std::alloc::AllocError;
 
-/// One thing that is asked for, with its numbers, which are those of its `Keyword`.
+/// One request with its numbers. Each variant takes numbers as the `Keyword` of that name does.
 #[derive(Clone, Copy, Debug, PartialEq, Eq)]
 pub enum Control {
-    /// How many instructions may be done.
+    /// The budget: the most instructions that the run may complete.
     Budget(u64),
     /// A delay of storage in ticks.
     Delay(u64),
-    /// A signal: how many instructions are done when it comes, and its indicator.
+    /// An external signal: the number of completed instructions at which it comes, and its
+    /// indicator.
     Signal(u64, u64),
-    /// A part of storage that is to be printed: its first and its last word.
+    /// A part of storage to be dumped: its first and last word address.
     Dump(u64, u64),
-    /// A line for each instruction.
+    /// The trace, one line for each instruction.
     Trace,
-    /// Ticks.
+    /// The timing of the run in ticks.
     Time,
     /// The timetable.
     Chart,
-    /// A tick at which the machine is to be shown.
+    /// A tick at which a snapshot of the machine is printed.
     Snap(u64),
-    /// How many instructions are to be stepped back at the end.
+    /// The number of instructions to step back at the end of the run.
     Back(u64),
 }
 
-/// Where what is asked for is written.
+/// The text in which a request is written.
 #[derive(Clone, Copy, Debug, PartialEq, Eq)]
 pub enum ControlForm {
-    /// On the control cards of a deck.
+    /// A control card of a deck.
     Card,
-    /// On the lines of an object text.
+    /// A line of an object text.
     ObjectLine,
 }
 
-// What a line begins with.
+// The prefix of a line.
 fn front(form: ControlForm) -> &'static str
     ensures text { result.now ≡ spec.front form }
     ensures short { length result.now ≤ 1 }
@@ -52,7 +53,7 @@ fn front(form: ControlForm) -> &'static str
     }
 }
 
-// The word before a delay.
+// The keyword of a delay.
 fn delay_word(form: ControlForm) -> &'static str
     ensures text { result.now ≡ spec.delay_word form }
     ensures short { length result.now ≤ 7 }
@@ -63,7 +64,7 @@ fn delay_word(form: ControlForm) -> &'static str
     }
 }
 
-// A line that begins with a word.
+// A line with a keyword and no number.
 fn worded(form: ControlForm, word: &str) -> Line
     requires { length word.now ≤ 8 }
     ensures text { result.bytes ≡ spec.front form ++ word.now }
@@ -74,7 +75,7 @@ fn worded(form: ControlForm, word: &str) -> Line
     line
 }
 
-// A word and a number.
+// A line with a keyword and one number.
 fn with_number(form: ControlForm, word: &str, n: u64) -> Line
     requires { length word.now ≤ 8 }
     ensures { result.bytes ≡ spec.front form ++ word.now ++ decimal n }
@@ -84,7 +85,7 @@ fn with_number(form: ControlForm, word: &str, n: u64) -> Line
     line
 }
 
-// A word and two numbers.
+// A line with a keyword and two numbers.
 fn with_numbers(form: ControlForm, word: &str, a: u64, b: u64) -> Line
     requires { length word.now ≤ 8 }
     ensures { result.bytes ≡ spec.front form ++ word.now ++ decimal a ++ codes " " ++ decimal b }
@@ -96,7 +97,7 @@ fn with_numbers(form: ControlForm, word: &str, a: u64, b: u64) -> Line
     line
 }
 
-/// The line that asks for one thing, without its line end.
+/// The line of one request, without its line end.
 #[tactic(auto, unfolding(crate::specs::Written::control_line))]
 pub fn control_line(form: ControlForm, control: Control) -> Line
     ensures { result.bytes ≡ spec.control_line form control }
@@ -114,7 +115,7 @@ pub fn control_line(form: ControlForm, control: Control) -> Line
     }
 }
 
-// Appends a line.
+// Appends the line of one request.
 fn push_line(text: &mut Vec<u8>, form: ControlForm, control: Control) -> Result<(), AllocError>
     ensures { let lines = spec.control_line form control ∷ [] in
         OnOk result (text.new.items ≡ text.old.items ++ spec.text_of_lines lines) }
@@ -123,7 +124,7 @@ fn push_line(text: &mut Vec<u8>, form: ControlForm, control: Control) -> Result<
     text.extend_from_slice(b"\n")
 }
 
-// Appends a line where it is asked for.
+// Appends the line of a request if the flag is set.
 fn push_where(
     text: &mut Vec<u8>,
     form: ControlForm,
@@ -202,7 +203,7 @@ fn push_back(text: &mut Vec<u8>, form: ControlForm, back: u8) -> Result<(), Allo
     push_line(text, form, Control::Back(u64::from(back)))
 }
 
-// Appends what is asked for up to the parts of storage.
+// Appends the lines of the budget, delays, signals and parts of storage.
 fn push_orders(text: &mut Vec<u8>, form: ControlForm, controls: &Controls) -> Result<(), AllocError>
     ensures { let lines = spec.orders (spec.control_line form) controls.now in
         OnOk result (text.new.items ≡ text.old.items ++ spec.text_of_lines lines) }
@@ -213,7 +214,7 @@ fn push_orders(text: &mut Vec<u8>, form: ControlForm, controls: &Controls) -> Re
     push_dumps(text, form, controls.dumps.as_slice())
 }
 
-// Appends what is to be shown.
+// Appends the lines of the trace, timing, timetable, snapshots and steps back.
 fn push_shows(text: &mut Vec<u8>, form: ControlForm, controls: &Controls) -> Result<(), AllocError>
     ensures { let lines = spec.shows (spec.control_line form) controls.now in
         OnOk result (text.new.items ≡ text.old.items ++ spec.text_of_lines lines) }
@@ -225,7 +226,7 @@ fn push_shows(text: &mut Vec<u8>, form: ControlForm, controls: &Controls) -> Res
     push_back(text, form, controls.back)
 }
 
-/// Appends all that is asked for, each line with its line end.
+/// Appends all requests, each line with its line end.
 pub fn push_controls(
     text: &mut Vec<u8>,
     form: ControlForm,

@@ -1,5 +1,5 @@
--- What is true of the ledger of each run: its lines say where the ticks of its rows went, and what
--- they say is so. The machine has the delays ds and n levels, and so many entries may be done.
+-- Laws of the ledger of each run: its lines account for the ticks of its rows, and the facts in
+-- them are true. The machine has the delays ds and n levels, and the run has a budget.
 use Rattle.std.specs.Prelude.{ℕ, ◌≡◌, ◌+◌, ◌≤◌, ◌<◌, true, nat_lt, suc, length, List, [], ◌∷◌, ◌++◌, All, Option}
 use Rattle.std.specs.List.{filter}
 use Rattle.st_state.specs.Machine.{Machine}
@@ -36,7 +36,7 @@ use Rattle.st_causes.specs.Summed.{all_summed}
 -- ---- the text
 
 -- The lines ROW, CHARGE, WAIT, LEVEL, BECAUSE, TICKS and SUM of a ledger are, in this order, those
--- of all its rows, the one line of what all charges add up to, and those of the sums.
+-- of all its rows, one line with the total of all charges, and those of the sums.
 abbrev pub LedgersTellWhereTicksWent : Type 0
 LedgersTellWhereTicksWent = (o : Machine → ℕ → Option Origin) (ds : List ℕ) (n left : ℕ)
     (c : Scene) →
@@ -46,8 +46,8 @@ LedgersTellWhereTicksWent = (o : Machine → ℕ → Option Origin) (ds : List �
     ++ (ticks_line (all_ticks xs) ∷ (totals_lines xs
     ++ wait_totals_lines (λ r s. stalled_from r s ds n left [] (moment_at_start c))))
 
--- Of the n + 1 entries behind a front at most n are prepared by its completion, where each takes a
--- tick at least: so one is begun, and it stands among them.
+-- Of the n + 1 entries after a front, at most n are prepared by the completion of the front, if
+-- each takes at least one tick; so one of them has begun and is not yet prepared.
 abbrev pub OneEntryIsBegun : Type 0
 OneEntryIsBegun = (ds : List ℕ) (n : ℕ) (t : Option ℕ) (s : Machine) (f : Front) → 1 ≤ n → n ≤ 8 →
     All (λ (a : Ahead). 1 ≤ a.entry.cost) (ahead ds n (suc n) t s f) →
@@ -55,12 +55,12 @@ OneEntryIsBegun = (ds : List ℕ) (n : ℕ) (t : Option ℕ) (s : Machine) (f : 
 
 -- ---- sums
 
--- The seven sums of stages, of which lines SUM are written, add up to the ticks.
+-- The seven totals of stages, which the SUM lines contain, add up to the ticks of the run.
 abbrev pub StageSumsAddUp : Type 0
 StageSumsAddUp = (xs : List Charge) →
     all_summed (sums_by (λ s. ticks_for s xs) stages) ≡ all_ticks xs
 
--- Of a stage that has waits the sums of waits add up to that of its charges.
+-- For each stage with waits, the totals of its waits add up to the total of its charges.
 abbrev pub WaitSumsAddUp : Type 0
 WaitSumsAddUp = (ds : List ℕ) (n left : ℕ) (c : Scene) (s : Stage) →
     IsScene c →
@@ -72,11 +72,11 @@ WaitSumsAddUp = (ds : List ℕ) (n left : ℕ) (c : Scene) (s : Stage) →
 
 -- ---- the words that rows use
 
--- What is told of the words of a row is so: its reads are those that the timetable makes of it, in
--- their order and with their ticks; a word that is held has a read of that word before it in its
--- segment, whose answer it has; and one that is forwarded comes from the row that is told, which
--- writes it and is done then. A read finds its bank busy up to the answer of the last read in it
--- before, or as long as it was when the segment began.
+-- The facts about the words that a row uses are true. Its reads are those of the timetable, in
+-- their order and with their ticks. For a word that is held, a read of that word precedes it in its
+-- segment, and the word has the answer of that read. A word that is forwarded comes from the row
+-- that the line names, which writes it and completes at that tick. The bank of a read is busy up to
+-- the answer of the previous read in it, or as long as it was at the start of the segment.
 pub record UsesOfARunAreTrue : Type 0 where
   pub read : (ds : List ℕ) (n left : ℕ) (c : Scene) → IsScene c →
       All (λ (r : ToldRow). reads_told r.uses
@@ -92,23 +92,23 @@ pub record UsesOfARunAreTrue : Type 0 where
 
 -- ---- waits
 
--- Each wait of a row is true at each of its ticks: at a TURN the read that it names is accepted, at
--- a BANK that read is wanted and first in turn and its bank is busy, and it is accepted at the end;
--- at a STORAGE it is on its way. These reads are among those of its segment.
+-- Each wait of a row is true at each of its ticks. In a TURN the named read is accepted; in a BANK
+-- that read is wanted and first in turn, its bank is busy, and it is accepted at the end; in a
+-- STORAGE the read is in progress. The reads are among those of the row's segment.
 abbrev pub WaitsOfARunAreTrue : Type 0
 WaitsOfARunAreTrue = (ds : List ℕ) (n left : ℕ) (c : Scene) →
     IsScene c →
     All (λ (r : ToldRow). All (λ (x : Charge). All (IsTrueOf r.segment)
     (charge_waits x r.uses r.before)) (charges_at ds n r.standing)) (told_of ds n left c)
 
--- The waits of a charge cover it, without a gap and without an overlap.
+-- The waits of a charge cover its ticks without a gap and without an overlap.
 abbrev pub WaitsOfARunCoverTheirCharges : Type 0
 WaitsOfARunCoverTheirCharges = (ds : List ℕ) (n left : ℕ) (c : Scene) →
     IsScene c →
     All (λ (r : ToldRow). All (λ (x : Charge). is_parted x.stage ≡ true → FallTo x.from x.to
     (charge_waits x r.uses r.before)) (charges_at ds n r.standing)) (told_of ds n left c)
 
--- Each read that is named was accepted before its row is done: it is one with MADE 1.
+-- Each read that a wait names was accepted before its row completes, so its line has MADE 1.
 abbrev pub NamedReadsAreMade : Type 0
 NamedReadsAreMade = (ds : List ℕ) (n left : ℕ) (c : Scene) →
     IsScene c →
@@ -119,16 +119,17 @@ NamedReadsAreMade = (ds : List ℕ) (n left : ℕ) (c : Scene) →
 
 -- ---- reasons
 
--- A reason is told of a row exactly where it has other ticks than those of executing.
+-- The ledger has a BECAUSE line for a row if and only if the row has charges other than EXECUTING.
 abbrev pub ReasonsStandWhereTicksAreLost : Type 0
 ReasonsStandWhereTicksAreLost = (ds : List ℕ) (n left : ℕ) (c : Scene) →
     All (λ (r : ToldRow). nat_lt r.standing.tick (next_row ds n r.standing).r
     ≡ nat_lt (ticks_for Executing (charges_at ds n r.standing))
     (all_ticks (charges_at ds n r.standing))) (told_of ds n left c)
 
--- What is told to have kept a row back did: a level, a row that its index-side word came from, or
--- where the path behind its address ends, with its row, its tick, and by how much it was late. Of
--- what came at that tick it is the first in the order of the page.
+-- The cause that a BECAUSE line names did delay the row: a level, a row that wrote its index-side
+-- word, or the end of the path that leads back from its address, with its row, its tick, and the
+-- number of ticks that the row was later for it. If several causes came at that tick, it is the
+-- first in the order of the page.
 abbrev pub ReasonsOfARunAreTrue : Type 0
 ReasonsOfARunAreTrue = (ds : List ℕ) (n left : ℕ) (c : Scene) →
     IsScene c → 1 ≤ n → n ≤ 8 →

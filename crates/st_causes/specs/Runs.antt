@@ -1,4 +1,4 @@
--- The rows of a run, as the ledger tells where their ticks went. The machine has the delays ds and n
+-- The rows of a run as the ledger accounts for their ticks. The machine has the delays ds and n
 -- levels.
 use Rattle.std.specs.Prelude.{ℕ, zero, suc, ◌+◌, if◌then◌else◌, List, [], ◌∷◌, ◌++◌, reverse}
 use Rattle.st_exec.specs.Step.{rests, address}
@@ -14,16 +14,16 @@ use Rattle.st_lines.specs.EntryLines.{level_lines}
 use Rattle.st_lines.specs.WaitLines.{charged_lines, because_lines}
 use Rattle.st_account.specs.Text.{formed_at, uses_at, words_before}
 
--- a row: where the run stands before it, the words that it uses, those of the row before it in its
--- segment, and those of the segment up to and with it, youngest first
+-- a row: the state of the run before it, the words that it uses, the words of the previous row in
+-- its segment, and the words of all rows of the segment up to and including it, youngest first
 pub record ToldRow : Type 0 where
   pub standing : Standing
   pub uses : List Use
   pub before : List Use
   pub segment : List Use
 
--- from a moment on, in which so many entries may still be done; the last one used some words, and so
--- did its segment
+-- the rows from a moment on with a remaining budget, given the words that the previous entry and
+-- its segment so far have used
 unfoldable pub told_from : List ℕ → ℕ → ℕ → List Use → List Use → Moment → List ToldRow
 told_from ds n zero us segment m = []
 told_from ds n (suc left) us segment m =
@@ -37,19 +37,19 @@ told_from ds n (suc left) us segment m =
 abbrev pub told_of : List ℕ → ℕ → ℕ → Scene → List ToldRow
 told_of ds n left c = told_from ds n left [] [] (moment_at_start c)
 
--- ---- what is told of a row
+-- ---- the facts about a row
 
--- for how many ticks it waited for a level
+-- the number of ticks for which the next row waits for a level
 abbrev pub wait_at : List ℕ → ℕ → Standing → ℕ
 wait_at ds n p = level_wait ds n p.front (entry_of_moment p)
 
--- what kept it back, where the row before it uses some words
+-- the cause that delays the next row, given the words that the previous row uses
 abbrev pub because_at : List ℕ → ℕ → List Use → Standing → Because
 because_at ds n before p = because p.front (entry_of_moment p) (next_row ds n p).a
     (next_row ds n p).p (wait_at ds n p) (formed_at ds p) before
 
--- the lines that tell where its ticks went: the row, each charge with its waits behind it, its wait
--- for a level, and what kept it back
+-- the lines that account for the ticks of a row: the row, each charge followed by its waits, its
+-- wait for a level, and the cause that delayed it
 unfoldable pub lines_of_row : List ℕ → ℕ → ToldRow → List (List ℕ)
 lines_of_row ds n r =
     let p = r.standing in
@@ -60,7 +60,7 @@ lines_of_row ds n r =
     ++ (level_lines (wait_at ds n p)
     ++ because_lines (s.done + 1) p.tick row.r (because_at ds n r.before p)))
 
--- of several
+-- the lines that account for the ticks of several rows
 unfoldable pub lines_of_rows : List ℕ → ℕ → List ToldRow → List (List ℕ)
 lines_of_rows ds n [] = []
 lines_of_rows ds n (r ∷ rs) = lines_of_row ds n r ++ lines_of_rows ds n rs

@@ -1,3 +1,3 @@
-//! Laws alone: whether what the ledger of a run tells of each tick is true, and whether its lines say
-//! just that.
+//! A crate of laws only: the facts in a run's ledger about each tick are true, and its lines
+//! contain exactly those facts.
 #![tactic(auto)]

@@ -6,20 +6,20 @@ use Rattle.clap.specs.Simple.{on_top}
 use Rattle.st_command.specs.Command.{command_named, command_with}
 use Rattle.st_command.specs.declared.command.Command.{Command}
 
--- whether a word may be an argument: it is not empty, and does not begin with `-`
+-- whether a word can be an argument: it is not empty and does not begin with `-`
 abbrev pub is_plain : List ℕ → Bool
 is_plain [] = false
 is_plain (c ∷ cs) = not (c == minus_sign)
 
--- a program that takes three words; the first of a command line is one of them, and not its name
+-- a program with three words as arguments; the first word of a command line is an argument, not the
+-- program's name
 abbrev pub three_words : App
 three_words =
     with_rule (with_rule (with_rule (on_top (λ shape. record shape { no_binary_name = true })
     (new_app (codes "stretch")))
     (new_rule (codes "command"))) (new_rule (codes "number"))) (new_rule (codes "cards"))
 
--- the command that three arguments are: none of them has to be there, but a seed comes with a
--- number of cards
+-- the command that three optional arguments give; a seed requires a number of cards
 abbrev pub command_by : Option (List ℕ) → Option (List ℕ) → Option (List ℕ) → Option Command
 command_by command None None = option_and_then command_named command
 command_by command None (Some cards) = None

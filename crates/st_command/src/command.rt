@@ -1,4 +1,4 @@
-//! The words of a command line.
+//! Parses the words of a command line.
 ghost use Rattle.std.specs.Prelude.{◌≡◌, ◌<◌, ◌≤◌, IfOk, MatchOption, None, Ok, false, true, length, map, option_map};
 ghost use Rattle.std.specs.List.{list_all};
 ghost use Rattle.std.specs.String.{string_bytes};
@@ -12,7 +12,7 @@ use st_bits::NoMemory;
 use st_text::{Reading, read_number};
 use std::alloc::{AllocError, Global};
 
-/// What the words of a command line ask for.
+/// The command that the words of a command line request.
 #[derive(Clone, Copy, Debug, PartialEq, Eq)]
 pub enum Command {
     /// Read a job, run it and write its report.
@@ -21,10 +21,10 @@ pub enum Command {
     Assemble,
     /// Read an object text, run it and write its report.
     Load,
-    /// Read an object text and write the deck that assembles to it.
+    /// Read an object text and write a deck that assembles to it.
     Disassemble,
     /// Assemble a deck, run it with an empty reader on machines of one to eight levels, and write
-    /// the ticks of each run.
+    /// the number of ticks of each run.
     Sweep,
     /// Make the deck of a seed with 1 to 4,000 drawn cards, run it and write its report.
     Soak {
@@ -41,10 +41,10 @@ const MOST_WORDS: usize = 3;
 // The most digits of a number.
 const MOST_DIGITS: usize = 20;
 
-/// The most drawn cards of a made deck.
+/// The most drawn cards of a generated deck.
 pub const MOST_MADE_CARDS: u64 = 4_000;
 
-// Whether a word may be an argument: it is not empty, and does not begin with `-`.
+// Whether a word can be an argument: it is not empty and does not begin with `-`.
 fn is_plain(word: &str) -> bool
     ensures { result ≡ is_plain_of word.now }
 {
@@ -54,7 +54,7 @@ fn is_plain(word: &str) -> bool
     }
 }
 
-// Whether each word may be an argument.
+// Whether each word can be an argument.
 fn are_plain(words: &[String]) -> bool
     ensures { result ≡ list_all is_plain_of (map string_bytes words.now) }
 {
@@ -68,7 +68,7 @@ fn are_plain(words: &[String]) -> bool
     true
 }
 
-// A command line of three words, none of which has to be there.
+// A parser for three optional words.
 fn three<'a>(alloc: Global) -> Result<Parser<'a>, AllocError>
     ensures { IfOk result (λ parser. app_of parser ≡ three_words) }
 {
@@ -79,7 +79,7 @@ fn three<'a>(alloc: Global) -> Result<Parser<'a>, AllocError>
         .arg(Arg::new(alloc, "cards"))
 }
 
-// The command that a word is by itself.
+// The command that a single word names.
 fn command_named_by(word: &str) -> Option<Command>
     ensures { result ≡ command_named word.now }
 {
@@ -93,7 +93,7 @@ fn command_named_by(word: &str) -> Option<Command>
     }
 }
 
-// The number that a word of 1 to 20 decimal digits is, where it is from `least` to `most`.
+// The number that a word of 1 to 20 decimal digits spells, if it is from `least` to `most`.
 #[tactic(auto, unfolding(crate::specs::Command::number_between))]
 fn number_by(word: &str, least: u64, most: u64) -> Option<u64>
     ensures value { result ≡ number_between least most word.now }
@@ -109,7 +109,7 @@ fn number_by(word: &str, least: u64, most: u64) -> Option<u64>
     }
 }
 
-// The command that a word is with a seed and a number of cards.
+// The command that a word, a seed and a number of cards give.
 fn command_with_by(word: &str, number: &str, cards: &str) -> Option<Command>
     ensures { result ≡ command_with word.now number.now cards.now }
 {
@@ -124,7 +124,7 @@ fn command_with_by(word: &str, number: &str, cards: &str) -> Option<Command>
     })
 }
 
-// The command that three arguments are.
+// The command that three optional arguments give.
 fn command_by(command: Option<&str>, number: Option<&str>, cards: Option<&str>) -> Option<Command>
     ensures { result ≡ command_by_of (option_map (λ s. s.now) command.entry)
         (option_map (λ s. s.now) number.entry) (option_map (λ s. s.now) cards.entry) }
@@ -143,7 +143,7 @@ fn is_memory(error: &Error) -> bool
     matches!(error.kind(), ErrorKind::OutOfMemory)
 }
 
-// The command that one to three plain words are.
+// The command that one to three plain words give.
 fn read_arguments(alloc: Global, words: &[String]) -> Result<Option<Command>, NoMemory>
     requires some { 1 ≤ length words.now }
     requires few { length words.now ≤ 3 }
@@ -164,9 +164,9 @@ fn read_arguments(alloc: Global, words: &[String]) -> Result<Option<Command>, No
     }
 }
 
-/// The command that the words are; None where they mean nothing. The one error is that memory ran
-/// out, and it never comes where a word is empty or begins with `-`, nor where there are no words
-/// or more than three.
+/// The command that the words give; `None` if they are invalid. The only error is that memory ran
+/// out. It does not occur if a word is empty or begins with `-`, if there are no words, or if there
+/// are more than three.
 pub fn read_words(alloc: Global, words: &[String]) -> Result<Option<Command>, NoMemory>
     ensures ok { IfOk result (λ command. command ≡ command_of (map string_bytes words.now)) }
     ensures plain { list_all is_plain_of (map string_bytes words.now) ≡ false → result ≡ Ok None }

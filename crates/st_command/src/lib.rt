@@ -1,4 +1,4 @@
-//! The words of a command line, and the command that they are. `docs/machine.md` has the rules.
+//! The words of a command line, and the command that they request. `docs/machine.md` has the rules.
 #![tactic(auto)]
 
 mod command;

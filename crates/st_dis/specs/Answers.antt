@@ -1,4 +1,4 @@
--- What the disassembler answers.
+-- The errors of the disassembler.
 use Rattle.std.specs.Prelude.{◌≡◌, ◌<◌, ⊤}
 use Rattle.st_bits.specs.declared.limits.TheConstants.{MOST_CARDS}
 use Rattle.st_object.specs.Object.{Program}
@@ -6,7 +6,8 @@ use Rattle.st_dis.specs.Deck.{card_count}
 use Rattle.st_dis.specs.declared.disassembling.DisError.{DisError}
 use Rattle.st_dis.specs.declared.disassembling.DisError.TheVariants.{TooManyCards, NoMemory}
 
--- why there is no deck: it would have more than 20,000 cards, which are counted, or memory ran out
+-- why there is no deck: it would have more than 20,000 cards, and the error has their number, or
+-- memory ran out
 abbrev pub Explains : Program → DisError → Type 0
 Explains p (TooManyCards cards) = (cards ≡ card_count p) × (MOST_CARDS < cards)
 Explains p NoMemory = ⊤

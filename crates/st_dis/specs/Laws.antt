@@ -1,4 +1,4 @@
--- What holds of the cards of a deck, and not of one call.
+-- Laws of the cards of a deck, regardless of single calls.
 use Rattle.std.specs.Prelude.{◌≡◌, ◌≤◌, ◌<◌, ◌*◌, ◌^◌, ◌++◌, ℕ, [], ◌∷◌, All, map, true, false, None, Some, Ok}
 use Rattle.st_bits.specs.declared.limits.TheConstants.{MOST_CARDS, WORDS}
 use Rattle.st_text.specs.Bytes.{line_end, is_printable}
@@ -15,42 +15,42 @@ use Rattle.st_dis.specs.Deck.{location_statement, end_text, control_cards, deck_
 use Rattle.st_dis.specs.Spelling.{statements_of}
 use Rattle.st_dis.specs.Read.{bits_of_length, laid_together, CardsLead}
 
--- The statements of a word have no fault, and read and laid one behind the other they give its 64
--- bits.
+-- The statements of a word have no fault, and the bits that they assemble to, concatenated, are the
+-- word's 64 bits.
 abbrev pub StatementsLayTheirWord : Type 0
 StatementsLayTheirWord = (word : ℕ) → word < 2 ^ 64 →
     laid_together (statements_of word) ≡ Some (bits_of_length 64 word)
 
--- The card before a run of words sets the location to the first of them, and the end gives the
--- start: both as bit addresses.
+-- The card before a run of words sets the location counter to the first of them, and END gives the
+-- start; both operands are bit addresses.
 pub record PlacesComeBack : Type 0 where
   pub location : (w : ℕ) → w < WORDS →
       statement_of [] (location_statement w) ≡ Ok (SetLocation (number_expr (64 * w)))
   pub start : (start : ℕ) → start < 2 ^ 19 →
       statement_of [] (end_text start) ≡ Ok (End (number_expr (32 * start)))
 
--- The control cards of a deck are good, and added one after the other they ask for what the program
--- asks for.
+-- The control cards of a deck are accepted one by one, and together they make the requests of the
+-- program.
 abbrev pub ControlsComeBack : Type 0
 ControlsComeBack = (asked : Asked) → IsWithinLimits asked → 1 ≤ asked.budget → asked.list ≡ false →
     CardsLead nothing_asked (control_cards asked) asked
 
--- The cards of a deck have nothing but blanks and visible characters of ASCII, and they are the
--- pieces of its text between its line ends.
+-- The cards of a deck have only blanks and visible ASCII characters, and they are the pieces of its
+-- text between its line ends.
 pub record CardsAreLines : Type 0 where
   pub printable : (p : Program) → All (λ card. is_printable card ≡ true) (deck_cards p)
   pub lines : (p : Program) → pieces_of line_end (deck_text p) ≡ deck_cards p ++ [] ∷ []
 
--- An assembler cuts a deck that it can take into its cards: each has its text, and none has a fault
--- by itself.
+-- A deck within the assembler's limits is split into its cards: each has its text, and none has a
+-- fault by itself.
 pub record DecksAreCutIntoTheirCards : Type 0 where
   pub texts : (p : Program) → IsProgram p → AreWords p.words → card_count p ≤ MOST_CARDS →
       map (text_in (deck_text p)) (cards_of (deck_text p)) ≡ deck_cards p
   pub good : (p : Program) → IsProgram p → AreWords p.words → card_count p ≤ MOST_CARDS →
       All (λ card. card.fault ≡ None) (cards_of (deck_text p))
 
--- The deck of a program assembles to the program: the same words of storage, the same start, and
--- the same that is asked for.
+-- The deck of a program assembles to the program: its words of storage, its start, and its
+-- requests.
 abbrev pub DecksAssembleToTheirProgram : Type 0
 DecksAssembleToTheirProgram = (p : Program) → IsProgram p → AreWords p.words → card_count p
     ≤ MOST_CARDS →

@@ -1,4 +1,4 @@
--- Which instructions have a spelling, and the cards of a word.
+-- The choice of instructions that have a spelling, and the statements of a word.
 use Rattle.std.specs.Prelude.{ℕ, ◌+◌, ◌*◌, ◌/◌, ◌%◌, ◌^◌, ◌==◌, ◌&&◌, Bool, false, nat_le, List, [], ◌∷◌, ◌++◌, length, codes, decimal, Option, Some, None, if◌then◌else◌}
 use Rattle.st_format.specs.Halves.{is_full}
 use Rattle.st_format.specs.Formats.{instruction_of, is_valid}
@@ -7,21 +7,22 @@ use Rattle.st_asm.specs.Alone.{laid_alone}
 use Rattle.st_asm.specs.declared.alone.LaidBits.{LaidBits}
 use Rattle.st_dis.specs.Texts.{instruction_text}
 
--- whether something is laid, and it is these bits
+-- whether the assembled bits are present and equal to these bits
 abbrev pub is_laid : LaidBits → Option LaidBits → Bool
 is_laid wanted None = false
 is_laid wanted (Some laid) = laid.length == wanted.length && laid.bits == wanted.bits
 
--- whether a text has a card's room, and read and laid gives these bits
+-- whether a text fits on a card and assembles to these bits
 abbrev pub says : List ℕ → LaidBits → Bool
 says text wanted = nat_le (length text) 63 && is_laid wanted (laid_alone [] text)
 
--- the spelling of an instruction: its text, where it is valid and its text says its bits
+-- the spelling of an instruction: its text, if the instruction is valid and the text assembles to
+-- its bits
 unfoldable pub spelling_of : Instr → LaidBits → Option (List ℕ)
 spelling_of instr wanted = if is_valid instr && says (instruction_text instr) wanted
     then Some (instruction_text instr) else None
 
--- the spelling of a word that is one instruction
+-- the spelling of a full-word instruction, given its two halves
 abbrev pub word_spelling : ℕ → ℕ → Option (List ℕ)
 word_spelling left right =
     if is_full left
@@ -29,24 +30,24 @@ word_spelling left right =
     (record { length = 64; bits = left * 2 ^ 32 + right })
     else None
 
--- the spelling of a half-word that is an instruction by itself
+-- the spelling of a half-word instruction
 abbrev pub half_spelling : ℕ → Option (List ℕ)
 half_spelling half =
     if is_full half then None else spelling_of (instruction_of half 0)
     (record { length = 32; bits = half })
 
--- a word as a number
+-- a word as a DD statement
 abbrev pub number_text : ℕ → List ℕ
 number_text word = codes "DD(BU,64)," ++ decimal word
 
--- the statements of a word by the spelling of the whole of it and of its halves
+-- the statements of a word, given the spellings of the whole word and of its halves
 abbrev pub statements_by : ℕ → Option (List ℕ) → Option (List ℕ) → Option (List ℕ) → List (List ℕ)
 statements_by word (Some whole) left right = whole ∷ []
 statements_by word None (Some left) (Some right) = left ∷ right ∷ []
 statements_by word None (Some left) None = number_text word ∷ []
 statements_by word None None right = number_text word ∷ []
 
--- the statements of a word: one instruction, two of a half-word each, or a number
+-- the statements of a word: one full-word instruction, two half-word instructions, or a number
 unfoldable pub statements_of : ℕ → List (List ℕ)
 statements_of word =
     let left = word / 2 ^ 32 in

@@ -13,19 +13,19 @@ use Rattle.st_dis.specs.Names.{half_name, branch_name, field_name, negation, kin
 abbrev pub index_field_text : ℕ → List ℕ
 index_field_text j = codes ",$X" ++ decimal j
 
--- the index part of an address, where it has one
+-- the index part of an address; empty if it has none
 abbrev pub index_part_text : ℕ → List ℕ
 index_part_text i = if i == 0 then [] else codes "($X" ++ decimal i ++ codes ")"
 
--- a half-word address as a field
+-- a half-word address with an optional index part as a field
 abbrev pub half_field : ℕ → ℕ → List ℕ
 half_field address i = codes "," ++ half_address address ++ index_part_text i
 
--- a bit address as a field
+-- a bit address with an optional index part as a field
 abbrev pub bit_field : ℕ → ℕ → List ℕ
 bit_field address i = codes "," ++ bit_address address ++ index_part_text i
 
--- a second address as a field
+-- a second address, a half-word address without index part, as a field
 abbrev pub second_field : ℕ → List ℕ
 second_field second = codes "," ++ half_address second
 
@@ -33,45 +33,47 @@ second_field second = codes "," ++ half_address second
 abbrev pub number_field : ℕ → List ℕ
 number_field n = codes "," ++ decimal n
 
--- an offset as a field, where it is not 0
+-- an offset as a field; empty if it is 0
 abbrev pub offset_field : ℕ → List ℕ
 offset_field offset = if offset == 0 then [] else number_field offset
 
--- whether a list of index words has index word k: it stands in the first 16 of the 19 bits of an
--- address
+-- whether a list of index words contains index word k; the list is in the first 16 of the 19 bits
+-- of an address
 abbrev pub has_index : ℕ → ℕ → Bool
 has_index address k = address / 2 ^ (18 - k) % 2 == 1
 
--- those of the first n index words that a list has, rising
+-- those of the first n index words that a list contains, as fields in increasing order
 unfoldable pub listed_fields : ℕ → ℕ → List ℕ
 listed_fields zero address = []
 listed_fields (suc n) address =
     listed_fields n address ++ (if has_index address n then index_field_text n else [])
 
--- an instruction on an index word: EX has none, R no address, and LVS has a list in its place
+-- the text of an instruction on an index word: EX has no index word, R no address, and LVS a list
+-- in place of the address
 abbrev pub half_text : HalfOp → ℕ → ℕ → ℕ → List ℕ
 half_text Ex address j i = half_name Ex ++ half_field address i
 half_text R address j i = half_name R ++ index_field_text j
 half_text Lvs address j i = half_name Lvs ++ index_field_text j ++ listed_fields 16 address
 half_text op address j i = half_name op ++ index_field_text j ++ half_field address i
 
--- a branch: BEW and NOP have no address
+-- the text of a branch: BEW and NOP have no address
 abbrev pub branch_text : BranchOp → ℕ → ℕ → List ℕ
 branch_text Bew address i = branch_name Bew
 branch_text Nop address i = branch_name Nop
 branch_text op address i = branch_name op ++ half_field address i
 
--- the data description, in full
+-- the data description with all its parts
 abbrev pub description : Bool → Bool → ℕ → ℕ → List ℕ
 description decimal_digits unsigned bits byte =
     codes "(" ++ mode_name decimal_digits unsigned ++ number_field bits ++ number_field byte
     ++ codes ")"
 
--- what stands behind the description: the progressive form, the address and the offset
+-- the text after the data description: the progressive form, the address and the offset
 abbrev pub operand_text : ℕ → ℕ → ℕ → ℕ → List ℕ
 operand_text p address i offset = form_name p ++ bit_field address i ++ offset_field offset
 
--- the text of an instruction; the floating group, and bits that spell none, have no text
+-- the text of an instruction; empty for the floating group and for bits that are not a valid
+-- instruction
 unfoldable pub instruction_text : Instr → List ℕ
 instruction_text (Half op address j i) = half_text op address j i
 instruction_text (Branch op address i) = branch_text op address i

@@ -1,4 +1,4 @@
-//! How many cards a deck has.
+//! Counts the cards of a deck.
 
 ghost use Rattle.std.specs.Prelude.{◌≡◌, ◌≤◌, ◌+◌, ◌*◌, ℕ, List, [], length, if◌then◌else◌};
 ghost use Rattle.st_bits.specs.declared.limits.TheConstants.{WORDS};
@@ -13,7 +13,7 @@ use crate::spelling::{half_spelling, left_half, right_half};
 use st_card::Controls;
 use st_expr::Symbols;
 
-// Whether a word is two instructions, each of which has a spelling.
+// Whether a word is two half-word instructions, each of which has a spelling.
 fn is_pair(symbols: &Symbols, word: u64) -> bool
     requires { symbols.now ≡ [] }
     ensures { length (statements_of word) ≡ (if result then 2 else 1) }
@@ -22,7 +22,7 @@ fn is_pair(symbols: &Symbols, word: u64) -> bool
         && half_spelling(symbols, right_half(word)).is_some()
 }
 
-// How many cards a word has that is not zero, with the word before it.
+// The number of cards of a word that is not zero; `before` is the word before it.
 fn count_filled(symbols: &Symbols, before: u64, word: u64) -> u32
     requires { symbols.now ≡ [] }
     ensures count { result ≡ length (spec.location_cards 0 before) + length (statements_of word) }
@@ -31,7 +31,7 @@ fn count_filled(symbols: &Symbols, before: u64, word: u64) -> u32
     u32::from(before == 0) + if is_pair(symbols, word) { 2 } else { 1 }
 }
 
-// How many cards a word has, with the word before it.
+// The number of cards of a word; `before` is the word before it.
 fn count_placed(symbols: &Symbols, before: u64, word: u64) -> u32
     requires { symbols.now ≡ [] }
     ensures count { result ≡ length (spec.cards_of_word 0 before word) }
@@ -43,7 +43,7 @@ fn count_placed(symbols: &Symbols, before: u64, word: u64) -> u32
     count_filled(symbols, before, word)
 }
 
-// How many cards words have.
+// The number of cards of words.
 fn count_words(symbols: &Symbols, words: &[u64]) -> u32
     requires symbols { symbols.now ≡ [] }
     requires few { length words.now ≤ WORDS }
@@ -61,7 +61,7 @@ fn count_words(symbols: &Symbols, words: &[u64]) -> u32
     count
 }
 
-// How many control cards there are up to those for parts of storage.
+// The number of control cards up to those of parts of storage.
 fn count_orders(controls: &Controls) -> u32
     requires { IsWithinLimits controls.now }
     ensures count { result ≡ length (orders (control_line Card) controls.now) }
@@ -72,7 +72,7 @@ fn count_orders(controls: &Controls) -> u32
     u32::from(controls.budget != 0) + delays + signals + controls.dumps.len() as u32
 }
 
-// One card where it is asked for.
+// One if a flag is set, else zero.
 fn count_mark(asked: bool) -> u32
     ensures count { (card : List ℕ) → result ≡ length (where_asked asked card) }
     ensures few { result ≤ 1 }
@@ -80,7 +80,7 @@ fn count_mark(asked: bool) -> u32
     if asked { 1 } else { 0 }
 }
 
-// How many control cards there are for what is to be shown.
+// The number of control cards from the trace on.
 fn count_shows(controls: &Controls) -> u32
     requires { IsWithinLimits controls.now }
     ensures count { result ≡ length (shows (control_line Card) controls.now) }
@@ -90,7 +90,7 @@ fn count_shows(controls: &Controls) -> u32
     marks + controls.snaps.len() as u32 + u32::from(controls.back != 0)
 }
 
-// How many cards the deck of a program has. The table of symbols is empty.
+// The number of cards in the deck of a program. The symbol table is empty.
 #[tactic(auto, unfolding(crate::specs::Deck::card_count))]
 pub(crate) fn card_count(symbols: &Symbols, words: &[u64], start: u32, controls: &Controls) -> u32
     requires symbols { symbols.now ≡ [] }

@@ -1,4 +1,4 @@
-//! A program as a deck.
+//! Disassembles a program into a deck.
 
 ghost use Rattle.std.specs.Prelude.{◌≡◌, ◌≤◌, IfOk, IfErr, length};
 ghost use Rattle.st_bits.specs.declared.limits.TheConstants.{LONGEST_JOB, MOST_CARDS};
@@ -16,17 +16,17 @@ use std::alloc::Global;
 /// Why a program has no deck.
 #[derive(Clone, Copy, Debug, PartialEq, Eq)]
 pub enum DisError {
-    /// The deck would have more than 20,000 cards: so many.
+    /// The deck would have more than 20,000 cards; `cards` is their number.
     TooManyCards { cards: u32 },
     /// Memory ran out.
     NoMemory,
 }
 
-/// The deck of a program: cards that assemble to it.
+/// Disassembles a program: returns a deck that assembles to it.
 ///
-/// The conditions are those of `st_object::write_object`: 98,304 words, the first 32 zero; a
-/// half-word address below 2^19 as the start; controls within their limits, with a budget, a delay
-/// at least, and no listing. `docs/disassembly.md` has the rules.
+/// The preconditions are those of `st_object::write_object`: 98,304 words, the first 32 zero; a
+/// half-word address below 2^19 as the start; controls within their limits, with a budget, at least
+/// one delay, and no listing. `docs/disassembly.md` has the rules.
 pub fn disassemble(
     alloc: Global,
     words: &[u64],
@@ -35,7 +35,7 @@ pub fn disassemble(
 ) -> Result<Vec<u8>, DisError>
     requires { IsProgram (program words.now start controls.now) }
 
-    // Exactly that deck, where it has few cards.
+    // The result is exactly the specified deck, if that has at most 20,000 cards.
     ensures deck { let p = program words.now start controls.now in
         IfOk result (λ deck. deck.items ≡ deck_text p) }
     ensures few { let p = program words.now start controls.now in

@@ -1,5 +1,5 @@
-//! The disassembler: a program in storage as a deck that assembles to it, by the rules of
-//! `docs/disassembly.md`.
+//! The disassembler: it turns a program in storage into a deck that assembles to it, by the rules
+//! of `docs/disassembly.md`.
 #![tactic(auto, unfolding(crate::specs::Deck::cards_of_word, crate::specs::Deck::deck_text, crate::specs::Spelling::statements_of, crate::specs::Texts::instruction_text))]
 
 mod counting;

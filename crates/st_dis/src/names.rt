@@ -1,4 +1,4 @@
-//! The words by which instructions name their operations.
+//! The mnemonics and modifiers of instructions.
 
 ghost use Rattle.std.specs.Prelude.{◌≡◌, ◌≤◌, length};
 ghost use Rattle.st_text.specs.Numerals.{flag};
@@ -6,7 +6,7 @@ ghost use Rattle.st_dis.specs.Names as spec;
 
 use st_bits::{BranchOp, ConnKind, HalfOp, VflOp};
 
-// An operation of the half-word format.
+// The mnemonic of an operation of the half-word format.
 pub(crate) fn half_name(op: HalfOp) -> &'static str
     ensures name { result.now ≡ spec.half_name op }
     ensures short { length result.now ≤ 5 }
@@ -42,7 +42,7 @@ pub(crate) fn half_name(op: HalfOp) -> &'static str
     }
 }
 
-// A branch.
+// The mnemonic of a branch.
 pub(crate) fn branch_name(op: BranchOp) -> &'static str
     ensures name { result.now ≡ spec.branch_name op }
     ensures short { length result.now ≤ 3 }
@@ -57,7 +57,7 @@ pub(crate) fn branch_name(op: BranchOp) -> &'static str
     }
 }
 
-// An operation on a field.
+// The mnemonic of an operation on a field.
 pub(crate) fn field_name(op: VflOp) -> &'static str
     ensures name { result.now ≡ spec.field_name op }
     ensures short { length result.now ≤ 4 }
@@ -86,7 +86,7 @@ pub(crate) fn field_name(op: VflOp) -> &'static str
     }
 }
 
-// The last letter of a negated operation.
+// The last letter of a negated operation's mnemonic; empty if it is not negated.
 pub(crate) fn negation(negated: bool) -> &'static str
     ensures name { result.now ≡ spec.negation negated }
     ensures short { length result.now ≤ 1 }
@@ -94,7 +94,7 @@ pub(crate) fn negation(negated: bool) -> &'static str
     if negated { "N" } else { "" }
 }
 
-// A connective.
+// The mnemonic of a kind of connective.
 pub(crate) fn kind_name(kind: ConnKind) -> &'static str
     ensures name { result.now ≡ spec.kind_name kind }
     ensures short { length result.now ≤ 2 }
@@ -106,7 +106,7 @@ pub(crate) fn kind_name(kind: ConnKind) -> &'static str
     }
 }
 
-// One or zero.
+// The digit 1 or 0.
 pub(crate) fn digit(one: bool) -> &'static str
     ensures name { result.now ≡ flag one }
     ensures short { length result.now ≤ 1 }
@@ -114,7 +114,7 @@ pub(crate) fn digit(one: bool) -> &'static str
     if one { "1" } else { "0" }
 }
 
-// A move of words.
+// The mnemonic of a move of words.
 pub(crate) fn move_name(swap: bool) -> &'static str
     ensures name { result.now ≡ spec.move_name swap }
     ensures short { length result.now ≤ 4 }
@@ -122,7 +122,7 @@ pub(crate) fn move_name(swap: bool) -> &'static str
     if swap { "SWAP" } else { "T" }
 }
 
-// What becomes of a bit on which a branch was tried.
+// The part of a bit branch's mnemonic that gives the change of the bit.
 pub(crate) fn change_name(change: u8) -> &'static str
     ensures name { result.now ≡ spec.change_name change }
     ensures short { length result.now ≤ 1 }
@@ -135,7 +135,7 @@ pub(crate) fn change_name(change: u8) -> &'static str
     }
 }
 
-// Whether an indicator on which a branch was tried is turned off.
+// The part of an indicator branch's mnemonic that says whether the indicator is turned off.
 pub(crate) fn turning(off: bool) -> &'static str
     ensures name { result.now ≡ spec.turning off }
     ensures short { length result.now ≤ 1 }
@@ -143,7 +143,7 @@ pub(crate) fn turning(off: bool) -> &'static str
     if off { "Z" } else { "" }
 }
 
-// An order to the reader or to the printer.
+// The mnemonic of an order to the reader or to the printer.
 pub(crate) fn order_name(write: bool) -> &'static str
     ensures name { result.now ≡ spec.order_name write }
     ensures short { length result.now ≤ 2 }
@@ -151,7 +151,7 @@ pub(crate) fn order_name(write: bool) -> &'static str
     if write { "WR" } else { "RD" }
 }
 
-// The mode of a field.
+// The mode of a field in a data description.
 pub(crate) fn mode_name(decimal: bool, unsigned: bool) -> &'static str
     ensures name { result.now ≡ spec.mode_name decimal unsigned }
     ensures short { length result.now ≤ 2 }
@@ -164,7 +164,7 @@ pub(crate) fn mode_name(decimal: bool, unsigned: bool) -> &'static str
     }
 }
 
-// A progressive form.
+// The text of a progressive form.
 pub(crate) fn form_name(p: u8) -> &'static str
     ensures name { result.now ≡ spec.form_name p }
     ensures short { length result.now ≤ 7 }

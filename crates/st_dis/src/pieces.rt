@@ -1,4 +1,4 @@
-//! The pieces that the texts of instructions are put together from.
+//! Appends the parts of an instruction's text.
 
 ghost use Rattle.std.specs.Prelude.{◌≡◌, ◌+◌, ◌*◌, ◌≤◌, ◌<◌, ◌++◌, [], decimal, if◌then◌else◌};
 ghost use Rattle.arrayvec.specs.ArrayString.{array_string_len};
@@ -28,7 +28,7 @@ pub(crate) fn push_index_field(line: &mut Line, j: u8)
     push_small(line, j);
 }
 
-// Appends the index part of an address, where it has one.
+// Appends the index part of an address, if it has one.
 fn push_index_part(line: &mut Line, i: u8)
     requires { array_string_len line.old + 7 ≤ 128 }
     ensures text { line.new.bytes ≡ line.old.bytes ++ spec.index_part_text i }
@@ -52,7 +52,7 @@ pub(crate) fn push_second_field(line: &mut Line, second: u32)
     push_half_address(line, second);
 }
 
-// Appends a half-word address as a field.
+// Appends a half-word address with an optional index part as a field.
 pub(crate) fn push_half_field(line: &mut Line, address: u32, i: u8)
     requires { array_string_len line.old + 22 ≤ 128 }
     ensures text { line.new.bytes ≡ line.old.bytes ++ spec.half_field address i }
@@ -62,7 +62,7 @@ pub(crate) fn push_half_field(line: &mut Line, address: u32, i: u8)
     push_index_part(line, i);
 }
 
-// Appends a bit address as a field.
+// Appends a bit address with an optional index part as a field.
 pub(crate) fn push_bit_field(line: &mut Line, address: u32, i: u8)
     requires { array_string_len line.old + 22 ≤ 128 }
     ensures text { line.new.bytes ≡ line.old.bytes ++ spec.bit_field address i }
@@ -83,7 +83,7 @@ pub(crate) fn push_number_field(line: &mut Line, n: u32)
     push_short_decimal(line, n);
 }
 
-// Appends an offset as a field, where it is not 0.
+// Appends an offset as a field, if it is not 0.
 fn push_offset_field(line: &mut Line, offset: u8)
     requires { array_string_len line.old + 11 ≤ 128 }
     ensures text { line.new.bytes ≡ line.old.bytes ++ spec.offset_field offset }
@@ -103,7 +103,7 @@ fn has_index(address: u32, k: u8) -> bool
     (address >> (18 - k)) % 2 == 1
 }
 
-// Appends those of the first index words that a list has.
+// Appends as fields those of the first `count` index words that a list contains.
 pub(crate) fn push_listed_fields(line: &mut Line, count: u8, address: u32)
     requires few { count ≤ 16 }
     requires room { array_string_len line.old + 6 * count ≤ 128 }
@@ -117,7 +117,7 @@ pub(crate) fn push_listed_fields(line: &mut Line, count: u8, address: u32)
     push_listed_field(line, count - 1, address);
 }
 
-// Appends an index word that a list has.
+// Appends index word k as a field, if a list contains it.
 fn push_listed_field(line: &mut Line, k: u8, address: u32)
     requires few { k < 16 }
     requires room { array_string_len line.old + 6 ≤ 128 }
@@ -157,7 +157,7 @@ pub(crate) fn push_description(line: &mut Line, decimal: bool, unsigned: bool, l
     line.push_str(")");
 }
 
-// Appends what stands behind the description.
+// Appends the parts after the data description: progressive form, address and offset.
 pub(crate) fn push_operand(line: &mut Line, p: u8, address: u32, i: u8, offset: u8)
     requires { array_string_len line.old + 40 ≤ 128 }
     ensures text { line.new.bytes ≡ line.old.bytes ++ spec.operand_text p address i offset }

@@ -1,4 +1,4 @@
-//! Which instructions have a spelling.
+//! The choice of instructions that have a spelling.
 
 ghost use Rattle.std.specs.Prelude.{◌≡◌, ◌/◌, ◌%◌, ◌^◌, []};
 ghost use Rattle.std.specs.Option.{option_map};
@@ -10,24 +10,25 @@ use st_expr::Symbols;
 use st_format::{Instr, decode};
 use st_text::Line;
 
-// The most characters that a statement has on a card.
+// The most characters of a statement on a card.
 const MOST_CHARACTERS: usize = 63;
 
-// The first half of a word.
+// The first half-word of a word.
 pub(crate) fn left_half(word: u64) -> u32
     ensures { result ≡ word / 2 ^ 32 }
 {
     (word >> 32) as u32
 }
 
-// The second half.
+// The second half-word of a word.
 pub(crate) fn right_half(word: u64) -> u32
     ensures { result ≡ word % 2 ^ 32 }
 {
     (word % (1 << 32)) as u32
 }
 
-// The spelling of a word that is one instruction. The table of symbols is empty.
+// The statement of a full-word instruction; `None` if these bits have none. The symbol table is
+// empty.
 pub(crate) fn word_spelling(symbols: &Symbols, left: u32, right: u32) -> Option<Line>
     requires { symbols.now ≡ [] }
     ensures { option_map (λ line. line.bytes) result ≡ spec.word_spelling left right }
@@ -43,7 +44,8 @@ pub(crate) fn word_spelling(symbols: &Symbols, left: u32, right: u32) -> Option<
     spelling_of(symbols, decoded.instr, wanted)
 }
 
-// The spelling of a half-word that is an instruction by itself. The table of symbols is empty.
+// The statement of a half-word instruction; `None` if these bits have none. The symbol table is
+// empty.
 pub(crate) fn half_spelling(symbols: &Symbols, half: u32) -> Option<Line>
     requires { symbols.now ≡ [] }
     ensures { option_map (λ line. line.bytes) result ≡ spec.half_spelling half }
@@ -59,7 +61,7 @@ pub(crate) fn half_spelling(symbols: &Symbols, half: u32) -> Option<Line>
     spelling_of(symbols, decoded.instr, wanted)
 }
 
-// The text of an instruction, where it is valid and its text says these bits.
+// The text of an instruction, if the instruction is valid and the text assembles to these bits.
 #[tactic(auto, unfolding(crate::specs::Spelling::spelling_of))]
 fn spelling_of(symbols: &Symbols, instr: Instr, wanted: LaidBits) -> Option<Line>
     requires { symbols.now ≡ [] }
@@ -76,7 +78,7 @@ fn spelling_of(symbols: &Symbols, instr: Instr, wanted: LaidBits) -> Option<Line
     }
 }
 
-// Whether a text has a card's room, and read and laid gives these bits.
+// Whether a text fits on a card and assembles to these bits.
 fn says(symbols: &Symbols, text: &[u8], wanted: LaidBits) -> bool
     requires { symbols.now ≡ [] }
     ensures { result ≡ spec.says text.now wanted }

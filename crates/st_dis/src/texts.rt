@@ -15,7 +15,7 @@ use st_bits::{BranchOp, HalfOp};
 use st_format::Instr;
 use st_text::{Line, begun};
 
-// An instruction on an index word.
+// The text of an instruction on an index word.
 fn half_text(op: HalfOp, address: u32, j: u8, i: u8) -> Line
     ensures { result.bytes ≡ spec.half_text op address j i }
 {
@@ -35,7 +35,7 @@ fn half_text(op: HalfOp, address: u32, j: u8, i: u8) -> Line
     line
 }
 
-// A branch.
+// The text of a branch.
 fn branch_text(op: BranchOp, address: u32, i: u8) -> Line
     ensures { result.bytes ≡ spec.branch_text op address i }
 {
@@ -47,7 +47,7 @@ fn branch_text(op: BranchOp, address: u32, i: u8) -> Line
     line
 }
 
-// The text of an instruction: empty where it has none.
+// The text of an instruction; empty if it has none.
 pub(crate) fn text_of(instr: Instr) -> Line
     ensures { result.bytes ≡ spec.instruction_text instr }
 {

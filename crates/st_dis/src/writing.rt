@@ -1,4 +1,4 @@
-//! Writing a deck.
+//! Writes a deck.
 
 ghost use Rattle.std.specs.Prelude.{◌≡◌, ◌≤◌, ◌++◌, [], ◌∷◌, OnOk, map, codes, decimal, length};
 ghost use Rattle.st_bits.specs.declared.limits.TheConstants.{WORDS};
@@ -32,7 +32,7 @@ fn push_statement(deck: &mut Vec<u8>, text: &Line) -> Result<(), AllocError>
     push_card(deck, text.as_str().as_bytes())
 }
 
-// A word as a number.
+// A word as a `DD` statement.
 fn number_text(word: u64) -> Line
     ensures { result.bytes ≡ codes "DD(BU,64)," ++ decimal word }
 {
@@ -61,7 +61,7 @@ fn push_statements(deck: &mut Vec<u8>, symbols: &Symbols, word: u64) -> Result<(
     }
 }
 
-// Appends a card that sets the location to a word, where the word before is zero.
+// Appends a card that sets the location counter to word `w`, if the word before is zero.
 fn push_location(deck: &mut Vec<u8>, w: u32, before: u64) -> Result<(), AllocError>
     ensures { OnOk result (deck.new.items
         ≡ deck.old.items ++ text_of_lines (spec.location_cards w before)) }
@@ -75,7 +75,7 @@ fn push_location(deck: &mut Vec<u8>, w: u32, before: u64) -> Result<(), AllocErr
     push_statement(deck, &text)
 }
 
-// Appends the cards of a word, with the word before it.
+// Appends the cards of a word; `before` is the word before it.
 fn push_placed(
     deck: &mut Vec<u8>,
     symbols: &Symbols,
@@ -113,7 +113,7 @@ fn push_words(deck: &mut Vec<u8>, symbols: &Symbols, words: &[u64]) -> Result<()
     Ok(())
 }
 
-// Appends the end of the program.
+// Appends the END card.
 fn push_end(deck: &mut Vec<u8>, start: u32) -> Result<(), AllocError>
     ensures { OnOk result (deck.new.items
         ≡ deck.old.items ++ text_of_lines (spec.statement_card (spec.end_text start) ∷ [])) }
@@ -123,7 +123,7 @@ fn push_end(deck: &mut Vec<u8>, start: u32) -> Result<(), AllocError>
     push_statement(deck, &text)
 }
 
-// Appends the cards of a program before its control cards. The table of symbols is empty.
+// Appends the cards of a program before its control cards. The symbol table is empty.
 fn push_program(
     deck: &mut Vec<u8>,
     symbols: &Symbols,
@@ -140,7 +140,7 @@ fn push_program(
     push_end(deck, start)
 }
 
-// The deck of a program. The table of symbols is empty.
+// Appends the deck of a program. The symbol table is empty.
 pub(crate) fn push_deck(
     deck: &mut Vec<u8>,
     symbols: &Symbols,

@@ -1,4 +1,4 @@
--- What each answer of the program says: when it comes, and what was read and written.
+-- The statuses of the program: when each is returned, and the input and output in that case.
 use Rattle.std.specs.Prelude.{◌≡◌, ℕ, ◌+◌, nat_eq, if◌then◌else◌, List, [], ◌∷◌, Option, None, Some}
 use Rattle.st_io.specs.Count.{HasRisen}
 use Rattle.st_io.specs.Input.{InputState, CameWhole, CameWithin, CamePast}
@@ -15,11 +15,11 @@ use Rattle.st_draw.specs.declared.words.Choice.{Choice}
 use Rattle.st_draw.specs.declared.words.PictureKind.{PictureKind}
 use Rattle.st_draw.specs.declared.words.PictureKind.TheVariants.{Svg, Text, Kanata}
 
--- the longest report, in bytes
+-- the most bytes of a report
 abbrev pub report_limit : ℕ
 report_limit = 16000000
 
--- how many of the entries are rows
+-- the number of entries that are rows
 abbrev pub rows_in : List DrawnEntry → ℕ
 rows_in [] = 0
 rows_in (DoneEntry n a p r t c ∷ es) = 1 + rows_in es
@@ -27,21 +27,21 @@ rows_in (Dropped a p end ∷ es) = rows_in es
 rows_in (Taken i t ∷ es) = rows_in es
 rows_in (Shown t ∷ es) = rows_in es
 
--- what is drawn of the entries: nothing, where none of them is a row
+-- the entries to draw: none if none of them is a row
 abbrev pub visible_entries : ℕ → List DrawnEntry → List DrawnEntry
 visible_entries shown entries = if nat_eq shown 0 then [] else entries
 
--- the bytes of a kind of picture
+-- the bytes of a chart of some kind
 abbrev pub picture_of : PictureKind → List ℕ → List DrawnEntry → ℕ → ℕ → List ℕ
 picture_of Svg report entries shown later = svg report entries shown later
 picture_of Text report entries shown later = page_text report entries shown later
 picture_of Kanata report entries shown later = log report entries
 
--- the entries of a report that are asked for
+-- the entries of a report in the requested rows
 abbrev pub entries_asked : Choice → List ℕ → List DrawnEntry
 entries_asked choice report = (timetable choice.part report).entries
 
--- the picture of a report that is asked for
+-- the requested chart of a report
 unfoldable pub picture : Choice → List ℕ → List ℕ
 picture choice report =
     let entries = entries_asked choice report in
@@ -49,13 +49,13 @@ picture choice report =
     picture_of choice.kind report (visible_entries shown entries) shown
     (timetable choice.part report).later
 
--- the status of a picture that was written: that a report has no rows is told
+-- the status of a chart that was written: it says whether the chart has rows
 unfoldable pub picture_status : Choice → List ℕ → Status
 picture_status choice report = if nat_eq (rows_in (entries_asked choice report)) 0 then NoRows
     else Done
 
--- how a picture was written, by the status: wholly; or up to a write that failed; or not at all,
--- for want of memory
+-- how a chart was written, by the status: all of it; or up to a write that failed; or nothing,
+-- because memory ran out
 abbrev pub Writes : Choice → Status → OutputState → OutputState → List ℕ → Type 0
 Writes choice Done before after report = Wrote before after (picture choice report)
     × (picture_status choice report ≡ Done)
@@ -67,14 +67,14 @@ Writes choice Usage before after report = ⊥
 Writes choice ReportTooLong before after report = ⊥
 Writes choice ReadFault before after report = ⊥
 
--- a report was read whole, and its picture written
+-- a report was read completely, and its chart written
 pub record Drew (choice : Choice) (status : Status) (input input' : InputState)
     (before after : OutputState) : Type 0 where
   pub report : List ℕ
   pub read : CameWhole input input' report_limit report
   pub written : Writes choice status before after report
 
--- what a call did to its source and its sink, by the status
+-- the effect of a call on its source and its sink, by the status
 abbrev pub Did : Choice → Status → InputState → InputState → OutputState → OutputState → Type 0
 Did choice Done input input' before after = Drew choice Done input input' before after
 Did choice NoRows input input' before after = Drew choice NoRows input input' before after
@@ -87,8 +87,7 @@ Did choice NoMemory input input' before after =
     CameWithin input input' report_limit × (input'.faults ≡ input.faults) × (after ≡ before)
 Did choice Usage input input' before after = ⊥
 
--- what a call did, by the meaning of its words: words that mean nothing touch neither source nor
--- sink
+-- the effect of a call, given the meaning of its words: invalid words touch neither source nor sink
 abbrev pub IsAnswer : Option Choice → Status → InputState → InputState → OutputState → OutputState →
     Type 0
 IsAnswer None status input input' before after = (status ≡ Usage) × (input' ≡ input)

@@ -1,4 +1,4 @@
--- The axis of a picture: which ticks it shows, and where a tick stands on it.
+-- The axis of a chart: the ticks that it shows, and the position of a tick on it.
 use Rattle.std.specs.Prelude.{ℕ, suc, zero, ◌+◌, ◌-◌, ◌*◌, ◌/◌, ◌^◌, nat_le, min, max, if◌then◌else◌, List, [], ◌∷◌}
 use Rattle.st_draw.specs.declared.axis.Axis.{Axis}
 use Rattle.st_draw.specs.declared.axis.Room.{Room}
@@ -13,18 +13,18 @@ last_tick_of (Dropped a p end) = end
 last_tick_of (Taken i t) = t
 last_tick_of (Shown t) = t
 
--- the first tick of entries; the largest number, where there are none
+-- the first tick of any of the entries; the largest number if there is none
 abbrev pub lowest_tick : List DrawnEntry → ℕ
 lowest_tick [] = 2 ^ 64 - 1
 lowest_tick (e ∷ es) = min (first_tick e) (lowest_tick es)
 
--- the last tick of entries
+-- the last tick of any of the entries
 abbrev pub highest_tick : List DrawnEntry → ℕ
 highest_tick [] = 0
 highest_tick (e ∷ es) = max (last_tick_of e) (highest_tick es)
 
--- the first of 1, 2, 5, 10, 20, .. times a unit of which five or fewer make up a span; fuel times
--- ten is tried
+-- the first of 1, 2, 5, 10, 20, .. times a unit that divides a span into at most five steps; the
+-- unit is multiplied by ten at most `fuel` times
 unfoldable pub step_from : ℕ → ℕ → ℕ → ℕ
 step_from zero unit span = unit
 step_from (suc fuel) unit span =
@@ -33,8 +33,9 @@ step_from (suc fuel) unit span =
     else if nat_le span (25 * unit) then 5 * unit
     else step_from fuel (10 * unit) span
 
--- the axis of entries: from the last round tick before them to their last tick, and at least so
--- many ticks long; its step is 1, 2 or 5 with zeros behind it, and round ticks are multiples of it
+-- the axis of entries: from the last mark before them to their last tick, and at least this number
+-- of ticks long; its step is 1, 2 or 5 followed by zeros, and marks are at the multiples of the
+-- step
 unfoldable pub axis : List DrawnEntry → ℕ → Axis
 axis entries least =
     let low = lowest_tick entries in
@@ -43,16 +44,16 @@ axis entries least =
     let start = low / step * step in
     record { start = start; last = high; step = step; span = max least (high - start) }
 
--- where a tick stands: within the room, in proportion
+-- the x of a tick: within the room, in proportion
 unfoldable pub x_of_tick : Room → Axis → ℕ → ℕ
 x_of_tick room axis tick = room.left + min room.width ((tick - axis.start) * room.width / axis.span)
 
--- the round ticks from one on, up to the last and at most so many
+-- the marked ticks from one on, up to the last and at most a given number of them
 unfoldable pub marks_from : ℕ → ℕ → ℕ → ℕ → List ℕ
 marks_from zero tick step last = []
 marks_from (suc fuel) tick step last = if nat_le tick last then tick
     ∷ marks_from fuel (tick + step) step last else []
 
--- the round ticks of an axis
+-- the marked ticks of an axis
 abbrev pub marks : Axis → List ℕ
 marks axis = marks_from 8 axis.start axis.step axis.last

@@ -1,8 +1,9 @@
--- Text as it may stand between the elements of a picture.
+-- Text that is escaped for use between the elements of a chart.
 use Rattle.std.specs.Prelude.{ℕ, ◌==◌, if◌then◌else◌, List, [], ◌∷◌, ◌++◌, codes}
 use Rattle.st_entries.specs.Plain.{plain_byte}
 
--- a byte: marks that elements are made of are named, others stand as a terminal shows them
+-- a byte in escaped form: markup characters as entities, others in a form that is safe for a
+-- terminal
 abbrev pub escaped_byte : ℕ → List ℕ
 escaped_byte c =
     if c == 60 then codes "&lt;"
@@ -10,7 +11,7 @@ escaped_byte c =
     else if c == 38 then codes "&amp;"
     else plain_byte c ∷ []
 
--- a text, byte by byte
+-- a text in escaped form, byte by byte
 abbrev pub escaped_text : List ℕ → List ℕ
 escaped_text [] = []
 escaped_text (c ∷ cs) = escaped_byte c ++ escaped_text cs

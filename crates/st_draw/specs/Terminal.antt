@@ -1,4 +1,4 @@
--- The picture of a timetable as lines of text.
+-- The chart of a timetable as lines of text.
 use Rattle.std.specs.Prelude.{ℕ, ◌+◌, ◌-◌, nat_lt, max, if◌then◌else◌, List, [], ◌∷◌, ◌++◌, length, replicate, codes, decimal}
 use Rattle.st_draw.specs.Axis.{axis, x_of_tick, marks}
 use Rattle.st_entries.specs.Caption.{first_text, second_text, third_text, widest, with_dots}
@@ -10,25 +10,25 @@ use Rattle.st_draw.specs.declared.terminal.Page.{Page}
 use Rattle.st_entries.specs.declared.timetable.DrawnEntry.{DrawnEntry}
 use Rattle.st_entries.specs.declared.timetable.DrawnEntry.TheVariants.{Done, Dropped, Taken, Shown}
 
--- a text at the right of n places
+-- a text, right-aligned in n characters
 unfoldable pub text_at_right : ℕ → List ℕ → List ℕ
 text_at_right n text = replicate (n - length text) 32 ++ text
 
--- a text at the left of n places
+-- a text, left-aligned in n characters
 unfoldable pub text_at_left : ℕ → List ℕ → List ℕ
 text_at_left n text = plain_text text ++ replicate (n - length text) 32
 
--- three texts in columns, the last one at the left of so many places
+-- three texts in columns; the last one is left-aligned in n characters
 unfoldable pub text_columns : ℕ → List ℕ → List ℕ → List ℕ → List ℕ
 text_columns places first second third =
     text_at_right 7 first ++ text_at_right 10 second ++ codes " " ++ text_at_left places third
     ++ codes " "
 
--- the column in which a tick stands
+-- the column of a tick
 abbrev pub column : Axis → ℕ → ℕ
 column axis tick = x_of_tick (record { left = 0; width = 60 }) axis tick
 
--- the byte of which the bars of a phase are made
+-- the character of which a phase's bars consist
 abbrev pub phase_byte : Phase → ℕ
 phase_byte WaitsForOperands = 46
 phase_byte WaitsForTurn = 45
@@ -40,19 +40,19 @@ abbrev pub stroke : Axis → Span → List ℕ
 stroke axis s = replicate (max (least_width s.phase) (column axis s.to - column axis s.from))
     (phase_byte s.phase)
 
--- the bars of phases, one behind the other
+-- the bars of consecutive phases
 abbrev pub strokes_of : Axis → List Span → List ℕ
 strokes_of axis [] = []
 strokes_of axis (s ∷ ss) = stroke axis s ++ strokes_of axis ss
 
--- the sign of an entry that is a tick of its own
+-- the sign of an interrupt or a snapshot
 abbrev pub sign : DrawnEntry → List ℕ
 sign (Done n a p r t c) = []
 sign (Dropped a p end) = []
 sign (Taken i t) = codes "!"
 sign (Shown t) = codes "|"
 
--- the bars of an entry behind blanks up to its first tick, or its sign
+-- the bars of an entry, after blanks up to its first tick, or its sign
 unfoldable pub strokes : Axis → DrawnEntry → List ℕ
 strokes axis entry = replicate (column axis (first_tick entry)) 32 ++ strokes_of axis (spans entry)
     ++ sign entry
@@ -69,38 +69,39 @@ abbrev pub entry_lines : Page → List ℕ → List DrawnEntry → List ℕ
 entry_lines page report [] = []
 entry_lines page report (e ∷ es) = entry_line page report e ++ entry_lines page report es
 
--- a text behind a line, from a place on; nothing where it would touch the line
+-- a line with a text appended at a column; the line is unchanged if the text would touch it
 abbrev pub put_at : ℕ → List ℕ → List ℕ → List ℕ
 put_at place line text = if nat_lt (length line) place then line
     ++ replicate (place - length line) 32 ++ text else line
 
--- a round tick behind a line, in its column
+-- a line with the number of a marked tick appended, in the tick's column
 abbrev pub line_with_tick : Page → List ℕ → ℕ → List ℕ
 line_with_tick page line tick = put_at (19 + page.places + column page.axis tick) line
     (decimal tick)
 
--- round ticks behind a line, each in its column, but those that would touch the one before
+-- a line with the numbers of marked ticks appended, each in its column, except those that would
+-- touch the previous text
 abbrev pub scale : Page → List ℕ → List ℕ → List ℕ
 scale page line [] = line
 scale page line (tick ∷ ticks) = scale page (line_with_tick page line tick) ticks
 
--- the line above the rows: what its numbers are, and round ticks; or that there is no entry
+-- the line above the rows: the meaning of its numbers, and marked ticks; or that there is no entry
 unfoldable pub head : Page → List DrawnEntry → List ℕ
 head page [] = codes "no rows\n"
 head page (e ∷ es) = scale page (text_at_right (18 + page.places) (codes "ticks")) (marks page.axis)
     ++ codes "\n"
 
--- what the marks mean
+-- the key of the characters in the bars
 unfoldable pub key : List ℕ
 key =
     codes ". waiting for operands  - waiting for its turn  # executing  x dropped\n"
     ++ codes "! interrupt  | snapshot\n"
 
--- the page of entries: its axis, and the places of their third texts
+-- the page of entries: its axis, and the width of their third texts
 abbrev pub page_of : List ℕ → List DrawnEntry → Page
 page_of report entries = record { axis = axis entries 60; places = widest report entries }
 
--- the bytes of a picture as text
+-- the bytes of a chart as text
 unfoldable pub page_text : List ℕ → List DrawnEntry → ℕ → ℕ → List ℕ
 page_text report entries shown later =
     let page = page_of report entries in

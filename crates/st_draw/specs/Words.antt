@@ -1,4 +1,4 @@
--- What the words of a command line ask for.
+-- The meaning of the words of the command line.
 use Rattle.std.specs.Prelude.{ℕ, ◌+◌, ◌-◌, ◌^◌, nat_eq, nat_le, min, ◌&&◌, codes, if◌then◌else◌, List, [], ◌∷◌, Option, None, Some}
 use Rattle.std.specs.Option.{option_map, option_and_then}
 use Rattle.std.specs.Cmp.Lexicographic.{pointwise}
@@ -8,15 +8,15 @@ use Rattle.st_draw.specs.declared.words.Choice.{Choice}
 use Rattle.st_draw.specs.declared.words.PictureKind.{PictureKind}
 use Rattle.st_draw.specs.declared.words.PictureKind.TheVariants.{Svg, Text, Kanata}
 
--- how many rows are drawn at most
+-- the most rows that are drawn
 abbrev pub row_limit : ℕ
 row_limit = 200
 
--- the rows that are drawn where no word names them
+-- the rows that are drawn by default
 abbrev pub first_part : RowRange
 first_part = record { from = 1; to = row_limit }
 
--- the kind of picture that a word is
+-- the kind of chart that a word names
 abbrev pub kind_named : List ℕ → Option PictureKind
 kind_named word =
     if pointwise nat_eq word (codes "svg") then Some Svg
@@ -24,25 +24,25 @@ kind_named word =
     else if pointwise nat_eq word (codes "kanata") then Some Kanata
     else None
 
--- the part from a row to a row: at least one row, and no more than are drawn
+-- the rows from one number to another: at least one row, and at most 200
 abbrev pub part_between : ℕ → ℕ → Option RowRange
 part_between from to =
     if nat_le 1 from && nat_le from to
     then Some (record { from = from; to = min to (from + (row_limit - 1)) })
     else None
 
--- the part that two words name
+-- the rows that two words name
 unfoldable pub part_named : List ℕ → List ℕ → Option RowRange
 part_named from to = option_and_then (λ f. option_and_then (λ t. part_between f t)
     (number_up_to (2 ^ 64 - 1) to)) (number_up_to (2 ^ 64 - 1) from)
 
--- what a word and two numbers ask for
+-- the chart that a word and two numbers request
 abbrev pub choice_of_words : List ℕ → List ℕ → List ℕ → Option Choice
 choice_of_words word from to =
     option_and_then (λ k. option_map (λ p. record { kind = k; part = p }) (part_named from to))
     (kind_named word)
 
--- what the words ask for, or nothing
+-- the chart that the words request, if they are valid
 unfoldable pub picture_choice : List (List ℕ) → Option Choice
 picture_choice [] = Some (record { kind = Svg; part = first_part })
 picture_choice (word ∷ []) = option_map (λ k. record { kind = k; part = first_part })

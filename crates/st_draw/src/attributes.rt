@@ -1,24 +1,25 @@
-//! The attributes of an element: its class, where it stands, and how far it reaches.
+//! The attributes of an element: its class, its position, and its size.
 ghost use Rattle.std.specs.Prelude.{◌≡◌, ◌++◌, IfOk};
 ghost use Rattle.st_draw.specs.Element.{attribute, element_front, corner, size, ends};
 
 use st_entries::push_decimal;
 use std::alloc::AllocError;
 
-/// Where an element stands, and how far it reaches, or where a line ends.
+/// The position and size of an element, or the ends of a line. All numbers are in units of the
+/// drawing.
 #[derive(Clone, Copy)]
 pub struct Area {
-    /// The left edge.
+    /// The left edge, or the x of a line's first end.
     pub x: u128,
-    /// The upper edge.
+    /// The upper edge, or the y of a line's first end.
     pub y: u128,
-    /// The width, or the right end of a line.
+    /// The width, or the x of a line's second end.
     pub across: u128,
-    /// The height, or the lower end of a line.
+    /// The height, or the y of a line's second end.
     pub down: u128,
 }
 
-// Appends a number as the value of an attribute.
+// Appends a number as an attribute with this name.
 fn push_attribute(out: &mut Vec<u8>, name: &[u8], n: u128) -> Result<(), AllocError>
     ensures { IfOk result (λ _. out.new.items ≡ out.old.items ++ attribute name.now n) }
 {
@@ -28,7 +29,7 @@ fn push_attribute(out: &mut Vec<u8>, name: &[u8], n: u128) -> Result<(), AllocEr
     out.extend_from_slice(b"\"")
 }
 
-/// Appends the front of an element, with its class.
+/// Appends the beginning of an element, with its class.
 pub fn push_front(out: &mut Vec<u8>, name: &[u8], class: &[u8]) -> Result<(), AllocError>
     ensures { IfOk result (λ _. out.new.items ≡ out.old.items ++ element_front name.now class.now) }
 {
@@ -38,7 +39,7 @@ pub fn push_front(out: &mut Vec<u8>, name: &[u8], class: &[u8]) -> Result<(), Al
     out.extend_from_slice(b"\"")
 }
 
-/// Appends where an element stands.
+/// Appends the position of an element.
 pub fn push_corner(out: &mut Vec<u8>, x: u128, y: u128) -> Result<(), AllocError>
     ensures { IfOk result (λ _. out.new.items ≡ out.old.items ++ corner x y) }
 {
@@ -46,7 +47,7 @@ pub fn push_corner(out: &mut Vec<u8>, x: u128, y: u128) -> Result<(), AllocError
     push_attribute(out, b" y", y)
 }
 
-/// Appends how far a box reaches.
+/// Appends the size of a box.
 pub fn push_size(out: &mut Vec<u8>, width: u128, height: u128) -> Result<(), AllocError>
     ensures { IfOk result (λ _. out.new.items ≡ out.old.items ++ size width height) }
 {
@@ -54,7 +55,7 @@ pub fn push_size(out: &mut Vec<u8>, width: u128, height: u128) -> Result<(), All
     push_attribute(out, b" height", height)
 }
 
-/// Appends where a line begins and ends.
+/// Appends the two ends of a line.
 pub fn push_ends(out: &mut Vec<u8>, area: Area) -> Result<(), AllocError>
     ensures { IfOk result (λ _. out.new.items ≡ out.old.items
         ++ ends area.x area.y area.across area.down) }

@@ -1,29 +1,29 @@
-//! The axis of a picture: which ticks it shows, and where a tick stands on it.
+//! The axis of a chart: the ticks that it shows, and the position of a tick on it.
 ghost use Rattle.std.specs.Prelude.{◌≡◌, ◌+◌, ◌^◌, ◌≤◌, ◌<◌, ◌++◌, IfOk};
 ghost use Rattle.st_draw.specs.Axis as spec;
 
 use st_entries::{DrawnEntry, first_tick};
 use std::alloc::{AllocError, Global};
 
-/// The ticks that a picture shows.
+/// The ticks that a chart shows.
 #[derive(Clone, Copy)]
 pub struct Axis {
-    /// The tick at its left end.
+    /// The tick at the left end of the axis.
     pub start: u64,
-    /// The last tick of an entry.
+    /// The last tick of any entry.
     pub last: u64,
-    /// How many ticks lie from mark to mark.
+    /// The number of ticks from one mark to the next.
     pub step: u64,
-    /// How many ticks fill the room.
+    /// The number of ticks across the whole axis.
     pub span: u64,
 }
 
-/// The room of an axis across a picture.
+/// The horizontal extent of an axis in a chart.
 #[derive(Clone, Copy)]
 pub struct Room {
-    /// Its left end.
+    /// The x of the left end.
     pub left: u16,
-    /// Its width.
+    /// The width.
     pub width: u16,
 }
 
@@ -39,7 +39,7 @@ fn last_tick(entry: &DrawnEntry) -> u64
     }
 }
 
-// The first tick of entries.
+// The first tick of any of the entries.
 #[tactic(auto, using(crate::proofs::Axes::lowest_bound))]
 fn lowest(entries: &[DrawnEntry]) -> u64
     ensures { result ≡ spec.lowest_tick entries.now }
@@ -53,7 +53,7 @@ fn lowest(entries: &[DrawnEntry]) -> u64
     low
 }
 
-// The last tick of entries.
+// The last tick of any of the entries.
 fn highest(entries: &[DrawnEntry]) -> u64
     ensures { result ≡ spec.highest_tick entries.now }
 {
@@ -66,7 +66,7 @@ fn highest(entries: &[DrawnEntry]) -> u64
     high
 }
 
-// The first of 1, 2, 5, 10, 20, .. times a unit of which five or fewer make up a span.
+// The first of 1, 2, 5, 10, 20, .. times `unit` that divides a span into at most five steps.
 fn step_from(fuel: u8, unit: u64, span: u64) -> u64
     requires { 1 ≤ unit }
     ensures value { result ≡ spec.step_from fuel unit span }
@@ -88,7 +88,7 @@ fn step_from(fuel: u8, unit: u64, span: u64) -> u64
     }
 }
 
-/// The axis of entries, at least so many ticks long.
+/// The axis of entries, at least `least` ticks long.
 pub fn axis_of(entries: &[DrawnEntry], least: u64) -> Axis
     requires { 1 ≤ least }
     ensures value { result ≡ spec.axis entries.now least }
@@ -106,7 +106,7 @@ pub fn axis_of(entries: &[DrawnEntry], least: u64) -> Axis
     }
 }
 
-/// Where a tick stands.
+/// The x of a tick.
 pub fn at(room: Room, axis: Axis, tick: u64) -> u64
     requires { 1 ≤ axis.span }
     ensures value { result ≡ spec.x_of_tick room axis tick }
@@ -117,7 +117,7 @@ pub fn at(room: Room, axis: Axis, tick: u64) -> u64
     u64::from(room.left) + along.min(u128::from(room.width)) as u64
 }
 
-// Appends the round ticks from one on, up to the last and at most so many.
+// Appends the marked ticks from `tick` on, up to the last one and at most `fuel` of them.
 fn push_marks(marks: &mut Vec<u64>, fuel: u8, tick: u128, axis: Axis) -> Result<(), AllocError>
     requires { tick < 2 ^ 65 }
     ensures { IfOk result (λ _. marks.new.items
@@ -130,7 +130,7 @@ fn push_marks(marks: &mut Vec<u64>, fuel: u8, tick: u128, axis: Axis) -> Result<
     push_marks(marks, fuel - 1, tick + u128::from(axis.step), axis)
 }
 
-/// The round ticks of an axis.
+/// The marked ticks of an axis.
 pub fn marks_of(alloc: Global, axis: Axis) -> Result<Vec<u64>, AllocError>
     ensures { IfOk result (λ marks. marks.items ≡ spec.marks axis) }
 {

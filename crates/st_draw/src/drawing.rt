@@ -1,4 +1,4 @@
-//! The picture of a timetable.
+//! The chart of a timetable as SVG.
 #![tactic(auto, unfolding(crate::specs::Drawing::bars, crate::specs::Drawing::caption, crate::specs::Drawing::chart, crate::specs::Drawing::drawing, crate::specs::Drawing::ending_keys, crate::specs::Drawing::foot, crate::specs::Drawing::legend, crate::specs::Drawing::line_keys, crate::specs::Drawing::mark, crate::specs::Drawing::picture_front, crate::specs::Drawing::remark, crate::specs::Drawing::row_elements, crate::specs::Drawing::svg, crate::specs::Drawing::waiting_keys), using(crate::proofs::Elements::elements_joined, crate::proofs::Elements::elements_one))]
 
 ghost use Rattle.std.specs.Prelude.{◌≡◌, ◌+◌, ◌^◌, ◌≤◌, ◌<◌, ◌++◌, IfOk, codes, decimal, max, ◌-◌};
@@ -15,14 +15,14 @@ use crate::sheet::{Sheet, across, sheet_of};
 use st_entries::{DrawnEntry, first_text, push_decimal, second_text, third_text, title};
 use std::alloc::{AllocError, Global};
 
-// An entry, and the upper edge of its row.
+// An entry, and the y of its row's upper edge.
 #[derive(Clone, Copy)]
 struct DrawnRow {
     y: u128,
     entry: DrawnEntry,
 }
 
-// Appends a line down the sheet.
+// Appends a vertical line across the sheet.
 fn push_down(out: &mut Vec<u8>, class: &[u8], sheet: &Sheet, x: u128) -> Result<(), AllocError>
     ensures { IfOk result (λ _. out.new.items ≡ out.old.items
         ++ element_text (Line class.now x 28 x sheet.now.bottom)) }
@@ -36,7 +36,7 @@ fn push_down(out: &mut Vec<u8>, class: &[u8], sheet: &Sheet, x: u128) -> Result<
     push_line(out, class, area)
 }
 
-// Appends a number as a text.
+// Appends a number as a text element.
 fn push_number(alloc: Global, out: &mut Vec<u8>, x: u128, n: u64) -> Result<(), AllocError>
     ensures { IfOk result (λ _. out.new.items ≡ out.old.items
         ++ element_text (Text (codes "m") x 22 (decimal n))) }
@@ -46,7 +46,7 @@ fn push_number(alloc: Global, out: &mut Vec<u8>, x: u128, n: u64) -> Result<(), 
     push_text(out, b"m", Point { x, y: 22 }, number.as_slice())
 }
 
-// Appends a round tick: a line down the sheet and its number above.
+// Appends a marked tick: a vertical line across the sheet with its number above.
 fn push_mark(alloc: Global, out: &mut Vec<u8>, sheet: &Sheet, tick: u64) -> Result<(), AllocError>
     requires { IsSheet sheet.now }
     ensures { IfOk result (λ _. out.new.items ≡ out.old.items
@@ -57,7 +57,7 @@ fn push_mark(alloc: Global, out: &mut Vec<u8>, sheet: &Sheet, tick: u64) -> Resu
     push_number(alloc, out, x, tick)
 }
 
-// Appends round ticks.
+// Appends marked ticks.
 fn push_grid(
     alloc: Global,
     out: &mut Vec<u8>,
@@ -76,7 +76,7 @@ fn push_grid(
     Ok(())
 }
 
-// Appends a line in a row.
+// Appends a horizontal line in a row.
 fn push_along(out: &mut Vec<u8>, class: &[u8], room: Room, y: u128) -> Result<(), AllocError>
     requires { y < 2 ^ 70 }
     ensures { IfOk result (λ _. out.new.items ≡ out.old.items
@@ -91,7 +91,8 @@ fn push_along(out: &mut Vec<u8>, class: &[u8], room: Room, y: u128) -> Result<()
     push_line(out, class, area)
 }
 
-// Appends a tick of its own: a line in its row and one down the sheet.
+// Appends an interrupt or a snapshot: a horizontal line in its row and a vertical one across the
+// sheet.
 fn push_upright(
     out: &mut Vec<u8>,
     class: &[u8],
@@ -108,7 +109,7 @@ fn push_upright(
     push_down(out, class, sheet, across(sheet, tick))
 }
 
-// A bar in the row at y from one place to another, at least so wide.
+// A bar in the row at y from one x to another, at least `least` wide.
 fn bar(y: u128, least: u128, from: u128, to: u128) -> Area
     requires { y < 2 ^ 70 }
     ensures { result ≡ record { x = from; y = y + 3; across = max least (to - from); down = 10 } }
@@ -121,7 +122,7 @@ fn bar(y: u128, least: u128, from: u128, to: u128) -> Area
     }
 }
 
-// Appends what stands in the row of an entry: a bar for each of its phases, or its lines.
+// Appends the contents of an entry's row: a bar for each of its phases, or its lines.
 fn push_bars(
     alloc: Global,
     out: &mut Vec<u8>,
@@ -159,7 +160,7 @@ fn push_bars(
     }
 }
 
-// Appends what stands in front of an entry's bars.
+// Appends the texts in front of an entry's bars.
 fn push_caption(
     alloc: Global,
     out: &mut Vec<u8>,
@@ -196,7 +197,7 @@ fn push_row(
     push_bars(alloc, out, sheet, row)
 }
 
-// Appends the rows of entries, one below the other.
+// Appends the rows of entries, from top to bottom.
 fn push_rows(
     alloc: Global,
     out: &mut Vec<u8>,
@@ -218,7 +219,7 @@ fn push_rows(
     Ok(())
 }
 
-// Appends what the boxes of those that wait mean.
+// Appends the keys of the boxes of entries that wait.
 fn push_waiting_keys(out: &mut Vec<u8>, y: u128) -> Result<(), AllocError>
     requires { y < 2 ^ 71 }
     ensures { IfOk result (λ _. out.new.items ≡ out.old.items
@@ -228,7 +229,7 @@ fn push_waiting_keys(out: &mut Vec<u8>, y: u128) -> Result<(), AllocError>
     push_box_key(out, b"t", 186, y, b"waiting for its turn")
 }
 
-// Appends what the boxes of those that wait no longer mean.
+// Appends the keys of the boxes of entries that execute or are dropped.
 fn push_ending_keys(out: &mut Vec<u8>, y: u128) -> Result<(), AllocError>
     requires { y < 2 ^ 71 }
     ensures { IfOk result (λ _. out.new.items ≡ out.old.items
@@ -238,7 +239,7 @@ fn push_ending_keys(out: &mut Vec<u8>, y: u128) -> Result<(), AllocError>
     push_box_key(out, b"d", 466, y, b"dropped")
 }
 
-// Appends what the lines mean.
+// Appends the keys of the lines.
 fn push_line_keys(out: &mut Vec<u8>, y: u128) -> Result<(), AllocError>
     requires { y < 2 ^ 71 }
     ensures { IfOk result (λ _. out.new.items ≡ out.old.items
@@ -258,7 +259,7 @@ fn push_legend(out: &mut Vec<u8>, y: u128) -> Result<(), AllocError>
     push_line_keys(out, y + 16)
 }
 
-/// How many rows are shown, and how many follow.
+/// The remark on the numbers of rows that are shown and that follow.
 pub fn remark(alloc: Global, shown: u64, later: u64) -> Result<Vec<u8>, AllocError>
     ensures { IfOk result (λ text. text.items ≡ spec.remark shown later) }
 {
@@ -301,7 +302,7 @@ fn push_foot(out: &mut Vec<u8>, bottom: u128, remark: &[u8]) -> Result<(), Alloc
     push_text(out, b"c", spot, remark)
 }
 
-// Appends the front of a picture of a height.
+// Appends the beginning of a chart with this height.
 fn push_opening(out: &mut Vec<u8>, height: u128) -> Result<(), AllocError>
     ensures { IfOk result (λ _. out.new.items ≡ out.old.items ++ spec.picture_front height) }
 {
@@ -310,7 +311,7 @@ fn push_opening(out: &mut Vec<u8>, height: u128) -> Result<(), AllocError>
     out.extend_from_slice(styles())
 }
 
-/// Draws entries: `shown` of them are rows, and `later` rows follow.
+/// Draws entries as SVG: `shown` of them are rows, and `later` rows follow.
 pub fn draw_svg(
     alloc: Global,
     report: &[u8],

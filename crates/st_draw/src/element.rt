@@ -1,4 +1,4 @@
-//! The elements of a picture.
+//! The elements of a chart.
 #![tactic(auto, unfolding(crate::specs::Element::box_title, crate::specs::Element::card_content, crate::specs::Element::content, crate::specs::Element::element_text, crate::specs::Element::shown_card, crate::specs::Element::title_end))]
 
 ghost use Rattle.std.specs.Prelude.{◌≡◌, ◌++◌, IfOk};
@@ -9,21 +9,21 @@ use crate::escape::push_escaped;
 use st_entries::CARD_LIMIT;
 use std::alloc::AllocError;
 
-/// Where a text stands: one of its ends or its middle, and the line under it.
+/// The position of a text: the x of its left end, right end or middle, and the y of its base line.
 #[derive(Clone, Copy)]
 pub struct Point {
     pub x: u128,
     pub y: u128,
 }
 
-// The end of a title and of its box.
+// The end tags of a title and of its box.
 fn end_of_title() -> &'static [u8]
     ensures { result.now ≡ title_end }
 {
     b"</title></rect>\n"
 }
 
-// Appends what a box says when it is pointed at, and its end.
+// Appends a box's title, which a viewer shows under the pointer, and the end of the box.
 fn push_title(out: &mut Vec<u8>, text: &[u8]) -> Result<(), AllocError>
     ensures { IfOk result (λ _. out.new.items ≡ out.old.items ++ box_title text.now) }
 {
@@ -32,7 +32,7 @@ fn push_title(out: &mut Vec<u8>, text: &[u8]) -> Result<(), AllocError>
     out.extend_from_slice(end_of_title())
 }
 
-// Appends what is shown of a card: one that is too long ends in an ellipsis.
+// Appends the shown part of a card's text: a text that is too long ends in an ellipsis.
 fn push_shown_card(out: &mut Vec<u8>, text: &[u8]) -> Result<(), AllocError>
     ensures { IfOk result (λ _. out.new.items ≡ out.old.items ++ shown_card text.now) }
 {
@@ -43,7 +43,7 @@ fn push_shown_card(out: &mut Vec<u8>, text: &[u8]) -> Result<(), AllocError>
     out.extend_from_slice("…".as_bytes())
 }
 
-// Appends a card, and its end.
+// Appends a card's text, and the end of its element.
 fn push_card_content(out: &mut Vec<u8>, text: &[u8]) -> Result<(), AllocError>
     ensures { IfOk result (λ _. out.new.items ≡ out.old.items ++ card_content text.now) }
 {
@@ -52,7 +52,7 @@ fn push_card_content(out: &mut Vec<u8>, text: &[u8]) -> Result<(), AllocError>
     out.extend_from_slice(b"</text>\n")
 }
 
-// Appends what a text says, and its end.
+// Appends the contents of a text element, and its end.
 fn push_content(out: &mut Vec<u8>, text: &[u8]) -> Result<(), AllocError>
     ensures { IfOk result (λ _. out.new.items ≡ out.old.items ++ content text.now) }
 {
@@ -72,7 +72,7 @@ pub fn push_box(out: &mut Vec<u8>, class: &[u8], area: Area) -> Result<(), Alloc
     out.extend_from_slice(b"/>\n")
 }
 
-/// Appends a box that says something when it is pointed at.
+/// Appends a box with a title, which a viewer shows under the pointer.
 pub fn push_bar(out: &mut Vec<u8>, class: &[u8], area: Area, title: &[u8]) -> Result<(), AllocError>
     ensures { IfOk result (λ _. out.new.items ≡ out.old.items
         ++ element_text (Bar class.now area.x area.y area.across area.down title.now)) }
@@ -93,7 +93,7 @@ pub fn push_line(out: &mut Vec<u8>, class: &[u8], area: Area) -> Result<(), Allo
     out.extend_from_slice(b"/>\n")
 }
 
-/// Appends a text, whose left end, right end or middle stands at x by its class.
+/// Appends a text; its class determines whether its left end, right end or middle is at x.
 pub fn push_text(
     out: &mut Vec<u8>,
     class: &[u8],
@@ -108,7 +108,7 @@ pub fn push_text(
     push_content(out, text)
 }
 
-/// Appends a card.
+/// Appends the text of a card.
 pub fn push_card(out: &mut Vec<u8>, spot: Point, text: &[u8]) -> Result<(), AllocError>
     ensures { IfOk result (λ _. out.new.items ≡ out.old.items
         ++ element_text (Card spot.x spot.y text.now)) }

@@ -1,11 +1,11 @@
-//! Text as it may stand between the elements of a picture.
+//! Text that is escaped for use between the elements of a chart.
 ghost use Rattle.std.specs.Prelude.{◌≡◌, ◌++◌, IfOk};
 ghost use Rattle.st_draw.specs.Escape as spec;
 
 use st_entries::plain_byte;
 use std::alloc::AllocError;
 
-// Appends a byte as it may stand there.
+// Appends a byte in escaped form.
 fn push_escaped_byte(out: &mut Vec<u8>, byte: u8) -> Result<(), AllocError>
     ensures { IfOk result (λ _. out.new.items ≡ out.old.items ++ spec.escaped_byte byte) }
 {
@@ -17,7 +17,7 @@ fn push_escaped_byte(out: &mut Vec<u8>, byte: u8) -> Result<(), AllocError>
     }
 }
 
-/// Appends a text as it may stand there.
+/// Appends a text in escaped form.
 pub fn push_escaped(out: &mut Vec<u8>, text: &[u8]) -> Result<(), AllocError>
     ensures { IfOk result (λ _. out.new.items ≡ out.old.items ++ spec.escaped_text text.now) }
 {

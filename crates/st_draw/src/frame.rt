@@ -1,5 +1,5 @@
-//! What stands around the rows of a picture: its ground, what is said beside the axis, and the keys
-//! of the legend.
+//! The parts around the rows of a chart: its background, the note beside the axis, and the keys of
+//! the legend.
 ghost use Rattle.std.specs.Prelude.{◌≡◌, ◌+◌, ◌^◌, ◌<◌, ◌++◌, IfOk, codes};
 ghost use Rattle.st_draw.specs.Element.{elements_text, element_text, Text};
 ghost use Rattle.st_draw.specs.Drawing as spec;
@@ -11,7 +11,7 @@ use crate::sheet::Sheet;
 use st_entries::DrawnEntry;
 use std::alloc::AllocError;
 
-/// Appends the ground of the picture, and what is said beside the axis: what its numbers are, or
+/// Appends the background of the chart and the note beside the axis: the meaning of its numbers, or
 /// that there is no entry.
 pub fn push_ground(
     out: &mut Vec<u8>,
@@ -36,7 +36,7 @@ pub fn push_ground(
     push_text(out, b"m", Point { x, y: 22 }, b"ticks")
 }
 
-// Appends what an element of the legend means, that stands at (x, y).
+// Appends the meaning of an element of the legend at (x, y).
 fn push_meaning(out: &mut Vec<u8>, x: u16, y: u128, meaning: &[u8]) -> Result<(), AllocError>
     requires { y < 2 ^ 71 }
     ensures { IfOk result (λ _. out.new.items ≡ out.old.items
@@ -49,7 +49,7 @@ fn push_meaning(out: &mut Vec<u8>, x: u16, y: u128, meaning: &[u8]) -> Result<()
     push_text(out, b"c", spot, meaning)
 }
 
-/// Appends what a box of the legend means.
+/// Appends a box of the legend with its meaning.
 pub fn push_box_key(
     out: &mut Vec<u8>,
     class: &[u8],
@@ -71,7 +71,7 @@ pub fn push_box_key(
     push_meaning(out, x, y, meaning)
 }
 
-/// Appends what a line of the legend means.
+/// Appends a line of the legend with its meaning.
 pub fn push_line_key(
     out: &mut Vec<u8>,
     class: &[u8],

@@ -1,12 +1,12 @@
-//! The texts with which each picture begins.
+//! The fixed texts with which each chart begins.
 ghost use Rattle.std.specs.Prelude.{◌≡◌};
 ghost use Rattle.st_draw.specs.Drawing as spec;
 
-// The words before the height of a picture.
+// The text before the height of a chart.
 const PREAMBLE: &[u8; 78] =
     b"<svg xmlns=\"http://www.w3.org/2000/svg\" xml:space=\"preserve\" viewBox=\"0 0 640 ";
 
-// What the classes of elements look like, and the hatch of what is dropped.
+// The styles of the elements' classes, and the hatching of dropped entries.
 const STYLES: &[u8; 489] =
     b"\">\n<defs><pattern id=\"h\" width=\"5\" height=\"5\" patternUnits=\"userSpaceOnUse\" patternTransform=\"rotate(45)\">\
     <rect width=\"5\" height=\"5\" fill=\"#fff\"/><rect width=\"2\" height=\"5\" fill=\"#8a3b12\"/></pattern></defs>\n\
@@ -15,14 +15,14 @@ const STYLES: &[u8; 489] =
     .d{fill:url(#h);stroke:#8a3b12}\
     .i{stroke:#b3261e}.s{stroke:#2e7d32;stroke-dasharray:2 3}</style>\n";
 
-/// The words before the height of a picture.
+/// The text before the height of a chart.
 pub fn preamble() -> &'static [u8]
     ensures { result.now ≡ spec.preamble }
 {
     PREAMBLE
 }
 
-/// What the classes of elements look like, and the hatch of what is dropped.
+/// The styles of the elements' classes, and the hatching of dropped entries.
 pub fn styles() -> &'static [u8]
     ensures { result.now ≡ spec.styles }
 {

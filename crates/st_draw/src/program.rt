@@ -1,4 +1,4 @@
-//! The program: a report in, a picture out.
+//! The program: it reads a report and writes a chart.
 ghost use Rattle.std.specs.Prelude.{◌≡◌, ◌↔◌, IfOk, None, map, nat_eq, if◌then◌else◌};
 ghost use Rattle.std.specs.String.{string_bytes};
 ghost use Rattle.st_draw.specs.Answers as spec;
@@ -14,10 +14,10 @@ use st_io::{ReadError, Sink, Source, read_all, write_all};
 use st_kanata::write_log;
 use std::alloc::{AllocError, Global};
 
-// The longest report, in bytes.
+// The most bytes of a report.
 const REPORT_LIMIT: u32 = 16_000_000;
 
-// How many of the entries are rows.
+// The number of entries that are rows.
 fn rows_in(entries: &[DrawnEntry]) -> u64
     ensures { result ≡ spec.rows_in entries.now }
 {
@@ -32,14 +32,14 @@ fn rows_in(entries: &[DrawnEntry]) -> u64
     count
 }
 
-// What is drawn of the entries: nothing, where none of them is a row.
+// The entries to draw: none if none of them is a row.
 fn visible(shown: u64, entries: &[DrawnEntry]) -> &[DrawnEntry]
     ensures { result.now ≡ spec.visible_entries shown entries.now }
 {
     if shown == 0 { &[] } else { entries }
 }
 
-// The bytes of a kind of picture.
+// The bytes of a chart of some kind.
 fn picture_of(
     alloc: Global,
     kind: PictureKind,
@@ -57,7 +57,7 @@ fn picture_of(
     }
 }
 
-// The status of a picture with so many rows.
+// The status of a chart with `shown` rows.
 fn status_with(shown: u64) -> Status
     ensures { result ≡ (if nat_eq shown 0 then Status.NoRows else Status.Done) }
 {
@@ -68,7 +68,7 @@ fn status_with(shown: u64) -> Status
     }
 }
 
-// The picture of a report that is asked for, and its status.
+// The requested chart of a report, and its status.
 fn picture(alloc: Global, choice: Choice, report: &[u8]) -> Result<(Vec<u8>, Status), AllocError>
     ensures bytes { IfOk result (λ made. made.0.items ≡ spec.picture choice report.now) }
     ensures status { IfOk result (λ made. made.1 ≡ spec.picture_status choice report.now) }
@@ -81,7 +81,7 @@ fn picture(alloc: Global, choice: Choice, report: &[u8]) -> Result<(Vec<u8>, Sta
     Ok((out, status_with(shown)))
 }
 
-// Writes the picture of a report that was read, or says why it does not.
+// Writes the chart of a report that has been read, or returns why it does not.
 fn draw_report<K: Sink>(alloc: Global, choice: Choice, report: &[u8], out: &mut K) -> Status
     ensures { Writes choice result (K.output out.old) (K.output out.new) report.now }
 {
@@ -94,7 +94,7 @@ fn draw_report<K: Sink>(alloc: Global, choice: Choice, report: &[u8], out: &mut 
     }
 }
 
-// Reads a report and writes its picture, or says why it does not.
+// Reads a report and writes its chart, or returns why it does not.
 fn draw_choice<S: Source, K: Sink>(
     alloc: Global,
     choice: Choice,
@@ -112,21 +112,22 @@ fn draw_choice<S: Source, K: Sink>(
     }
 }
 
-/// Draws what the words of the command line, after the program's name, ask for, of a report of at
-/// most 16,000,000 bytes: `svg`, `text` or `kanata`, `svg` where it is left out, and the numbers of
-/// the first and the last row, the first 200 rows where they are left out. All memory is taken
-/// before the first write.
+/// Draws the timetable of a report of at most 16,000,000 bytes. `words` are the words of the
+/// command line after the program's name: `svg`, `text` or `kanata`, with `svg` as the default, and
+/// the numbers of the first and the last row, with the first 200 rows as the default. All memory is
+/// allocated before the first write.
 pub fn draw<S: Source, K: Sink>(
     alloc: Global,
     words: &[String],
     report: &mut S,
     out: &mut K,
 ) -> Status
-    // By the meaning of the words and the status: what was read, and exactly what was written.
+    // For each meaning of the words and each status: the bytes that were read, and exactly the
+    // bytes that were written.
     ensures answer { IsAnswer (picture_choice (map string_bytes words.now)) result
         (S.input report.old) (S.input report.new) (K.output out.old) (K.output out.new) }
 
-    // The answer is a bad command line exactly where the words mean nothing.
+    // The status is that of a bad command line if and only if the words are invalid.
     ensures usage { result ≡ Status.Usage ↔ picture_choice (map string_bytes words.now) ≡ None }
 {
     match read_words(words) {

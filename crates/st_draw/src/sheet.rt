@@ -1,4 +1,4 @@
-//! The sheet on which the rows of a picture stand.
+//! The sheet on which the rows of a chart are drawn.
 ghost use Rattle.std.specs.Prelude.{◌≡◌, ◌≤◌};
 ghost use Rattle.st_draw.specs.Drawing as spec;
 ghost use Rattle.st_draw.specs.Drawing.{IsSheet};
@@ -6,18 +6,18 @@ ghost use Rattle.st_draw.specs.Drawing.{IsSheet};
 use crate::axis::{Axis, Room, at, axis_of};
 use st_entries::{DrawnEntry, widest};
 
-/// What all rows of a picture share.
+/// The dimensions that all rows of a chart share.
 #[derive(Clone, Copy)]
 pub struct Sheet {
-    /// The room of the axis.
+    /// The horizontal extent of the axis.
     pub room: Room,
-    /// The ticks that are shown.
+    /// The shown ticks.
     pub axis: Axis,
-    /// The lower end of the rows.
+    /// The y of the lower end of the rows.
     pub bottom: u128,
 }
 
-// The room of the axis, behind cards of so many characters.
+// The extent of the axis to the right of cards with this number of characters.
 fn room_behind(characters: u16) -> Room
     requires { characters ≤ 40 }
     ensures { result ≡ spec.room_behind characters }
@@ -40,7 +40,7 @@ pub fn sheet_of(report: &[u8], entries: &[DrawnEntry]) -> Sheet
     }
 }
 
-/// Where a tick stands on a sheet.
+/// The x of a tick on a sheet.
 pub fn across(sheet: &Sheet, tick: u64) -> u128
     requires { IsSheet sheet.now }
     ensures { result ≡ spec.x_of sheet.now tick }

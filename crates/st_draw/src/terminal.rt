@@ -1,4 +1,4 @@
-//! The picture of a timetable as lines of text.
+//! The chart of a timetable as lines of text.
 ghost use Rattle.std.specs.Prelude.{◌≡◌, ◌-◌, ◌≤◌, ◌++◌, IfOk, max, replicate};
 ghost use Rattle.st_draw.specs.Terminal as spec;
 
@@ -10,16 +10,16 @@ use st_entries::{
 };
 use std::alloc::{AllocError, Global};
 
-/// What all lines of a page share.
+/// The dimensions that all lines of a page share.
 #[derive(Clone, Copy)]
 pub struct Page {
-    /// The ticks that are shown.
+    /// The shown ticks.
     pub axis: Axis,
-    /// The places of the third texts.
+    /// The width of the third texts in characters.
     pub places: usize,
 }
 
-// Appends a byte, so many times over.
+// Appends a byte `count` times.
 fn push_many(out: &mut Vec<u8>, count: usize, byte: u8) -> Result<(), AllocError>
     ensures { IfOk result (λ _. out.new.items ≡ out.old.items ++ replicate count byte) }
 {
@@ -29,7 +29,7 @@ fn push_many(out: &mut Vec<u8>, count: usize, byte: u8) -> Result<(), AllocError
     Ok(())
 }
 
-// Appends a text at the right of so many places.
+// Appends a text, right-aligned in `width` characters.
 fn push_right(out: &mut Vec<u8>, width: usize, text: &[u8]) -> Result<(), AllocError>
     ensures { IfOk result (λ _. out.new.items ≡ out.old.items
         ++ spec.text_at_right width text.now) }
@@ -38,7 +38,7 @@ fn push_right(out: &mut Vec<u8>, width: usize, text: &[u8]) -> Result<(), AllocE
     out.extend_from_slice(text)
 }
 
-// Appends a text at the left of so many places.
+// Appends a text, left-aligned in `width` characters.
 fn push_left(out: &mut Vec<u8>, width: usize, text: &[u8]) -> Result<(), AllocError>
     ensures { IfOk result (λ _. out.new.items ≡ out.old.items ++ spec.text_at_left width text.now) }
 {
@@ -46,7 +46,7 @@ fn push_left(out: &mut Vec<u8>, width: usize, text: &[u8]) -> Result<(), AllocEr
     push_many(out, width.saturating_sub(text.len()), b' ')
 }
 
-// Appends three texts in columns, the last one at the left of so many places.
+// Appends three texts in columns; the last one is left-aligned in `width` characters.
 fn push_columns(
     out: &mut Vec<u8>,
     places: usize,
@@ -64,7 +64,7 @@ fn push_columns(
     out.extend_from_slice(b" ")
 }
 
-// The column in which a tick stands.
+// The column of a tick.
 fn column(axis: &Axis, tick: u64) -> usize
     requires { 1 ≤ axis.now.span }
     ensures value { result ≡ spec.column axis.now tick }
@@ -74,7 +74,7 @@ fn column(axis: &Axis, tick: u64) -> usize
     at(room, *axis, tick) as usize
 }
 
-// Appends a bar of a byte from one tick to another, at least so wide.
+// Appends a bar of a byte from one tick to another, at least `least` characters wide.
 fn push_stroke(
     out: &mut Vec<u8>,
     axis: &Axis,
@@ -91,7 +91,7 @@ fn push_stroke(
     push_many(out, width.max(mark.1), mark.0)
 }
 
-// Appends the bars of an entry behind blanks up to its first tick, or its sign.
+// Appends the bars of an entry, after blanks up to its first tick, or its sign.
 fn push_strokes(out: &mut Vec<u8>, axis: &Axis, entry: DrawnEntry) -> Result<(), AllocError>
     requires { 1 ≤ axis.now.span }
     ensures { IfOk result (λ _. out.new.items ≡ out.old.items ++ spec.strokes axis.now entry) }
@@ -167,7 +167,8 @@ fn push_entries(
     Ok(())
 }
 
-// Appends a round tick to a line, in its column; nothing where it would touch the line.
+// Appends the number of a marked tick to a line, in the tick's column; nothing if it would touch
+// the previous text.
 fn push_mark(line: &mut Vec<u8>, page: &Page, tick: u64) -> Result<(), AllocError>
     requires axis { 1 ≤ page.now.axis.span }
     requires places { page.now.places ≤ 40 }
@@ -181,7 +182,8 @@ fn push_mark(line: &mut Vec<u8>, page: &Page, tick: u64) -> Result<(), AllocErro
     push_decimal(line, u128::from(tick))
 }
 
-// Appends round ticks to a line, each in its column, but those that would touch the one before.
+// Appends the numbers of marked ticks to a line, each in its column, except those that would touch
+// the previous text.
 fn push_scale(line: &mut Vec<u8>, page: &Page, ticks: &[u64]) -> Result<(), AllocError>
     requires axis { 1 ≤ page.now.axis.span }
     requires places { page.now.places ≤ 40 }
@@ -195,7 +197,7 @@ fn push_scale(line: &mut Vec<u8>, page: &Page, ticks: &[u64]) -> Result<(), Allo
     Ok(())
 }
 
-// The line above the rows: what its numbers are, and round ticks; or that there is no entry.
+// The line above the rows: the meaning of its numbers, and marked ticks; or that there is no entry.
 fn head(alloc: Global, page: &Page, entries: &[DrawnEntry]) -> Result<Vec<u8>, AllocError>
     requires axis { 1 ≤ page.now.axis.span }
     requires places { page.now.places ≤ 40 }
@@ -212,7 +214,7 @@ fn head(alloc: Global, page: &Page, entries: &[DrawnEntry]) -> Result<Vec<u8>, A
     Ok(out)
 }
 
-// Appends what the marks mean.
+// Appends the key of the characters in the bars.
 fn push_key(out: &mut Vec<u8>) -> Result<(), AllocError>
     ensures { IfOk result (λ _. out.new.items ≡ out.old.items ++ spec.key) }
 {

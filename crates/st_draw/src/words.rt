@@ -1,4 +1,4 @@
-//! The words of a command line.
+//! Parses the words of the command line.
 ghost use Rattle.std.specs.Prelude.{◌≡◌, map};
 ghost use Rattle.std.specs.String.{string_bytes};
 ghost use Rattle.st_draw.specs.Words as spec;
@@ -6,34 +6,34 @@ ghost use Rattle.st_draw.specs.Words as spec;
 use st_entries::RowRange;
 use st_text::number_up_to;
 
-/// A kind of picture.
+/// A kind of chart.
 #[derive(Clone, Copy)]
 pub enum PictureKind {
-    /// A picture for a browser.
+    /// An SVG chart for a browser.
     Svg,
-    /// Lines for a terminal.
+    /// Lines of text for a terminal.
     Text,
     /// A log for a pipeline viewer.
     Kanata,
 }
 
-/// What is to be drawn.
+/// The requested chart.
 #[derive(Clone, Copy)]
 pub struct Choice {
     pub kind: PictureKind,
     pub part: RowRange,
 }
 
-// How many rows are drawn at most.
+// The most rows that are drawn.
 const ROW_LIMIT: u64 = 200;
 
-// The rows that are drawn where no word names them.
+// The rows that are drawn by default.
 const FIRST_PART: RowRange = RowRange {
     from: 1,
     to: ROW_LIMIT,
 };
 
-// The kind of picture that a word is.
+// The kind of chart that a word names.
 fn kind_named(word: &str) -> Option<PictureKind>
     ensures { result ≡ spec.kind_named word.now }
 {
@@ -45,7 +45,7 @@ fn kind_named(word: &str) -> Option<PictureKind>
     }
 }
 
-// The part from a row to a row: at least one row, and no more than are drawn.
+// The rows from one number to another: at least one row, and at most 200.
 fn part_between(from: u64, to: u64) -> Option<RowRange>
     ensures { result ≡ spec.part_between from to }
 {
@@ -58,7 +58,7 @@ fn part_between(from: u64, to: u64) -> Option<RowRange>
     })
 }
 
-// The part that two words name.
+// The rows that two words name.
 fn part_named(from: &str, to: &str) -> Option<RowRange>
     ensures { result ≡ spec.part_named from.now to.now }
 {
@@ -67,7 +67,7 @@ fn part_named(from: &str, to: &str) -> Option<RowRange>
     part_between(from, to)
 }
 
-// The picture that a word and two numbers ask for.
+// The chart that a word and two numbers request.
 fn chosen(word: &str, from: &str, to: &str) -> Option<Choice>
     ensures { result ≡ spec.choice_of_words word.now from.now to.now }
 {
@@ -76,7 +76,7 @@ fn chosen(word: &str, from: &str, to: &str) -> Option<Choice>
     Some(Choice { kind, part })
 }
 
-/// What the words ask for; None where they mean nothing.
+/// The chart that the words request; `None` if they are invalid.
 pub fn read_words(words: &[String]) -> Option<Choice>
     ensures { result ≡ spec.picture_choice (map string_bytes words.now) }
 {

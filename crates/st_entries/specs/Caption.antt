@@ -1,12 +1,11 @@
--- The texts of an entry: the three in front of its bars, and what the bars tell when they are
--- pointed at.
+-- The texts of an entry: the three in front of its bars, and the title of its bars.
 use Rattle.std.specs.Prelude.{ℕ, ◌*◌, nat_le, nat_lt, min, max, if◌then◌else◌, List, [], ◌∷◌, ◌++◌, length, take, drop, codes, decimal}
 use Rattle.st_entries.specs.Label.{label}
 use Rattle.st_entries.specs.declared.report.ReportAddress.{ReportAddress}
 use Rattle.st_entries.specs.declared.timetable.DrawnEntry.{DrawnEntry}
 use Rattle.st_entries.specs.declared.timetable.DrawnEntry.TheVariants.{Done, Dropped, Taken, Shown}
 
--- the names of the indicators 0 to 63, each in four places
+-- the names of the indicators 0 to 63, each in four characters
 unfoldable pub indicator_names : List ℕ
 indicator_names =
     codes "MK  IK  IJ  EK  TS  CPUSEKJ UNRJCBJ EPGKUK  EE  EOP CS      OP  "
@@ -14,53 +13,55 @@ indicator_names =
     ++ codes "TF  UF  VF  XF  BTR DTR PG0 PG1 PG2 PG3 PG4 PG5 PG6 XCZ XVLZXVZ "
     ++ codes "XVGZXL  XE  XH  MOP RLZ RZ  RGZ RN  AL  AE  AH      "
 
--- the name of an indicator; blanks where it has none, and nothing past the last
+-- the name of an indicator in four characters: blanks if it has none, an empty text for a number
+-- above 63
 unfoldable pub indicator_text : ℕ → List ℕ
 indicator_text i = if nat_lt i 64 then take 4 (drop (4 * i) indicator_names) else []
 
--- a place as word.bit
+-- the text of an address as word.bit
 abbrev pub place_text : ReportAddress → List ℕ
 place_text place = decimal place.word ++ codes "." ++ decimal place.bit
 
--- the first text of an entry: its number, where it is done, or what else it is
+-- the first text of an entry: its number if it is completed, else its kind
 unfoldable pub first_text : DrawnEntry → List ℕ
 first_text (Done n a p r t c) = decimal n
 first_text (Dropped a p end) = codes "drop"
 first_text (Taken i t) = codes "INT"
 first_text (Shown t) = codes "SNAP"
 
--- where an entry stands in storage; the number of an indicator; the tick of a snapshot
+-- the second text of an entry: its address, the number of an interrupt's indicator, or the tick of
+-- a snapshot
 unfoldable pub second_text : DrawnEntry → List ℕ
 second_text (Done n a p r t c) = place_text a
 second_text (Dropped a p end) = place_text a
 second_text (Taken i t) = decimal i
 second_text (Shown t) = decimal t
 
--- the text of an entry's card; the name of an indicator
+-- the third text of an entry: its card's text, or the name of an interrupt's indicator
 unfoldable pub third_text : List ℕ → DrawnEntry → List ℕ
 third_text report (Done n a p r t c) = label report a
 third_text report (Dropped a p end) = label report a
 third_text report (Taken i t) = indicator_text i
 third_text report (Shown t) = []
 
--- how many characters of a card are shown at most
+-- the most characters of a card that are shown
 abbrev pub card_limit : ℕ
 card_limit = 40
 
--- the third text of an entry where ASCII alone may stand: one that is too long ends in three dots
+-- the third text of an entry with only ASCII characters: a text that is too long ends in three dots
 unfoldable pub with_dots : List ℕ → List ℕ
 with_dots text = if nat_le (length text) card_limit then text else take 37 text ++ codes "..."
 
--- how many characters are shown of the longest third text
+-- the number of characters that are shown of the longest third text
 abbrev pub widest : List ℕ → List DrawnEntry → ℕ
 widest report [] = 0
 widest report (e ∷ es) = max (min card_limit (length (third_text report e))) (widest report es)
 
--- words and a number
+-- a text and a number
 unfoldable pub words_with_number : List ℕ → ℕ → List ℕ
 words_with_number words n = words ++ decimal n
 
--- what the bars of an entry tell: the ticks of its phases
+-- the title of an entry's bars: the ticks of its phases
 unfoldable pub title : DrawnEntry → List ℕ
 title (Done n a p r t c) =
     words_with_number (codes "row ") n ++ words_with_number (codes ": waits for operands from P ") p

@@ -1,10 +1,10 @@
--- The phases of an entry: what each of its bars says, from which tick to which.
+-- The phases of an entry: the meaning of each of its bars, with its first and its last tick.
 use Rattle.std.specs.Prelude.{ℕ, ◌+◌, nat_le, nat_lt, min, max, ◌&&◌, Bool, true, false, if◌then◌else◌, List, [], ◌∷◌}
 use Rattle.st_entries.specs.declared.timetable.DrawnEntry.{DrawnEntry}
 use Rattle.st_entries.specs.declared.timetable.DrawnEntry.TheVariants.{Done, Dropped, Taken, Shown}
 
--- the tick at which it is a row's turn: its operands are there, and the row before it in the report
--- is complete; not past its own completion
+-- the tick at which a row's turn comes: its operands are available, and the row before it in the
+-- report is complete; at most its own completion
 abbrev pub turn_of : ℕ → ℕ → ℕ → ℕ
 turn_of before ready complete = max ready (min before complete)
 
@@ -15,20 +15,20 @@ first_tick (Dropped a p end) = p
 first_tick (Taken i t) = t
 first_tick (Shown t) = t
 
--- what an entry does for some ticks
+-- the activity of an entry during some ticks
 pub data Phase : Type 0 where
   WaitsForOperands : Phase
   WaitsForTurn : Phase
   Executes : Phase
   IsDropped : Phase
 
--- a phase of an entry: it lasts from a tick up to another, at which it is over
+-- a phase of an entry: it lasts from a tick until another, at which it is over
 pub record Span : Type 0 where
   pub phase : Phase
   pub from : ℕ
   pub to : ℕ
 
--- the phases of an entry, one after another; an interrupt and a snapshot are ticks, and have none
+-- the phases of an entry in order; an interrupt and a snapshot are single ticks without phases
 abbrev pub spans : DrawnEntry → List Span
 spans (Done n a p r t c) =
     record { phase = WaitsForOperands; from = p; to = r }
@@ -38,28 +38,28 @@ spans (Dropped a p end) = record { phase = IsDropped; from = p; to = end } ∷ [
 spans (Taken i t) = []
 spans (Shown t) = []
 
--- the least width of the bar of a phase: that something executes or is dropped can be seen
+-- the least width of a phase's bar: bars of executing and of dropped entries are always visible
 abbrev pub least_width : Phase → ℕ
 least_width WaitsForOperands = 0
 least_width WaitsForTurn = 0
 least_width Executes = 1
 least_width IsDropped = 1
 
--- whether a phase is that of executing
+-- whether a phase is executing
 abbrev pub is_executing : Phase → Bool
 is_executing WaitsForOperands = false
 is_executing WaitsForTurn = false
 is_executing Executes = true
 is_executing IsDropped = false
 
--- how many of some phases are that of executing, and last over a tick
+-- the number of phases in a list that are executing at a tick
 abbrev pub executing_spans : ℕ → List Span → ℕ
 executing_spans tick [] = 0
 executing_spans tick (s ∷ ss) =
     (if is_executing s.phase && nat_le s.from tick && nat_lt tick s.to then 1 else 0)
     + executing_spans tick ss
 
--- how many entries execute at a tick
+-- the number of entries that execute at a tick
 abbrev pub executing_at : ℕ → List DrawnEntry → ℕ
 executing_at tick [] = 0
 executing_at tick (e ∷ es) = executing_spans tick (spans e) + executing_at tick es

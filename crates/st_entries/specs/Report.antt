@@ -1,4 +1,5 @@
--- What the lines of a report say of its timetable, read loosely: a line is words between blanks.
+-- The contents of a report's lines about its timetable, read leniently: a line is words between
+-- blanks.
 use Rattle.std.specs.Prelude.{ℕ, ◌-◌, ◌^◌, nat_eq, ◌&&◌, Bool, if◌then◌else◌, List, [], get_or, codes, Option, None}
 use Rattle.std.specs.Option.{option_map, option_and_then}
 use Rattle.std.specs.Cmp.Lexicographic.{pointwise}
@@ -8,30 +9,30 @@ use Rattle.st_entries.specs.declared.report.TimetableLine.{TimetableLine}
 use Rattle.st_entries.specs.declared.report.TimetableLine.TheVariants.{Row, Drop, Interrupt, Snapshot}
 use Rattle.st_entries.specs.declared.report.ReportAddress.{ReportAddress}
 
--- the k-th piece of a text that is cut at a byte; nothing where there are fewer
+-- the k-th piece, counted from 0, of a text that is cut at a byte; empty if there are fewer
 abbrev pub piece : ℕ → List ℕ → ℕ → List ℕ
 piece at text k = get_or (pieces_of at text) k []
 
--- the k-th word of a line
+-- the k-th word of a line, counted from 0
 unfoldable pub word_in_line : List ℕ → ℕ → List ℕ
 word_in_line line k = piece 32 line k
 
--- the number that a word is, if it is one and fits 64 bits
+-- the number that a word spells, if it is a number below 2^64
 unfoldable pub number_in_report : List ℕ → Option ℕ
 number_in_report text = number_up_to (2 ^ 64 - 1) text
 
--- the place that a word is, written as word.bit
+-- the address that a word spells as word.bit
 unfoldable pub place_in_report : List ℕ → Option ReportAddress
 place_in_report text =
     option_and_then (λ w. option_map (λ b. record { word = w; bit = b })
     (number_in_report (piece 46 text 1)))
     (number_in_report (piece 46 text 0))
 
--- whether the k-th word of a line is this
+-- whether the k-th word of a line is this text
 abbrev pub has : List ℕ → ℕ → List ℕ → Bool
 has line k text = pointwise nat_eq (word_in_line line k) text
 
--- an entry that is done
+-- the contents of the line of a completed entry
 unfoldable pub row_item : List ℕ → Option TimetableLine
 row_item line =
     option_and_then (λ n. option_and_then (λ a. option_and_then
@@ -40,17 +41,17 @@ row_item line =
     (number_in_report (word_in_line line 4))) (place_in_report (word_in_line line 2)))
     (number_in_report (word_in_line line 1))
 
--- an entry that was dropped
+-- the contents of the line of a dropped entry
 unfoldable pub dropped_item : List ℕ → Option TimetableLine
 dropped_item line = option_and_then (λ a. option_map (λ p. Drop a p)
     (number_in_report (word_in_line line 3))) (place_in_report (word_in_line line 1))
 
--- whether a line has the words of an entry that is done
+-- whether a line has the keywords of a completed entry
 abbrev pub is_row : List ℕ → Bool
 is_row line = has line 0 (codes "ROW") && has line 3 (codes "P") && has line 5 (codes "R")
     && has line 7 (codes "C")
 
--- what a line says, if it speaks of the timetable
+-- the contents of a line, if it describes the timetable
 unfoldable pub item : List ℕ → Option TimetableLine
 item line =
     if is_row line then row_item line

@@ -1,4 +1,4 @@
--- The timetable that the lines of a report tell, as far as a part of it is asked for.
+-- The requested part of the timetable that the lines of a report describe.
 use Rattle.std.specs.Prelude.{ℕ, nat_le, nat_lt, ◌&&◌, Bool, if◌then◌else◌, List, [], ◌∷◌, ◌++◌, reverse, Option, None, Some}
 use Rattle.st_text.specs.Pieces.{pieces_of}
 use Rattle.st_io.specs.Count.{count_after}
@@ -11,9 +11,9 @@ use Rattle.st_entries.specs.declared.timetable.DrawnEntry.TheVariants.{Done, Dro
 use Rattle.st_entries.specs.declared.timetable.RowRange.{RowRange}
 use Rattle.st_entries.specs.declared.timetable.ReadTimetable.{ReadTimetable}
 
--- what was read so far: the entries of the part; those of its last segment that were dropped,
--- the youngest first; the number and the last tick of the last row; how many rows are behind the
--- part
+-- the timetable of the lines read so far: the entries of the part; the dropped entries of its last
+-- segment, youngest first; the number and the last tick of the last row; and the number of rows
+-- after the part
 pub record Timetable : Type 0 where
   pub entries : List DrawnEntry
   pub dropped : List DrawnEntry
@@ -21,7 +21,7 @@ pub record Timetable : Type 0 where
   pub end : ℕ
   pub later : ℕ
 
--- nothing read yet; what comes before any row counts to the first one
+-- the timetable before the first line; events before any row belong to the first one
 abbrev pub timetable_at_start : Timetable
 timetable_at_start = record { entries = []; dropped = []; row = 1; end = 0; later = 0 }
 
@@ -29,25 +29,25 @@ timetable_at_start = record { entries = []; dropped = []; row = 1; end = 0; late
 abbrev pub is_in_part : RowRange → ℕ → Bool
 is_in_part part n = nat_le part.from n && nat_le n part.to
 
--- the entries, and an entry that goes with a row, where the part has that row
+-- the entries with one more entry that belongs to a row, if the row is in the part
 abbrev pub entries_with : RowRange → ℕ → DrawnEntry → List DrawnEntry → List DrawnEntry
 entries_with part n entry entries = if is_in_part part n then entries ++ entry ∷ [] else entries
 
--- the dropped entries stand behind the others, the oldest first
+-- the timetable with the dropped entries after the others, oldest first
 abbrev pub with_dropped : Timetable → Timetable
 with_dropped t = record t { entries = t.entries ++ reverse t.dropped; dropped = [] }
 
--- an entry behind all that were read
+-- the timetable with one more entry after the dropped ones
 abbrev pub timetable_with : RowRange → ℕ → DrawnEntry → Timetable → Timetable
 timetable_with part n entry t =
     let all = with_dropped t in
     record all { entries = entries_with part n entry all.entries }
 
--- how many rows are behind a part after a row
+-- the number of rows after a part, with row n counted if it is after the part
 abbrev pub later_rows : RowRange → ℕ → ℕ → ℕ
 later_rows part n later = if nat_lt part.to n then count_after later 1 else later
 
--- what one more thing tells
+-- the timetable after the contents of one more line
 abbrev pub after_item : RowRange → Timetable → TimetableLine → Timetable
 after_item part t (Row n a p r c) =
     record (timetable_with part n (Done n a p r (turn_of t.end r c) c) t) {
@@ -60,25 +60,25 @@ after_item part t (Drop a p) =
 after_item part t (Interrupt i) = timetable_with part t.row (Taken i t.end) t
 after_item part t (Snapshot tick) = timetable_with part t.row (Shown tick) t
 
--- what a line tells that says something, or nothing
+-- the timetable after the optional contents of one more line
 abbrev pub after_said : RowRange → Timetable → Option TimetableLine → Timetable
 after_said part t None = t
 after_said part t (Some said) = after_item part t said
 
--- what one more line tells
+-- the timetable after one more line
 abbrev pub after_line : RowRange → Timetable → List ℕ → Timetable
 after_line part t line = after_said part t (item line)
 
--- what lines tell
+-- the timetable after several lines
 abbrev pub after_lines : RowRange → Timetable → List (List ℕ) → Timetable
 after_lines part t [] = t
 after_lines part t (line ∷ lines) = after_lines part (after_line part t line) lines
 
--- the timetable that a report tells
+-- the timetable that a report describes, for the requested rows
 unfoldable pub timetable : RowRange → List ℕ → Timetable
 timetable part report = with_dropped (after_lines part timetable_at_start (pieces_of 10 report))
 
--- what the code keeps of it
+-- the timetable that the code's value represents
 abbrev pub timetable_of : ReadTimetable → Timetable
 timetable_of t = record {
   entries = t.entries.items;

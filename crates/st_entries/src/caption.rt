@@ -1,5 +1,4 @@
-//! The texts of an entry: the three in front of its bars, and what the bars tell when they are
-//! pointed at.
+//! The texts of an entry: the three in front of its bars, and the title of its bars.
 ghost use Rattle.std.specs.Prelude.{◌≡◌, ◌≤◌, ◌++◌, IfOk, decimal};
 ghost use Rattle.st_entries.specs.Caption as spec;
 
@@ -10,10 +9,10 @@ use crate::timetable::DrawnEntry;
 use st_text::{behind, front};
 use std::alloc::{AllocError, Global};
 
-/// How many characters of a card are shown at most; a longer one ends in an ellipsis or in dots.
+/// The most characters of a card that are shown; a longer text ends in an ellipsis or in dots.
 pub const CARD_LIMIT: usize = 40;
 
-// The names of the indicators 0 to 63, each in four places.
+// The names of the indicators 0 to 63, each in four characters.
 const INDICATOR_NAMES: &[u8; 256] =
     b"MK  IK  IJ  EK  TS  CPUSEKJ UNRJCBJ EPGKUK  EE  EOP CS      OP  \
     AD  USA EXE DS  DF  IF  LC  PF  ZD                                          \
@@ -27,7 +26,8 @@ fn indicator_names() -> &'static [u8]
     INDICATOR_NAMES
 }
 
-// The name of an indicator; blanks where it has none, and nothing past the last.
+// The name of an indicator in four characters: blanks if it has none, an empty text for a number
+// above 63.
 fn indicator(i: u64) -> &'static [u8]
     ensures { result.now ≡ spec.indicator_text i }
 {
@@ -37,7 +37,7 @@ fn indicator(i: u64) -> &'static [u8]
     front(behind(indicator_names(), 4 * i as usize), 4)
 }
 
-// A number as a text.
+// A number in decimal.
 fn decimal_text(alloc: Global, n: u64) -> Result<Vec<u8>, AllocError>
     ensures { IfOk result (λ text. text.items ≡ decimal n) }
 {
@@ -46,7 +46,7 @@ fn decimal_text(alloc: Global, n: u64) -> Result<Vec<u8>, AllocError>
     Ok(text)
 }
 
-// A place as word.bit.
+// An address as word.bit.
 fn place_text(alloc: Global, place: ReportAddress) -> Result<Vec<u8>, AllocError>
     ensures { IfOk result (λ text. text.items ≡ spec.place_text place) }
 {
@@ -56,7 +56,7 @@ fn place_text(alloc: Global, place: ReportAddress) -> Result<Vec<u8>, AllocError
     Ok(text)
 }
 
-/// The first text of an entry: its number, where it is done, else what it is (`drop`, `INT` or
+/// The first text of an entry: its number if it is completed, else its kind (`drop`, `INT` or
 /// `SNAP`).
 pub fn first_text(alloc: Global, entry: DrawnEntry) -> Result<Vec<u8>, AllocError>
     ensures { IfOk result (λ text. text.items ≡ spec.first_text entry) }
@@ -69,8 +69,8 @@ pub fn first_text(alloc: Global, entry: DrawnEntry) -> Result<Vec<u8>, AllocErro
     }
 }
 
-/// The second text of an entry: its address as word.bit; of an interrupt the number of its
-/// indicator, of a snapshot its tick.
+/// The second text of an entry: its address as word.bit; for an interrupt the number of its
+/// indicator, for a snapshot its tick.
 pub fn second_text(alloc: Global, entry: DrawnEntry) -> Result<Vec<u8>, AllocError>
     ensures { IfOk result (λ text. text.items ≡ spec.second_text entry) }
 {
@@ -82,7 +82,7 @@ pub fn second_text(alloc: Global, entry: DrawnEntry) -> Result<Vec<u8>, AllocErr
     }
 }
 
-/// The third text of an entry: that of its card in the report's listing, where it has one; of an
+/// The third text of an entry: its card's text in the report's listing, if it has one; for an
 /// interrupt the name of its indicator.
 pub fn third_text<'a>(report: &'a [u8], entry: DrawnEntry) -> &'a [u8]
     ensures { result.now ≡ spec.third_text report.now entry }
@@ -95,8 +95,8 @@ pub fn third_text<'a>(report: &'a [u8], entry: DrawnEntry) -> &'a [u8]
     }
 }
 
-/// A third text where ASCII alone may stand: of one with more than 40 characters the first 37, and
-/// three dots.
+/// A third text with only ASCII characters: a text of more than 40 characters is cut to the first
+/// 37 and three dots.
 pub fn with_dots(alloc: Global, text: &[u8]) -> Result<Vec<u8>, AllocError>
     ensures { IfOk result (λ out. out.items ≡ spec.with_dots text.now) }
 {
@@ -108,7 +108,8 @@ pub fn with_dots(alloc: Global, text: &[u8]) -> Result<Vec<u8>, AllocError>
     Ok(out)
 }
 
-/// How many characters are shown of the longest third text, 40 at most; 0 where there is no entry.
+/// The number of characters that are shown of the longest third text, at most 40; 0 if there is no
+/// entry.
 pub fn widest(report: &[u8], entries: &[DrawnEntry]) -> usize
     ensures value { result ≡ spec.widest report.now entries.now }
     ensures inside { result ≤ 40 }
@@ -122,7 +123,7 @@ pub fn widest(report: &[u8], entries: &[DrawnEntry]) -> usize
     most
 }
 
-// Appends words and a number.
+// Appends a text and a number.
 fn push_numbered(out: &mut Vec<u8>, words: &[u8], n: u64) -> Result<(), AllocError>
     ensures { IfOk result (λ _. out.new.items ≡ out.old.items
         ++ spec.words_with_number words.now n) }
@@ -131,7 +132,7 @@ fn push_numbered(out: &mut Vec<u8>, words: &[u8], n: u64) -> Result<(), AllocErr
     push_decimal(out, u128::from(n))
 }
 
-// Appends what the bars of an entry tell.
+// Appends the title of an entry's bars.
 fn push_title(out: &mut Vec<u8>, entry: DrawnEntry) -> Result<(), AllocError>
     ensures { IfOk result (λ _. out.new.items ≡ out.old.items ++ spec.title entry) }
 {
@@ -159,8 +160,8 @@ fn push_title(out: &mut Vec<u8>, entry: DrawnEntry) -> Result<(), AllocError>
     }
 }
 
-/// What the bars of an entry tell when they are pointed at: the ticks of its phases. An interrupt
-/// and a snapshot have no bars.
+/// The title of an entry's bars, which a viewer shows under the pointer: the ticks of its phases.
+/// An interrupt and a snapshot have no bars.
 pub fn title(alloc: Global, entry: DrawnEntry) -> Result<Vec<u8>, AllocError>
     ensures { IfOk result (λ text. text.items ≡ spec.title entry) }
 {

@@ -1,4 +1,4 @@
-//! The text of a card, from the listing at the front of a report.
+//! The text of a card, from the listing at the beginning of a report.
 ghost use Rattle.std.specs.Prelude.{◌≡◌};
 ghost use Rattle.st_entries.specs.Label as spec;
 ghost use Rattle.st_entries.specs.Report.{place_in_report};
@@ -6,14 +6,14 @@ ghost use Rattle.st_entries.specs.Report.{place_in_report};
 use crate::report::{ReportAddress, number, place_of};
 use st_text::{behind, cut, front, without_end_blanks, without_front_blanks};
 
-// Whether a line is one of the listing: it begins with a number, at the right of five places.
+// Whether a line is one of the listing: it begins with a number, right-aligned in five characters.
 fn is_listed(line: &[u8]) -> bool
     ensures { result ≡ spec.is_listed line.now }
 {
     number(without_front_blanks(front(line, 5))).is_some()
 }
 
-// Whether a text spells a place.
+// Whether a text spells an address.
 fn is_place(text: &[u8], here: ReportAddress) -> bool
     ensures { result ≡ spec.is_place (place_in_report text.now) here }
 {
@@ -23,7 +23,7 @@ fn is_place(text: &[u8], here: ReportAddress) -> bool
     }
 }
 
-// Whether a text has something else than a blank at its front.
+// Whether a text begins with a character other than a blank.
 fn is_filled(text: &[u8]) -> bool
     ensures { result ≡ spec.has_filled_front text.now }
 {
@@ -33,22 +33,22 @@ fn is_filled(text: &[u8]) -> bool
     }
 }
 
-// Whether the card of a listed line lays bits at a place.
+// Whether a listed card was assembled to bits at an address.
 fn lays(line: &[u8], here: ReportAddress) -> bool
     ensures { result ≡ spec.lays line.now here }
 {
     is_place(without_front_blanks(front(behind(line, 6), 9)), here) && is_filled(behind(line, 16))
 }
 
-// The text of a listed card, without the blanks around it.
+// The text of a listed card, without leading and trailing blanks.
 fn card_text(line: &[u8]) -> &[u8]
     ensures { result.now ≡ spec.card_text line.now }
 {
     without_end_blanks(without_front_blanks(behind(line, 33)))
 }
 
-/// The text of the card that lays what stands at a place; nothing, where the report has no listing
-/// of it.
+/// The text of the card that was assembled to the bits at an address; empty if the report does not
+/// list such a card.
 pub fn label_at(report: &[u8], here: ReportAddress) -> &[u8]
     ensures { result.now ≡ spec.label report.now here }
 {

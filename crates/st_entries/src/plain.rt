@@ -1,4 +1,4 @@
-//! Numbers and texts in plain characters.
+//! Numbers and texts in printable characters.
 ghost use Rattle.std.specs.Prelude.{◌≡◌, ◌++◌, IfOk, decimal};
 ghost use Rattle.st_entries.specs.Plain as spec;
 
@@ -12,7 +12,8 @@ pub fn push_decimal(out: &mut Vec<u8>, n: u128) -> Result<(), AllocError>
     out.extend_from_slice(Buffer::new().format(n).as_bytes())
 }
 
-/// A byte as a terminal may show it: what is no printable character of ASCII is a question mark.
+/// A byte in a form that is safe for a terminal: a question mark if it is not a printable ASCII
+/// character.
 pub fn plain_byte(byte: u8) -> u8
     ensures { result ≡ spec.plain_byte byte }
 {
@@ -22,7 +23,7 @@ pub fn plain_byte(byte: u8) -> u8
     }
 }
 
-/// Appends a text as a terminal may show it.
+/// Appends a text in a form that is safe for a terminal.
 pub fn push_plain(out: &mut Vec<u8>, text: &[u8]) -> Result<(), AllocError>
     ensures { IfOk result (λ _. out.new.items ≡ out.old.items ++ spec.plain_text text.now) }
 {

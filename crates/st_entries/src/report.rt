@@ -1,21 +1,21 @@
-//! What the lines of a report say of its timetable.
+//! Parses the lines of a report that describe its timetable.
 ghost use Rattle.std.specs.Prelude.{◌≡◌};
 ghost use Rattle.st_entries.specs.Report as spec;
 
 use st_text::{cut, number_up_to};
 
-/// An address as a report has it: a word, and a bit of it.
+/// An address in a report: a word, and a bit in it.
 #[derive(Clone, Copy)]
 pub struct ReportAddress {
     pub word: u64,
     pub bit: u64,
 }
 
-/// What a line says that speaks of the timetable.
+/// The contents of a line that describes the timetable.
 #[derive(Clone, Copy)]
 pub enum TimetableLine {
-    /// An instruction is done: its number, its address, and the ticks at which it was prepared, its
-    /// operands were there and it was complete.
+    /// An instruction completes: its number, its address, and the ticks at which it was prepared,
+    /// its operands were available and it completed.
     Row {
         number: u64,
         place: ReportAddress,
@@ -23,22 +23,22 @@ pub enum TimetableLine {
         ready: u64,
         complete: u64,
     },
-    /// An entry was dropped, that was prepared at this tick.
+    /// An entry is dropped (flushed) that was prepared at this tick.
     Drop {
         place: ReportAddress,
         prepared: u64,
     },
-    /// An interrupt is taken by this indicator.
+    /// An interrupt by this indicator is taken.
     Interrupt {
         indicator: u64,
     },
-    /// The machine is shown at this tick.
+    /// A snapshot of the machine at this tick.
     Snapshot {
         tick: u64,
     },
 }
 
-// The k-th piece of a text that is cut at a byte, counted from 0.
+// The k-th piece, counted from 0, of a text that is cut at a byte.
 fn piece(text: &[u8], at: u8, k: usize) -> &[u8]
     ensures { result.now ≡ spec.piece at text.now k }
 {
@@ -57,14 +57,14 @@ fn word(line: &[u8], k: usize) -> &[u8]
     piece(line, b' ', k)
 }
 
-/// The number that a word is, if it is one and fits 64 bits.
+/// The number that a word spells; `None` if it is not a number below 2^64.
 pub fn number(text: &[u8]) -> Option<u64>
     ensures { result ≡ spec.number_in_report text.now }
 {
     number_up_to(text, u64::MAX)
 }
 
-/// The place that a word is, written as word.bit.
+/// The address that a word spells as word.bit.
 pub fn place_of(text: &[u8]) -> Option<ReportAddress>
     ensures { result ≡ spec.place_in_report text.now }
 {
@@ -74,14 +74,14 @@ pub fn place_of(text: &[u8]) -> Option<ReportAddress>
     })
 }
 
-// Whether the k-th word of a line is this.
+// Whether the k-th word of a line is this text.
 fn has(line: &[u8], k: usize, text: &[u8]) -> bool
     ensures { result ≡ spec.has line.now k text.now }
 {
     word(line, k) == text
 }
 
-// The entry that a line says is done.
+// Parses the line of a completed entry.
 fn row(line: &[u8]) -> Option<TimetableLine>
     ensures { result ≡ spec.row_item line.now }
 {
@@ -99,7 +99,7 @@ fn row(line: &[u8]) -> Option<TimetableLine>
     })
 }
 
-// The entry that a line says was dropped.
+// Parses the line of a dropped entry.
 fn dropped(line: &[u8]) -> Option<TimetableLine>
     ensures { result ≡ spec.dropped_item line.now }
 {
@@ -108,14 +108,14 @@ fn dropped(line: &[u8]) -> Option<TimetableLine>
     Some(TimetableLine::Drop { place, prepared })
 }
 
-// Whether a line has the words of an entry that is done.
+// Whether a line has the keywords of a completed entry.
 fn is_row(line: &[u8]) -> bool
     ensures { result ≡ spec.is_row line.now }
 {
     has(line, 0, b"ROW") && has(line, 3, b"P") && has(line, 5, b"R") && has(line, 7, b"C")
 }
 
-/// What a line says, if it speaks of the timetable.
+/// Parses a line; `None` if it does not describe the timetable.
 pub fn item_of(line: &[u8]) -> Option<TimetableLine>
     ensures { result ≡ spec.item line.now }
 {

@@ -1,4 +1,4 @@
-//! The timetable that the lines of a report tell, as far as a part of it is asked for.
+//! The requested part of the timetable that the lines of a report describe.
 ghost use Rattle.std.specs.Prelude.{◌≡◌, ◌++◌, IfOk, [], reverse};
 ghost use Rattle.st_entries.specs.Phases.{first_tick as first_tick_of};
 ghost use Rattle.st_entries.specs.Timetable as spec;
@@ -9,20 +9,20 @@ use crate::report::{ReportAddress, TimetableLine, item_of};
 use st_text::cut;
 use std::alloc::{AllocError, Global};
 
-/// The rows that are asked for, by their numbers: none where `to` is below `from`.
+/// The requested rows, by their numbers: none if `to` is less than `from`.
 #[derive(Clone, Copy)]
 pub struct RowRange {
-    /// The first row.
+    /// The number of the first row.
     pub from: u64,
-    /// The last row.
+    /// The number of the last row.
     pub to: u64,
 }
 
-/// One line of the picture.
+/// One line of the chart.
 #[derive(Clone, Copy)]
 pub enum DrawnEntry {
-    /// An instruction is done: its number, its address, and the ticks at which it was prepared, its
-    /// operands were there, it was its turn and it was complete.
+    /// An instruction completes: its number, its address, and the ticks at which it was prepared,
+    /// its operands were available, its turn came and it completed.
     Done {
         number: u64,
         place: ReportAddress,
@@ -31,39 +31,40 @@ pub enum DrawnEntry {
         turn: u64,
         complete: u64,
     },
-    /// An entry was prepared at one tick and dropped at another.
+    /// An entry was prepared at one tick and dropped (flushed) at another.
     Dropped {
         place: ReportAddress,
         prepared: u64,
         end: u64,
     },
-    /// An interrupt was taken by this indicator at a tick.
+    /// An interrupt by this indicator was taken at a tick.
     Taken {
         indicator: u64,
         tick: u64,
     },
-    /// The machine is shown at a tick.
+    /// A snapshot of the machine at a tick.
     Shown {
         tick: u64,
     },
 }
 
-/// What was read of a timetable, in the lines so far.
+/// The timetable of the lines read so far.
 #[derive(Drop)]
 pub struct ReadTimetable {
-    /// The entries of the part.
+    /// The entries of the requested part.
     pub entries: Vec<DrawnEntry>,
-    /// Those of the last segment that were dropped, the youngest first.
+    /// The dropped entries of the last segment, youngest first.
     pub dropped: Vec<DrawnEntry>,
     /// The number of the last row.
     pub row: u64,
     /// The last tick of the last row.
     pub end: u64,
-    /// How many rows are behind the part.
+    /// The number of rows after the requested part.
     pub later: u64,
 }
 
-/// The first tick of an entry: when it was prepared; of an interrupt and a snapshot their tick.
+/// The first tick of an entry: the one at which it was prepared, or that of an interrupt or a
+/// snapshot.
 pub fn first_tick(entry: &DrawnEntry) -> u64
     ensures { result ≡ first_tick_of entry.now }
 {
@@ -82,7 +83,7 @@ fn is_in(part: RowRange, n: u64) -> bool
     part.from <= n && n <= part.to
 }
 
-// Appends an entry that goes with a row, where the part has that row.
+// Appends an entry that belongs to a row, if the row is in the part.
 fn push_in_part(
     part: RowRange,
     n: u64,
@@ -113,7 +114,7 @@ fn push_dropped(
     Ok(())
 }
 
-// Appends an entry behind all that were read.
+// Appends an entry after all that were read.
 fn push_entry(
     part: RowRange,
     n: u64,
@@ -127,7 +128,7 @@ fn push_entry(
     push_in_part(part, n, entry, &mut read.entries)
 }
 
-// How many rows are behind a part after a row.
+// The number of rows after a part, with row `n` counted if it is after the part.
 fn count_later(part: RowRange, n: u64, later: u64) -> u64
     ensures { result ≡ spec.later_rows part n later }
 {
@@ -138,7 +139,7 @@ fn count_later(part: RowRange, n: u64, later: u64) -> u64
     }
 }
 
-// Takes in one more thing.
+// Adds the contents of one line.
 fn take_item(
     part: RowRange,
     read: &mut ReadTimetable,
@@ -190,7 +191,7 @@ fn take_item(
     }
 }
 
-// Takes in one more line.
+// Adds one line.
 fn take_line(part: RowRange, read: &mut ReadTimetable, line: &[u8]) -> Result<(), AllocError>
     ensures { IfOk result (λ _. timetable_of read.new
         ≡ spec.after_line part (timetable_of read.old) line.now) }
@@ -201,7 +202,7 @@ fn take_line(part: RowRange, read: &mut ReadTimetable, line: &[u8]) -> Result<()
     }
 }
 
-// Takes in all lines.
+// Adds all lines.
 fn take_lines(part: RowRange, read: &mut ReadTimetable, report: &[u8]) -> Result<(), AllocError>
     ensures { IfOk result (λ _. timetable_of read.new
         ≡ spec.after_lines part (timetable_of read.old) (pieces_of 10 report.now)) }
@@ -214,8 +215,8 @@ fn take_lines(part: RowRange, read: &mut ReadTimetable, report: &[u8]) -> Result
     take_line(part, read, rest)
 }
 
-/// The timetable that the lines of a report tell, as far as a part of its rows is asked for. A line
-/// that says nothing of it is passed over.
+/// The timetable that the lines of a report describe, for the requested rows. Lines that do not
+/// describe it are skipped.
 pub fn read_timetable(
     alloc: Global,
     part: RowRange,

@@ -1,9 +1,9 @@
--- Cutting a text at its signs, and reading the parts.
+-- Lemmas on cutting a text at its signs and reading its parts.
 use Rattle.std.proofs.Common.{◌≡◌, ◌==◌, ◌+◌, ℕ, Bool, true, false, List, [], ◌∷◌, ◌++◌, Option, Some, None, refl, ap, sym, ◌∙◌, append_assoc, append-nil, if◌then◌else◌, arith, length}
 use Rattle.std.specs.Borrow.{Bor}
 use Rattle.st_expr.specs.Expression.{onto_part, parts_after}
 
--- a text put in front of the first part
+-- the parts of a text with a text put in front of the first part
 abbrev pub onto_parts : List ℕ → List (Bool × List ℕ) → List (Bool × List ℕ)
 onto_parts front [] = (false, front) ∷ []
 onto_parts front (part ∷ parts) = (part.0, front ++ part.1) ∷ parts
@@ -27,7 +27,7 @@ onto_parts-onto_part front c [] = refl
 onto_parts-onto_part front c (part ∷ parts) =
     ap (λ (p : List ℕ). (part.0, p) ∷ parts) (append_assoc front (c ∷ []) part.1)
 
--- no sign stands here
+-- the next byte is not a sign, so it belongs to the first part
 pub parts_on : (m : Bool) (c : ℕ) (front longer rest tail : List ℕ) → rest ≡ c ∷ tail → (c ≡ 43 → ⊥) → (c ≡ 45 → ⊥) →
     longer ≡ front ++ c ∷ [] → onto_parts longer (parts_after m tail) ≡ onto_parts front (parts_after m rest)
 parts_on m c front longer rest tail parts not_43 not_45 more =
@@ -40,7 +40,7 @@ parts_on m c front longer rest tail parts not_43 not_45 more =
     ∙ sym (ap (λ (s : List ℕ). onto_parts front (parts_after m s)) parts
     ∙ (ap (λ p. step p (c == 45)) no_plus ∙ ap (λ q. step false q) no_minus)))
 
--- a plus stands here
+-- the next byte is a plus, so the first part ends
 pub plus_here : (m : Bool) (c : ℕ) (front first rest tail : List ℕ) → rest ≡ c ∷ tail → c ≡ 43 → first ≡ front →
     onto_parts front (parts_after m rest) ≡ (m, first) ∷ parts_after false tail
 plus_here m c front first rest tail parts is_43 same =
@@ -50,7 +50,7 @@ plus_here m c front first rest tail parts is_43 same =
     ap (λ (s : List ℕ). onto_parts front (parts_after m s)) parts
     ∙ (ap step is_plus ∙ ap (λ (f : List ℕ). (m, f) ∷ parts_after false tail) (append-nil front ∙ sym same))
 
--- a minus stands here
+-- the next byte is a minus, so the first part ends
 pub minus_here : (m : Bool) (c : ℕ) (front first rest tail : List ℕ) → rest ≡ c ∷ tail → c ≡ 45 →
     first ≡ front → onto_parts front (parts_after m rest) ≡ (m, first) ∷ parts_after true tail
 minus_here m c front first rest tail parts is_45 same =
@@ -62,12 +62,12 @@ minus_here m c front first rest tail parts is_45 same =
     ∙ (ap (λ p. step p (c == 45)) no_plus ∙ (ap (λ q. step false q) is_minus
     ∙ ap (λ (f : List ℕ). (m, f) ∷ parts_after true tail) (append-nil front ∙ sym same)))
 
--- the parts that are left
+-- the parts of the remaining text, if a sign precedes it
 abbrev pub parts_left : Option (Bool × Bor (List ℕ)) → List (Bool × List ℕ)
 parts_left None = []
 parts_left (Some p) = parts_after p.0 p.1.now
 
--- how long the text that is left is, with the sign before it
+-- the length of the remaining text plus one for its sign; 0 if nothing remains
 abbrev pub length_left : Option (Bool × Bor (List ℕ)) → ℕ
 length_left None = 0
 length_left (Some p) = length p.1.now + 1

@@ -5,7 +5,7 @@ use Rattle.st_text.proofs.PieceLemmas.{first_piece}
 use Rattle.st_expr.specs.Term.{place_reading}
 use Rattle.st_expr.specs.declared.terms.AtomReading.TheVariants.{Bad}
 
--- a text with two points is no place
+-- a text with two points is not a bit address
 pub three_parts : (text w behind b more : List ℕ) → pieces_of 46 text ≡ w ∷ pieces_of 46 behind →
     pieces_of 46 behind ≡ b ∷ pieces_of 46 more → Bad ≡ place_reading (pieces_of 46 text)
 three_parts text w behind b more first second =

@@ -10,12 +10,13 @@ use Rattle.st_expr.specs.declared.terms.Term.{Term}
 use Rattle.st_expr.specs.declared.terms.AtomReading.{AtomReading}
 use Rattle.st_expr.specs.declared.terms.AtomReading.TheVariants.{Bad, Large, Good}
 
--- a byte put in front of the first part
+-- the parts of a text with a byte put in front of the first part
 abbrev pub onto_part : ℕ → List (Bool × List ℕ) → List (Bool × List ℕ)
 onto_part c [] = (false, c ∷ []) ∷ []
 onto_part c (part ∷ parts) = (part.0, c ∷ part.1) ∷ parts
 
--- a text cut at its signs: each part with whether a minus stands before it, the first as given
+-- a text cut at its signs: each part with whether a minus precedes it; the flag of the first part
+-- is given
 abbrev pub parts_after : Bool → List ℕ → List (Bool × List ℕ)
 parts_after minus [] = (minus, []) ∷ []
 parts_after minus (c ∷ cs) =
@@ -23,53 +24,53 @@ parts_after minus (c ∷ cs) =
     else (if c == minus_sign then (minus, []) ∷ parts_after true cs
     else onto_part c (parts_after minus cs))
 
--- the parts of an expression: a sign in front belongs to the first
+-- the parts of an expression: a leading sign belongs to the first part
 abbrev pub parts : List ℕ → List (Bool × List ℕ)
 parts [] = parts_after false []
 parts (c ∷ cs) =
     if c == plus_sign then parts_after false cs
     else (if c == minus_sign then parts_after true cs else parts_after false (c ∷ cs))
 
--- the term that a part says
+-- the term with a sign and the reading of its atom, if that is good
 abbrev pub term_in : Bool → AtomReading → Option Term
 term_in minus (Good atom) = Some (record { minus = minus; atom = atom })
 term_in minus Large = None
 term_in minus Bad = None
 
--- the term that a part with its sign says
+-- the term of a part with its sign, if the part is a term
 abbrev pub term_of : Bool × List ℕ → Option Term
 term_of part = term_in part.0 (atom_of part.1)
 
--- whether a part says nothing
+-- whether a part is neither a name nor a number
 abbrev pub is_bad_part : AtomReading → Bool
 is_bad_part Bad = true
 is_bad_part Large = false
 is_bad_part (Good atom) = false
 
--- whether a part is a number above the most that may stand there
+-- whether a part is a number above the greatest that is allowed
 abbrev pub is_large_part : AtomReading → Bool
 is_large_part Large = true
 is_large_part Bad = false
 is_large_part (Good atom) = false
 
--- whether any part says nothing
+-- whether any part is neither a name nor a number
 abbrev pub any_bad : List (Bool × List ℕ) → Bool
 any_bad parts = list_any (λ part. is_bad_part (atom_of part.1)) parts
 
--- whether any part is such a number
+-- whether any part is a number above the greatest that is allowed
 abbrev pub any_large : List (Bool × List ℕ) → Bool
 any_large parts = list_any (λ part. is_large_part (atom_of part.1)) parts
 
--- the terms that parts say
+-- the terms of the parts
 abbrev pub terms_of : List (Bool × List ℕ) → List Term
 terms_of parts = filter_map term_of parts
 
--- what parts say: a bad one counts before one that is too large
+-- the expression of parts, or its fault: a bad part counts before a number that is too large
 abbrev pub expr_in : List (Bool × List ℕ) → Result (ArrayVec Term) Fault
 expr_in parts =
     if any_bad parts then Err BadExpression
     else (if any_large parts then Err NumberTooLarge else Ok (record { items = terms_of parts }))
 
--- what a text says where an expression is wanted
+-- the expression of a text, or its fault
 abbrev pub expr_of : List ℕ → Result (ArrayVec Term) Fault
 expr_of text = expr_in (parts text)

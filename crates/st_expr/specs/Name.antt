@@ -5,7 +5,7 @@ use Rattle.std.specs.List.{list_all}
 use Rattle.st_text.specs.Bytes.{blank, dollar}
 use Rattle.st_text.specs.Number.{is_filled}
 
--- whether a byte may stand in a name
+-- whether a byte is allowed in a name: an upper-case letter or a digit
 abbrev pub is_name_byte : ℕ → Bool
 is_name_byte c = is_ascii_uppercase c || is_ascii_digit c
 
@@ -14,12 +14,12 @@ abbrev pub is_name : List ℕ → Bool
 is_name [] = false
 is_name (c ∷ cs) = is_ascii_uppercase c && list_all is_name_byte cs && nat_le (length cs) 7
 
--- whether a text is a word for the system: `$` and 1 to 7 bytes of names
+-- whether a text is a system word: `$` and 1 to 7 letters and digits
 abbrev pub is_system_word : List ℕ → Bool
 is_system_word [] = false
 is_system_word (c ∷ cs) = c == dollar && is_filled cs && list_all is_name_byte cs
     && nat_le (length cs) 7
 
--- a name filled with blanks to eight bytes
+-- a name padded with blanks to eight bytes
 abbrev pub padded_name : List ℕ → List ℕ
 padded_name name = name ++ replicate (8 - length name) blank

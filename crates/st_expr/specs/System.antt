@@ -1,20 +1,20 @@
--- The system symbols: words of `$` whose values are fixed.
+-- The system symbols: words that begin with `$` and have fixed values.
 use Rattle.std.specs.Prelude.{ℕ, ◌+◌, ◌*◌, List, [], ◌∷◌, ◌++◌, codes}
 use Rattle.st_bits.specs.declared.register.TheConstants.{ZERO, INTERRUPT_ADDRESS, BOUNDS, COUNTS, LEFT_HALF, RIGHT_HALF, SIGN_BYTE, INDICATORS, MASK, REMAINDER, FACTOR, TRANSIT, FIRST_INDEX_WORD}
 
--- bit b of word w as a bit address
+-- the bit address of bit b of word w
 abbrev pub bit : ℕ → ℕ → ℕ
 bit w b = 64 * w + b
 
--- an index word as a bit address
+-- the bit address of index word j
 abbrev pub index_word_address : ℕ → ℕ
 index_word_address j = bit (FIRST_INDEX_WORD + j) 0
 
--- an indicator as a bit address
+-- the bit address of indicator n
 abbrev pub indicator_place : ℕ → ℕ
 indicator_place n = bit INDICATORS n
 
--- parts of register words
+-- the system symbols of parts of register words, each with its bit address
 abbrev pub registers : List (List ℕ × ℕ)
 registers =
     (codes "$Z", bit ZERO 0) ∷ (codes "$IA", bit INTERRUPT_ADDRESS 0) ∷ (codes "$UB", bit BOUNDS 0)
@@ -25,7 +25,7 @@ registers =
     ∷ (codes "$RM", bit REMAINDER 0) ∷ (codes "$FT", bit FACTOR 0) ∷ (codes "$TR", bit TRANSIT 0)
     ∷ []
 
--- the index words
+-- the system symbols of the index words, each with its bit address
 abbrev pub index_word_names : List (List ℕ × ℕ)
 index_word_names =
     (codes "$X0", index_word_address 0) ∷ (codes "$X1", index_word_address 1)
@@ -40,12 +40,12 @@ index_word_names =
     ∷ (codes "$X14", index_word_address 14)
     ∷ (codes "$X15", index_word_address 15) ∷ []
 
--- names of indicators from number n on, each with its bit address
+-- the names of consecutive indicators from number n on, each with its bit address
 abbrev pub indicators_from : ℕ → List (List ℕ) → List (List ℕ × ℕ)
 indicators_from n [] = []
 indicators_from n (name ∷ names) = (name, indicator_place n) ∷ indicators_from (n + 1) names
 
--- the indicators
+-- the system symbols of the indicators, each with its bit address
 abbrev pub indicator_symbols : List (List ℕ × ℕ)
 indicator_symbols =
     indicators_from 0 (codes "$MK" ∷ codes "$IK" ∷ codes "$IJ" ∷ codes "$EK" ∷ codes "$TS" ∷
@@ -59,6 +59,6 @@ indicator_symbols =
     codes "$XL" ∷ codes "$XE" ∷ codes "$XH" ∷ codes "$MOP" ∷ codes "$RLZ" ∷ codes "$RZ" ∷
     codes "$RGZ" ∷ codes "$RN" ∷ codes "$AL" ∷ codes "$AE" ∷ codes "$AH" ∷ [])
 
--- the system symbols with their values, bit addresses
+-- all system symbols, each with its value, a bit address
 unfoldable pub system_symbols : List (List ℕ × ℕ)
 system_symbols = registers ++ index_word_names ++ indicator_symbols

@@ -16,7 +16,8 @@ use Rattle.st_expr.specs.declared.terms.Atom.TheVariants.{Number, Name}
 use Rattle.st_expr.specs.declared.terms.AtomReading.{AtomReading}
 use Rattle.st_expr.specs.declared.terms.AtomReading.TheVariants.{Bad as BadAtom, Large as LargeAtom, Good as GoodAtom}
 
--- word w and bit b together are bit address 64w + b: bad where one is, else large where one is
+-- the reading of word w and bit b as bit address 64w + b: bad if one of them is bad, else large if
+-- one is too large
 abbrev pub bit_reading : Reading → Reading → AtomReading
 bit_reading (Good w) (Good b) = GoodAtom (Number (64 * w + b))
 bit_reading (Good w) Large = LargeAtom
@@ -26,18 +27,18 @@ bit_reading Large Large = LargeAtom
 bit_reading Large Bad = BadAtom
 bit_reading Bad b = BadAtom
 
--- what the pieces of `w` or `w.b` say
+-- the reading of `w` or `w.b`, given its pieces between points
 abbrev pub place_reading : List (List ℕ) → AtomReading
 place_reading (w ∷ []) = bit_reading (reading LAST_ADDRESS w) (Good 0)
 place_reading (w ∷ b ∷ []) = bit_reading (reading LAST_ADDRESS w) (reading LAST_BIT b)
 place_reading _ = BadAtom
 
--- what a word for the system says: a system symbol is its number, any other a name
+-- the atom of a system word: the number of a system symbol, or a name for any other word
 abbrev pub system_atom : List ℕ → Atom
 system_atom word = option_map_or (λ n. Number n) (row_of word system_symbols)
     (Name (padded_name word))
 
--- what a piece of an expression says: a name, a word for the system, or a number
+-- the reading of one piece of an expression: a name, a system word, or a number
 abbrev pub atom_of : List ℕ → AtomReading
 atom_of word =
     if is_name word then GoodAtom (Name (padded_name word))

@@ -1,4 +1,4 @@
--- Values of expressions under a table of symbols.
+-- Values of expressions under a symbol table.
 use Rattle.std.specs.Prelude.{◌≡◌, ℕ, ℤ, pos, ◌+ℤ◌, ◌-ℤ◌, Bool, true, false, List, [], ◌∷◌, ◌++◌, Option, Some, None, IsSome, if◌then◌else◌}
 use Rattle.std.specs.Option.{option_map}
 use Rattle.st_text.specs.Tables.{row_of}
@@ -6,32 +6,32 @@ use Rattle.st_expr.specs.declared.terms.Atom.{Atom}
 use Rattle.st_expr.specs.declared.terms.Atom.TheVariants.{Number, Name}
 use Rattle.st_expr.specs.declared.terms.Term.{Term}
 
--- a table of symbols before and after a name is defined: whether it is fresh, and then it stands
--- last
+-- relation of a symbol table before and after a definition: a new name is appended with its value;
+-- the flag says whether the name is new
 abbrev pub Defines : List (List ℕ × ℕ) → List (List ℕ × ℕ) → List ℕ → ℕ → Bool → Type 0
 Defines old new name value true = (row_of name old ≡ None) × (new ≡ old ++ (name, value) ∷ [])
 Defines old new name value false = IsSome (row_of name old) × (new ≡ old)
 
--- the number that an atom stands for
+-- the value of an atom: its number, or the value of its name
 abbrev pub atom_value : List (List ℕ × ℕ) → Atom → Option ℕ
 atom_value symbols (Number n) = Some n
 atom_value symbols (Name name) = row_of name symbols
 
--- a number with a sign
+-- a magnitude with a sign, as an integer
 abbrev pub signed_value : Bool → ℕ → ℤ
 signed_value minus n = if minus then pos 0 -ℤ pos n else pos n
 
--- the value of a term
+-- the value of a term, if its name is defined
 abbrev pub term_value : List (List ℕ × ℕ) → Term → Option ℤ
 term_value symbols term = option_map (λ n. signed_value term.minus n) (atom_value symbols term.atom)
 
--- the sum of two values, where there are both
+-- the sum of two values, if both are defined
 abbrev pub plus : Option ℤ → Option ℤ → Option ℤ
 plus (Some a) (Some b) = Some (a +ℤ b)
 plus (Some a) None = None
 plus None b = None
 
--- the value of terms: the sum of theirs
+-- the value of a list of terms: the sum of their values, if all are defined
 abbrev pub sum_of_terms : List (List ℕ × ℕ) → List Term → Option ℤ
 sum_of_terms symbols [] = Some (pos 0)
 sum_of_terms symbols (term ∷ terms) = plus (term_value symbols term) (sum_of_terms symbols terms)

@@ -1,4 +1,4 @@
-//! Reading an expression.
+//! Parses an expression.
 
 ghost use Rattle.std.specs.Prelude.{◌≡◌, ◌+◌, ◌≤◌, Bool, [], ◌∷◌, length, Ok, Err, IfOk, IfErr, MatchOption};
 ghost use Rattle.st_expr.specs.Expression as spec;
@@ -7,14 +7,15 @@ use crate::terms::{AtomReading, Term, read_atom};
 use arrayvec::ArrayVec;
 use st_card::Fault;
 
-/// An expression: the sum of its terms, each added or taken away.
+/// An expression: the sum of its terms, each added or subtracted.
 pub type Expr = ArrayVec<Term, 32>;
 
-/// The expression that a text of at most 63 bytes says.
+/// Parses a text of at most 63 bytes as an expression.
 ///
-/// It is terms joined by `+` and `-`, with a sign before the first or none. A term is a name, a
-/// system symbol, or a number `w` or `w.b`, which is the bit address 64w + b. A text that is no
-/// expression is a bad one; in one that is, w above 262,143 or b above 63 is a number too large.
+/// An expression is terms joined by `+` and `-`, with an optional sign before the first. A term is
+/// a name, a system symbol, or a number `w` or `w.b`, which is the bit address 64w + b. The error
+/// is `BadExpression` if the text is not an expression, and `NumberTooLarge` if it is one but has a
+/// w above 262,143 or a b above 63.
 pub fn read_expr(text: &[u8]) -> Result<Expr, Fault>
     requires { length text.now ≤ 63 }
     ensures { result ≡ spec.expr_of text.now }
@@ -24,7 +25,8 @@ pub fn read_expr(text: &[u8]) -> Result<Expr, Fault>
     Ok(terms_in(minus, rest))
 }
 
-// Whether a text begins with a minus, and what stands behind its first sign, if it has one.
+// Whether a text begins with a minus, and the text after its first sign, or the whole text if it
+// does not begin with a sign.
 pub(crate) fn behind_sign(text: &[u8]) -> (bool, &[u8])
     ensures parts { spec.parts_after result.0 result.1.now ≡ spec.parts text.now }
     ensures shorter { length result.1.now ≤ length text.now }
@@ -36,7 +38,8 @@ pub(crate) fn behind_sign(text: &[u8]) -> (bool, &[u8])
     }
 }
 
-// Finds the fault of an expression by what stands behind its first sign.
+// Checks the parts of an expression, given the text after its first sign; returns the expression's
+// fault if it has one.
 pub(crate) fn check_parts(minus: bool, text: &[u8]) -> Result<(), Fault>
     ensures ok { IfOk result (λ _. spec.expr_in (spec.parts_after minus text.now)
         ≡ Ok (record { items = spec.terms_of (spec.parts_after minus text.now) })) }
@@ -61,7 +64,7 @@ pub(crate) fn check_parts(minus: bool, text: &[u8]) -> Result<(), Fault>
     }
 }
 
-// The terms that a text says behind its first sign.
+// The terms of the text after the first sign of an expression.
 pub(crate) fn terms_in(minus: bool, text: &[u8]) -> Expr
     requires { length text.now ≤ 63 }
     ensures { result ≡ record { items = spec.terms_of (spec.parts_after minus text.now) } }
@@ -78,8 +81,8 @@ pub(crate) fn terms_in(minus: bool, text: &[u8]) -> Expr
     terms
 }
 
-// The first part of a text that is cut at its signs; and where a sign stands behind it, whether it
-// is a minus and what stands behind that.
+// The first part of a text that is cut at its signs. If a sign follows the part, also whether the
+// sign is a minus, and the text after it.
 pub(crate) fn first_part(text: &[u8]) -> (&[u8], Option<(bool, &[u8])>)
     ensures parts { MatchOption result.1
         ((m : Bool) → spec.parts_after m text.now ≡ (m, result.0.now) ∷ [])

@@ -1,4 +1,4 @@
-//! Expressions, and the symbols that they name, by the rules of `docs/strap.md`.
+//! Expressions and their symbols, by the rules of `docs/strap.md`.
 #![tactic(auto)]
 
 mod expressions;

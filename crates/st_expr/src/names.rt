@@ -14,7 +14,7 @@ pub fn is_name(text: &[u8]) -> bool
     }
 }
 
-// Whether a text is a word for the system: `$` and 1 to 7 upper-case letters and digits.
+// Whether a text is a system word: `$` and 1 to 7 upper-case letters and digits.
 pub(crate) fn is_system_word(text: &[u8]) -> bool
     ensures { result ≡ spec.is_system_word text.now }
 {
@@ -33,7 +33,7 @@ fn all_name_bytes(text: &[u8]) -> bool
         .all(|byte| byte.is_ascii_uppercase() || byte.is_ascii_digit())
 }
 
-/// A name of at most eight bytes, filled with blanks to eight.
+/// A name of at most eight bytes, padded with blanks to eight.
 pub fn padded(name: &[u8]) -> [u8; 8]
     requires { length name.now ≤ 8 }
     ensures { result ≡ spec.padded_name name.now }

@@ -1,4 +1,4 @@
-//! The system symbols: words of `$` whose values are fixed.
+//! The system symbols: words that begin with `$` and have fixed values.
 
 ghost use Rattle.std.specs.Prelude.{◌≡◌};
 ghost use Rattle.st_text.specs.Tables.{row_of};
@@ -119,7 +119,7 @@ const SYSTEM: [(&[u8], u32); 83] = [
     (b"$AH", IND + indicators::ACCUMULATOR_HIGH as u32),
 ];
 
-// The value of a system symbol, a bit address; nothing where the word is none.
+// The value of a system symbol, a bit address; `None` if the word is not a system symbol.
 #[tactic(auto, unfolding(crate::specs::System::system_symbols))]
 pub(crate) fn system_value(word: &[u8]) -> Option<u32>
     ensures { result ≡ row_of word.now system_symbols }

@@ -10,27 +10,27 @@ use crate::names::{is_name, is_system_word, padded};
 use crate::system::system_value;
 use st_text::{Reading, cut, read_number};
 
-/// The last word address, also past storage.
+/// The last word address that a field of 18 bits can hold; it is past the end of storage.
 pub const LAST_ADDRESS: u64 = 262_143;
 
-/// The last bit of a word.
+/// The number of the last bit of a word.
 pub const LAST_BIT: u64 = 63;
 
-/// What a term adds or takes away.
+/// The operand of a term: a number or a name.
 #[derive(Clone, Copy, Debug, PartialEq, Eq)]
 pub enum Atom {
     /// A number, a bit address below 2^24.
     Number(u32),
-    /// A name, or `$` and 1 to 7 letters and digits, filled with blanks to eight bytes.
+    /// A name, or `$` with 1 to 7 letters and digits, padded with blanks to eight bytes.
     Name([u8; 8]),
 }
 
 /// A term of an expression.
 #[derive(Clone, Copy, Debug, PartialEq, Eq)]
 pub struct Term {
-    /// Whether it is taken away.
+    /// Whether the term is subtracted.
     pub minus: bool,
-    /// What is added or taken away.
+    /// The number or name that is added or subtracted.
     pub atom: Atom,
 }
 
@@ -45,7 +45,7 @@ impl Default for Term {
     }
 }
 
-// What a piece of an expression says.
+// The reading of one piece of an expression: an atom, a number that is too large, or no atom.
 #[derive(Clone, Copy)]
 pub(crate) enum AtomReading {
     Bad,
@@ -53,7 +53,7 @@ pub(crate) enum AtomReading {
     Good(Atom),
 }
 
-// What a piece of an expression says: a name, a word for the system, or a number.
+// Reads one piece of an expression: a name, a system word, or a number.
 #[inline(always)]
 pub(crate) fn read_atom(word: &[u8]) -> AtomReading
     ensures { result ≡ spec.atom_of word.now }
@@ -67,7 +67,7 @@ pub(crate) fn read_atom(word: &[u8]) -> AtomReading
     }
 }
 
-// What a word for the system says: a system symbol is its number, any other a name.
+// The atom of a system word: the number of a system symbol, or a name for any other word.
 fn system_atom(word: &[u8]) -> Atom
     requires { length word.now ≤ 8 }
     ensures { result ≡ spec.system_atom word.now }
@@ -78,7 +78,7 @@ fn system_atom(word: &[u8]) -> Atom
     }
 }
 
-// What a text says where `w` or `w.b` is wanted.
+// Reads a text as a number `w` or `w.b`.
 fn read_place(word: &[u8]) -> AtomReading
     ensures { result ≡ spec.place_reading (pieces_of period word.now) }
 {
@@ -91,7 +91,7 @@ fn read_place(word: &[u8]) -> AtomReading
     }
 }
 
-// The bit address that a word's number and a bit's make.
+// The bit address of a word number and a bit number.
 fn bit_address(word: Reading, bit: Reading) -> AtomReading
     requires word_within { IsWithin LAST_ADDRESS word }
     requires bit_within { IsWithin LAST_BIT bit }

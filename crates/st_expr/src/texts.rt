@@ -1,4 +1,4 @@
-//! Expressions that are kept as their texts.
+//! Expressions that are kept as text.
 
 ghost use Rattle.std.specs.Prelude.{◌≡◌, ◌+◌, ◌≤◌, ◌*◌, ◌^◌, ℕ, ℤ, pos, ◌-ℤ◌, ◌≤ℤ◌, Bool, List, ◌∷◌, length, take, IfSome};
 ghost use Rattle.arrayvec.specs.ArrayVec.{ArrayVec as ListOf};
@@ -12,13 +12,13 @@ use crate::values::{Symbols, term_value};
 use st_card::Fault;
 use std::marker::Model;
 
-/// An expression that is kept as its text, in less room than its terms take. They are read again
-/// where they are asked for.
+/// An expression that is kept as its text, which takes less memory than its terms. The terms are
+/// parsed again at each use.
 #[derive(Drop, Debug)]
 pub struct ExprText {
-    // How many bytes the text has.
+    // The length of the text in bytes.
     length: u8,
-    // The text, and what stands behind it.
+    // The text, padded to 63 bytes.
     bytes: [u8; 63],
 }
 
@@ -31,7 +31,7 @@ impl Model for ExprText {
 }
 
 impl ExprText {
-    /// The expression that a text of at most 63 bytes says, by the rules of `read_expr`.
+    /// Parses a text of at most 63 bytes as an expression, by the rules of `read_expr`.
     pub fn read(text: &[u8]) -> Result<ExprText, Fault>
         requires { length text.now ≤ 63 }
         ensures { result ≡ spec.expr_of text.now }
@@ -41,7 +41,7 @@ impl ExprText {
         Ok(ExprText::new(text))
     }
 
-    // The expression that a text says, whose parts were found to be good.
+    // The expression of a text whose parts have been checked.
     fn new(text: &[u8]) -> ExprText
         requires { length text.now ≤ 63 }
         ensures { result ≡ record { items = spec.terms_of (spec.parts text.now) } }
@@ -54,7 +54,7 @@ impl ExprText {
         }
     }
 
-    // The text.
+    // The text of the expression.
     fn text(&self) -> &[u8]
         ensures terms { record { items = spec.terms_of (spec.parts result.now) } ≡ self.now }
         ensures short { length result.now ≤ 63 }
@@ -62,7 +62,7 @@ impl ExprText {
         &self.bytes[..usize::from(self.length)]
     }
 
-    /// The same expression as its terms.
+    /// The terms of the expression.
     pub fn terms(&self) -> Expr
         ensures { result ≡ self.now }
     {
@@ -70,7 +70,8 @@ impl ExprText {
         terms_in(minus, text)
     }
 
-    /// Its value, as `value_of` gives it of its terms; `None` where a name is not defined.
+    /// The expression's value, as `value_of` computes it from its terms; `None` if a name is not
+    /// defined.
     pub fn value(&self, symbols: &Symbols) -> Option<i64>
         ensures { result ≡ sum_by symbols.now self.now.items }
     {
@@ -79,7 +80,7 @@ impl ExprText {
     }
 }
 
-// The value of the terms that a text says behind a sign.
+// The value of the terms in the text after a sign; `minus` says whether the sign is a minus.
 fn sum_of(minus: bool, text: &[u8], symbols: &Symbols) -> Option<i64>
     requires { length text.now ≤ 63 }
     ensures value { result ≡ sum_by symbols.now (spec.terms_of (spec.parts_after minus text.now)) }
@@ -96,7 +97,7 @@ fn sum_of(minus: bool, text: &[u8], symbols: &Symbols) -> Option<i64>
     }
 }
 
-// The value of the term that a part says; a part that says none adds nothing.
+// The value of the term in one part, with its sign; 0 for a part that is not a term.
 fn part_value(minus: bool, word: &[u8], symbols: &Symbols) -> Option<i64>
     ensures value { (parts : List (Bool × List ℕ)) → plus result
         (sum_by symbols.now (spec.terms_of parts))

@@ -11,7 +11,7 @@ use st_bits::NoMemory;
 use std::alloc::Global;
 use std::marker::Model;
 
-/// A table of symbols: names with their values, bit addresses, in the order of definition.
+/// A symbol table: names with their values, which are bit addresses, in the order of definition.
 #[derive(Drop)]
 pub struct Symbols {
     values: IndexMap<[u8; 8], u32>,
@@ -26,7 +26,7 @@ impl Model for Symbols {
 }
 
 impl Symbols {
-    /// A table with no symbol.
+    /// A symbol table without symbols.
     pub fn new(alloc: Global) -> Symbols
         ensures { result ≡ [] }
     {
@@ -35,9 +35,9 @@ impl Symbols {
         }
     }
 
-    /// Defines a name, filled with blanks to eight bytes, and says whether it is a new one.
+    /// Defines a name, padded with blanks to eight bytes, and returns whether it is a new one.
     ///
-    /// Where the name is defined already, and where there is no memory, nothing changes.
+    /// If the name is already defined, or if memory runs out, the table is unchanged.
     pub fn define(&mut self, name: [u8; 8], value: u32) -> Result<bool, NoMemory>
         ensures ok { IfOk result (spec.Defines self.old self.new name value) }
         ensures fresh { OnErr result (row_of name self.old ≡ None) }
@@ -46,7 +46,7 @@ impl Symbols {
         define_in(&mut self.values, name, value)
     }
 
-    /// The value of a name, if it is defined.
+    /// The value of a name, a bit address; `None` if it is not defined.
     pub fn get(&self, name: [u8; 8]) -> Option<u32>
         ensures { result ≡ row_of name self.now }
     {
@@ -54,7 +54,7 @@ impl Symbols {
     }
 }
 
-// Defines a name in a map of names.
+// Defines a name in a map from names to values.
 fn define_in(
     values: &mut IndexMap<[u8; 8], u32>,
     name: [u8; 8],
@@ -73,9 +73,10 @@ fn define_in(
     }
 }
 
-/// The value of an expression: the sum of its terms, where a name has the value of its symbol.
+/// The value of an expression, in bits: the sum of its terms, where a name has the value of its
+/// symbol.
 ///
-/// `None` where a name is not defined.
+/// `None` if a name is not defined.
 pub fn value_of(e: &Expr, s: &Symbols) -> Option<i64>
     ensures { result ≡ spec.sum_of_terms s.now e.now.items }
 {

@@ -30,7 +30,7 @@ fn push_drawn_card(deck: &mut Vec<u8>, generator: &mut Generator) -> Result<(), 
     push_card(deck, text.as_str())
 }
 
-// Appends so many drawn cards.
+// Appends this number of drawn cards.
 fn push_drawn_cards(
     deck: &mut Vec<u8>,
     generator: &mut Generator,
@@ -64,7 +64,7 @@ fn push_delay_card(deck: &mut Vec<u8>, generator: &mut Generator) -> Result<(), 
     push_control(deck, text.as_str())
 }
 
-// Appends so many cards with a delay each.
+// Appends this number of cards, each with a delay.
 fn push_delay_cards(
     deck: &mut Vec<u8>,
     generator: &mut Generator,
@@ -78,7 +78,7 @@ fn push_delay_cards(
     Ok(())
 }
 
-// Appends the cards behind the drawn ones.
+// Appends the cards after the drawn ones.
 fn push_closing_cards(
     deck: &mut Vec<u8>,
     generator: &mut Generator,
@@ -104,10 +104,10 @@ fn push_deck(deck: &mut Vec<u8>, number: u64, cards: u32) -> Result<(), AllocErr
     push_closing_cards(deck, &mut generator, cards)
 }
 
-/// The deck that the seed `number` makes: `cards` drawn cards, the end of the program, and control
-/// cards that give a budget of two more than `cards`, sixteen delays of 1 to 20 ticks, and ask for
-/// ticks. `soak` asks for 1 to 4,000 cards; this call makes a deck of any number. The one error is
-/// that memory ran out. `docs/deck.md` has the rules.
+/// Makes the deck of the seed `number`: `cards` drawn cards, the END card, and control cards that
+/// request a budget of `cards` plus two instructions, sixteen delays of 1 to 20 ticks, and timing.
+/// `soak` uses 1 to 4,000 cards; this call makes a deck of any number. The only error is that
+/// memory ran out. `docs/deck.md` has the rules.
 pub fn make_deck(alloc: Global, number: u64, cards: u32) -> Result<Vec<u8>, NoMemory>
     ensures deck { IfOk result (λ deck. deck.items ≡ made_deck number cards) }
     ensures short { IfOk result (λ deck. length deck.items ≤ 40 * cards + 300) }

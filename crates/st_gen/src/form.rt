@@ -3,7 +3,7 @@
 ghost use Rattle.std.specs.Prelude.{◌≡◌};
 ghost use Rattle.st_gen.specs.Deck.{form_of};
 
-// What a drawn card does.
+// The form of a drawn card: what its statement does.
 #[derive(Clone, Copy)]
 pub(crate) enum StatementForm {
     LoadValue,
@@ -16,7 +16,7 @@ pub(crate) enum StatementForm {
     Multiply,
 }
 
-// The form with this number, below 8.
+// The form with this number, 0 to 7.
 pub(crate) fn form_of(number: u32) -> StatementForm
     ensures { result ≡ form_of number }
 {

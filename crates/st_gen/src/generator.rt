@@ -1,4 +1,4 @@
-//! The generator of numbers.
+//! The random number generator.
 
 ghost use Rattle.std.specs.Prelude.{◌≡◌, ◌<◌};
 ghost use Rattle.st_gen.specs.Deck.{next_number, below};
@@ -7,14 +7,14 @@ const MULTIPLIER: u64 = 6_364_136_223_846_793_005;
 
 const INCREMENT: u64 = 1_442_695_040_888_963_407;
 
-// A linear congruential generator with the number that it stands at.
+// A linear congruential generator with its current state.
 #[derive(Drop)]
 pub(crate) struct Generator {
     pub(crate) x: u64,
 }
 
 impl Generator {
-    // The next number below the bound, by the high bits.
+    // Draws a number below the bound, from the high bits of the next state.
     #[tactic(auto, unfolding(crate::specs::Deck::next_number))]
     pub(crate) fn draw(&mut self, bound: u32) -> u32
         requires { 0 < bound }

@@ -1,4 +1,4 @@
-//! A deck of cards made from a seed, as `soak` runs it, by the rules of `docs/deck.md`.
+//! Makes a deck of cards from a seed, for `soak`, by the rules of `docs/deck.md`.
 #![tactic(auto, unfolding(crate::specs::Deck::control, crate::specs::Deck::delay_cards))]
 
 mod deck;

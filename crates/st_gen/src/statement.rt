@@ -8,9 +8,9 @@ use crate::form::StatementForm;
 use crate::generator::Generator;
 use st_text::{Line, begun, push_short_decimal};
 
-/// The first of the words that drawn statements speak of.
+/// The word address of the first word that drawn statements use.
 pub const FIRST_DRAWN_WORD: u32 = 4_096;
-/// How many these words are.
+/// The number of words that drawn statements use.
 pub const DRAWN_WORDS: u32 = 256;
 
 fn load_value(generator: &mut Generator) -> Line
@@ -47,7 +47,7 @@ fn load_word(generator: &mut Generator) -> Line
     text
 }
 
-// An operation on an unsigned binary field.
+// The text of an operation on an unsigned binary field, its operands drawn.
 fn field_operation(operation: &str, generator: &mut Generator) -> Line
     requires { length operation.now ≤ 8 }
     ensures drawn { generator.new.x ≡ number_after 4 generator.old.x }
@@ -90,7 +90,7 @@ fn multiply(generator: &mut Generator) -> Line
     text
 }
 
-// The statement of this form, with its letters drawn.
+// The statement of this form, its operands drawn.
 pub(crate) fn draw_statement(form: StatementForm, generator: &mut Generator) -> Line
     ensures drawn { generator.new.x ≡ number_after (letters form) generator.old.x }
     ensures text { result.bytes ≡ statement form generator.old.x }

@@ -1,4 +1,4 @@
-//! The lines of a log, each by itself.
+//! The lines of a log.
 #![tactic(auto, unfolding(crate::specs::Log::heading, crate::specs::Log::label_line, crate::specs::Log::log_end_line, crate::specs::Log::log_entry_line, crate::specs::Log::log_front, crate::specs::Log::log_label, crate::specs::Log::cycles_line, crate::specs::Log::stage_line))]
 
 ghost use Rattle.std.specs.Prelude.{◌≡◌, ◌++◌, IfOk};
@@ -9,14 +9,14 @@ use st_entries::{
 };
 use std::alloc::{AllocError, Global};
 
-// The name of the log's format, and what stands before the tick at which it starts.
+// The header of the log's format, and the text before the tick at which the log starts.
 fn heading() -> &'static [u8]
     ensures { result.now ≡ spec.heading }
 {
     b"Kanata\t0004\nC=\t"
 }
 
-/// Appends the name of the log's format, and the tick at which it starts.
+/// Appends the header of the log's format, and the tick at which the log starts.
 pub fn push_opening(out: &mut Vec<u8>, tick: u64) -> Result<(), AllocError>
     ensures { IfOk result (λ _. out.new.items ≡ out.old.items ++ spec.log_front tick) }
 {
@@ -25,7 +25,7 @@ pub fn push_opening(out: &mut Vec<u8>, tick: u64) -> Result<(), AllocError>
     out.extend_from_slice(b"\n")
 }
 
-/// Appends that ticks pass, where they do.
+/// Appends the number of ticks that pass, unless it is 0.
 pub fn push_cycles(out: &mut Vec<u8>, from: u64, to: u64) -> Result<(), AllocError>
     ensures { IfOk result (λ _. out.new.items ≡ out.old.items ++ spec.cycles_line from to) }
 {
@@ -37,7 +37,7 @@ pub fn push_cycles(out: &mut Vec<u8>, from: u64, to: u64) -> Result<(), AllocErr
     out.extend_from_slice(b"\n")
 }
 
-/// Appends that the entry with a number appears.
+/// Appends the line with which the entry with a number appears.
 pub fn push_entry_line(out: &mut Vec<u8>, number: u64) -> Result<(), AllocError>
     ensures { IfOk result (λ _. out.new.items ≡ out.old.items ++ spec.log_entry_line number) }
 {
@@ -48,7 +48,7 @@ pub fn push_entry_line(out: &mut Vec<u8>, number: u64) -> Result<(), AllocError>
     out.extend_from_slice(b"\t0\n")
 }
 
-/// Appends what stands beside it in the viewer.
+/// Appends the label of the entry with a number, which the viewer shows beside it.
 pub fn push_label_line(out: &mut Vec<u8>, number: u64, text: &[u8]) -> Result<(), AllocError>
     ensures { IfOk result (λ _. out.new.items ≡ out.old.items ++ spec.label_line number text.now) }
 {
@@ -59,7 +59,7 @@ pub fn push_label_line(out: &mut Vec<u8>, number: u64, text: &[u8]) -> Result<()
     out.extend_from_slice(b"\n")
 }
 
-/// Appends that a stage of it begins, `S`, or ends, `E`.
+/// Appends that a stage of the entry with a number begins, `S`, or ends, `E`.
 pub fn push_stage(
     out: &mut Vec<u8>,
     sign: &[u8],
@@ -77,7 +77,8 @@ pub fn push_stage(
     out.extend_from_slice(b"\n")
 }
 
-/// Appends that it is done with, as a row or as none: retired, 0, or flushed, 1.
+/// Appends that the entry with a number leaves the pipeline, with its row's number: retired, `0`,
+/// or flushed, `1`.
 pub fn push_end_line(out: &mut Vec<u8>, number: u64, row: u64, how: &[u8]) -> Result<(), AllocError>
     ensures { IfOk result (λ _. out.new.items ≡ out.old.items
         ++ spec.log_end_line number row how.now) }
@@ -91,7 +92,7 @@ pub fn push_end_line(out: &mut Vec<u8>, number: u64, row: u64, how: &[u8]) -> Re
     out.extend_from_slice(b"\n")
 }
 
-/// The label of an entry: its three texts, the last one with dots where it is too long.
+/// The label of an entry: its three texts; the last one ends in dots if it is too long.
 pub fn label(alloc: Global, report: &[u8], entry: DrawnEntry) -> Result<Vec<u8>, AllocError>
     ensures { IfOk result (λ text. text.items ≡ spec.log_label report.now entry) }
 {

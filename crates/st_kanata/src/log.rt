@@ -1,4 +1,4 @@
-//! A log of what happens to the entries of a timetable, for a pipeline viewer.
+//! A log of the events of a timetable's entries, for a pipeline viewer.
 ghost use Rattle.std.specs.Prelude.{◌≡◌, ◌++◌, IfOk};
 ghost use Rattle.st_kanata.specs.Log as spec;
 
@@ -21,7 +21,7 @@ fn first_stage(entry: DrawnEntry) -> &'static [u8]
     }
 }
 
-// The stage in which an entry ends: executing, or that in which it began.
+// The stage in which an entry ends: executing, or the stage in which it began.
 fn last_stage(entry: DrawnEntry) -> &'static [u8]
     ensures { result.now ≡ spec.last_stage entry }
 {
@@ -33,7 +33,7 @@ fn last_stage(entry: DrawnEntry) -> &'static [u8]
     }
 }
 
-// The number of an entry's row; 0 where it has none.
+// The number of an entry's row; 0 if it has none.
 fn row_number(entry: DrawnEntry) -> u64
     ensures { result ≡ spec.row_number entry }
 {
@@ -45,7 +45,7 @@ fn row_number(entry: DrawnEntry) -> u64
     }
 }
 
-// Whether an entry was retired, 0, or flushed, 1.
+// Whether an entry was retired, `0`, or flushed, `1`.
 fn retire_type(entry: DrawnEntry) -> &'static [u8]
     ensures { result.now ≡ spec.retire_type entry }
 {
@@ -74,7 +74,7 @@ fn push_begin(
     push_stage(out, b"S", number, first_stage(entry))
 }
 
-// Appends the lines of an entry that goes from one stage to another.
+// Appends the lines of an entry that changes from one stage to another.
 fn push_change(out: &mut Vec<u8>, number: u64, from: &[u8], to: &[u8]) -> Result<(), AllocError>
     ensures { IfOk result (λ _. out.new.items ≡ out.old.items
         ++ spec.change_lines number from.now to.now) }
@@ -91,7 +91,7 @@ fn push_end(out: &mut Vec<u8>, number: u64, entry: DrawnEntry) -> Result<(), All
     push_end_line(out, number, row_number(entry), retire_type(entry))
 }
 
-// Appends the lines of what happens to an entry.
+// Appends the lines of a step of an entry.
 fn push_step(
     alloc: Global,
     out: &mut Vec<u8>,
@@ -109,7 +109,7 @@ fn push_step(
     }
 }
 
-// Appends the lines of a moment that comes after a tick, or at it.
+// Appends the lines of a moment, given the tick of the moment before it.
 fn push_moment(
     alloc: Global,
     out: &mut Vec<u8>,
@@ -124,7 +124,7 @@ fn push_moment(
     push_step(alloc, out, report, moment)
 }
 
-// Appends the lines of moments that come after a tick, or at it, one after another.
+// Appends the lines of moments in order, given the tick of the moment before them.
 fn push_moments(
     alloc: Global,
     out: &mut Vec<u8>,
@@ -145,7 +145,7 @@ fn push_moments(
     Ok(())
 }
 
-// The tick of the first moment; 0 where there is none.
+// The tick of the first moment; 0 if there is none.
 fn start_of(moments: &[LogMoment]) -> u64
     ensures { result ≡ spec.first_moment_tick moments.now }
 {
@@ -155,8 +155,8 @@ fn start_of(moments: &[LogMoment]) -> u64
     }
 }
 
-/// The log of entries, in the order of ticks, with the three texts of each from the listing of
-/// their report. It fails for want of memory alone.
+/// The log of entries, in the order of ticks; the three texts of each entry use the listing in the
+/// report. The only error is that memory ran out.
 pub fn write_log(
     alloc: Global,
     report: &[u8],

@@ -1,4 +1,4 @@
-//! What happens to the entries of a timetable, in the order of ticks.
+//! The events of a timetable's entries, in the order of ticks.
 ghost use Rattle.std.specs.Prelude.{◌≡◌, ◌++◌, ◌∷◌, [], IfOk};
 ghost use Rattle.st_entries.specs.Phases.{first_tick as first_tick_of};
 ghost use Rattle.st_kanata.specs.Moments as spec;
@@ -7,30 +7,30 @@ ghost use Rattle.st_kanata.specs.declared.moments.LogMoment.{LogMoment};
 use st_entries::{DrawnEntry, first_tick};
 use std::alloc::{AllocError, Global};
 
-/// What happens to an entry.
+/// An event in the life of an entry.
 #[derive(Clone, Copy)]
 pub enum LogStep {
-    /// It begins.
+    /// The entry begins.
     Begin,
-    /// Its operands are there.
+    /// The entry's operands are available.
     Ready,
-    /// It is its turn.
+    /// The entry's turn comes.
     Turn,
-    /// It is complete, or dropped, or past.
+    /// The entry completes, is dropped, or (for an interrupt or a snapshot) is over.
     End,
 }
 
-/// What happens to an entry at a tick.
+/// An event of an entry at a tick.
 #[derive(Clone, Copy)]
 pub struct LogMoment {
     pub tick: u64,
-    /// The number of the entry, as they begin.
+    /// The number of the entry; entries are numbered in the order in which they begin.
     pub number: u64,
     pub step: LogStep,
     pub entry: DrawnEntry,
 }
 
-// The tick at which an entry's operands are there: not before it begins.
+// The tick at which an entry's operands are available; not before it begins.
 fn ready_tick(entry: &DrawnEntry) -> u64
     ensures { result ≡ spec.ready_tick entry.now }
 {
@@ -46,7 +46,7 @@ fn ready_tick(entry: &DrawnEntry) -> u64
     }
 }
 
-// The tick at which it is an entry's turn: not before its operands are there.
+// The tick at which an entry's turn comes; not before its operands are available.
 fn turn_tick(entry: &DrawnEntry) -> u64
     ensures { result ≡ spec.turn_tick entry.now }
 {
@@ -63,7 +63,7 @@ fn turn_tick(entry: &DrawnEntry) -> u64
     }
 }
 
-// The tick at which an entry ends: not before it begins; an interrupt and a snapshot fill one tick.
+// The tick at which an entry ends, not before it begins; an interrupt and a snapshot last one tick.
 fn end_tick(entry: &DrawnEntry) -> u64
     ensures { result ≡ spec.end_tick entry.now }
 {
@@ -81,7 +81,7 @@ fn end_tick(entry: &DrawnEntry) -> u64
     }
 }
 
-// The tick at which something happens to an entry.
+// The tick of an event of an entry.
 fn tick_of(step: LogStep, entry: &DrawnEntry) -> u64
     ensures { result ≡ spec.moment_tick step entry.now }
 {
@@ -93,7 +93,7 @@ fn tick_of(step: LogStep, entry: &DrawnEntry) -> u64
     }
 }
 
-// Appends what happens to the entry with a number.
+// Appends an event of the entry with a number.
 fn push(
     out: &mut Vec<LogMoment>,
     number: u64,
@@ -113,8 +113,8 @@ fn push(
     Ok(())
 }
 
-// Appends that the operands of an entry are there, and that it is its turn, where it waits for
-// these.
+// Appends the events that an entry's operands are available and that its turn comes, if it waits
+// for these.
 fn push_waits(out: &mut Vec<LogMoment>, number: u64, entry: DrawnEntry) -> Result<(), AllocError>
     ensures { IfOk result (λ _. out.new.items ≡ out.old.items ++ spec.waits_of number entry) }
 {
@@ -129,7 +129,7 @@ fn push_waits(out: &mut Vec<LogMoment>, number: u64, entry: DrawnEntry) -> Resul
     }
 }
 
-// Appends all that happens to the entry with a number.
+// Appends all events of the entry with a number.
 fn push_moments_of(
     out: &mut Vec<LogMoment>,
     number: u64,
@@ -142,7 +142,7 @@ fn push_moments_of(
     push(out, number, LogStep::End, entry)
 }
 
-// All that happens to entries, numbered from 0 on.
+// All events of entries, numbered from 0 on.
 fn moments_of(alloc: Global, entries: &[DrawnEntry]) -> Result<Vec<LogMoment>, AllocError>
     ensures { IfOk result (λ out. out.items ≡ spec.moments 0 entries.now) }
 {
@@ -157,7 +157,7 @@ fn moments_of(alloc: Global, entries: &[DrawnEntry]) -> Result<Vec<LogMoment>, A
     Ok(out)
 }
 
-// Puts entries in the order in which they begin; those that begin at one tick keep their order.
+// Sorts entries by the tick at which they begin; entries with equal ticks keep their order.
 fn sort_entries(entries: &mut Vec<DrawnEntry>) -> Result<(), AllocError>
     ensures { IfOk result (λ _. entries.new.items ≡ spec.in_order first_tick_of entries.old.items) }
 {
@@ -165,7 +165,7 @@ fn sort_entries(entries: &mut Vec<DrawnEntry>) -> Result<(), AllocError>
     Ok(())
 }
 
-// Puts moments in the order of their ticks; those of one tick keep their order.
+// Sorts moments by their ticks; moments with equal ticks keep their order.
 fn sort_moments(moments: &mut Vec<LogMoment>) -> Result<(), AllocError>
     ensures { IfOk result (λ _. moments.new.items
         ≡ spec.in_order (λ (m : LogMoment). m.tick) moments.old.items) }
@@ -174,7 +174,8 @@ fn sort_moments(moments: &mut Vec<LogMoment>) -> Result<(), AllocError>
     Ok(())
 }
 
-/// What happens to entries, in the order of ticks; they are numbered from 0 on as they begin.
+/// The events of entries in the order of ticks; the entries are numbered from 0 on in the order in
+/// which they begin.
 pub fn happenings(alloc: Global, entries: &[DrawnEntry]) -> Result<Vec<LogMoment>, AllocError>
     ensures { IfOk result (λ out. out.items ≡ spec.happenings entries.now) }
 {

@@ -1,4 +1,4 @@
--- What is laid for a number, and what an operation reads there.
+-- The assembled field of a number, and its reading by an operation.
 use Rattle.std.specs.Prelude.{ℕ, ◌≡◌, Bool, true}
 use Rattle.st_mnemonic.specs.declared.form.Form.{Form}
 use Rattle.st_strap.specs.WellFormed.{IsNumberForm}
@@ -7,12 +7,13 @@ use Rattle.st_field.specs.declared.fields.Field.{Field}
 use Rattle.st_field.specs.declared.fields.Shape.{Shape}
 use Rattle.st_field.specs.Fields.{field_of}
 
--- a number with its sign for which a field of the form has room
+-- a number with its sign fits in a field of the form
 pub record IsHeld (form : Form) (minus : Bool) (number : ℕ) : Type 0 where
   pub sizes : IsNumberForm form
   pub room : holds form minus number ≡ true
 
--- how an operation sees a field of the form; whether it is negated, and its offset, are its own
+-- the shape in which an operation sees a field of the form; the operation determines whether it is
+-- negated, and its offset
 abbrev pub laid_shape : Form → Bool → ℕ → Shape
 laid_shape form negated offset = record {
   length = form.length;
@@ -22,11 +23,11 @@ laid_shape form negated offset = record {
   offset = offset;
 }
 
--- what an operation that sees it so reads of the field that is laid for a number
+-- the field that an operation with this shape reads from the assembled bits of a number
 abbrev pub field_of_number : Form → Bool → ℕ → Shape → Field
 field_of_number form minus number h = field_of (laid_bits form minus number) h
 
--- a field of this value is read as that number with that sign, and has neither flags nor zone
+-- a field with this value is read as this number with this sign, and has neither flags nor zone
 pub record IsRead (f : Field) (value : ℕ) (minus : Bool) (number : ℕ) : Type 0 where
   pub same_number : value ≡ number
   pub same_sign : f.negative ≡ minus

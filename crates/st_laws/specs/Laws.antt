@@ -1,5 +1,5 @@
--- What ties crates that do not know each other, and the numbers that definitions take from the
--- code, in figures.
+-- Laws that relate crates which do not depend on each other, and the values of constants that
+-- definitions take from the code.
 use Rattle.std.specs.Prelude.{◌≡◌, ◌≤◌, ◌<◌, ◌+◌, ◌*◌, ◌^◌, ◌==◌, ◌&&◌, ◌||◌, nat_le, nat_lt, ℕ, List, Some, map, codes, length, sum, decimal, Ok, true, Bool, false, ◌-◌, ◌++◌}
 use Rattle.st_bits.specs.declared.limits.TheConstants.{WORDS, LAST_WORD, MOST_INSTRUCTIONS, LONGEST_LIST, MOST_DELAY, LONGEST_JOB, MOST_CARDS}
 use Rattle.st_card.specs.declared.limits.TheConstants.{MOST_DUMPS, MOST_SNAPS, MOST_BACK, MOST_NUMBER}
@@ -33,8 +33,8 @@ use Rattle.st_expr.specs.declared.terms.TheConstants.{LAST_ADDRESS, LAST_BIT}
 use Rattle.st_asm.specs.declared.naming.TheConstants.{MOST_NAMES}
 use Rattle.st_asm.specs.declared.checks.TheConstants.{MOST_OFFSET, MOST_MOVED, MOST_WAITED, MOST_COUNT, MOST_FLAGS}
 
--- limits of the machine and of a job: words of storage, the last of them, instructions of a run,
--- delays and signals, the bytes of a job, its cards and its names
+-- limits of the machine and of a job: the words of storage and the last word's address, the
+-- instructions of a run, the delays and signals, and the bytes, cards and names of a job
 pub record LimitsInFigures : Type 0 where
   pub words : WORDS ≡ 98304
   pub last_word : LAST_WORD ≡ 98303
@@ -44,8 +44,8 @@ pub record LimitsInFigures : Type 0 where
   pub most_cards : MOST_CARDS ≡ 20000
   pub most_names : MOST_NAMES ≡ 4000
 
--- limits of control cards: a delay, and how many dumps, snapshots and steps back; the greatest
--- number that a card spells
+-- limits of control cards: the greatest delay, the numbers of dumps, snapshots and steps back, and
+-- the greatest number on a card
 pub record ControlsInFigures : Type 0 where
   pub most_delay : MOST_DELAY ≡ 255
   pub most_dumps : MOST_DUMPS ≡ 16
@@ -70,7 +70,7 @@ pub record RegistersInFigures : Type 0 where
   pub first_index_word : FIRST_INDEX_WORD ≡ 16
   pub first_storage_word : FIRST_STORAGE_WORD ≡ 32
 
--- the symbol that stands for the bit of an indicator
+-- a symbol has the bit address of the indicator with this number
 abbrev pub IsSymbol : ℕ → List ℕ → Type 0
 IsSymbol number symbol = row_of symbol system_symbols ≡ Some (64 * INDICATORS + number)
 
@@ -124,14 +124,13 @@ pub record IndicatorsInFigures : Type 0 where
   pub accumulator_equal : (ACCUMULATOR_EQUAL ≡ 61) × IsSymbol ACCUMULATOR_EQUAL (codes "$AE")
   pub accumulator_high : (ACCUMULATOR_HIGH ≡ 62) × IsSymbol ACCUMULATOR_HIGH (codes "$AH")
 
--- The digits of a number and their value are the same in binary operations, which see one number of
--- codes of four bits, and in decimal ones, which see a list of codes.
+-- The digits of a number and their value agree between binary operations, which use one number with
+-- four bits for each code, and decimal operations, which use a list of codes.
 pub record DigitsAgree : Type 0 where
   pub value : (n x : ℕ) → value_of_digits n x ≡ codes_value (bytes 4 n x)
   pub digits : (n v : ℕ) → digits_of n v ≡ number_of_bytes 4 (digit_list n v)
 
--- The counts that a connective leaves stand in their register where that register keeps bits, each
--- in its place.
+-- A connective leaves its two counts in those bits of their register that the register keeps.
 pub record CountsAgree : Type 0 where
   pub zeros : (bs : List ℕ) → length bs ≤ 64 → sum bs ≤ 64
       → part (counts_of bs) 17 7 ≡ leading_zeros bs
@@ -140,9 +139,9 @@ pub record CountsAgree : Type 0 where
   pub kept : (bs : List ℕ) → length bs ≤ 64 → sum bs ≤ 64
       → register_word COUNTS (counts_of bs) ≡ counts_of bs
 
--- The system symbols stand for the places that the machine has: `$X0` to `$X15` for the index words
--- that index fields name, `$LZC` and `$AOC` for the two counts. The symbol of an indicator is its
--- name in a picture behind `$`.
+-- The system symbols have the addresses of the machine: `$X0` to `$X15` those of the index words
+-- that index fields name, `$LZC` and `$AOC` those of the two counts. The symbol of an indicator is
+-- `$` followed by its name in a chart.
 pub record SymbolsAgree : Type 0 where
   pub index_words : index_word_names
       ≡ map (λ row. (row.0, 64 * (FIRST_INDEX_WORD + row.1))) index_fields
@@ -152,34 +151,33 @@ pub record SymbolsAgree : Type 0 where
       ≡ map (λ row. codes "$" ++ without_end_blanks (indicator_text (row.1 - 64 * INDICATORS)))
       indicator_symbols
 
--- What is laid, and what is shown of storage, ends where storage does.
+-- Assembled bits and dumped parts of storage end at the end of storage.
 pub record SizesOfStorageAgree : Type 0 where
   pub shown : (p : ℕ × ℕ) → is_part p ≡ (nat_le p.0 p.1 && nat_lt p.1 words_of_storage)
   pub laid : (place bits : ℕ) → in_storage place bits
       ≡ (bits == 0 || (nat_le (64 * FIRST_STORAGE_WORD) place
       && nat_le (place + bits) (64 * words_of_storage)))
 
--- The numbers of control cards are those of the lines of an object text, as far as the one spelling
--- goes that a line has; with leading zeros too, where they have 12 digits at most.
+-- Control cards and lines of an object text read a number alike, for every text of at most 12
+-- digits, with leading zeros or without, and for every number in decimal below 2^64.
 pub record NumbersAgree : Type 0 where
   pub short : (text : List ℕ) → length text ≤ 12
       → card_number text ≡ short_number text
   pub spelled : (n : ℕ) → n < 2 ^ 64
       → card_number (decimal n) ≡ short_number (decimal n)
 
--- The deck that is made of a seed and a number of drawn cards is never refused, up to 19,980 of
--- them, which with its 20 others are as many as a job may have. It starts at bit 0 of word 32,
--- half-word 64, and asks for two instructions more than it has drawn cards, for sixteen delays and
--- for the ticks.
+-- The deck of a seed and of at most 19,980 drawn cards is never refused; with its 20 other cards it
+-- then has at most as many as a job may have. It starts at bit 0 of word 32, half-word 64. It
+-- requests a budget of two instructions more than it has drawn cards, sixteen delays, and timing.
 abbrev pub MadeDecksAreNotRefused : Type 0
 MadeDecksAreNotRefused = (seed cards : ℕ) → cards ≤ 19980 →
     (a : Assembly) × (assembly (made_deck seed cards) ≡ Ok a) × (a.start ≡ 64)
     × (a.asked.budget ≡ cards + 2)
     × (length a.asked.delays ≡ 16) × (a.asked.time ≡ true)
 
--- A number that is laid as a field is read there by each operation on a field of that form: the
--- same number, as the magnitude or as the value of its digits, with the same sign, no flags and no
--- zone. The bytes of a decimal field are the digits of the number, each below ten and with no zone.
+-- Every operation on a field of some form reads an assembled number of that form: the magnitude, or
+-- the value of its digits, is that number, with its sign, no flags and no zone. The bytes of a
+-- decimal field are the digits of the number, each below ten and without a zone.
 pub record LaidNumbersAreRead : Type 0 where
   pub binary : (form : Form) (minus negated : Bool) (number offset : ℕ)
       → IsHeld form minus number → form.decimal ≡ false
@@ -195,13 +193,13 @@ pub record LaidNumbersAreRead : Type 0 where
       → let h = laid_shape form negated offset in
       digit_bytes (field_of_number form minus number h) h ≡ digit_list (digit_count h) number
 
--- how many banks storage has, and how many words lie in the first four of them
+-- the number of banks of storage, and the number of words in the first four of them
 pub record BanksInFigures : Type 0 where
   pub banks : BANKS ≡ 6
   pub low_words : LOW_WORDS ≡ 65536
 
--- numbers of operations of the half-word format: the floating group, the branch group, and the one
--- that is none
+-- numbers of operations of the half-word format: the floating group, the branch group, and the
+-- number that is not an operation
 pub record FormatsInFigures : Type 0 where
   pub floating_group : FLOATING_GROUP ≡ 0
   pub branch_group : BRANCH_GROUP ≡ 23
@@ -212,8 +210,8 @@ pub record ExpressionsInFigures : Type 0 where
   pub last_address : LAST_ADDRESS ≡ 262143
   pub last_bit : LAST_BIT ≡ 63
 
--- limits of statements: an offset, words that are moved, instructions that an order waits for, the
--- count and the flags of an index word
+-- limits of statements: the greatest offset, the most words that are moved, the most instructions
+-- that an order is delayed by, and the greatest count and flags of an index word
 pub record StatementsInFigures : Type 0 where
   pub most_offset : MOST_OFFSET ≡ 127
   pub most_moved : MOST_MOVED ≡ 16
@@ -221,7 +219,7 @@ pub record StatementsInFigures : Type 0 where
   pub most_count : MOST_COUNT ≡ 262143
   pub most_flags : MOST_FLAGS ≡ 7
 
--- the words that the statements of a made deck speak of: the first of them, and how many
+-- the words that the statements of a generated deck use: the address of the first, and their number
 pub record DrawnWordsInFigures : Type 0 where
   pub first : FIRST_DRAWN_WORD ≡ 4096
   pub count : DRAWN_WORDS ≡ 256

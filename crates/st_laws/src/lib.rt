@@ -1,3 +1,3 @@
-//! Laws that tie crates which do not know each other: what the assembler lays is what the machine
-//! reads, and a rule that stands in two crates is one rule.
+//! Laws that relate crates which do not depend on each other: the machine reads the bits that the
+//! assembler makes, and a rule that is defined in two crates is the same rule.
 #![tactic(auto)]

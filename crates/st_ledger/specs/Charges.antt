@@ -1,5 +1,5 @@
--- What the ticks of an entry are spent on. The tick t is the time from t - 1 to t; an entry is
--- charged with the ticks behind the completion of the entry before it, up to and with its own.
+-- The charges of an entry. The tick t is the time from t - 1 to t; an entry is charged with the
+-- ticks after the completion of the entry before it, up to and including its own completion.
 use Rattle.std.specs.Prelude.{ℕ, ◌≡◌, ◌+◌, ◌-◌, ◌<◌, nat_eq, nat_lt, nat_le, Bool, if◌then◌else◌, List, [], ◌∷◌}
 use Rattle.st_rows.specs.declared.front.Front.{Front}
 use Rattle.st_rows.specs.declared.front.EntryTicks.{EntryTicks}
@@ -10,7 +10,7 @@ use Rattle.st_ledger.specs.declared.charges.Stage.TheVariants.{Restart, Instruct
 
 -- ---- the stage of a tick
 
--- the stage that a tick of a row belongs to, by the start of its segment and the row alone
+-- the stage of a row at tick t, given the start of the row's segment
 unfoldable pub stage_at : ℕ → EntryTicks → ℕ → Stage
 stage_at start row t =
     if nat_le t start then Restart
@@ -23,7 +23,7 @@ stage_at start row t =
 
 -- ---- charges
 
--- the stages of a row in their order
+-- the stages of a row in their order, each with its last tick
 abbrev pub parts_of_row : ℕ → EntryTicks → List StagePart
 parts_of_row start row =
     record { stage = Restart; end = start }
@@ -35,7 +35,7 @@ parts_of_row start row =
     ∷ record { stage = Executing; end = row.c }
     ∷ []
 
--- the ticks behind t, charged to the stages in order; one that ended by then has none
+-- the ticks after t, charged to the stages in order; a stage that ended by then has no charge
 unfoldable pub charges_behind : ℕ → List StagePart → List Charge
 charges_behind t [] = []
 charges_behind t (x ∷ xs) =
@@ -43,20 +43,20 @@ charges_behind t (x ∷ xs) =
     ∷ charges_behind x.end xs
     else charges_behind t xs
 
--- the charge of one stage alone
+-- the charge of a single stage from tick t on; none if the stage ended by then
 abbrev pub part_charges : ℕ → StagePart → List Charge
 part_charges t x = if nat_lt t x.end then record { from = t; to = x.end; stage = x.stage } ∷ []
     else []
 
--- the charges of a row behind a front, where the last entry of the run was done at the tick t. The
--- first entry of a segment has the front that opens it, of which c is the start; before any other
--- that is the tick t, so that nothing is a restart
+-- the charges of a row after a front, if the run's previous entry completed at tick t. For the
+-- first entry of a segment, c of the front is the start of the segment. For any other entry it is
+-- t, so that no tick is charged to the restart
 abbrev pub charges : ℕ → Front → EntryTicks → List Charge
 charges t f row = charges_behind t (parts_of_row f.c row)
 
 -- ---- sums
 
--- the place of a stage in their order
+-- the position of a stage in the order of stages
 abbrev pub stage_number : Stage → ℕ
 stage_number Restart = 0
 stage_number Instruction = 1
@@ -66,27 +66,27 @@ stage_number Preparing = 4
 stage_number Operand = 5
 stage_number Executing = 6
 
--- two stages are the same
+-- whether two stages are equal
 abbrev pub is_stage : Stage → Stage → Bool
 is_stage s r = nat_eq (stage_number s) (stage_number r)
 
--- the ticks of a charge
+-- the number of ticks of a charge
 abbrev pub ticks_of : Charge → ℕ
 ticks_of x = x.to - x.from
 
--- those of a list
+-- the number of ticks of a list of charges
 unfoldable pub all_ticks : List Charge → ℕ
 all_ticks [] = 0
 all_ticks (x ∷ xs) = ticks_of x + all_ticks xs
 
--- those of a stage
+-- the number of ticks that a list charges to a stage
 unfoldable pub ticks_for : Stage → List Charge → ℕ
 ticks_for s [] = 0
 ticks_for s (x ∷ xs) = (if is_stage s x.stage then ticks_of x else 0) + ticks_for s xs
 
--- ---- what charges are
+-- ---- properties of charges
 
--- they follow each other without a gap, from one tick to another
+-- charges are consecutive and without gaps from one tick to another
 unfoldable pub Follow : ℕ → ℕ → List Charge → Type 0
 Follow from to [] = from ≡ to
 Follow from to (x ∷ xs) = (x.from ≡ from) × (from < x.to) × Follow x.to to xs

@@ -1,4 +1,4 @@
--- What holds of charges: of each row, and of all rows of a run.
+-- Laws of charges: of each row, and of all rows of a run.
 use Rattle.std.specs.Prelude.{ℕ, ◌≡◌, ◌+◌, ◌<◌, ◌≤◌, true, List, All, map, length}
 use Rattle.st_rows.specs.Rows.{row_of_entry}
 use Rattle.st_rows.specs.declared.entry.Entry.{Entry}
@@ -14,9 +14,9 @@ use Rattle.st_ledger.specs.Ledger.{entries_of, all_charges, all_costs, row_at, r
 
 -- ---- one row
 
--- The charges of a row follow each other without a gap from the completion before it to its own, so
--- they add up to the ticks between; and those of executing are its cost. The completion before is
--- that of the front, or lies before the segment that the front opens.
+-- The charges of a row are consecutive, without a gap, from the completion of the previous entry to
+-- its own, so they add up to the ticks between; the charge of executing is its cost. The completion
+-- of the previous entry is that of the front, or precedes the segment that the front opens.
 pub record ChargesFollow : Type 0 where
   pub gapless : (ds : List ℕ) (n t : ℕ) (f : Front) (e : Entry) → t ≤ f.c →
       Follow t (row_of_entry ds n f e).c (charges t f (row_of_entry ds n f e))
@@ -27,7 +27,8 @@ pub record ChargesFollow : Type 0 where
   pub restart : (ds : List ℕ) (n t : ℕ) (f : Front) (e : Entry) → t ≤ f.c →
       t + ticks_for Restart (charges t f (row_of_entry ds n f e)) ≡ f.c
 
--- Each tick of a charge belongs to its stage by the start of the segment and the row alone.
+-- Each tick of a charge belongs to the charge's stage, as determined by the start of the segment
+-- and the row.
 abbrev pub TicksBelongToTheirStage : Type 0
 TicksBelongToTheirStage = (ds : List ℕ) (n t : ℕ) (f : Front) (e : Entry) →
     All (λ (x : Charge). (u : ℕ) → x.from < u → u ≤ x.to → stage_at f.c (row_of_entry ds n f e) u
@@ -36,13 +37,13 @@ TicksBelongToTheirStage = (ds : List ℕ) (n t : ℕ) (f : Front) (e : Entry) �
 
 -- ---- a run
 
--- The rows are those that the events of the run tell, tick for tick.
+-- The rows of the ledger are those in the events of the run, with the same ticks.
 abbrev pub RowsAreThoseOfTheRun : Type 0
 RowsAreThoseOfTheRun = (ds snaps : List ℕ) (n left : ℕ) (c : Scene) →
     map (row_at ds n) (entries_of ds n left c) ≡ rows_told (timed_run ds n left c snaps)
 
--- All charges follow each other without a gap from tick 0 to the last tick of the run, so they add
--- up to its ticks; and those of executing to the costs.
+-- All charges of a run are consecutive, without a gap, from tick 0 to the last tick, so they add up
+-- to the ticks of the run; the charges of executing add up to the costs.
 pub record ChargesAddUpToTheRun : Type 0 where
   pub gapless : (ds snaps : List ℕ) (n left : ℕ) (c : Scene) →
       Follow 0 (last_completion 0 (timed_run ds n left c snaps))
@@ -54,7 +55,8 @@ pub record ChargesAddUpToTheRun : Type 0 where
       ticks_for Executing (all_charges ds n (entries_of ds n left c))
       ≡ all_costs (entries_of ds n left c)
 
--- A segment starts one tick, and the number that is dropped, after the end of the one before.
+-- A segment starts one tick after the end of the segment before, plus one tick for each dropped
+-- entry.
 abbrev pub SegmentsStartBehindTheirEnd : Type 0
 SegmentsStartBehindTheirEnd = (m : Moment) → ends_segment m ≡ true →
     (next_front m).c ≡ m.tick + 1 + length m.dropped

@@ -17,19 +17,19 @@ stage_name Preparing = codes "PREPARING"
 stage_name Operand = codes "OPERAND"
 stage_name Executing = codes "EXECUTING"
 
--- the n-th entry that is done, with its address and its ticks
+-- the line of the n-th completed entry, with its address and its ticks
 abbrev pub row_stage_line : ℕ → ℕ → EntryTicks → List ℕ
 row_stage_line n address row =
     codes "ROW " ++ decimal n ++ codes " " ++ half_address address
     ++ codes " A " ++ decimal row.a ++ codes " P " ++ decimal row.p
     ++ codes " R " ++ decimal row.r ++ codes " C " ++ decimal row.c ++ lf
 
--- ticks that are charged to a stage
+-- the line of ticks that are charged to a stage
 abbrev pub charge_line : Charge → List ℕ
 charge_line x =
     codes "CHARGE " ++ decimal x.from ++ codes " " ++ decimal x.to ++ codes " "
     ++ stage_name x.stage ++ lf
 
--- the ticks of a stage in the whole run
+-- the line of the ticks of a stage in the whole run
 abbrev pub sum_line : Stage → ℕ → List ℕ
 sum_line stage ticks = codes "SUM " ++ stage_name stage ++ codes " " ++ decimal ticks ++ lf

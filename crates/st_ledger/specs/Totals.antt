@@ -1,4 +1,4 @@
--- The sums of the charges of each stage.
+-- The totals of the charges of each stage.
 use Rattle.std.specs.Prelude.{ℕ, ◌≤◌, List, [], ◌∷◌}
 use Rattle.st_ledger.specs.declared.charges.Stage.{Stage}
 use Rattle.st_ledger.specs.declared.charges.Stage.TheVariants.{Restart, Instruction, Address, Index, Preparing, Operand, Executing}
@@ -6,7 +6,7 @@ use Rattle.st_ledger.specs.declared.totals.StageSum.{StageSum}
 use Rattle.st_ledger.specs.declared.totals.Totals.{Totals}
 use Rattle.st_ledger.specs.Lines.{sum_line}
 
--- that of a stage
+-- the total of a stage
 abbrev pub sum_at : Stage → Totals → ℕ
 sum_at Restart sums = sums.restart
 sum_at Instruction sums = sums.instruction
@@ -16,7 +16,7 @@ sum_at Preparing sums = sums.preparing
 sum_at Operand sums = sums.operand
 sum_at Executing sums = sums.executing
 
--- none is greater than t
+-- no total is greater than t
 pub record AreWithin (t : ℕ) (sums : Totals) : Type 0 where
   pub restart : sums.restart ≤ t
   pub instruction : sums.instruction ≤ t
@@ -30,12 +30,12 @@ pub record AreWithin (t : ℕ) (sums : Totals) : Type 0 where
 abbrev pub stages : List Stage
 stages = Restart ∷ Instruction ∷ Address ∷ Index ∷ Preparing ∷ Operand ∷ Executing ∷ []
 
--- what each stage of a list has
+-- the totals of the stages in a list, given the ticks of each stage
 abbrev pub sums_by : (Stage → ℕ) → List Stage → List StageSum
 sums_by f [] = []
 sums_by f (s ∷ more) = record { stage = s; ticks = f s } ∷ sums_by f more
 
--- the lines of sums
+-- the lines of totals
 unfoldable pub sum_lines : List StageSum → List (List ℕ)
 sum_lines [] = []
 sum_lines (x ∷ xs) = sum_line x.stage x.ticks ∷ sum_lines xs

@@ -1,25 +1,25 @@
-//! Charges: ticks, and the stage of an entry that they were spent on.
+//! Charges: the ticks that are attributed to the stages of entries.
 
-/// A stage of an entry, in the order in which it goes through them.
+/// A stage of an entry, in the order in which an entry passes through them.
 #[derive(Clone, Copy, Debug, PartialEq, Eq)]
 pub enum Stage {
-    /// The machine starts anew, up to the start of the segment.
+    /// The machine restarts: the ticks up to the start of the segment.
     Restart,
-    /// Instruction words are awaited, or reads of the row before come first.
+    /// The entry waits for instruction words, or for the bus to finish reads of the row before.
     Instruction,
-    /// The address is formed.
+    /// The entry's address is formed.
     Address,
-    /// The index-side word is awaited.
+    /// The entry waits for its index-side word.
     Index,
-    /// It is prepared.
+    /// The entry is prepared.
     Preparing,
-    /// Operand words are awaited.
+    /// The entry waits for operand words.
     Operand,
-    /// It executes.
+    /// The entry executes.
     Executing,
 }
 
-/// The ticks after `from`, up to and with `to`, and what they were spent on.
+/// The ticks `from` + 1 to `to`, and the stage that they are charged to.
 #[derive(Clone, Copy, Debug, PartialEq, Eq)]
 pub struct Charge {
     pub from: u64,
@@ -27,7 +27,7 @@ pub struct Charge {
     pub stage: Stage,
 }
 
-/// A stage, and the tick at which it ends.
+/// A stage, with the tick at which it ends.
 #[derive(Clone, Copy, Debug, PartialEq, Eq)]
 pub struct StagePart {
     pub stage: Stage,

@@ -1,5 +1,5 @@
-//! Where the ticks of a run went: each is charged to one entry and to one stage of it.
-//! `docs/ledger.md` has the rules.
+//! The ledger of a run: each tick is charged to one stage of one entry. `docs/ledger.md` has the
+//! rules.
 #![tactic(auto, using(st_bits::specs::Storage::words_of_storage_is))]
 
 mod charges;

@@ -1,5 +1,5 @@
-//! The lines of the ledger, by the rules of `docs/ledger.md`: one call a line, each with its line
-//! end.
+//! The lines of the ledger, by the rules of `docs/ledger.md`: one call for each kind of line, with
+//! its line end.
 ghost use Rattle.std.specs.Prelude.{◌≡◌, ◌+◌, ◌≤◌, ◌++◌, [], length};
 ghost use Rattle.st_ledger.specs.Lines.{stage_name, row_stage_line, charge_line, sum_line};
 
@@ -7,7 +7,7 @@ use crate::charges::{Charge, Stage};
 use st_report::{KeptDigits, LineFromEnd};
 use st_rows::EntryTicks;
 
-/// Puts the name of a stage before a line.
+/// Puts the name of a stage in front of a line.
 #[inline(always)]
 pub fn put_stage(line: &mut LineFromEnd, stage: Stage)
     requires { length line.old + 11 ≤ 128 }
@@ -25,8 +25,7 @@ pub fn put_stage(line: &mut LineFromEnd, stage: Stage)
     }
 }
 
-/// A line that is filled for one fact of a row after another, with the digits that its numbers have
-/// in common with those of the line before.
+/// A buffer for the lines of rows, with the digits of numbers that successive lines have in common.
 #[derive(Debug, Drop)]
 pub struct RowLine {
     /// The bytes of the line.
@@ -36,14 +35,14 @@ pub struct RowLine {
     p: KeptDigits,
     r: KeptDigits,
     c: KeptDigits,
-    /// Digits of ticks behind which something begins.
+    /// The digits of the tick at which the charge or wait of the last line begins.
     pub from: KeptDigits,
-    /// Those of ticks with which it ends.
+    /// The digits of the tick at which the charge or wait of the last line ends.
     pub to: KeptDigits,
 }
 
 impl RowLine {
-    /// A line of no bytes.
+    /// An empty buffer.
     pub fn new() -> RowLine
         ensures { result.bytes ≡ [] }
     {
@@ -60,8 +59,8 @@ impl RowLine {
     }
 }
 
-/// `ROW n a A x P p R r C c`, filled into a line: the n-th entry that is done, its half-word
-/// address, and its ticks. What the line had is gone.
+/// Fills a buffer with `ROW n a A x P p R r C c`: the n-th completed entry, its half-word address,
+/// and its ticks. The previous contents are overwritten.
 pub fn fill_row(line: &mut RowLine, n: u32, address: u32, row: &EntryTicks)
     ensures { line.new.bytes ≡ row_stage_line n address row.now }
 {
@@ -81,8 +80,8 @@ pub fn fill_row(line: &mut RowLine, n: u32, address: u32, row: &EntryTicks)
     line.bytes.put_word(*b"ROW ");
 }
 
-/// `CHARGE f t stage`, filled into a line: ticks that are charged to a stage. What the line had is
-/// gone.
+/// Fills a buffer with `CHARGE f t stage`: ticks that are charged to a stage. The previous contents
+/// are overwritten.
 pub fn fill_charge(line: &mut RowLine, charge: Charge)
     ensures { line.new.bytes ≡ charge_line charge }
 {
@@ -96,8 +95,8 @@ pub fn fill_charge(line: &mut RowLine, charge: Charge)
     line.bytes.put_word(*b"CHARGE ");
 }
 
-/// `SUM stage n`, filled into a line: the ticks of a stage in the whole run. What the line had is
-/// gone.
+/// Fills a line with `SUM stage n`: the ticks of a stage in the whole run. The previous contents
+/// are overwritten.
 pub(crate) fn fill_sum(line: &mut LineFromEnd, stage: Stage, ticks: u64)
     ensures { line.new ≡ sum_line stage ticks }
 {

@@ -1,4 +1,4 @@
-//! The line of a row, and its stages.
+//! The line of a row, and the stages of the row.
 ghost use Rattle.std.specs.Prelude.{◌≡◌, ◌∷◌, [], max};
 ghost use Rattle.st_io.specs.Lines.{WritesLines};
 ghost use Rattle.st_ledger.specs.Charges.{parts_of_row as parts_of};
@@ -16,8 +16,8 @@ fn part(stage: Stage, end: u64) -> StagePart
     StagePart { stage, end }
 }
 
-/// The stages of a row in their order, each with the tick at which it ends; the segment starts at
-/// `start`.
+/// The stages of a row in their order, each with the tick at which it ends. `start` is the tick at
+/// which the segment starts.
 pub fn parts(start: u64, row: &EntryTicks) -> [StagePart; 7]
     ensures { result ≡ parts_of start row.now }
 {
@@ -39,7 +39,7 @@ pub fn later(a: u64, b: u64) -> u64
     a.max(b)
 }
 
-/// Writes the line of the n-th entry that is done, whose half-word address and row these are.
+/// Writes the line of the n-th completed entry, with its half-word address and its row.
 pub fn write_row<K: Sink>(
     out: &mut K,
     line: &mut RowLine,

@@ -1,4 +1,4 @@
-//! The ticks of charges, stage by stage.
+//! The ticks charged to each stage.
 ghost use Rattle.std.specs.Prelude.{◌≡◌, ◌+◌, ◌<◌, ◌∷◌, [], max};
 ghost use Rattle.st_io.specs.Lines.{WritesLines};
 ghost use Rattle.st_ledger.specs.declared.charges.Stage.{Stage as StageOf};
@@ -13,7 +13,7 @@ use st_io::{Failed, Sink, write_line};
 use st_report::LineFromEnd;
 use st_rows::EntryTicks;
 
-/// The ticks of charges, stage by stage.
+/// The ticks charged to each stage.
 #[derive(Clone, Copy, Debug, Default, PartialEq, Eq)]
 pub struct Totals {
     pub restart: u64,
@@ -26,7 +26,7 @@ pub struct Totals {
 }
 
 impl Totals {
-    // Adds a charge. No sum is greater than the tick at which it begins.
+    // Adds a charge. No total may be greater than the tick at which the charge begins.
     fn add(&mut self, charge: Charge)
         requires order { charge.from < charge.to }
         requires within { AreWithin charge.from self.old }
@@ -46,7 +46,7 @@ impl Totals {
         }
     }
 
-    // Adds the charge of a stage behind the tick `from`, where it ends later.
+    // Adds the charge of a stage from the tick `from` on, if the stage ends later.
     fn add_part(&mut self, from: u64, part: StagePart)
         requires within { AreWithin from self.old }
         ensures within { AreWithin (max from part.end) self.new }
@@ -63,7 +63,7 @@ impl Totals {
         });
     }
 
-    // Adds the charges of stages behind the tick `from`.
+    // Adds the charges of stages from the tick `from` on.
     fn add_parts(&mut self, from: u64, parts: &[StagePart])
         requires within { AreWithin from self.old }
         ensures within { AreWithin (from + all_ticks (charges_behind from parts.now)) self.new }
@@ -77,9 +77,9 @@ impl Totals {
         self.add_parts(later(from, part.end), more);
     }
 
-    /// Adds the charges of an entry that is done, with its row: the last one before it was done at
-    /// the tick `before`, and its segment starts at `start`, if it is the first one of that. No sum
-    /// is greater than the tick `before`.
+    /// Adds the charges of a completed entry with the given row. `before` is the tick at which the
+    /// previous entry completed, and `start` the tick at which the entry's segment starts if the
+    /// entry is the first in it. No total may be greater than `before`.
     pub fn add_row(&mut self, row: &EntryTicks, before: u64, start: u64)
         requires within { AreWithin before self.old }
         ensures within { AreWithin (before + all_ticks (charges_behind before
@@ -91,21 +91,21 @@ impl Totals {
     }
 }
 
-/// The ticks of a stage in the whole run.
+/// A stage, with its ticks in the whole run.
 #[derive(Clone, Copy, Debug, PartialEq, Eq)]
 pub struct StageSum {
     pub stage: Stage,
     pub ticks: u64,
 }
 
-// The sum of a stage.
+// The total of a stage as a `StageSum`.
 fn made_sum(stage: Stage, ticks: u64) -> StageSum
     ensures { result ≡ record { stage = stage; ticks = ticks } }
 {
     StageSum { stage, ticks }
 }
 
-// The sums in the order of the stages.
+// The totals in the order of the stages.
 fn sums_of(totals: &Totals) -> [StageSum; 7]
     ensures { result ≡ sums_by (λ s. sum_at s totals.now) stages }
 {
@@ -120,7 +120,7 @@ fn sums_of(totals: &Totals) -> [StageSum; 7]
     ]
 }
 
-// Writes the line of a sum.
+// Writes the line of a total.
 fn write_sum<K: Sink>(out: &mut K, sum: StageSum) -> Result<(), Failed>
     ensures { WritesLines (K.output out.old) (K.output out.new)
         (sum_line sum.stage sum.ticks ∷ []) result }
@@ -130,7 +130,7 @@ fn write_sum<K: Sink>(out: &mut K, sum: StageSum) -> Result<(), Failed>
     write_line(out, line.as_bytes())
 }
 
-// Writes the lines of sums.
+// Writes the lines of totals.
 fn write_each<K: Sink>(out: &mut K, sums: &[StageSum]) -> Result<(), Failed>
     ensures { WritesLines (K.output out.old) (K.output out.new) (sum_lines sums.now) result }
 {

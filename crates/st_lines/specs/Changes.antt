@@ -1,4 +1,4 @@
--- Which words may change behind an entry.
+-- The words that may change after an entry.
 use Rattle.std.specs.Prelude.{ℕ, ◌≡◌, ◌≢◌, ◌+◌, ◌<◌, ◌≤◌, ◌⊎◌, List, slice_index, Option, None, Some}
 use Rattle.st_bits.specs.declared.limits.TheConstants.{WORDS}
 use Rattle.st_exec.specs.Ahead.{IsNotAmong}
@@ -10,19 +10,19 @@ abbrev pub IsOutsideArea : ℕ → Option ℕ → Type 0
 IsOutsideArea w None = Unit {0}
 IsOutsideArea w (Some area) = (w < area) ⊎ (area + 8 ≤ w)
 
--- it is no register, the entry does not write it, and it is not in the area of the card that the
--- reader may bring
+-- word w is not a register, the entry does not write it, and it is not in the area of the card that
+-- the reader may bring
 pub record IsUntouched (w : ℕ) (may : Changeable) : Type 0 where
   pub above : 32 ≤ w
   pub unwritten : IsNotAmong w may.writes
   pub beside : IsOutsideArea w may.card
 
--- all other words of a state are those of `old`
+-- all words of a state that may not change are those of `old`
 abbrev pub AreOthersAlike : Changeable → List ℕ → Machine → Type 0
 AreOthersAlike may old s =
     (v : ℕ) → v < WORDS → IsUntouched v may → slice_index old v ≡ word s v
 
--- the words as they were told last are a copy that is behind by these changes alone, in a segment
--- k; before the first one nothing has been told
+-- the words at the last output are a copy of the state's words up to the given changes, in segment
+-- k; before the first segment nothing has been written
 abbrev pub IsCopyBehind : ℕ → Changeable → List ℕ → Machine → Type 0
 IsCopyBehind k may old s = k ≢ 0 → AreOthersAlike may old s

@@ -1,5 +1,5 @@
--- Where the half-words come from that an entry begins with: the card that laid them, and whether
--- they are still those of the image.
+-- The card that the first half-word of an entry comes from, and whether storage still has the bits
+-- of the image there.
 use Rattle.std.specs.Prelude.{ℕ, zero, suc, ◌+◌, ◌/◌, Bool, true, ◌==◌, ◌&&◌, if◌then◌else◌, List, slice_index, Option, None, Some}
 use Rattle.st_format.specs.Halves.{is_full}
 use Rattle.st_prep.specs.Reading.{half_of}
@@ -7,31 +7,31 @@ use Rattle.st_state.specs.Machine.{Machine}
 use Rattle.st_lines.specs.declared.origins.Origin.{Origin}
 use Rattle.st_lines.specs.declared.origins.Origins.{Origins}
 
--- half-word h of some words
+-- half-word h of a list of words
 abbrev pub half_in : List ℕ → ℕ → ℕ
 half_in words h = half_of (slice_index words (h / 2)) h
 
--- half-word h of the words is that of the image
+-- whether half-word h of a list of words is that of the image
 unfoldable pub is_same_half : List ℕ → List ℕ → ℕ → Bool
 is_same_half image words h = half_in words h == half_in image h
 
--- and where it is the first of a full word, so is the next one
+-- whether the half-word or full word that begins at half-word h is that of the image
 unfoldable pub is_kept : List ℕ → List ℕ → ℕ → Bool
 is_kept image words h =
     is_same_half image words h
     && (if is_full (half_in words h) then is_same_half image words (h + 1) else true)
 
--- of the first card whose bits begin there, if there is one
+-- the origin with the number of the first card whose bits begin there, if there is one
 abbrev pub origin_by : Option ℕ → Bool → Option Origin
 origin_by None kept = None
 origin_by (Some card) kept = Some (record { card = card; kept = kept })
 
--- a card's number in a table, where 0 stands for none
+-- a card's number in a table, where 0 means none
 abbrev pub card_by : ℕ → Option ℕ
 card_by zero = None
 card_by (suc n) = Some (suc n)
 
--- by the tables of a program: what is told of half-word h in a state
+-- the origin of half-word h in a state, by the tables of a program
 unfoldable pub origin_at : Origins → Machine → ℕ → Option Origin
 origin_at o s h =
     origin_by (card_by (slice_index o.cards.items h)) (is_kept o.image.items s.words h)

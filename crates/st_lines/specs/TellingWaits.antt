@@ -1,14 +1,14 @@
--- What the waits of an entry that is done ask of the sums, and what they leave of them.
+-- Preconditions and effects of writing the waits of a completed entry on the totals of waits.
 use Rattle.st_lines.specs.EntryLines.{charges_of_entry}
 use Rattle.st_lines.specs.Waited.{AreWaitsReady, AddsWaits}
 use Rattle.st_lines.specs.declared.facts.EntryRecord.{EntryRecord}
 use Rattle.st_reasons.specs.declared.sums.WaitTotals.{WaitTotals}
 
--- the waits of all its charges can be told
+-- the waits of all charges of an entry can be written and added to these totals
 abbrev pub CanTellWaits : EntryRecord → WaitTotals → Type 0
 CanTellWaits e sums = AreWaitsReady e.uses.now e.before.now e.done.now.before sums
 
--- they are told, and added to the sums
+-- the waits of all charges of an entry have been added to the totals
 abbrev pub HasToldWaits : EntryRecord → WaitTotals → WaitTotals → Type 0
 HasToldWaits e old new =
     AddsWaits e.uses.now e.before.now e.done.now.before (charges_of_entry e.done.now) old new

@@ -1,4 +1,4 @@
--- The lines that tell which words an entry uses, and where each comes from.
+-- The lines of the words that an entry uses, with the source of each word.
 use Rattle.std.specs.Prelude.{ℕ, ◌-◌, Bool, true, nat_lt, if◌then◌else◌, List, [], ◌∷◌, ◌++◌, codes, decimal, Option, None, Some}
 use Rattle.st_text.specs.Bytes.{lf}
 use Rattle.st_text.specs.Numerals.{flag}
@@ -10,20 +10,20 @@ use Rattle.st_plain.specs.declared.uses.Supply.{Supply}
 use Rattle.st_plain.specs.declared.uses.Supply.TheVariants.{Read, Held, Forwarded, Register}
 use Rattle.st_plain.specs.declared.uses.Use.{Use}
 
--- what a word is used as
+-- the text of the role in which a word is used
 abbrev pub role_text : Role → List ℕ
 role_text Instruction = codes "INSTRUCTION"
 role_text Index = codes "INDEX"
 role_text Operand = codes "OPERAND"
 role_text Following = codes "FOLLOWING"
 
--- a tick lies before the end of a segment, or that goes on
+-- whether a tick is before the end of a segment; true if the segment continues
 abbrev pub is_before : Option ℕ → ℕ → Bool
 is_before None tick = true
 is_before (Some end) tick = nat_lt tick end
 
--- the read of word w for an entry whose segment ends at a tick, or goes on; it is made where it is
--- accepted before
+-- the text of the read of word w for an entry whose segment ends at a tick or continues; the read
+-- is made if it is accepted before the end
 abbrev pub ticks_text : Option ℕ → ℕ → ReadTicks → List ℕ
 ticks_text end w t =
     codes " READ BANK " ++ decimal (bank_of w) ++ codes " WANT " ++ decimal t.want
@@ -31,7 +31,7 @@ ticks_text end w t =
     ++ codes " ACCEPT " ++ decimal t.accept ++ codes " ANSWER " ++ decimal t.answer
     ++ codes " MADE " ++ flag (is_before end t.accept)
 
--- where word w comes from, which the n-th entry uses
+-- the text of the source of word w, which the n-th entry uses
 abbrev pub supply_text : ℕ → Option ℕ → ℕ → Supply → List ℕ
 supply_text n end w (Read t) = ticks_text end w t
 supply_text n end w (Held answer) = codes " HELD ANSWER " ++ decimal answer
@@ -39,20 +39,20 @@ supply_text n end w (Forwarded x) =
     codes " FORWARDED ROW " ++ decimal (n - x.back) ++ codes " DONE " ++ decimal x.done
 supply_text n end w Register = codes " REGISTER"
 
--- a word that the n-th entry uses
+-- the line of a word that the n-th entry uses
 abbrev pub use_line : ℕ → Option ℕ → Use → List ℕ
 use_line n end u =
     codes "USE " ++ role_text u.role ++ codes " " ++ decimal u.word
     ++ supply_text n end u.word u.supply ++ lf
 
--- a read that is wanted only when the segment has ended is not told
+-- whether a word has a line: a read that is wanted only after the end of the segment has none
 abbrev pub is_told : Option ℕ → Supply → Bool
 is_told end (Read t) = is_before end t.want
 is_told end (Held answer) = true
 is_told end (Forwarded x) = true
 is_told end Register = true
 
--- all words that it uses
+-- the lines of all words that the n-th entry uses
 unfoldable pub use_lines : ℕ → Option ℕ → List Use → List (List ℕ)
 use_lines n end [] = []
 use_lines n end (u ∷ more) =

@@ -1,4 +1,4 @@
--- The lines that tell what a row waited for, and what kept it back.
+-- The lines of the waits of a row, and of the cause that delayed it.
 use Rattle.std.specs.Prelude.{ℕ, ◌-◌, List, [], ◌∷◌, ◌++◌, nat_lt, if◌then◌else◌, codes, decimal}
 use Rattle.st_text.specs.Bytes.{lf}
 use Rattle.st_banks.specs.Bank.{bank_of}
@@ -17,13 +17,13 @@ use Rattle.st_reasons.specs.declared.waits.Wait.{Wait}
 
 -- ---- waits
 
--- what is waited for
+-- the name of a kind of wait
 abbrev pub stall_name : Stall → List ℕ
 stall_name Turn = codes "TURN"
 stall_name Bank = codes "BANK"
 stall_name Storage = codes "STORAGE"
 
--- a part of the ticks of a charge
+-- the line of a wait, a part of the ticks of a charge
 abbrev pub wait_line : Wait → List ℕ
 wait_line x =
     codes "WAIT " ++ decimal x.from ++ codes " " ++ decimal x.to ++ codes " " ++ stall_name x.why
@@ -34,13 +34,14 @@ unfoldable pub wait_lines : List Wait → List (List ℕ)
 wait_lines [] = []
 wait_lines (x ∷ xs) = wait_line x ∷ wait_lines xs
 
--- charges, each with its waits, of a row that uses some words, and the row before it others
+-- the lines of charges, each followed by its waits, given the words that the row uses and those of
+-- the row before it
 unfoldable pub charged_lines : List Use → List Use → List Charge → List (List ℕ)
 charged_lines uses before [] = []
 charged_lines uses before (x ∷ xs) =
     (charge_line x ∷ wait_lines (charge_waits x uses before)) ++ charged_lines uses before xs
 
--- the ticks of the waits of a stage for one thing
+-- the line of the ticks of one kind of wait in a stage
 abbrev pub wait_sum_line : WaitSum → List ℕ
 wait_sum_line x =
     codes "SUM " ++ stage_name x.stage ++ codes " " ++ stall_name x.why ++ codes " "
@@ -60,7 +61,7 @@ reason_name Forwarding = codes "FORWARDING"
 reason_name Bus = codes "BUS"
 reason_name Order = codes "ORDER"
 
--- what kept the n-th entry back
+-- the line of the cause that delayed the n-th entry
 abbrev pub because_line : ℕ → Because → List ℕ
 because_line n (Start tick) =
     codes "BECAUSE START ROW - TICK " ++ decimal tick ++ codes " LATE -" ++ lf
@@ -70,7 +71,7 @@ because_line n (Earlier x) =
     codes "BECAUSE " ++ reason_name x.reason ++ codes " ROW " ++ decimal (n - x.back)
     ++ codes " TICK " ++ decimal x.tick ++ codes " LATE " ++ decimal x.late ++ lf
 
--- where it has another charge than that of executing: the last entry before it was done before its
--- operands were there, at the tick r
+-- the lines of the cause that delayed the n-th entry, if it has a charge other than that of
+-- executing: the previous entry completed before the entry's operands were available, at tick r
 unfoldable pub because_lines : ℕ → ℕ → ℕ → Because → List (List ℕ)
 because_lines n done r b = if nat_lt done r then because_line n b ∷ [] else []

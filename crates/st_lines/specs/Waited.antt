@@ -1,4 +1,4 @@
--- What charges with their waits ask of the sums of waits, and what they leave of them. A row uses
+-- Preconditions and effects of writing charges with their waits on the totals of waits. A row uses
 -- some words, and the row before it others.
 use Rattle.std.specs.Prelude.{ℕ, ◌≡◌, ◌+◌, true, List}
 use Rattle.st_ledger.specs.Charges.{all_ticks}
@@ -10,14 +10,15 @@ use Rattle.st_reasons.specs.Words.{AreWordsInTime}
 use Rattle.st_reasons.specs.declared.sums.WaitTotals.{WaitTotals}
 use Rattle.st_reasons.specs.declared.waits.Stall.{Stall}
 
--- The waits of charges behind the tick `from` can be told: words are accepted and answered in time,
--- and no sum is greater than that tick.
+-- The waits of charges after tick `from` can be written: words are accepted and answered in time,
+-- and no total is greater than that tick.
 pub record AreWaitsReady (uses before : List Use) (from : ℕ) (sums : WaitTotals) : Type 0 where
   pub used : AreWordsInTime uses
   pub earlier : AreWordsInTime before
   pub within : AreWaitsWithin from sums
 
--- They are added to the sums, none of which is then greater than the tick at which the charges end.
+-- The waits of charges are added to the totals, none of which is then greater than the tick at
+-- which the charges end.
 pub record AddsWaits (uses before : List Use) (from : ℕ) (charges : List Charge)
     (old new : WaitTotals) : Type 0 where
   pub within : AreWaitsWithin (from + all_ticks charges) new

@@ -1,4 +1,4 @@
-//! The words that changed behind an entry.
+//! Writes the words that changed since the previous entry.
 ghost use Rattle.std.specs.Prelude.{true, ◌≡◌, ℕ, ◌+◌, ◌<◌, ◌≤◌, ◌⊎◌, length, slice_index, slice_set, IsOk};
 ghost use Rattle.st_bits.specs.Storage.{words_of_storage};
 ghost use Rattle.st_bits.specs.declared.limits.TheConstants.{WORDS};
@@ -15,17 +15,18 @@ use st_prep::Words;
 use st_report::LineFromEnd;
 use st_state::State;
 
-/// The words that may change behind an entry, besides the registers.
+/// The words other than registers that may have changed since the previous entry.
 #[derive(Clone, Copy, Debug, Default, PartialEq, Eq)]
 pub struct Changeable {
     /// The words that the entry writes.
     pub writes: Words,
-    /// Where the area of eight words begins into which the reader may bring a card, where it has an
-    /// order.
+    /// The address of the first of eight words that the reader may overwrite with a card, if it has
+    /// an order.
     pub card: Option<u32>,
 }
 
-// The first word from `w` on that is one of so many from `first` on, at most `WORDS`.
+// An address of at least `w` and at most `WORDS` such that no address from `w` up to it is one of
+// the `len` words from `first` on.
 fn next_in(first: u32, len: u8, w: u32) -> u32
     requires { w ≤ WORDS }
     ensures least { w ≤ result }
@@ -38,7 +39,7 @@ fn next_in(first: u32, len: u8, w: u32) -> u32
     w.max(first.min(WORDS))
 }
 
-// The first word from `w` on that is in the area of a card, at most `WORDS`.
+// The first address from `w` on in the area of a card; at most `WORDS`.
 fn next_of_card(card: Option<u32>, w: u32) -> u32
     requires { w ≤ WORDS }
     ensures least { w ≤ result }
@@ -51,7 +52,7 @@ fn next_of_card(card: Option<u32>, w: u32) -> u32
     }
 }
 
-// Whether no words may have changed but registers.
+// Whether no word other than registers may have changed.
 #[inline(always)]
 fn are_left(may: &Changeable) -> bool
     ensures { result ≡ true → (v : ℕ) → 32 ≤ v → IsUntouched v may.now }
@@ -62,7 +63,7 @@ fn are_left(may: &Changeable) -> bool
     may.card.is_none()
 }
 
-// The first word from `w` on, which is no register, that may have changed, at most `WORDS`.
+// The first address from `w` on of a word, not a register, that may have changed; at most `WORDS`.
 fn next_word(may: &Changeable, w: u32) -> u32
     requires above { 32 ≤ w }
     requires most { w ≤ WORDS }
@@ -80,7 +81,7 @@ fn next_word(may: &Changeable, w: u32) -> u32
     one.min(two).min(card)
 }
 
-// Whether two registers from `w` on are as they were.
+// Whether the two registers from `w` on are unchanged.
 #[inline(always)]
 #[tactic(auto, using(st_bits::specs::Storage::words_of_storage_is))]
 fn are_two(old: &Vec<u64>, state: &State, w: u32) -> bool
@@ -95,7 +96,7 @@ fn are_two(old: &Vec<u64>, state: &State, w: u32) -> bool
     old[w as usize + 1] == state.word(w + 1)
 }
 
-// Whether four registers from `w` on are as they were.
+// Whether the four registers from `w` on are unchanged.
 #[inline(always)]
 fn are_four(old: &Vec<u64>, state: &State, w: u32) -> bool
     requires size { length old.now.items ≡ words_of_storage }
@@ -109,8 +110,8 @@ fn are_four(old: &Vec<u64>, state: &State, w: u32) -> bool
     are_two(old, state, w + 2)
 }
 
-// The first register from `w` on that changed, or else the first word behind them. Those that did
-// not are passed over four at a time.
+// The first register from `w` on that changed, or else the first word after the registers.
+// Unchanged registers are skipped four at a time.
 #[tactic(auto, using(st_bits::specs::Storage::words_of_storage_is))]
 fn next_register(old: &Vec<u64>, state: &State, w: u32) -> u32
     requires size { length old.now.items ≡ words_of_storage }
@@ -133,7 +134,7 @@ fn next_register(old: &Vec<u64>, state: &State, w: u32) -> u32
     r
 }
 
-// The first word from `w` on that may have changed, at most `WORDS`.
+// The first address from `w` on of a word that may have changed; at most `WORDS`.
 #[inline(always)]
 fn next_changed(old: &Vec<u64>, state: &State, may: &Changeable, w: u32) -> u32
     requires size { length old.now.items ≡ words_of_storage }
@@ -141,7 +142,7 @@ fn next_changed(old: &Vec<u64>, state: &State, may: &Changeable, w: u32) -> u32
     requires left { (v : ℕ) → w ≤ v → v < WORDS → IsUntouched v may.now →
         slice_index old.now.items v ≡ word_of state.now v }
 
-    // No word before it may have changed.
+    // No word from `w` up to this one may have changed.
     ensures least { w ≤ result }
     ensures most { result ≤ WORDS }
     ensures between { (v : ℕ) → w ≤ v → v < result →
@@ -157,7 +158,7 @@ fn next_changed(old: &Vec<u64>, state: &State, may: &Changeable, w: u32) -> u32
     next_word(may, r)
 }
 
-// Writes word `w`, where it changed, and keeps what it is now.
+// Writes word `w` if it changed, and stores its new value in `old`.
 #[tactic(auto, unfolding(crate::specs::BorderLines::word_change_lines), using(st_io::proofs::Progress::wrote_nothing, st_bits::specs::Storage::words_of_storage_is))]
 fn write_change<K: Sink>(
     out: &mut K,
@@ -182,8 +183,8 @@ fn write_change<K: Sink>(
     write_line(out, line.as_bytes())
 }
 
-/// Writes the words of a state that changed, by their addresses. Before that they were `old`, and
-/// then it has them as they are.
+/// Writes the words of a state that changed, in order of address. `old` has the words as they were
+/// before, and is updated to those of the state.
 pub(crate) fn write_changed<K: Sink>(
     out: &mut K,
     old: &mut Vec<u64>,
@@ -207,7 +208,7 @@ pub(crate) fn write_changed<K: Sink>(
     Ok(())
 }
 
-/// Keeps all words of a state, as many as there are.
+/// Copies all words of a state; both have the same number of words.
 pub(crate) fn keep_words(old: &mut Vec<u64>, state: &State)
     requires { length old.old.items ≡ words_of_storage }
     ensures { old.new.items ≡ state.now.words }

@@ -1,4 +1,4 @@
-//! Lines with hexadecimal digits, put together from their end.
+//! Lines with hexadecimal digits, built from their end.
 ghost use Rattle.std.specs.Prelude.{◌≡◌, ◌+◌, ◌≤◌, ◌++◌, length};
 ghost use Rattle.st_text.specs.Numerals.{hex_text, hex_word};
 ghost use Rattle.st_report.specs.Line.{ic_line};
@@ -27,7 +27,7 @@ fn pair_of(n: u64) -> [u8; 2]
     [PAIRS[from], PAIRS[from + 1]]
 }
 
-// Puts the last eight hexadecimal digits of a number before a line.
+// Puts the last eight hexadecimal digits of a number in front of a line.
 #[inline(always)]
 fn put_digits(line: &mut LineFromEnd, n: u64)
     requires { length line.old + 8 ≤ 128 }
@@ -40,7 +40,7 @@ fn put_digits(line: &mut LineFromEnd, n: u64)
     line.put_word(pair_of(n / 16_777_216));
 }
 
-// Puts a word before a line.
+// Puts the sixteen hexadecimal digits of a word in front of a line.
 #[inline(always)]
 fn put_hex(line: &mut LineFromEnd, word: u64)
     requires { length line.old + 16 ≤ 128 }
@@ -51,7 +51,8 @@ fn put_hex(line: &mut LineFromEnd, word: u64)
     put_digits(line, word >> 32);
 }
 
-/// `WORD w WAS h IS g`, filled into a line: word w was h, and is now g. What the line had is gone.
+/// Fills a line with `WORD w WAS h IS g`: word w changed from h to g. The previous contents are
+/// overwritten.
 pub fn fill_changed(line: &mut LineFromEnd, w: u32, was: u64, is: u64)
     ensures { line.new ≡ changed_line w was is }
 {
@@ -65,8 +66,8 @@ pub fn fill_changed(line: &mut LineFromEnd, w: u32, was: u64, is: u64)
     line.put_word(*b"WORD ");
 }
 
-/// `INDEX k WAS h IS g`, filled into a line: an entry changes index word k early, from h to g. What
-/// the line had is gone.
+/// Fills a line with `INDEX k WAS h IS g`: an entry changes index word k early, from h to g. The
+/// previous contents are overwritten.
 pub fn fill_index(line: &mut LineFromEnd, change: &IndexChange)
     ensures { line.new ≡ index_line change.now }
 {
@@ -80,7 +81,7 @@ pub fn fill_index(line: &mut LineFromEnd, change: &IndexChange)
     line.put_word(*b"INDEX ");
 }
 
-// Puts the second half-word of a full word before a line.
+// Puts the second half-word of a full word, if there is one, in front of a line.
 #[inline(always)]
 fn put_second(line: &mut LineFromEnd, half: Option<u32>)
     requires { length line.old + 9 ≤ 128 }
@@ -96,8 +97,8 @@ fn put_second(line: &mut LineFromEnd, half: Option<u32>)
     }
 }
 
-/// `CODE h` or `CODE h g`, filled into a line: the half-words that an entry executes. What the line
-/// had is gone.
+/// Fills a line with `CODE h` or `CODE h g`: the half-words that an entry executes. The previous
+/// contents are overwritten.
 pub fn fill_code(line: &mut LineFromEnd, code: Code)
     ensures { line.new ≡ code_line code }
 {
@@ -108,8 +109,9 @@ pub fn fill_code(line: &mut LineFromEnd, code: Code)
     line.put_word(*b"CODE ");
 }
 
-/// `IC a`, filled into a line: the counter. What the line had is gone. Each row has this line, and
-/// put together from its beginning, as by `line_ic`, it takes 137 host instructions more.
+/// Fills a line with `IC a`: the instruction counter. The previous contents are overwritten. Each
+/// row has this line, and building it from its beginning, as `line_ic` does, takes 137 host
+/// instructions more.
 pub fn fill_counter(line: &mut LineFromEnd, ic: u32)
     ensures { line.new ≡ ic_line ic }
 {
@@ -119,8 +121,8 @@ pub fn fill_counter(line: &mut LineFromEnd, ic: u32)
     line.put_word(*b"IC ");
 }
 
-/// `WRITES w n`, filled into a line: an entry writes n words from word w on. What the line had is
-/// gone.
+/// Fills a line with `WRITES w n`: an entry writes n words from word w on. The previous contents
+/// are overwritten.
 pub fn fill_writes(line: &mut LineFromEnd, w: u32, n: u8)
     ensures { line.new ≡ writes_line w n }
 {

@@ -1,4 +1,4 @@
-//! What is known of an entry by itself.
+//! Writes the facts about a single entry.
 ghost use Rattle.std.specs.Prelude.{◌≡◌, ◌-◌, ◌≤◌, ◌==◌, ◌||◌, ◌++◌, IsOk};
 ghost use Rattle.st_bits.specs.Indicators.{indicator as indicator_of};
 ghost use Rattle.st_prep.specs.Entry.{is_register as is_register_of, has_register as has_register_of};
@@ -21,7 +21,7 @@ use st_prep::{IndexChange, Prepared, Words, has_register, is_register};
 use st_reasons::Because;
 use st_report::{LineFromEnd, put};
 
-// Why an entry is done alone that is.
+// Why a serialized entry is serialized.
 fn alone_for(table: Option<u8>, execute: bool, register: bool) -> Alone
     ensures { result ≡ alone_of table execute register }
 {
@@ -39,7 +39,7 @@ fn alone_for(table: Option<u8>, execute: bool, register: bool) -> Alone
     }
 }
 
-// Whether a register is among the words of an entry.
+// Whether a register is among the words that an entry uses or writes.
 fn uses_register(p: &Prepared, side: Option<u32>) -> bool
     ensures { result ≡ (is_register_of side || has_register_of p.now.reads
         || has_register_of p.now.writes) }
@@ -47,7 +47,7 @@ fn uses_register(p: &Prepared, side: Option<u32>) -> bool
     is_register(side) || has_register(p.reads) || has_register(p.writes)
 }
 
-// Why an entry is done alone, if it is.
+// Why an entry is serialized; `None` if it is not.
 fn alone_by(p: &Prepared, side: Option<u32>, execute: bool) -> Option<Alone>
     ensures { result ≡ alone_why p.now side execute }
 {
@@ -58,7 +58,7 @@ fn alone_by(p: &Prepared, side: Option<u32>, execute: bool) -> Option<Alone>
     }
 }
 
-// Writes why an entry is done alone, where it is.
+// Writes why an entry is serialized, if it is.
 #[tactic(auto, unfolding(crate::specs::EntryLines::alone_lines), using(st_io::proofs::Progress::wrote_nothing))]
 fn write_alone<K: Sink>(out: &mut K, why: Option<Alone>) -> Result<(), Failed>
     ensures { WritesLines (K.output out.old) (K.output out.new) (alone_lines why) result }
@@ -69,7 +69,7 @@ fn write_alone<K: Sink>(out: &mut K, why: Option<Alone>) -> Result<(), Failed>
     }
 }
 
-// The number of the indicator, from `i` on, of which a word has the bit and no other.
+// The number of the only indicator, from `i` on, whose bit is one in a word.
 fn number_from(on: u64, i: u8) -> Option<u8>
     requires { i ≤ 64 }
     ensures { result ≡ first_from (λ n. indicator_of n == on) i (64 - i) }
@@ -83,7 +83,7 @@ fn number_from(on: u64, i: u8) -> Option<u8>
     number_from(on, i + 1)
 }
 
-// The indicator with which an entry is suppressed, if it is.
+// The indicator with which an entry is suppressed, if it is suppressed.
 fn suppressed_by(p: &Prepared) -> Option<u8>
     ensures { result ≡ suppressed_of p.now }
 {
@@ -94,7 +94,7 @@ fn suppressed_by(p: &Prepared) -> Option<u8>
     }
 }
 
-// Writes that an entry is suppressed, where it is.
+// Writes that an entry is suppressed, if it is.
 #[tactic(auto, unfolding(crate::specs::EntryLines::suppressed_lines), using(st_io::proofs::Progress::wrote_nothing))]
 fn write_suppressed<K: Sink>(out: &mut K, by: Option<u8>) -> Result<(), Failed>
     ensures { WritesLines (K.output out.old) (K.output out.new) (suppressed_lines by) result }
@@ -105,7 +105,7 @@ fn write_suppressed<K: Sink>(out: &mut K, by: Option<u8>) -> Result<(), Failed>
     }
 }
 
-// Writes why an entry is done alone, and that it is suppressed, where it is.
+// Writes why an entry is serialized and that it is suppressed, if so.
 fn write_kind<K: Sink>(out: &mut K, p: &Prepared, known: &Known) -> Result<(), Failed>
     ensures { WritesLines (K.output out.old) (K.output out.new)
         (alone_lines (alone_why p.now known.now.side known.now.execute)
@@ -115,7 +115,7 @@ fn write_kind<K: Sink>(out: &mut K, p: &Prepared, known: &Known) -> Result<(), F
     write_suppressed(out, suppressed_by(p))
 }
 
-// Writes a run of words that an entry writes, where it has any.
+// Writes the line of a run of words that an entry writes, unless the run is empty.
 #[inline(always)]
 #[tactic(auto, unfolding(crate::specs::EntryLines::run_lines), using(st_io::proofs::Progress::wrote_nothing))]
 fn write_run<K: Sink>(out: &mut K, line: &mut LineFromEnd, w: u32, n: u8) -> Result<(), Failed>
@@ -128,7 +128,7 @@ fn write_run<K: Sink>(out: &mut K, line: &mut LineFromEnd, w: u32, n: u8) -> Res
     write_line(out, line.as_bytes())
 }
 
-// Writes the words that an entry writes, run by run.
+// Writes the lines of the words that an entry writes, one line for each run.
 fn write_writes<K: Sink>(out: &mut K, line: &mut LineFromEnd, words: Words) -> Result<(), Failed>
     ensures { WritesLines (K.output out.old) (K.output out.new) (writes_lines words) result }
 {
@@ -136,7 +136,7 @@ fn write_writes<K: Sink>(out: &mut K, line: &mut LineFromEnd, words: Words) -> R
     write_run(out, line, words.first2, words.len2)
 }
 
-// Writes the index word that an entry changes early, where it does.
+// Writes the index word that an entry changes early, if it does.
 #[tactic(auto, unfolding(crate::specs::EntryLines::index_lines), using(st_io::proofs::Progress::wrote_nothing))]
 fn write_index<K: Sink>(
     out: &mut K,
@@ -154,7 +154,7 @@ fn write_index<K: Sink>(
     }
 }
 
-// Writes what an entry writes, and the index word that it changes early.
+// Writes the words that an entry writes, and the index word that it changes early.
 fn write_changes<K: Sink>(out: &mut K, line: &mut LineFromEnd, p: &Prepared) -> Result<(), Failed>
     ensures { WritesLines (K.output out.old) (K.output out.new)
         (writes_lines p.now.writes ++ index_lines p.now.index) result }
@@ -163,7 +163,7 @@ fn write_changes<K: Sink>(out: &mut K, line: &mut LineFromEnd, p: &Prepared) -> 
     write_index(out, line, p.index)
 }
 
-// Writes where the half-words of an entry come from, where a card's bits begin there.
+// Writes the card that an entry's half-words come from, if a card's bits begin there.
 #[tactic(auto, unfolding(crate::specs::EntryLines::laid_lines), using(st_io::proofs::Progress::wrote_nothing))]
 fn write_laid<K: Sink>(
     out: &mut K,
@@ -181,7 +181,7 @@ fn write_laid<K: Sink>(
     }
 }
 
-// Writes the half-words that an entry executes, where they may be fetched.
+// Writes the half-words that an entry executes, if they may be fetched.
 #[tactic(auto, unfolding(crate::specs::EntryLines::code_lines), using(st_io::proofs::Progress::wrote_nothing))]
 fn write_code<K: Sink>(
     out: &mut K,
@@ -199,7 +199,7 @@ fn write_code<K: Sink>(
     }
 }
 
-// Writes where the half-words of an entry come from, and those that it executes.
+// Writes the card that an entry's half-words come from, and the half-words that it executes.
 fn write_halves<K: Sink>(
     out: &mut K,
     line: &mut LineFromEnd,
@@ -213,24 +213,24 @@ fn write_halves<K: Sink>(
     write_code(out, line, code)
 }
 
-/// What is known of an entry by itself.
+/// The facts about a single entry.
 #[derive(Clone, Copy)]
 pub(crate) struct Facts<'a> {
-    /// Its number.
+    /// The number of the entry.
     pub n: u32,
-    /// The tick at which its segment ends, or None where that goes on.
+    /// The tick at which the entry's segment ends; `None` if the segment continues.
     pub end: Option<u64>,
-    /// How it is prepared.
+    /// The preparation of the entry.
     pub plan: &'a Prepared,
-    /// What else is known of it.
+    /// Further facts about the entry.
     pub known: &'a Known,
-    /// Where its half-words come from.
+    /// The card that the entry's half-words come from.
     pub origin: Option<Origin>,
-    /// The words that it uses.
+    /// The words that the entry uses.
     pub uses: &'a [Use],
 }
 
-// Writes what an entry uses and what it writes, and the index word that it changes early.
+// Writes the words that an entry uses and writes, and the index word that it changes early.
 fn write_words<K: Sink>(out: &mut K, line: &mut FactLine, facts: &Facts<'_>) -> Result<(), Failed>
     ensures { WritesLines (K.output out.old) (K.output out.new)
         (use_lines facts.now.n facts.now.end facts.now.uses.now
@@ -241,7 +241,7 @@ fn write_words<K: Sink>(out: &mut K, line: &mut FactLine, facts: &Facts<'_>) -> 
     write_changes(out, &mut line.bytes, facts.plan)
 }
 
-/// Writes what is known of an entry by itself.
+/// Writes the facts about a single entry.
 pub(crate) fn write_facts<K: Sink>(
     out: &mut K,
     line: &mut FactLine,
@@ -256,45 +256,46 @@ pub(crate) fn write_facts<K: Sink>(
     write_words(out, line, facts)
 }
 
-/// An entry that is done.
+/// A completed entry.
 #[derive(Clone, Copy, Debug)]
 pub struct EntryDone {
-    /// Its number.
+    /// The number of the entry.
     pub n: u32,
-    /// Its half-word address.
+    /// The entry's half-word address.
     pub address: u32,
-    /// Where its half-words come from.
+    /// The card that the entry's half-words come from.
     pub origin: Option<Origin>,
-    /// Its row.
+    /// The entry's row.
     pub row: WaitedRow,
-    /// It is a branch that was guessed wrongly.
+    /// Whether the entry is a mispredicted branch.
     pub missed: bool,
-    /// The tick at which the last one before it was done.
+    /// The tick at which the previous entry completed.
     pub before: u64,
-    /// The tick at which its segment starts, if it is the first one of that.
+    /// The tick at which the entry's segment starts, if the entry is the first in it.
     pub start: u64,
-    /// The tick at which its segment ends, if that ends with it.
+    /// The tick at which the entry's segment ends, if the segment ends with this entry.
     pub end: Option<u64>,
-    /// What kept it back.
+    /// The cause that delayed the entry.
     pub because: Because,
 }
 
-/// All that is told of an entry that is done.
+/// All recorded facts about a completed entry.
 #[derive(Clone, Copy)]
 pub struct EntryRecord<'a> {
-    /// What it did, and when.
+    /// The entry with its row and its times.
     pub done: &'a EntryDone,
-    /// How it was prepared.
+    /// The preparation of the entry.
     pub plan: &'a Prepared,
-    /// What else is known of it.
+    /// Further facts about the entry.
     pub known: &'a Known,
-    /// The words that it uses.
+    /// The words that the entry uses.
     pub uses: &'a [Use],
-    /// Those that the entry before it in its segment uses, none for the first one.
+    /// The words that the previous entry in the segment uses; none for the first entry of a
+    /// segment.
     pub before: &'a [Use],
 }
 
-// Writes that a branch was guessed wrongly, where it was.
+// Writes that a branch was mispredicted, if it was.
 #[tactic(auto, unfolding(crate::specs::EntryLines::missed_lines), using(st_io::proofs::Progress::wrote_nothing))]
 fn write_missed<K: Sink>(out: &mut K, missed: bool) -> Result<(), Failed>
     ensures { WritesLines (K.output out.old) (K.output out.new) (missed_lines missed) result }
@@ -305,7 +306,7 @@ fn write_missed<K: Sink>(out: &mut K, missed: bool) -> Result<(), Failed>
     put(out, &line_missed())
 }
 
-// Writes what is known of an entry that is done, by itself.
+// Writes the facts about a completed entry that do not concern its ticks.
 fn write_known<K: Sink>(
     out: &mut K,
     line: &mut FactLine,
@@ -328,7 +329,7 @@ fn write_known<K: Sink>(
     write_facts(out, line, &facts)
 }
 
-// Writes for how many ticks an entry waited for a level, where it did.
+// Writes for how many ticks an entry waited for a level, if it did.
 #[tactic(auto, unfolding(crate::specs::EntryLines::level_lines), using(st_io::proofs::Progress::wrote_nothing))]
 fn write_level<K: Sink>(out: &mut K, d: u64) -> Result<(), Failed>
     ensures { WritesLines (K.output out.old) (K.output out.new) (level_lines d) result }
@@ -339,7 +340,7 @@ fn write_level<K: Sink>(out: &mut K, d: u64) -> Result<(), Failed>
     put(out, &line_level(d))
 }
 
-// Writes the wait of an entry for a level, and what kept it back.
+// Writes an entry's wait for a level, and the cause that delayed the entry.
 fn write_late_entry<K: Sink>(out: &mut K, done: &EntryDone) -> Result<(), Failed>
     ensures { WritesLines (K.output out.old) (K.output out.new) (late_entry_lines done.now) result }
 {
@@ -347,7 +348,8 @@ fn write_late_entry<K: Sink>(out: &mut K, done: &EntryDone) -> Result<(), Failed
     write_because(out, done.n, done.before, done.row.ticks.r, &done.because)
 }
 
-// Writes the charges of an entry with their waits, its wait for a level, and what kept it back.
+// Writes the charges of an entry with their waits, its wait for a level, and the cause that delayed
+// it.
 fn write_waits<K: Sink>(
     out: &mut K,
     entry: &EntryRecord<'_>,
@@ -362,7 +364,7 @@ fn write_waits<K: Sink>(
     write_late_entry(out, entry.done)
 }
 
-// What is known of an entry that is done, and what was spent on it.
+// Writes the row and the facts about a completed entry, and its charges.
 fn write_spent<K: Sink>(
     out: &mut K,
     entry: &EntryRecord<'_>,
@@ -378,7 +380,7 @@ fn write_spent<K: Sink>(
     write_waits(out, entry, waiting)
 }
 
-/// Writes the lines of an entry that is done. Its waits are added to the sums.
+/// Writes the lines of a completed entry, and adds its waits to the totals.
 pub fn write_done<K: Sink>(
     out: &mut K,
     entry: &EntryRecord<'_>,

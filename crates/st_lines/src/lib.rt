@@ -1,4 +1,5 @@
-//! The lines of a ledger: what each says, and how it is written. `docs/ledger.md` has the rules.
+//! The lines of a ledger: their contents, and the code that writes them. `docs/ledger.md` has the
+//! rules.
 #![tactic(auto, using(st_bits::specs::Storage::words_of_storage_is))]
 
 mod changes;

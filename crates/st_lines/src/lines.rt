@@ -1,5 +1,5 @@
-//! The lines of a ledger that tell of the machine and of segments, by the rules of
-//! `docs/ledger.md`: one call a line, each with its line end.
+//! The lines of a ledger about the machine and about segments, by the rules of `docs/ledger.md`:
+//! one call for each kind of line, with its line end.
 ghost use Rattle.std.specs.Prelude.{◌≡◌, ◌+◌, ◌*◌, ◌≤◌, ◌++◌, length, codes, decimal};
 ghost use Rattle.arrayvec.specs.ArrayString.{array_string_len};
 ghost use Rattle.st_lines.specs.Lines.{ledger_levels_line, numbers_text, delays_line, why_text, start_line, segment_end_line, word_line, missed_line, alone_text, alone_line, suppressed_line, ahead_text, dropped_line, begun_line, level_wait_line};
@@ -14,24 +14,24 @@ use st_text::{
 pub enum Why {
     /// The run begins.
     Run,
-    /// The interrupt by this indicator, 0 to 63.
+    /// An interrupt by this indicator, 0 to 63, is taken.
     Interrupt(u8),
-    /// A branch on an indicator was guessed wrongly.
+    /// A branch on an indicator was mispredicted.
     Missed,
-    /// A card came from the reader.
+    /// The reader read a card into storage.
     Card,
 }
 
-/// Why an entry is done alone.
+/// Why an entry is serialized.
 #[derive(Clone, Copy, Debug, PartialEq, Eq)]
 pub enum Alone {
-    /// It is the instruction of an interrupt table, by this indicator, 0 to 63.
+    /// The entry is the instruction in an interrupt table, for this indicator, 0 to 63.
     Table(u8),
-    /// It is EX.
+    /// The entry is EX.
     Execute,
-    /// It uses or writes a register as a word.
+    /// The entry uses or writes a register as a word.
     Register,
-    /// Its operation is done alone.
+    /// The entry's operation is one that serializes.
     Operation,
 }
 
@@ -44,7 +44,7 @@ pub fn line_levels(n: u8) -> Line
     ended(line)
 }
 
-// Appends a number behind a blank.
+// Appends a blank and a number.
 fn push_number(line: &mut Line, n: u8)
     requires { array_string_len line.old + 11 ≤ 128 }
     ensures bytes { line.new.bytes ≡ line.old.bytes ++ (codes " " ++ decimal n) }
@@ -54,7 +54,7 @@ fn push_number(line: &mut Line, n: u8)
     push_short_decimal(line, u32::from(n));
 }
 
-// Appends numbers, each behind a blank.
+// Appends numbers, each after a blank.
 fn push_numbers(line: &mut Line, ns: &[u8])
     requires { array_string_len line.old + 11 * length ns.now ≤ 128 }
     ensures bytes { line.new.bytes ≡ line.old.bytes ++ numbers_text ns.now }
@@ -67,7 +67,7 @@ fn push_numbers(line: &mut Line, ns: &[u8])
     push_numbers(line, more);
 }
 
-/// `DELAYS d ..`: some delays, ten at most.
+/// `DELAYS d ..`: at most ten delays.
 #[tactic(auto, unfolding(crate::specs::Lines::delays_line))]
 pub fn line_delays(ds: &[u8]) -> Line
     requires { length ds.now ≤ 10 }
@@ -95,7 +95,8 @@ fn push_why(line: &mut Line, why: Why)
     }
 }
 
-/// `SEGMENT k START s WAITED f BY why`: the segment k starts at tick s.
+/// `SEGMENT k START s WAITED f BY why`: segment k starts at tick s; f says whether the machine had
+/// waited.
 pub fn line_start(k: u32, tick: u64, waited: bool, why: Why) -> Line
     ensures { result.bytes ≡ start_line k tick waited why }
 {
@@ -110,7 +111,7 @@ pub fn line_start(k: u32, tick: u64, waited: bool, why: Why) -> Line
     ended(line)
 }
 
-/// `SEGMENT k END t`: the segment k ends at tick t.
+/// `SEGMENT k END t`: segment k ends at tick t.
 pub fn line_end(k: u32, tick: u64) -> Line
     ensures { result.bytes ≡ segment_end_line k tick }
 {
@@ -121,7 +122,7 @@ pub fn line_end(k: u32, tick: u64) -> Line
     ended(line)
 }
 
-/// `WORD w IS h`: word w is not zero.
+/// `WORD w IS h`: word w is h, which is not zero.
 pub fn line_word(w: u32, word: u64) -> Line
     ensures { result.bytes ≡ word_line w word }
 {
@@ -132,14 +133,14 @@ pub fn line_word(w: u32, word: u64) -> Line
     ended(line)
 }
 
-/// `MISSED`: a branch on an indicator was guessed wrongly.
+/// `MISSED`: a branch on an indicator was mispredicted.
 pub fn line_missed() -> Line
     ensures { result.bytes ≡ missed_line }
 {
     ended(begun("MISSED"))
 }
 
-// Appends why an entry is done alone.
+// Appends why an entry is serialized.
 fn push_alone(line: &mut Line, why: Alone)
     requires { array_string_len line.old + 20 ≤ 128 }
     ensures bytes { line.new.bytes ≡ line.old.bytes ++ alone_text why }
@@ -156,7 +157,7 @@ fn push_alone(line: &mut Line, why: Alone)
     }
 }
 
-/// `ALONE why`: an entry is done alone.
+/// `ALONE why`: an entry is serialized, for this reason.
 pub fn line_alone(why: Alone) -> Line
     ensures { result.bytes ≡ alone_line why }
 {
@@ -191,8 +192,8 @@ fn push_ahead(line: &mut Line, n: u32, address: u32, row: &EntryTicks)
     push_decimal(line, row.r);
 }
 
-/// `DROP n a A x P p R r`: the n-th entry ran ahead and is dropped; its half-word address, and its
-/// ticks.
+/// `DROP n a A x P p R r`: the n-th entry ran ahead and is dropped (flushed); its half-word
+/// address, and its ticks.
 pub fn line_drop(n: u32, address: u32, row: &EntryTicks) -> Line
     ensures { result.bytes ≡ dropped_line n address row.now }
 {
@@ -201,7 +202,7 @@ pub fn line_drop(n: u32, address: u32, row: &EntryTicks) -> Line
     ended(line)
 }
 
-/// `BEGUN n a A x P p R r`: the n-th entry was begun, and not prepared in time; its half-word
+/// `BEGUN n a A x P p R r`: the n-th entry had begun but was not prepared in time; its half-word
 /// address, and the ticks that it would have had.
 pub fn line_begun(n: u32, address: u32, row: &EntryTicks) -> Line
     ensures { result.bytes ≡ begun_line n address row.now }
@@ -211,7 +212,7 @@ pub fn line_begun(n: u32, address: u32, row: &EntryTicks) -> Line
     ended(line)
 }
 
-/// `LEVEL d`: an entry waited so many ticks for a level.
+/// `LEVEL d`: an entry waited d ticks for a level.
 pub fn line_level(d: u64) -> Line
     ensures { result.bytes ≡ level_wait_line d }
 {

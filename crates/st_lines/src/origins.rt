@@ -1,4 +1,4 @@
-//! Where the half-words come from that an entry begins with.
+//! The cards that the first half-words of entries come from.
 ghost use Rattle.std.specs.Prelude.{◌≡◌, ◌+◌, ◌≤◌, ◌++◌, length, codes, slice_index};
 ghost use Rattle.st_prep.specs.Reading.{half_of as half_by};
 ghost use Rattle.st_text.specs.Numerals.{flag};
@@ -10,26 +10,26 @@ use st_format::length_in_halves;
 use st_report::LineFromEnd;
 use st_state::State;
 
-/// Where the half-words come from that an entry begins with.
+/// The card that the first half-word of an entry comes from.
 #[derive(Clone, Copy, Debug, PartialEq, Eq)]
 pub struct Origin {
-    /// The number of the first card whose bits begin in the half-word at its address.
+    /// The number of the first card whose bits begin in the half-word at the entry's address.
     pub card: u32,
-    /// Whether that half-word, and where it is the first of a full word the next one too, is still
-    /// that of the image.
+    /// Whether that half-word still is that of the image; for a full word, whether the next
+    /// half-word still is too.
     pub kept: bool,
 }
 
-/// Where the half-words of a program come from.
+/// The cards that the half-words of a program come from.
 #[derive(Drop)]
 pub struct Origins {
-    /// By half-word addresses the number of the first card whose bits begin there, or 0.
+    /// For each half-word address the number of the first card whose bits begin there, or 0.
     pub cards: Vec<u32>,
-    /// The words of storage as the cards laid them.
+    /// The words of storage as they were assembled.
     pub image: Vec<u64>,
 }
 
-// Word `w` of some words, 0 behind the last one.
+// Word `w` of a list of words; 0 after the last one.
 #[inline(always)]
 fn word_in(words: &[u64], w: usize) -> u64
     ensures { result ≡ slice_index words.now w }
@@ -37,7 +37,7 @@ fn word_in(words: &[u64], w: usize) -> u64
     if w < words.len() { words[w] } else { 0 }
 }
 
-// The half-word at the address `h` of a word.
+// The half-word of a word that half-word address `h` selects.
 #[inline(always)]
 fn half_of(word: u64, h: usize) -> u32
     ensures { result ≡ half_by word h }
@@ -45,7 +45,7 @@ fn half_of(word: u64, h: usize) -> u32
     part(word, 32 * (h % 2) as u32, 32) as u32
 }
 
-// Half-word `h` of some words.
+// Half-word `h` of a list of words.
 #[inline(always)]
 fn half_at(words: &[u64], h: usize) -> u32
     ensures { result ≡ half_in words.now h }
@@ -53,7 +53,7 @@ fn half_at(words: &[u64], h: usize) -> u32
     half_of(word_in(words, h / 2), h)
 }
 
-// Whether half-word `h` of some words is that of the image.
+// Whether half-word `h` of a list of words is that of the image.
 #[inline(always)]
 #[tactic(auto, unfolding(crate::specs::Origins::is_same_half))]
 fn is_same_half(image: &[u64], words: &[u64], h: usize) -> bool
@@ -62,7 +62,7 @@ fn is_same_half(image: &[u64], words: &[u64], h: usize) -> bool
     half_at(words, h) == half_at(image, h)
 }
 
-// The same of what begins there, a half-word or a full word.
+// Whether the half-word or full word that begins at half-word `h` is that of the image.
 #[tactic(auto, unfolding(crate::specs::Origins::is_kept))]
 fn is_kept(image: &[u64], words: &[u64], h: u32) -> bool
     ensures { result ≡ is_kept_of image.now words.now h }
@@ -74,7 +74,7 @@ fn is_kept(image: &[u64], words: &[u64], h: u32) -> bool
     length_in_halves(half_at(words, h)) == 1 || is_same_half(image, words, h + 1)
 }
 
-// The number of the card of half-word `h`, or 0.
+// The number of the card whose bits begin in half-word `h`, or 0.
 #[inline(always)]
 fn number_at(cards: &Vec<u32>, h: u32) -> u32
     ensures { result ≡ slice_index cards.now.items h }
@@ -84,7 +84,7 @@ fn number_at(cards: &Vec<u32>, h: u32) -> u32
 }
 
 impl Origins {
-    /// Where half-word `h` of a state comes from, if a card's bits begin there.
+    /// The card that half-word `h` of a state comes from, if a card's bits begin there.
     pub fn at(&self, state: &State, h: u32) -> Option<Origin>
         ensures { result ≡ origin_at self.now state.now h }
     {
@@ -99,7 +99,7 @@ impl Origins {
     }
 }
 
-// Puts whether half-words are kept before a line.
+// Puts whether half-words are unchanged in front of a line.
 #[inline(always)]
 fn put_kept(line: &mut LineFromEnd, kept: bool)
     requires { length line.old + 7 ≤ 192 }
@@ -113,8 +113,8 @@ fn put_kept(line: &mut LineFromEnd, kept: bool)
     }
 }
 
-/// `LAID k KEPT f`, filled into a line: card k is the first whose bits begin in the half-word at
-/// the address of an entry. What the line had is gone.
+/// Fills a line with `LAID k KEPT f`: card k is the first whose bits begin in the half-word at the
+/// address of an entry. The previous contents are overwritten.
 pub(crate) fn fill_laid(line: &mut LineFromEnd, origin: Origin)
     ensures { line.new ≡ laid_line origin }
 {

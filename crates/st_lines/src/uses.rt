@@ -10,7 +10,7 @@ use st_io::{Failed, Sink, write_line};
 use st_plain::{ReadTicks, Role, Supply, Use, Writer};
 use st_report::{KeptDigits, LineFromEnd};
 
-// Whether a tick lies before the end of a segment, or that goes on.
+// Whether a tick is before the end of a segment; true if the segment continues.
 #[inline(always)]
 fn is_before(end: Option<u64>, tick: u64) -> bool
     ensures { result ≡ is_before_of end tick }
@@ -21,7 +21,7 @@ fn is_before(end: Option<u64>, tick: u64) -> bool
     }
 }
 
-// Puts the kind of a line, and what a word is used as, before a line.
+// Puts the first word of a `USE` line and the role of a used word in front of a line.
 #[inline(always)]
 fn put_role(line: &mut LineFromEnd, role: Role)
     requires { length line.old + 16 ≤ 192 }
@@ -35,7 +35,7 @@ fn put_role(line: &mut LineFromEnd, role: Role)
     }
 }
 
-/// Puts the bank of a word before a line, behind a piece that says what it is of.
+/// Puts the bank of a word in front of a line, preceded by the given text.
 #[inline(always)]
 pub(crate) fn put_bank<const K: usize>(line: &mut LineFromEnd, piece: [u8; K], w: u32)
     requires { length line.old + K + 1 ≤ 192 }
@@ -46,7 +46,7 @@ pub(crate) fn put_bank<const K: usize>(line: &mut LineFromEnd, piece: [u8; K], w
     line.put_word(piece);
 }
 
-// Puts whether a read is made before a line.
+// Puts whether a read is made in front of a line.
 #[inline(always)]
 fn put_made(line: &mut LineFromEnd, made: bool)
     requires { length line.old + 7 ≤ 192 }
@@ -60,7 +60,7 @@ fn put_made(line: &mut LineFromEnd, made: bool)
     }
 }
 
-// Puts a tick before a line, and keeps its digits for those that come next.
+// Puts a tick in front of a line, and keeps its digits for the next ticks.
 #[inline(always)]
 fn put_tick(line: &mut LineFromEnd, kept: &mut KeptDigits, tick: u64)
     requires { length line.old + 20 ≤ 192 }
@@ -73,7 +73,8 @@ fn put_tick(line: &mut LineFromEnd, kept: &mut KeptDigits, tick: u64)
     line.put_near(tick, kept);
 }
 
-// Puts the read of word w before a line; its ticks have digits in common with others.
+// Puts the read of word w in front of a line; its ticks may have digits in common with earlier
+// ones.
 #[inline(always)]
 fn put_read(
     line: &mut LineFromEnd,
@@ -100,7 +101,7 @@ fn put_read(
     put_bank(line, *b" READ BANK ", w);
 }
 
-// Puts the writer of a word before a line, which the n-th entry uses.
+// Puts the writer of a word that the n-th entry uses in front of a line.
 #[inline(always)]
 fn put_writer(line: &mut LineFromEnd, n: u32, writer: Writer)
     requires { length line.old + 61 ≤ 192 }
@@ -114,8 +115,8 @@ fn put_writer(line: &mut LineFromEnd, n: u32, writer: Writer)
     line.put_word(*b" FORWARDED ROW ");
 }
 
-/// A line that is filled for one fact of an entry after another, with the digits that the ticks of
-/// the words that it uses have in common with those of others.
+/// A buffer for the lines of an entry's facts, with the digits that the ticks of successive reads
+/// have in common.
 #[derive(Debug, Drop)]
 pub struct FactLine {
     pub(crate) bytes: LineFromEnd,
@@ -123,7 +124,7 @@ pub struct FactLine {
 }
 
 impl FactLine {
-    /// A line of no bytes.
+    /// An empty buffer.
     pub fn new() -> FactLine
         ensures { result.bytes ≡ [] }
     {
@@ -134,7 +135,7 @@ impl FactLine {
     }
 }
 
-// Puts where a word comes from before a line, which the n-th entry uses.
+// Puts the source of a word that the n-th entry uses in front of a line.
 #[inline(always)]
 fn put_supply(line: &mut FactLine, n: u32, end: Option<u64>, used: &Use)
     requires { length line.old.bytes + 153 ≤ 192 }
@@ -153,7 +154,7 @@ fn put_supply(line: &mut FactLine, n: u32, end: Option<u64>, used: &Use)
     }
 }
 
-// A word that the n-th entry uses, filled into a line. What the line had is gone.
+// Fills a line with a word that the n-th entry uses. The previous contents are overwritten.
 fn fill_use(line: &mut FactLine, n: u32, end: Option<u64>, used: &Use)
     ensures { line.new.bytes ≡ use_line n end used.now }
 {
@@ -164,7 +165,7 @@ fn fill_use(line: &mut FactLine, n: u32, end: Option<u64>, used: &Use)
     put_role(&mut line.bytes, used.role);
 }
 
-// Whether a word is told, by where it comes from.
+// Whether a word has a line, given its source.
 #[inline(always)]
 fn is_told(end: Option<u64>, supply: &Supply) -> bool
     ensures { result ≡ is_told_of end supply.now }
@@ -175,7 +176,7 @@ fn is_told(end: Option<u64>, supply: &Supply) -> bool
     }
 }
 
-// Writes the line of a word, where it is told.
+// Writes the line of a word, if it has one.
 #[tactic(auto, using(st_io::proofs::Progress::wrote_nothing))]
 fn write_use<K: Sink>(
     out: &mut K,
@@ -194,7 +195,8 @@ fn write_use<K: Sink>(
     write_line(out, line.bytes.as_bytes())
 }
 
-/// Writes the words that the n-th entry uses, whose segment ends at the tick `end`, or goes on.
+/// Writes the words that the n-th entry uses. Its segment ends at the tick `end`, or continues if
+/// that is `None`.
 pub(crate) fn write_uses<K: Sink>(
     out: &mut K,
     line: &mut FactLine,

@@ -1,4 +1,4 @@
-//! The lines that tell what a row waited for, and what kept it back.
+//! The lines of the waits of a row, and of the cause that delayed it.
 ghost use Rattle.std.specs.Prelude.{◌≡◌, ◌+◌, ◌≤◌, ◌∷◌, ◌++◌, [], length, IsOk};
 ghost use Rattle.st_io.specs.Lines.{WritesLines};
 ghost use Rattle.st_ledger.specs.Charges.{charges_behind, part_charges};
@@ -20,7 +20,7 @@ use st_reasons::{
 };
 use st_report::LineFromEnd;
 
-// Puts what is waited for before a line.
+// Puts the name of a kind of wait in front of a line.
 #[inline(always)]
 fn put_stall(line: &mut LineFromEnd, why: Stall)
     requires { length line.old + 7 ≤ 128 }
@@ -34,7 +34,7 @@ fn put_stall(line: &mut LineFromEnd, why: Stall)
     }
 }
 
-// `WAIT f t why WORD w READ v BANK b`, filled into a line. What the line had is gone.
+// Fills a line with `WAIT f t why WORD w READ v BANK b`. The previous contents are overwritten.
 fn fill_wait(line: &mut RowLine, wait: &Wait)
     ensures { line.new.bytes ≡ wait_line wait.now }
 {
@@ -53,7 +53,7 @@ fn fill_wait(line: &mut RowLine, wait: &Wait)
     line.bytes.put_word(*b"WAIT ");
 }
 
-// Writes a wait.
+// Writes the line of a wait.
 fn write_wait<K: Sink>(out: &mut K, line: &mut RowLine, wait: &Wait) -> Result<(), Failed>
     ensures { WritesLines (K.output out.old) (K.output out.new) (wait_line wait.now ∷ []) result }
 {
@@ -61,7 +61,7 @@ fn write_wait<K: Sink>(out: &mut K, line: &mut RowLine, wait: &Wait) -> Result<(
     write_line(out, line.bytes.as_bytes())
 }
 
-// Writes waits.
+// Writes the lines of several waits.
 #[tactic(auto, using(st_io::proofs::Progress::wrote_nothing))]
 fn write_each_wait<K: Sink>(out: &mut K, line: &mut RowLine, waits: &[Wait]) -> Result<(), Failed>
     ensures { WritesLines (K.output out.old) (K.output out.new) (wait_lines waits.now) result }
@@ -73,7 +73,7 @@ fn write_each_wait<K: Sink>(out: &mut K, line: &mut RowLine, waits: &[Wait]) -> 
     write_each_wait(out, line, more)
 }
 
-// Writes a charge.
+// Writes the line of a charge.
 fn write_charge<K: Sink>(out: &mut K, line: &mut RowLine, charge: Charge) -> Result<(), Failed>
     ensures { WritesLines (K.output out.old) (K.output out.new) (charge_line charge ∷ []) result }
 {
@@ -81,7 +81,7 @@ fn write_charge<K: Sink>(out: &mut K, line: &mut RowLine, charge: Charge) -> Res
     write_line(out, line.bytes.as_bytes())
 }
 
-// Writes a charge with its waits.
+// Writes the line of a charge, followed by those of its waits.
 fn write_charge_with<K: Sink>(
     out: &mut K,
     line: &mut RowLine,
@@ -95,21 +95,21 @@ fn write_charge_with<K: Sink>(
     write_each_wait(out, line, waits)
 }
 
-/// What the charges of rows are told with, and the sums of their waits so far.
+/// The buffers for the lines of rows, and the totals of their waits so far.
 #[derive(Drop)]
 pub struct RowTelling {
-    /// What is filled with the waits of one charge after another.
+    /// The buffer for the waits of one charge at a time.
     pub waits: Waits,
-    /// The sums of all of them.
+    /// The totals of all waits so far.
     pub totals: WaitTotals,
-    /// The line that is filled for rows, charges and waits.
+    /// The buffer for the lines of rows, charges and waits.
     pub line: RowLine,
-    /// The line that is filled for what is known of an entry by itself.
+    /// The buffer for the lines of an entry's facts.
     pub facts: FactLine,
 }
 
-// Writes the charge of a stage of an entry behind the tick `from`, where it ends later, and its
-// waits, and adds them to the sums.
+// Writes the charge of a stage of an entry after tick `from`, if the stage ends later, and its
+// waits, and adds them to the totals.
 fn write_part<K: Sink>(
     out: &mut K,
     from: u64,
@@ -136,8 +136,8 @@ fn write_part<K: Sink>(
     write_charge_with(out, &mut waiting.line, charge, waiting.waits.as_slice())
 }
 
-// Writes the charges of stages of an entry behind the tick `from`, each with its waits, and adds
-// these to the sums.
+// Writes the charges of stages of an entry after tick `from`, each followed by its waits, and adds
+// the waits to the totals.
 fn write_parts<K: Sink>(
     out: &mut K,
     from: u64,
@@ -158,7 +158,8 @@ fn write_parts<K: Sink>(
     write_parts(out, later(from, part.end), more, entry, waiting)
 }
 
-/// Writes the charges of an entry that is done, each with its waits, and adds these to the sums.
+/// Writes the charges of a completed entry, each followed by its waits, and adds the waits to the
+/// totals.
 pub fn write_charged<K: Sink>(
     out: &mut K,
     entry: &EntryRecord<'_>,
@@ -174,8 +175,8 @@ pub fn write_charged<K: Sink>(
     write_parts(out, done.before, &stages, entry, waiting)
 }
 
-// `SUM stage why n`, filled into a line: the ticks of one thing that was waited for in a stage.
-// What the line had is gone.
+// Fills a line with `SUM stage why n`: the ticks of one kind of wait in a stage. The previous
+// contents are overwritten.
 fn fill_wait_sum(line: &mut LineFromEnd, sum: &WaitSum)
     ensures { line.new ≡ wait_sum_line sum.now }
 {
@@ -189,7 +190,7 @@ fn fill_wait_sum(line: &mut LineFromEnd, sum: &WaitSum)
     line.put_word(*b"SUM ");
 }
 
-// Writes the line of a sum.
+// Writes the line of a total.
 fn write_wait_sum<K: Sink>(out: &mut K, sum: &WaitSum) -> Result<(), Failed>
     ensures { WritesLines (K.output out.old) (K.output out.new)
         (wait_sum_line sum.now ∷ []) result }
@@ -199,7 +200,7 @@ fn write_wait_sum<K: Sink>(out: &mut K, sum: &WaitSum) -> Result<(), Failed>
     write_line(out, line.as_bytes())
 }
 
-// Writes the lines of sums.
+// Writes the lines of totals.
 #[tactic(auto, using(st_io::proofs::Progress::wrote_nothing))]
 fn write_each_sum<K: Sink>(out: &mut K, sums: &[WaitSum]) -> Result<(), Failed>
     ensures { WritesLines (K.output out.old) (K.output out.new) (wait_sum_lines sums.now) result }
@@ -211,7 +212,7 @@ fn write_each_sum<K: Sink>(out: &mut K, sums: &[WaitSum]) -> Result<(), Failed>
     write_each_sum(out, more)
 }
 
-/// Writes the lines `SUM stage why n`, in their order.
+/// Writes the lines `SUM stage why n` in their order.
 pub fn write_wait_sums<K: Sink>(out: &mut K, totals: &WaitTotals) -> Result<(), Failed>
     ensures { WritesLines (K.output out.old) (K.output out.new)
         (wait_sum_lines (wait_sums_by (λ r s. waited_at r s totals.now))) result }
@@ -219,7 +220,7 @@ pub fn write_wait_sums<K: Sink>(out: &mut K, totals: &WaitTotals) -> Result<(), 
     write_each_sum(out, &wait_sums(totals))
 }
 
-// Puts the name of a reason before a line.
+// Puts the name of a reason in front of a line.
 #[inline(always)]
 fn put_reason(line: &mut LineFromEnd, reason: Reason)
     requires { length line.old + 10 ≤ 128 }
@@ -236,7 +237,7 @@ fn put_reason(line: &mut LineFromEnd, reason: Reason)
     }
 }
 
-// `BECAUSE START ROW - TICK t LATE -`, filled into a line. What the line had is gone.
+// Fills a line with `BECAUSE START ROW - TICK t LATE -`. The previous contents are overwritten.
 fn fill_start(line: &mut LineFromEnd, n: u32, tick: u64)
     ensures { line.new ≡ because_line n (StartOf tick) }
 {
@@ -247,7 +248,7 @@ fn fill_start(line: &mut LineFromEnd, n: u32, tick: u64)
     line.put_word(*b"BECAUSE START ROW - TICK ");
 }
 
-// `BECAUSE PREFETCH WORD w LATE l`, filled into a line. What the line had is gone.
+// Fills a line with `BECAUSE PREFETCH WORD w LATE l`. The previous contents are overwritten.
 fn fill_prefetch(line: &mut LineFromEnd, n: u32, asked: &Prefetched)
     ensures { line.new ≡ because_line n (PrefetchOf asked.now) }
 {
@@ -259,7 +260,7 @@ fn fill_prefetch(line: &mut LineFromEnd, n: u32, asked: &Prefetched)
     line.put_word(*b"BECAUSE PREFETCH WORD ");
 }
 
-// `BECAUSE why ROW j TICK t LATE l`, filled into a line. What the line had is gone.
+// Fills a line with `BECAUSE why ROW j TICK t LATE l`. The previous contents are overwritten.
 fn fill_earlier(line: &mut LineFromEnd, n: u32, cause: &Cause)
     ensures { line.new ≡ because_line n (EarlierOf cause.now) }
 {
@@ -275,7 +276,7 @@ fn fill_earlier(line: &mut LineFromEnd, n: u32, cause: &Cause)
     line.put_word(*b"BECAUSE ");
 }
 
-// What kept the n-th entry back, filled into a line. What the line had is gone.
+// Fills a line with the cause that delayed the n-th entry. The previous contents are overwritten.
 fn fill_because(line: &mut LineFromEnd, n: u32, because: &Because)
     ensures { line.new ≡ because_line n because.now }
 {
@@ -286,7 +287,7 @@ fn fill_because(line: &mut LineFromEnd, n: u32, because: &Because)
     }
 }
 
-// Writes what kept the n-th entry back.
+// Writes the cause that delayed the n-th entry.
 fn put_because<K: Sink>(out: &mut K, n: u32, because: &Because) -> Result<(), Failed>
     ensures { WritesLines (K.output out.old) (K.output out.new)
         (because_line n because.now ∷ []) result }
@@ -296,8 +297,9 @@ fn put_because<K: Sink>(out: &mut K, n: u32, because: &Because) -> Result<(), Fa
     write_line(out, line.as_bytes())
 }
 
-/// Writes what kept the n-th entry back, where it has another charge than that of executing: the
-/// last entry before it was done at the tick `done`, and its operands were there at the tick `r`.
+/// Writes the cause that delayed the n-th entry, if the entry has a charge other than that of
+/// executing. The previous entry completed at tick `done`, and the entry's operands were available
+/// at tick `r`.
 #[tactic(auto, unfolding(crate::specs::WaitLines::because_lines), using(st_io::proofs::Progress::wrote_nothing))]
 pub fn write_because<K: Sink>(
     out: &mut K,

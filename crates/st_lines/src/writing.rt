@@ -1,4 +1,5 @@
-//! The lines where a segment ends, and where one begins.
+//! Writes the lines between two entries: the end of a segment, the state, and the start of a
+//! segment.
 ghost use Rattle.std.specs.Prelude.{◌≡◌, ◌+◌, ◌<◌, ◌≤◌, ◌^◌, ℕ, ◌∷◌, ◌++◌, [], if◌then◌else◌, ◌||◌, length, min, Some, false, IsOk};
 ghost use Rattle.st_io.specs.Lines.{WritesLines, lines_for};
 ghost use Rattle.st_bits.specs.Storage.{words_of_storage};
@@ -30,10 +31,10 @@ use st_report::{
 use st_state::{State, counter_in, is_enabled};
 use st_text::{behind, front};
 
-/// What is printed between two entries, eight words each time.
+/// The printed lines between two entries, each as eight words.
 pub type Printed = ArrayVec<[u64; 8], 3>;
 
-// Writes the line of an entry that is dropped, which is the n-th entry.
+// Writes the `DROP` line of the n-th entry.
 fn write_drop_line<K: Sink>(out: &mut K, n: u32, ahead: &Ahead) -> Result<(), Failed>
     ensures { WritesLines (K.output out.old) (K.output out.new)
         (dropped_line n ahead.now.plan.place.address ahead.now.row ∷ []) result }
@@ -41,8 +42,7 @@ fn write_drop_line<K: Sink>(out: &mut K, n: u32, ahead: &Ahead) -> Result<(), Fa
     put(out, &line_drop(n, ahead.plan.place.address, &ahead.row))
 }
 
-// Writes what is known by itself of an entry that ran ahead, which is the n-th entry, where it is
-// dropped at a tick.
+// Writes the facts about the n-th entry, which ran ahead and is dropped at a tick.
 fn write_ahead_facts<K: Sink>(
     out: &mut K,
     n: u32,
@@ -65,8 +65,7 @@ fn write_ahead_facts<K: Sink>(
     write_facts(out, &mut FactLine::new(), &facts)
 }
 
-// Writes the line of an entry that is dropped at a tick, which is the n-th entry, and what is known
-// of it by itself.
+// Writes the `DROP` line of the n-th entry and the facts about it.
 fn write_drop<K: Sink>(
     out: &mut K,
     n: u32,
@@ -83,30 +82,30 @@ fn write_drop<K: Sink>(
     write_ahead_facts(out, n, tick, ahead, origin)
 }
 
-// Where the half-words of an entry come from that ran ahead.
+// The card that the half-words of an entry come from that ran ahead.
 fn origin_of(ahead: &Ahead, origins: &Origins, state: &State) -> Option<Origin>
     ensures { result ≡ origin_at origins.now state.now ahead.now.plan.place.address }
 {
     origins.at(state, ahead.plan.place.address)
 }
 
-/// The entries that ran ahead of the last one of a segment, and are dropped where that ends.
+/// The entries that ran ahead of the last entry of a segment and are dropped (flushed) at its end.
 #[derive(Clone, Copy)]
 pub struct Dropped<'a> {
     /// The tick at which the segment ends.
     pub tick: u64,
-    /// The number of the first of them.
+    /// The number of the first dropped entry.
     pub n: u32,
-    /// Those that were prepared by then, the oldest first.
+    /// The entries that were prepared by that tick, oldest first.
     pub found: &'a [Ahead],
-    /// The one behind them, which was begun.
+    /// The entry after them, which had begun.
     pub begun: &'a Ahead,
-    /// Where their half-words come from.
+    /// The cards that half-words come from.
     pub origins: &'a Origins,
     ghost few: { n + length found.now < 2 ^ 32 },
 }
 
-// Writes the lines of entries that are dropped, but for the one that was begun.
+// Writes the lines of dropped entries, except the one that had only begun.
 #[tactic(auto, using(st_io::proofs::Progress::wrote_nothing))]
 fn write_drops<K: Sink>(out: &mut K, dropped: &Dropped<'_>, state: &State) -> Result<(), Failed>
     ensures { WritesLines (K.output out.old) (K.output out.new)
@@ -135,7 +134,7 @@ fn write_drops<K: Sink>(out: &mut K, dropped: &Dropped<'_>, state: &State) -> Re
     write_drops(out, &behind, state)
 }
 
-// Writes the line of the entry that was begun, which is the n-th entry.
+// Writes the `BEGUN` line of the n-th entry.
 fn write_begun_line<K: Sink>(out: &mut K, n: u32, begun: &Ahead) -> Result<(), Failed>
     ensures { WritesLines (K.output out.old) (K.output out.new)
         (begun_line n begun.now.plan.place.address begun.now.row ∷ []) result }
@@ -143,15 +142,14 @@ fn write_begun_line<K: Sink>(out: &mut K, n: u32, begun: &Ahead) -> Result<(), F
     put(out, &line_begun(n, begun.plan.place.address, &begun.row))
 }
 
-// The number of the entry that was begun.
+// The number of the entry that had begun.
 fn number_behind(dropped: &Dropped<'_>) -> u32
     ensures { result ≡ dropped.now.n + length dropped.now.found.now }
 {
     dropped.n + dropped.found.len() as u32
 }
 
-// Writes the line of the entry that was begun, which is the n-th entry, and what is known of it by
-// itself.
+// Writes the `BEGUN` line of the n-th entry and the facts about it.
 fn write_begun_entry<K: Sink>(
     out: &mut K,
     n: u32,
@@ -173,7 +171,7 @@ fn write_begun_entry<K: Sink>(
     )
 }
 
-// Writes the lines of entries that are dropped, and of the one that was begun behind them.
+// Writes the lines of dropped entries, and of the entry after them that had begun.
 fn write_ahead<K: Sink>(out: &mut K, dropped: &Dropped<'_>, state: &State) -> Result<(), Failed>
     ensures { let d = dropped.now in
         WritesLines (K.output out.old) (K.output out.new)
@@ -186,7 +184,7 @@ fn write_ahead<K: Sink>(out: &mut K, dropped: &Dropped<'_>, state: &State) -> Re
     write_begun_entry(out, behind, dropped, state)
 }
 
-// Writes the line of the end of a segment.
+// Writes the line of the end of segment k.
 fn write_end_line<K: Sink>(out: &mut K, k: u32, tick: u64) -> Result<(), Failed>
     ensures { WritesLines (K.output out.old) (K.output out.new)
         (segment_end_line k tick ∷ []) result }
@@ -194,8 +192,8 @@ fn write_end_line<K: Sink>(out: &mut K, k: u32, tick: u64) -> Result<(), Failed>
     put(out, &line_end(k, tick))
 }
 
-/// Writes the end of the segment k, with the entries that are dropped, in the state that all this
-/// leaves. Before the first segment there is none.
+/// Writes the end of segment k, with the dropped entries and their half-words' origins in the state
+/// at the end. For k = 0, before the first segment, nothing is written.
 pub fn write_end<K: Sink>(
     out: &mut K,
     k: u32,
@@ -214,7 +212,7 @@ pub fn write_end<K: Sink>(
     write_ahead(out, dropped, state)
 }
 
-// Writes the counter.
+// Writes the instruction counter.
 fn write_ic<K: Sink>(out: &mut K, ic: u32) -> Result<(), Failed>
     ensures { WritesLines (K.output out.old) (K.output out.new) (ic_line ic ∷ []) result }
 {
@@ -223,21 +221,21 @@ fn write_ic<K: Sink>(out: &mut K, ic: u32) -> Result<(), Failed>
     write_line(out, line.as_bytes())
 }
 
-// Whether two marks are not the same.
+// Whether two flags differ.
 fn differ(was: bool, now: bool) -> bool
     ensures { result ≡ differs was now }
 {
     if was { !now } else { now }
 }
 
-/// Whether one of both is so.
+/// Whether at least one of two flags is set.
 pub fn either(one: bool, two: bool) -> bool
     ensures { result ≡ (one || two) }
 {
     one || two
 }
 
-// Writes whether interrupts are enabled, where it is asked for.
+// Writes whether interrupts are enabled, if `shown` is set.
 #[tactic(auto, using(st_io::proofs::Progress::wrote_nothing))]
 fn write_en<K: Sink>(out: &mut K, shown: bool, enabled: bool) -> Result<(), Failed>
     ensures { WritesLines (K.output out.old) (K.output out.new)
@@ -249,7 +247,7 @@ fn write_en<K: Sink>(out: &mut K, shown: bool, enabled: bool) -> Result<(), Fail
     put(out, &line_en(enabled))
 }
 
-// Writes eight words that are printed.
+// Writes a printed line of eight words.
 fn write_print<K: Sink>(out: &mut K, words: &[u64; 8]) -> Result<(), Failed>
     ensures { WritesLines (K.output out.old) (K.output out.new)
         (prt_line (printed_of words.now) ∷ []) result }
@@ -257,7 +255,7 @@ fn write_print<K: Sink>(out: &mut K, words: &[u64; 8]) -> Result<(), Failed>
     put(out, &line_prt(&print_text(words)))
 }
 
-// Writes what is printed.
+// Writes all printed lines.
 #[tactic(auto, using(st_io::proofs::Progress::wrote_nothing))]
 fn write_prints<K: Sink>(out: &mut K, printed: &[[u64; 8]]) -> Result<(), Failed>
     ensures { WritesLines (K.output out.old) (K.output out.new) (prints_lines printed.now) result }
@@ -269,7 +267,7 @@ fn write_prints<K: Sink>(out: &mut K, printed: &[[u64; 8]]) -> Result<(), Failed
     write_prints(out, more)
 }
 
-// Writes the counter, and whether interrupts are enabled, where that is told.
+// Writes the instruction counter, and whether interrupts are enabled if that line is due.
 fn write_counter<K: Sink>(
     out: &mut K,
     k: u32,
@@ -284,7 +282,7 @@ fn write_counter<K: Sink>(
     write_en(out, either(k == 0, differ(was, enabled)), enabled)
 }
 
-// Writes a word of storage or a register, where it is not zero.
+// Writes a word of storage or a register, if it is not zero.
 #[tactic(auto, unfolding(crate::specs::BorderLines::nonzero_word_lines), using(st_io::proofs::Progress::wrote_nothing, st_bits::specs::Storage::words_of_storage_is))]
 fn write_word<K: Sink>(out: &mut K, state: &State, w: u32) -> Result<(), Failed>
     requires { w < WORDS }
@@ -309,7 +307,7 @@ fn write_each_word<K: Sink>(out: &mut K, state: &State) -> Result<(), Failed>
     Ok(())
 }
 
-// Writes the words that are not zero, at the start of a run, or those that changed.
+// Writes the words that are not zero, at the start of a run, or else those that changed.
 fn write_words<K: Sink>(
     out: &mut K,
     starts: bool,
@@ -331,22 +329,23 @@ fn write_words<K: Sink>(
     write_each_word(out, state)
 }
 
-/// What is told between an entry and the next one, besides the state.
+/// The events between an entry and the next one, except the state.
 #[derive(Clone, Copy)]
 pub struct Between<'a> {
-    /// The number of the segment of the entry, 0 before the first one.
+    /// The number of the entry's segment; 0 before the first segment.
     pub k: u32,
-    /// The entries that are dropped behind it, if its segment ends.
+    /// The entries that are dropped after the entry, if its segment ends.
     pub dropped: Dropped<'a>,
-    /// What is printed, eight words each time.
+    /// The printed lines, each as eight words.
     pub printed: &'a [[u64; 8]],
-    /// Interrupts were enabled before it.
+    /// Whether interrupts were enabled before the entry.
     pub was: bool,
-    /// The words that may have changed since.
+    /// The words that may have changed since the previous entry.
     pub may: &'a Changeable,
 }
 
-// Writes the counter, whether interrupts are enabled, where that is told, and the words.
+// Writes the instruction counter, whether interrupts are enabled if that line is due, and the
+// words.
 fn write_standing<K: Sink>(
     out: &mut K,
     between: &Between<'_>,
@@ -365,10 +364,11 @@ fn write_standing<K: Sink>(
     write_words(out, k == 0, old, state, between.may)
 }
 
-/// Writes what is printed, the counter, whether interrupts are enabled, where that is told, and the
-/// words: at the start of a run, before the segment 1, those that are not zero, and else those that
-/// changed. Before the last entry the words were `old`, which then has them as they are; of the
-/// words that are no registers those may have changed that `between` has.
+/// Writes the printed lines, the instruction counter, whether interrupts are enabled if that line
+/// is due, and the words: at the start of a run, before segment 1, those that are not zero, and
+/// otherwise those that changed. `old` has the words as they were before the last entry, and is
+/// updated to those of the state. Of the words that are not registers, only those that `between`
+/// names may have changed.
 pub fn write_marks<K: Sink>(
     out: &mut K,
     between: &Between<'_>,
@@ -386,7 +386,8 @@ pub fn write_marks<K: Sink>(
     write_standing(out, between, old, state)
 }
 
-// Writes the interrupt that is taken after so many instructions, but before the first one.
+// Writes the interrupt that is taken after a number of instructions, except before the first
+// instruction.
 #[tactic(auto, using(st_io::proofs::Progress::wrote_nothing))]
 fn write_taken<K: Sink>(
     out: &mut K,
@@ -405,26 +406,27 @@ fn write_taken<K: Sink>(
     }
 }
 
-/// A segment ends or not, and one begins or not.
+/// Whether a segment ends and whether one begins between two entries, with the facts about its
+/// start.
 #[derive(Clone, Copy, Debug)]
 pub struct Border {
-    /// The segment of the last entry ends.
+    /// Whether the segment of the last entry ends.
     pub ends: bool,
-    /// The next entry is the first one of a segment.
+    /// Whether the next entry is the first of a segment.
     pub begins: bool,
     /// The tick at which the next segment starts.
     pub start: u64,
-    /// The machine had waited.
+    /// Whether the machine had waited.
     pub waited: bool,
     /// Why the next segment begins.
     pub why: Why,
-    /// The interrupt that is taken.
+    /// The indicator of the interrupt that is taken, if one is.
     pub taken: Option<u8>,
-    /// The number of instructions done.
+    /// The number of completed instructions.
     pub done: u64,
 }
 
-// Writes the end of a segment, where one ends.
+// Writes the end of a segment, if one ends.
 fn write_ended<K: Sink>(
     out: &mut K,
     ends: bool,
@@ -442,7 +444,7 @@ fn write_ended<K: Sink>(
     write_end(out, between.k, &between.dropped, state)
 }
 
-// Writes the state behind an entry, where the run goes on.
+// Writes the state after an entry, if the run continues.
 #[tactic(auto, unfolding(crate::specs::BorderLines::state_lines))]
 fn write_state<K: Sink>(
     out: &mut K,
@@ -462,7 +464,7 @@ fn write_state<K: Sink>(
     write_taken(out, between.k == 0, border.taken, border.done)
 }
 
-// Writes the start of the segment k, where one begins.
+// Writes the start of segment k, if one begins.
 fn write_start<K: Sink>(out: &mut K, border: &Border, k: u32) -> Result<(), Failed>
     ensures { WritesLines (K.output out.old) (K.output out.new)
         (if border.now.begins then start_line k border.now.start border.now.waited border.now.why
@@ -474,8 +476,8 @@ fn write_start<K: Sink>(out: &mut K, border: &Border, k: u32) -> Result<(), Fail
     put(out, &line_start(k, border.start, border.waited, border.why))
 }
 
-/// Writes the end of a segment, the state, and the start of the next segment, as far as there are
-/// any. `between` and `old` are as in `write_marks`.
+/// Writes the end of a segment, the state, and the start of the next segment, each if there is one.
+/// `between` and `old` are as in `write_marks`.
 pub fn write_border<K: Sink>(
     out: &mut K,
     border: &Border,
@@ -510,7 +512,7 @@ fn write_run_end<K: Sink>(out: &mut K, rests: bool) -> Result<(), Failed>
     put(out, &line_run_end(rests))
 }
 
-// Writes the number of instructions done.
+// Writes the number of completed instructions.
 fn write_done<K: Sink>(out: &mut K, done: u64) -> Result<(), Failed>
     ensures { WritesLines (K.output out.old) (K.output out.new) (done_line done ∷ []) result }
 {
@@ -524,7 +526,7 @@ fn write_ticks<K: Sink>(out: &mut K, tick: u64) -> Result<(), Failed>
     put(out, &line_ticks(tick))
 }
 
-/// Writes how the run ended, the number of instructions done, and the last tick.
+/// Writes how the run ended, the number of completed instructions, and the last tick.
 pub fn write_totals<K: Sink>(out: &mut K, rests: bool, done: u64, tick: u64) -> Result<(), Failed>
     ensures { WritesLines (K.output out.old) (K.output out.new)
         (run_end_line rests ∷ done_line done ∷ ticks_line tick ∷ []) result }
@@ -534,7 +536,7 @@ pub fn write_totals<K: Sink>(out: &mut K, rests: bool, done: u64, tick: u64) -> 
     write_ticks(out, tick)
 }
 
-// Writes the line of some delays, ten at most.
+// Writes the line of at most ten delays.
 fn write_ten<K: Sink>(out: &mut K, ds: &[u8]) -> Result<(), Failed>
     requires { length ds.now ≤ 10 }
     ensures { WritesLines (K.output out.old) (K.output out.new) (delays_line ds.now ∷ []) result }
@@ -542,14 +544,14 @@ fn write_ten<K: Sink>(out: &mut K, ds: &[u8]) -> Result<(), Failed>
     put(out, &line_delays(ds))
 }
 
-// How many of some delays stand in a line.
+// The number of delays in the next line, at most ten.
 fn count_of(ds: &[u8]) -> usize
     ensures { result ≡ min (length ds.now) 10 }
 {
     ds.len().min(10)
 }
 
-// Writes all delays, ten in a line.
+// Writes all delays, ten in each line.
 fn write_delays<K: Sink>(out: &mut K, ds: &[u8]) -> Result<(), Failed>
     ensures { WritesLines (K.output out.old) (K.output out.new) (delays_lines ds.now) result }
 {
@@ -568,7 +570,7 @@ fn write_levels<K: Sink>(out: &mut K, n: u8) -> Result<(), Failed>
     put(out, &line_levels(n))
 }
 
-/// Writes the lines of a machine with so many levels and these delays.
+/// Writes the lines of a machine with n levels and these delays.
 pub fn write_machine<K: Sink>(out: &mut K, n: u8, ds: &[u8]) -> Result<(), Failed>
     ensures { WritesLines (K.output out.old) (K.output out.new) (machine_lines ds.now n) result }
 {

@@ -9,7 +9,7 @@ use Rattle.st_mnemonic.specs.Table.{other_operations, index_operations, field_op
 use Rattle.st_mnemonic.specs.declared.operations.Operation.{Operation}
 use Rattle.st_mnemonic.specs.declared.operations.Operation.TheVariants.{Half, Vfl}
 
--- words that are the same are equal
+-- two words that the comparison finds the same are equal
 pub same_words : (a b : List ℕ) → is_same a b ≡ true → a ≡ b
 same_words [] [] e = refl
 same_words [] (y ∷ ys) e = let no : ⊥ = cc in absurd no
@@ -18,7 +18,7 @@ same_words (x ∷ xs) (y ∷ ys) e =
     let parts = and_parts (nat_eq x y) (pointwise nat_eq xs ys) e in
     ap (λ c. c ∷ xs) (eqb-true x y parts.0) ∙ ap (λ cs. y ∷ cs) (same_words xs ys parts.1)
 
--- whether no row's word stands in another table
+-- whether no row's word of one table is in another table
 abbrev apart : {A B : Type 0} → List (List ℕ × A) → List (List ℕ × B) → Bool
 apart rows others = list_all (λ row. is_none (row_of row.0 others)) rows
 
@@ -28,7 +28,7 @@ here : {A B : Type 0} (word : List ℕ) (row : List ℕ × A) (rows : List (List
 here word row rows others true is absent rest = ap (λ (w : List ℕ). is_none (row_of w others)) (same_words word row.0 is) ∙ absent
 here word row rows others false is absent rest = rest
 
--- no word stands in both of two such tables
+-- a word in one of two tables without common words is not in the other
 in_one : {A B : Type 0} (word : List ℕ) (rows : List (List ℕ × A)) (others : List (List ℕ × B)) → apart rows others ≡ true →
     (is_none (row_of word rows) || is_none (row_of word others)) ≡ true
 in_one word [] others all = refl
@@ -40,21 +40,22 @@ none_mapped : {A B : Type 0} (f : A → B) (o : Option A) → is_none o ≡ is_n
 none_mapped f None = refl
 none_mapped f (Some a) = refl
 
--- a word for the assembler, a branch or a move is none for a field
+-- no mnemonic of an order to the assembler, a branch or a move is one of an operation on a field
 pub other_or_field : (word : List ℕ) → (is_none (row_of word other_operations) || is_none (field_operation false word)) ≡ true
 unfolding other_operations field_operations
 other_or_field word =
     sym (ap (λ b. is_none (row_of word other_operations) || b) (none_mapped (λ op. Vfl op false) (row_of word field_operations)))
     ∙ in_one word other_operations field_operations refl
 
--- nor for an index word
+-- no mnemonic of an order to the assembler, a branch or a move is one of an operation on an index
+-- word
 pub other_or_index : (word : List ℕ) → (is_none (row_of word other_operations) || is_none (index_operation word)) ≡ true
 unfolding other_operations index_operations
 other_or_index word =
     sym (ap (λ b. is_none (row_of word other_operations) || b) (none_mapped (λ op. Half op) (row_of word index_operations)))
     ∙ in_one word other_operations index_operations refl
 
--- and one for an index word is none for a field
+-- no mnemonic of an operation on an index word is one of an operation on a field
 pub index_or_field : (word : List ℕ) → (is_none (index_operation word) || is_none (field_operation false word)) ≡ true
 unfolding index_operations field_operations
 index_or_field word =
@@ -62,7 +63,7 @@ index_or_field word =
     ∙ ap (λ b. b || is_none (field_operation false word)) (none_mapped (λ op. Half op) (row_of word index_operations)))
     ∙ in_one word index_operations field_operations refl
 
--- what is found in the last of three tables
+-- an operation found in the last of three tables without common words
 pub found_last : (a b c : Option Operation) (op : Operation) → (is_none a || is_none c) ≡ true → (is_none b || is_none c) ≡ true →
     Some op ≡ c → Some op ≡ option_or (option_or a b) c
 found_last None None c op first second is = is
@@ -71,7 +72,7 @@ found_last None (Some y) (Some z) op first second is = cc
 found_last (Some x) b None op first second is = cc
 found_last (Some x) b (Some z) op first second is = cc
 
--- and in the second
+-- an operation found in the second of three tables without common words
 pub found_second : (a b c : Option Operation) (op : Operation) → (is_none a || is_none b) ≡ true → Some op ≡ b → c ≡ None →
     Some op ≡ option_or (option_or a b) c
 found_second None None c op first is nothing = cc

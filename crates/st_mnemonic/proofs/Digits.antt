@@ -1,4 +1,4 @@
--- Decimal digits are read as their number, and have no byte that parts a statement.
+-- Decimal digits are read as their number, and contain no separator of a statement.
 use Rattle.std.proofs.Common.{◌≡◌, ◌≤◌, ◌<◌, ◌+◌, ◌-◌, ◌^◌, ◌==◌, ◌&&◌, ◌||◌, ℕ, suc, Bool, true, false, not, nat_le, List, [], ◌∷◌, if◌then◌else◌, length, take, filter, decimal, refl, ap, ◌∙◌, arith, rules}
 use Rattle.std.specs.Prelude.{slice_get}
 use Rattle.std.specs.Option.{option_map_or}
@@ -17,7 +17,7 @@ use Rattle.st_mnemonic.specs.Text.{stop, begins_with, ends_with, statement_text}
 own : IsNumeralModel (λ ds. list_all is_ascii_digit ds ≡ true) (value_after 0)
 own = numerals_by_fold _ (search rules) value_after (search rules)
 
--- a text of digits, one at least
+-- a text of one or more digits
 pub record AreDigits (text : List ℕ) : Type 0 where
   pub each : list_all is_ascii_digit text ≡ true
   pub some : 0 < length text
@@ -51,7 +51,7 @@ all_pass p q implies (c ∷ cs) passes =
     let tests = both (p c) (list_all p cs) passes in
     and_true (q c) (list_all q cs) (implies c tests.0) (all_pass p q implies cs tests.1)
 
--- bytes that are none of digits
+-- bytes that are not digits
 abbrev pub IsOther : ℕ → Type 0
 IsOther at = (c : ℕ) → is_ascii_digit c ≡ true → not (c == at) ≡ true
 
@@ -107,7 +107,7 @@ filter-all p (c ∷ cs) all =
     let tests = both (p c) (list_all p cs) all in
     ap (λ b. if b then c ∷ filter p cs else filter p cs) tests.0 ∙ ap (λ (t : List ℕ). c ∷ t) (filter-all p cs tests.1)
 
--- a statement without blanks and comment is as it stands
+-- a text without blanks and comment is its own statement text
 pub clean-is : (text : List ℕ) → lacks 59 text ≡ true → lacks 32 text ≡ true → statement_text text ≡ text
 unfolding statement_text
 clean-is text no_comment no_blank =

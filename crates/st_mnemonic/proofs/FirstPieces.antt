@@ -1,4 +1,4 @@
--- Seventeen pieces are enough: what stands behind those makes no difference to a description.
+-- Seventeen pieces are enough: later pieces make no difference to a description.
 use Rattle.std.proofs.Common.{◌≡◌, ◌∙◌, ◌++◌, ℕ, List, [], ◌∷◌, length, take, Option, Some, None, refl, ap, sym, append_assoc}
 use Rattle.std.specs.Option.{option_and_then}
 use Rattle.std.proofs.Math.Seq.{take-append_seam}
@@ -16,7 +16,7 @@ pub first_found : (found rest pieces : List (List ℕ)) → found ++ rest ≡ pi
 first_found found rest pieces all full =
     sym (ap (λ n. take n (found ++ rest)) (sym full) ∙ take-append_seam found rest) ∙ ap (λ (ps : List (List ℕ)). take 17 ps) all
 
--- so are those that were kept when there is room for no more
+-- the kept fields are the first seventeen pieces when there is no room for more
 pub no_room : (kept new : List FieldText) (f : FieldText) (left after text : List ℕ) → new ≡ kept ++ f ∷ [] →
     texts kept ++ pieces_of 44 left ≡ pieces_of 44 text → pieces_of 44 left ≡ f.text.now ∷ pieces_of 44 after → length new ≡ 17 →
     texts new ≡ take 17 (pieces_of 44 text)

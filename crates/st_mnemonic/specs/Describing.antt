@@ -18,13 +18,14 @@ use Rattle.st_mnemonic.specs.declared.descriptions.Description.TheVariants.{Abse
 use Rattle.st_mnemonic.specs.declared.operations.Operation.{Operation}
 use Rattle.st_mnemonic.specs.declared.operations.Operation.TheVariants.{Floating as FloatingOperation, Vfl, Connect, Data}
 
--- the modes: decimal or not and unsigned or not, or of the floating group
+-- the modes of data descriptions: binary or decimal with or without a sign byte, and those of the
+-- floating group
 unfoldable pub modes : List (List ℕ × Mode)
 modes =
     (codes "B", Field false false) ∷ (codes "BU", Field false true) ∷ (codes "D", Field true false)
     ∷ (codes "DU", Field true true) ∷ (codes "N", Normalized) ∷ (codes "U", Unnormalized) ∷ []
 
--- a form without a progressive form
+-- a form without a progressive form, with its length and byte size in bits
 abbrev pub plain_form : Bool → Bool → ℕ → ℕ → Form
 plain_form decimal unsigned bits byte = record {
   decimal = decimal;
@@ -34,25 +35,25 @@ plain_form decimal unsigned bits byte = record {
   p = 0;
 }
 
--- the form where no description stands
+-- the form of a field without a data description
 abbrev pub default_form : Form
 default_form = plain_form false true 64 8
 
--- the byte size where a description has none
+-- the default byte size in bits: 4 for decimal, 8 for binary
 abbrev pub usual_byte : Bool → ℕ
 usual_byte decimal = if decimal then 4 else 8
 
--- a number that is not zero
+-- the number of a reading, if it is not zero
 abbrev pub some_number : Reading → Option ℕ
 some_number (Good n) = if n == 0 then None else Some n
 some_number Large = None
 some_number Bad = None
 
--- the number from 1 on that a text is, up to the most
+-- the number that a text spells, if it is from 1 to `most`
 unfoldable pub number_to : ℕ → List ℕ → Option ℕ
 number_to most text = some_number (reading most text)
 
--- what a length, a byte size or neither say behind a mode
+-- the description of a mode with the texts of an optional length and byte size after it
 unfoldable pub in_mode : Mode → List (List ℕ) → Option Description
 in_mode (Field d u) [] = Some (InForm (plain_form d u 64 (usual_byte d)))
 in_mode (Field d u) (bits ∷ []) = option_map (λ n. InForm (plain_form d u n (usual_byte d)))
@@ -66,27 +67,27 @@ in_mode Normalized _ = None
 in_mode Unnormalized [] = Some (Floating true)
 in_mode Unnormalized _ = None
 
--- what the pieces of a description say
+-- the description of the pieces between its commas
 abbrev pub in_pieces : List (List ℕ) → Option Description
 in_pieces [] = None
 in_pieces (mode ∷ more) = option_and_then (λ m. in_mode m more) (row_of mode modes)
 
--- what a group says as a description: nothing where it lacks its last parenthesis
+-- the description of a group: None if the closing parenthesis is missing
 unfoldable pub description_of : List ℕ → Option Description
 description_of [] = Some Absent
 description_of (c ∷ cs) =
     if ends_with close_parenthesis (c ∷ cs) then in_pieces
     (pieces_of comma (take (length (c ∷ cs) - 2) cs)) else None
 
--- whether an operation may have a form: one on a field and a laid number a valid one, a connective
--- a binary unsigned one
+-- whether an operation may have a form: a valid form for operations on fields and DD, a binary
+-- unsigned form for connectives
 unfoldable pub may_have : Operation → Form → Bool
 may_have (Vfl op negated) form = not (misfits form.decimal form.unsigned form.length form.byte)
 may_have (Connect kind table) form = not (form.decimal || not form.unsigned)
 may_have Data form = not (misfits form.decimal form.unsigned form.length form.byte)
 may_have _ form = false
 
--- the numbers of normalized floating operations
+-- the numbers of normalized floating operations, by the operation on a field with that mnemonic
 unfoldable pub floating_number : Operation → Option ℕ
 floating_number (Vfl L false) = Some 1
 floating_number (Vfl St false) = Some 2
@@ -96,7 +97,7 @@ floating_number (Vfl Mul false) = Some 5
 floating_number (Vfl Div false) = Some 6
 floating_number _ = None
 
--- the operation and the form that a description makes of an operation, where it may stand there
+-- the operation and form that result from applying a description to an operation, if it allows it
 unfoldable pub described_form : Operation → Description → Option (Operation × Form)
 described_form op Absent = Some (op, default_form)
 described_form op (InForm form) = if may_have op form then Some (op, form) else None

@@ -2,6 +2,6 @@
 use Rattle.std.specs.Prelude.{ℕ, List, map}
 use Rattle.st_mnemonic.specs.declared.field.FieldText.{FieldText}
 
--- the texts that fields have
+-- the texts of fields
 abbrev pub texts : List FieldText → List (List ℕ)
 texts fields = map (λ f. f.text.now) fields

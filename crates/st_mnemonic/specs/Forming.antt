@@ -1,4 +1,4 @@
--- Progressive forms, and which group is the data description.
+-- Progressive forms, and the choice of the group that is the data description.
 use Rattle.std.specs.Prelude.{ℕ, ◌==◌, ◌&&◌, ◌||◌, Bool, false, not, nat_le, ◌-◌, List, [], ◌∷◌, length, take, codes, Option, None, Some, is_some, if◌then◌else◌}
 use Rattle.std.specs.Option.{option_and_then, option_map_or}
 use Rattle.st_text.specs.Bytes.{close_parenthesis, comma}
@@ -11,42 +11,44 @@ use Rattle.st_mnemonic.specs.declared.form.Form.{Form}
 use Rattle.st_mnemonic.specs.declared.operations.Operation.{Operation}
 use Rattle.st_mnemonic.specs.declared.operations.Operation.TheVariants.{Vfl, Connect}
 
--- the progressive forms, each as a group without the parenthesis that closes it
+-- the progressive forms, each with the text of its group without the closing parenthesis
 unfoldable pub progressive_forms : List (List ℕ × ℕ)
 progressive_forms =
     (codes "(IM", 1) ∷ (codes "(V+I", 2) ∷ (codes "(V+IC", 3) ∷ (codes "(V+ICR", 4)
     ∷ (codes "(V-I", 5) ∷ (codes "(V-IC", 6) ∷ (codes "(V-ICR", 7) ∷ []
 
--- a group without the parenthesis that closes it, if there is one
+-- a group without its closing parenthesis, if it has one
 unfoldable pub open_group : List ℕ → List ℕ
 open_group group = if ends_with close_parenthesis group then take (length group - 1) group
     else group
 
--- whether a group spells a progressive form, be it closed or not
+-- whether a group spells a progressive form, with or without its closing parenthesis
 abbrev pub is_form : List ℕ → Bool
 is_form group = is_some (row_of (open_group group) progressive_forms)
 
--- the data description: a first group that spells no progressive form
+-- the data description at the start of a text: its first group, unless that spells a progressive
+-- form
 unfoldable pub description_in : List ℕ → List ℕ
 description_in text = if is_form (group text) then [] else group text
 
--- what stands behind the data description
+-- the text after the data description
 unfoldable pub behind_description : List ℕ → List ℕ
 behind_description text = if is_form (group text) then text else behind_group text
 
--- the progressive form that a group is, 0 where there is no group; one that is not closed is none
+-- the number of the progressive form in a group: 0 for an empty group, None for a group that is not
+-- closed
 unfoldable pub form_number : List ℕ → Option ℕ
 form_number [] = Some 0
 form_number (c ∷ cs) = if ends_with close_parenthesis (c ∷ cs)
     then row_of (open_group (c ∷ cs)) progressive_forms else None
 
--- the operation on a field that an operation is, if it is one
+-- the operation on a field of an operation, if it is one
 abbrev pub field_operation_of : Operation → Option FullOp
 field_operation_of (Vfl op negated) = Some (Variable op)
 field_operation_of (Connect kind table) = Some (Connective kind)
 field_operation_of _ = None
 
--- whether an operation may have a progressive form: it is one on a field
+-- whether an operation may have a progressive form: only an operation on a field may
 abbrev pub may_progress : Operation → Bool
 may_progress op = is_some (field_operation_of op)
 
@@ -54,26 +56,25 @@ may_progress op = is_some (field_operation_of op)
 abbrev pub is_field_written : Operation → Bool
 is_field_written op = option_map_or writes_field (field_operation_of op) false
 
--- whether the operand may stand in the address: it is not written and has at most 24 bits
+-- whether the operand may be immediate: the field is not written and has at most 24 bits
 abbrev pub may_be_immediate : Operation → ℕ → Bool
 may_be_immediate op bits = not (is_field_written op) && nat_le bits 24
 
--- whether an operation whose field has so many bits may have a progressive form by its number
+-- whether an operation with a field of `bits` bits may have progressive form p
 unfoldable pub may_have_form : Operation → ℕ → ℕ → Bool
 may_have_form op bits p =
     p == 0 || (may_progress op && (not (p == 1) || may_be_immediate op bits))
 
--- whether fields or nothing may stand here
+-- whether a text is empty or begins with a comma, so that fields or nothing follow
 abbrev pub is_behind_groups : List ℕ → Bool
 is_behind_groups text = length text == 0 || begins_with comma text
 
--- a form with a progressive form
+-- a form with progressive form n, if the operation allows it
 abbrev pub form_with_number : Operation → Form → ℕ → Option Form
 form_with_number op form n = if may_have_form op form.length n then Some (record form { p = n })
     else None
 
--- the form with the progressive form that a text begins with, where nothing but fields stands
--- behind it
+-- a form with the progressive form at the start of a text, if only fields follow it
 unfoldable pub form_with_progress : Operation → Form → List ℕ → Option Form
 form_with_progress op form text =
     if is_behind_groups (behind_group text) then option_and_then (form_with_number op form)

@@ -1,4 +1,4 @@
--- The operations by their words.
+-- The operations by their mnemonics.
 use Rattle.std.specs.Prelude.{ℕ, ◌-◌, nat_lt, Bool, true, false, List, [], ◌∷◌, length, take, drop, codes, Option, None, if◌then◌else◌, map}
 use Rattle.std.specs.Option.{option_map, option_or, option_zip}
 use Rattle.st_text.specs.Bytes.{letter_n}
@@ -15,23 +15,23 @@ use Rattle.st_mnemonic.specs.Text.{ends_with}
 use Rattle.st_mnemonic.specs.declared.operations.Operation.{Operation}
 use Rattle.st_mnemonic.specs.declared.operations.Operation.TheVariants.{Half, Sum, Refill, Execute, Branch, Bare, Vfl, Connect, Move, BitBranch, IndBranch, StoreCounter, Transfer, Data, IndexWord, Synonym, SetLocation, Reserve, End}
 
--- operations, each with the word of its row
+-- operations, each with the mnemonic of its row
 abbrev pub named : {X : Type 0} → (X → Row) → List X → List (List ℕ × X)
 named row ops = map (λ op. ((row op).word, op)) ops
 
--- on an index word and an address
+-- the operations on an index word and an address, by their mnemonics
 unfoldable pub index_operations : List (List ℕ × HalfOp)
 index_operations =
     named half_row (Lx ∷ Lv ∷ Lc ∷ Lr ∷ Sx ∷ Sv ∷ Sc ∷ Sr ∷ Sva ∷ VPlus ∷ VPlusC ∷ Kv ∷ Lvi ∷ Lci ∷
     Lri ∷ VPlusI ∷ VMinusI ∷ VPlusIC ∷ VPlusICR ∷ Kvi ∷ Kc ∷ Kci ∷ Cb ∷ Cbr ∷ [])
 
--- on a field
+-- the operations on a field, by their mnemonics
 unfoldable pub field_operations : List (List ℕ × VflOp)
 field_operations =
     named vfl_row (L ∷ Lwf ∷ Ltrs ∷ Lft ∷ St ∷ Add ∷ AddMg ∷ MAdd ∷ MAddMg ∷ MAdd1 ∷ K ∷ Kf ∷ Ke ∷
     Kfe ∷ Kr ∷ Kfr ∷ Mul ∷ MulAdd ∷ Div ∷ Lcv ∷ [])
 
--- the others, but for the connectives
+-- the other operations except the connectives, by their mnemonics
 unfoldable pub other_operations : List (List ℕ × Operation)
 other_operations =
     ((half_row Lvs).word, Sum) ∷ ((half_row R).word, Refill) ∷ ((half_row Ex).word, Execute)
@@ -50,11 +50,11 @@ other_operations =
     ∷ (codes "SLC", SetLocation)
     ∷ (codes "DR", Reserve) ∷ (codes "END", End) ∷ []
 
--- where connectives put their results
+-- the kinds of connectives, by the destination of their results
 unfoldable pub connective_kinds : List (List ℕ × ConnKind)
 connective_kinds = named conn_row (C ∷ Cm ∷ Ct ∷ [])
 
--- truth tables: the results for 00, 01, 10 and 11
+-- the truth tables, each as its four digits: the results for 00, 01, 10 and 11
 unfoldable pub truth_tables : List (List ℕ × ℕ)
 truth_tables =
     (codes "0000", 0) ∷ (codes "0001", 1) ∷ (codes "0010", 2) ∷ (codes "0011", 3)
@@ -64,30 +64,30 @@ truth_tables =
     ∷ (codes "1010", 10) ∷ (codes "1011", 11) ∷ (codes "1100", 12) ∷ (codes "1101", 13)
     ∷ (codes "1110", 14) ∷ (codes "1111", 15) ∷ []
 
--- an operation on an index word
+-- the operation on an index word that a mnemonic names
 abbrev pub index_operation : List ℕ → Option Operation
 index_operation word = option_map (λ op. Half op) (row_of word index_operations)
 
--- an operation on a field
+-- the operation on a field that a mnemonic names, negated or not
 abbrev pub field_operation : Bool → List ℕ → Option Operation
 field_operation negated word = option_map (λ op. Vfl op negated) (row_of word field_operations)
 
--- an operation on a field with a last letter N, for negated
+-- the operation of a mnemonic that ends with N, for negated
 unfoldable pub negated_operation : List ℕ → Option Operation
 negated_operation word =
     if ends_with letter_n word then field_operation true (take (length word - 1) word) else None
 
--- a connective: its kind, and behind it digits for its truth table
+-- the connective of a word: its kind, and from `place` on the digits of its truth table
 abbrev pub connective_at : ℕ → List ℕ → Option Operation
 connective_at place word =
     option_map (λ p. Connect p.0 p.1) (option_zip (row_of (take place word) connective_kinds)
     (row_of (drop place word) truth_tables))
 
--- a connective: four digits stand last
+-- the connective of a word whose last four characters are the digits of its truth table
 unfoldable pub connective : List ℕ → Option Operation
 connective word = if nat_lt (length word) 4 then None else connective_at (length word - 4) word
 
--- the operation that a word names
+-- the operation that a mnemonic names
 unfoldable pub operation_of_word : List ℕ → Option Operation
 operation_of_word word =
     option_or (option_or (option_or (option_or (row_of word other_operations)

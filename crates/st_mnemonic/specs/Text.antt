@@ -4,7 +4,7 @@ use Rattle.std.specs.Option.{option_map_or}
 use Rattle.st_text.specs.Bytes.{blank, open_parenthesis, close_parenthesis, comma, semicolon}
 use Rattle.st_text.specs.Pieces.{pieces_of}
 
--- how many bytes stand before the first of two bytes
+-- the number of bytes before the first occurrence of either of two bytes
 abbrev pub stop : ℕ → ℕ → List ℕ → ℕ
 stop a b [] = 0
 stop a b (c ∷ cs) = if c == a || c == b then 0 else stop a b cs + 1
@@ -23,29 +23,29 @@ ends_with c (_ ∷ next ∷ text) = ends_with c (next ∷ text)
 unfoldable pub statement_text : List ℕ → List ℕ
 statement_text text = filter (λ c. not (c == blank)) (take (stop semicolon semicolon text) text)
 
--- the operation: all up to the first parenthesis or comma
+-- the operation of a statement: the text up to the first parenthesis or comma
 abbrev pub operation_text : List ℕ → List ℕ
 operation_text statement = take (stop open_parenthesis comma statement) statement
 
--- what stands behind the operation
+-- the text after the operation
 abbrev pub behind_word : List ℕ → List ℕ
 behind_word statement = drop (stop open_parenthesis comma statement) statement
 
--- the length of the group that a text begins with: up to its first `)`, or to the end where it has
--- none
+-- the length of the parenthesized group at the start of a text: up to its first `)`, or to the end
+-- if there is none
 unfoldable pub group_length : List ℕ → ℕ
 group_length text = if begins_with open_parenthesis text
     then min (stop close_parenthesis close_parenthesis text + 1) (length text) else 0
 
--- the group that a text begins with, empty where there is none
+-- the parenthesized group at the start of a text, empty if there is none
 abbrev pub group : List ℕ → List ℕ
 group text = take (group_length text) text
 
--- what stands behind it
+-- the text after the parenthesized group at the start
 abbrev pub behind_group : List ℕ → List ℕ
 behind_group text = drop (group_length text) text
 
--- the fields, each behind a comma
+-- the texts of the fields, each preceded by a comma
 unfoldable pub fields_of : List ℕ → List (List ℕ)
 fields_of [] = []
 fields_of (c ∷ cs) = pieces_of comma cs

@@ -16,23 +16,24 @@ use st_bits::VflOp;
 use st_format::misfits_field;
 use st_text::{Reading, read_number, row_of};
 
-/// What the first word of a description says.
+/// The mode of a data description: its first word.
 #[derive(Clone, Copy)]
 pub enum Mode {
-    /// A field, of decimal digits or not, without a sign byte or with one.
+    /// A field; `decimal` says whether its bytes are decimal digits, and `unsigned` whether it
+    /// lacks a sign byte.
     Field { decimal: bool, unsigned: bool },
-    /// N, of the floating group.
+    /// The mode N, of the floating group.
     Normalized,
-    /// U, of the floating group.
+    /// The mode U, of the floating group.
     Unnormalized,
 }
 
-/// What a group says as a description.
+/// The meaning of a parenthesized group as a data description.
 #[derive(Clone, Copy)]
 pub enum Description {
-    /// No group stands there.
+    /// There is no group.
     Absent,
-    /// The form of a field.
+    /// The form of an operand field.
     InForm(Form),
     /// An operation of the floating group.
     Floating { unnormalized: bool },
@@ -71,7 +72,7 @@ const MODES: [(&[u8], Mode); 6] = [
     (b"U", Mode::Unnormalized),
 ];
 
-// The form where no description stands.
+// The form of a field without a data description.
 fn default_form() -> Form
     ensures { result ≡ spec.default_form }
 {
@@ -90,7 +91,7 @@ fn mode_of(word: &[u8]) -> Option<Mode>
     row_of(&MODES, word)
 }
 
-// The number from 1 on that a text is, up to the most.
+// The number that a text spells, if it is from 1 to `most`.
 fn number_to(most: u8, text: &[u8]) -> Option<u8>
     ensures { result ≡ spec.number_to most text.now }
 {
@@ -100,7 +101,7 @@ fn number_to(most: u8, text: &[u8]) -> Option<u8>
     }
 }
 
-// What a length, a byte size or neither say behind a mode.
+// The description of a mode with the texts of an optional length and byte size after it.
 fn in_mode(mode: Mode, more: &[FieldText]) -> Option<Description>
     ensures { result ≡ spec.in_mode mode (texts more.now) }
 {
@@ -139,7 +140,7 @@ fn usual_byte(decimal: bool) -> u8
     if decimal { 4 } else { 8 }
 }
 
-// What a group says as a description.
+// The description of a group in parentheses.
 fn description_of(group: &[u8]) -> Option<Description>
     requires { length group.now ≤ 63 }
     ensures { result ≡ spec.description_of group.now }
@@ -155,7 +156,7 @@ fn description_of(group: &[u8]) -> Option<Description>
     }
 }
 
-// What a description says between its parentheses.
+// The description of the text between the parentheses.
 fn in_pieces(text: &[u8]) -> Option<Description>
     requires { length text.now ≤ 63 }
     ensures { result ≡ spec.in_pieces (pieces_of comma text.now) }
@@ -203,7 +204,8 @@ fn floating_number(op: Operation) -> Option<u8>
     }
 }
 
-// The operation and the form that a description makes of an operation, where it may stand there.
+// The operation and form that result from applying a description to an operation, if the operation
+// allows it.
 fn described(op: Operation, description: Description) -> Option<(Operation, Form)>
     ensures { result ≡ spec.described_form op description }
 {
@@ -219,10 +221,10 @@ fn described(op: Operation, description: Description) -> Option<(Operation, Form
     }
 }
 
-/// The operation and the form that a group makes of an operation as its data description; the form
-/// without a description where the group is empty. None where the group is no description, or one
-/// that the operation may not have. A description of the floating group makes of an operation on a
-/// field one of that group.
+/// Applies a group, as a data description, to an operation, and returns the resulting operation and
+/// form. An empty group gives the default form. `None` if the group is not a description or the
+/// operation does not allow it. A description of the floating group turns an operation on a field
+/// into a floating operation.
 pub fn described_in(op: Operation, group: &[u8]) -> Option<(Operation, Form)>
     requires { length group.now ≤ 63 }
     ensures { result ≡ option_and_then (spec.described_form op) (spec.description_of group.now) }

@@ -1,13 +1,13 @@
-//! A field of a statement.
+//! The text of a statement's field.
 
 ghost use Rattle.std.specs.Prelude.{◌≤◌, length};
 
 use arrayvec::ArrayVec;
 
-/// What stands between commas.
+/// The text of one field, between commas.
 #[derive(Clone, Copy)]
 pub struct FieldText<'a> {
-    /// Its bytes, without blanks: at most 63.
+    /// The field's bytes without blanks, at most 63.
     pub text: &'a [u8],
     ghost fits: { length text.now ≤ 63 },
 }
@@ -18,8 +18,8 @@ impl Default for FieldText<'_> {
     }
 }
 
-// How many fields of a text are kept: LVS has sixteen, and one behind those is too many.
+// The most fields of a text that are kept: LVS has sixteen, and a seventeenth is too many.
 const MOST_FIELDS: usize = 17;
 
-/// The first fields of a text, seventeen at most.
+/// The first fields of a text, at most seventeen.
 pub type Fields<'a> = ArrayVec<FieldText<'a>, MOST_FIELDS>;

@@ -1,4 +1,4 @@
-//! Progressive forms, and which group is the data description.
+//! Progressive forms, and the choice of the group that is the data description.
 
 ghost use Rattle.std.specs.Prelude.{◌≡◌, ◌≤◌, length};
 ghost use Rattle.std.specs.Option.{option_and_then};
@@ -22,14 +22,15 @@ const FORMS: [(&[u8], u8); 7] = [
     (b"(V-ICR", 7),
 ];
 
-// The number of a group without the parenthesis that closes it.
+// The number of the progressive form that a group spells, with or without its closing parenthesis;
+// `None` if it spells none.
 fn form_row(group: &[u8]) -> Option<u8>
     ensures { result ≡ row_of group.now spec.progressive_forms }
 {
     row_of(&FORMS, group)
 }
 
-// A group without the parenthesis that closes it.
+// A group without its closing parenthesis, if it has one.
 fn unclosed(group: &[u8]) -> &[u8]
     ensures { result.now ≡ spec.open_group group.now }
 {
@@ -40,9 +41,9 @@ fn unclosed(group: &[u8]) -> &[u8]
     }
 }
 
-/// The data description that stands behind an operation, a group in parentheses, and what stands
-/// behind it. It is empty where there is none: a first group that spells a progressive form is
-/// none.
+/// The data description at the start of a text, a group in parentheses, and the text after it. The
+/// description is empty if there is none: a first group that spells a progressive form is not a
+/// description.
 pub fn split_description(text: &[u8]) -> (&[u8], &[u8])
     ensures description { result.0.now ≡ spec.description_in text.now }
     ensures behind { result.1.now ≡ spec.behind_description text.now }
@@ -57,9 +58,9 @@ pub fn split_description(text: &[u8]) -> (&[u8], &[u8])
     }
 }
 
-/// The form of an operation with the progressive form that a text begins with, none where it begins
-/// with no group; and what stands behind that. There is no form where the group spells none, where
-/// the operation may not have it, or where neither fields nothing stand behind it.
+/// The form `form` with the progressive form at the start of a text, and the text after that.
+/// Without a group the form has no progressive form. The result is `None` if the group spells no
+/// progressive form, if the operation does not allow it, or if anything but fields follows it.
 pub fn progressed(op: Operation, form: Form, text: &[u8]) -> (Option<Form>, &[u8])
     ensures form { result.0 ≡ spec.form_with_progress op form text.now }
     ensures behind { result.1.now ≡ behind_group text.now }
@@ -90,14 +91,15 @@ fn with_number(op: Operation, form: Form, number: u8) -> Option<Form>
     }
 }
 
-// Whether fields or nothing may stand here.
+// Whether a text is empty or begins with a comma, so that fields or nothing follow.
 fn is_behind_groups(text: &[u8]) -> bool
     ensures { result ≡ spec.is_behind_groups text.now }
 {
     text.is_empty() || begins_with(text, b',')
 }
 
-// The progressive form that a group is, 0 where there is no group; one that is not closed is none.
+// The number of a progressive form in a group: 0 for an empty group, `None` for a group that is not
+// closed or spells none.
 fn form_number(group: &[u8]) -> Option<u8>
     ensures { result ≡ spec.form_number group.now }
 {
@@ -110,7 +112,7 @@ fn form_number(group: &[u8]) -> Option<u8>
     }
 }
 
-// Whether an operation whose field has so many bits may have a progressive form by its number.
+// Whether an operation with a field of `length` bits allows progressive form `p`.
 fn may_have_form(op: Operation, length: u8, p: u8) -> bool
     ensures { result ≡ spec.may_have_form op length p }
 {

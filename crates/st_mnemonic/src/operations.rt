@@ -1,4 +1,4 @@
-//! The operations by their words.
+//! The operations by their mnemonics.
 
 ghost use Rattle.std.specs.Prelude.{◌≡◌, false};
 ghost use Rattle.std.specs.Option.{option_or};
@@ -9,12 +9,13 @@ use crate::parts::ends_with;
 use st_bits::{BranchOp, ConnKind, HalfOp, VflOp};
 use st_text::row_of;
 
-/// An operation, with what its word says. Those from `Data` on are orders to the assembler.
+/// An operation as its mnemonic names it. The variants from `Data` on are pseudo-operations, orders
+/// to the assembler.
 #[derive(Clone, Copy)]
 pub enum Operation {
     /// An operation on an index word.
     Half(HalfOp),
-    /// LVS.
+    /// LVS, which loads the sum of listed index words.
     Sum,
     /// R.
     Refill,
@@ -24,8 +25,8 @@ pub enum Operation {
     Branch(BranchOp),
     /// A branch without an address.
     Bare(BranchOp),
-    /// An operation of the floating group by its number, 1 to 6 or 9 to 14. Only a data description
-    /// tells it from one on a field.
+    /// An operation of the floating group by its number, 1 to 6 or 9 to 14. Only the data
+    /// description distinguishes its mnemonic from that of an operation on a field.
     Floating(u8),
     /// An operation on a field.
     Vfl { op: VflOp, negated: bool },
@@ -33,13 +34,13 @@ pub enum Operation {
     Connect { kind: ConnKind, table: u8 },
     /// T, or SWAP.
     Move { swap: bool },
-    /// BB: what becomes of the bit is 0 to 3: it is left, zeroed, set to one or inverted.
+    /// BB. `change` is the change of the bit: 0 none, 1 to zero, 2 to one, 3 inverted.
     BitBranch { sense: bool, change: u8 },
-    /// BI, which may turn the indicator off.
+    /// BI. `off` says whether the indicator is turned off.
     IndBranch { sense: bool, off: bool },
     /// SIC.
     StoreCounter,
-    /// RD, or WR.
+    /// RD, or WR if `write` is set.
     Transfer { write: bool },
     /// DD.
     Data,
@@ -237,7 +238,8 @@ const TRUTH_TABLES: [(&[u8], u8); 16] = [
     (b"1111", 15),
 ];
 
-/// The operation that a word names, as it stands by itself; None where it names none.
+/// The operation that a mnemonic names without a data description; `None` if the word is not a
+/// mnemonic.
 pub fn operation_of(word: &[u8]) -> Option<Operation>
     ensures { result ≡ spec.operation_of_word word.now }
 {
@@ -250,8 +252,8 @@ pub fn operation_of(word: &[u8]) -> Option<Operation>
     connective(word)
 }
 
-// The operation whose word stands in a table. No word stands in two of them, so those come first
-// that cards have most.
+// The operation of a mnemonic in one of the tables. No mnemonic is in two tables, so the tables
+// with the most frequent operations come first.
 fn listed_operation(word: &[u8]) -> Option<Operation>
     ensures { result ≡ option_or (option_or (row_of word.now spec.other_operations)
         (spec.index_operation word.now))
@@ -296,7 +298,7 @@ fn field_row(word: &[u8]) -> Option<VflOp>
     row_of(&FIELD_OPERATIONS, word)
 }
 
-// An operation on a field with a last letter N, for negated.
+// An operation on a field whose mnemonic ends with N, for negated.
 fn negated_operation(word: &[u8]) -> Option<Operation>
     ensures { result ≡ spec.negated_operation word.now }
 {
@@ -307,7 +309,7 @@ fn negated_operation(word: &[u8]) -> Option<Operation>
     }
 }
 
-// A connective: its kind, and four digits for its truth table.
+// A connective: its kind, followed by four digits of its truth table.
 fn connective(word: &[u8]) -> Option<Operation>
     ensures { result ≡ spec.connective word.now }
 {

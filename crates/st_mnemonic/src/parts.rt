@@ -10,7 +10,7 @@ use crate::field::{FieldText, Fields};
 use arrayvec::ArrayVec;
 use st_text::cut;
 
-// How many bytes stand before the first of two bytes.
+// The number of bytes before the first occurrence of either of two bytes.
 fn stop(text: &[u8], a: u8, b: u8) -> usize
     ensures value { result ≡ spec.stop a b text.now }
     ensures within { result ≤ length text.now }
@@ -41,8 +41,8 @@ pub fn ends_with(text: &[u8], byte: u8) -> bool
     text.last().is_some_and(|last| *last == byte)
 }
 
-/// A statement without its comment, which begins with `;`, and without its blanks. The text is what
-/// columns 10 to 72 of a card hold, at most 63 bytes.
+/// A statement without its comment, which begins with `;`, and without its blanks. The text is
+/// columns 10 to 72 of a card, at most 63 bytes.
 pub fn clean(text: &[u8]) -> ArrayVec<u8, 63>
     requires { length text.now ≤ 63 }
     ensures value { result.items ≡ spec.statement_text text.now }
@@ -68,8 +68,8 @@ fn without_blanks(text: &[u8]) -> ArrayVec<u8, 63>
     kept
 }
 
-/// A statement cut into its operation, which ends before the first `(` or comma, and what stands
-/// behind that.
+/// Splits a statement into its operation, which ends before the first `(` or comma, and the text
+/// after the operation.
 pub fn split_word(statement: &[u8]) -> (&[u8], &[u8])
     ensures word { result.0.now ≡ spec.operation_text statement.now }
     ensures behind { result.1.now ≡ spec.behind_word statement.now }
@@ -78,7 +78,7 @@ pub fn split_word(statement: &[u8]) -> (&[u8], &[u8])
     statement.split_at(stop(statement, b'(', b','))
 }
 
-// The length of the group that a text begins with.
+// The length in bytes of the parenthesized group at the start of a text.
 pub(crate) fn group_length(text: &[u8]) -> usize
     ensures value { result ≡ spec.group_length text.now }
     ensures within { result ≤ length text.now }
@@ -90,8 +90,8 @@ pub(crate) fn group_length(text: &[u8]) -> usize
     }
 }
 
-/// The first seventeen fields, each behind a comma, of the text that stands behind an operation and
-/// its groups; none where that is empty. No operation has more than sixteen.
+/// The first seventeen fields of the text after an operation and its groups, each preceded by a
+/// comma. An empty text has no fields. No operation has more than sixteen fields.
 pub fn fields(text: &[u8]) -> Fields<'_>
     requires { length text.now ≤ 63 }
     ensures { texts result.items ≡ take 17 (spec.fields_of text.now) }
@@ -102,7 +102,7 @@ pub fn fields(text: &[u8]) -> Fields<'_>
     }
 }
 
-// The first seventeen pieces that stand between the commas of a text.
+// The first seventeen pieces between the commas of a text.
 pub(crate) fn pieces(text: &[u8]) -> Fields<'_>
     requires { length text.now ≤ 63 }
     ensures { texts result.items ≡ take 17 (pieces_of comma text.now) }

@@ -1,4 +1,4 @@
--- A further line stands behind those that were read.
+-- A line that is added comes after the lines that were read before.
 use Rattle.std.proofs.Common.{◌≡◌, ◌≤◌, ◌+◌, ◌-◌, ◌==◌, ◌&&◌, ◌||◌, ℕ, suc, zero, Bool, true, false, not, Option, List, [], ◌∷◌, ◌++◌, length, map, replicate, Some, None, if◌then◌else◌, refl, ap, sym, subst, ◌∙◌, append_assoc, append-nil, arith}
 use Rattle.std.proofs.lemmas.List.{map-append}
 use Rattle.std.proofs.lemmas.List.Concat.{flat_map-append}
@@ -13,7 +13,7 @@ use Rattle.st_card.specs.declared.written.Control.TheVariants.{Budget, Delay, Si
 use Rattle.st_object.specs.declared.items.Item.TheVariants.{Object, Start, Word, Fin, Ask}
 use Rattle.st_object.specs.declared.items.Kind.{Kind}
 
--- where no line of a kind was read, there is none
+-- a list of length zero is empty
 none_of : {X : Type 0} (xs : List X) → (length xs == 0) ≡ true → xs ≡ []
 none_of [] none = refl
 none_of (x ∷ xs) none = grind (arith, nat_tests)
@@ -25,11 +25,12 @@ pub no_lines_of : (d : Draft) (kinds : List Kind) → none_stands (has_line d) k
 no_lines_of d [] off = refl
 no_lines_of d (kind ∷ more) off = grind (arith, no_lines d, no_lines_of d more)
 
--- the order, cut at a kind
+-- the order of kinds, split at a kind
 pub cut : (kind : Kind) → kinds_before kind ++ kind ∷ kinds_behind kind ≡ order
 cut kind = grind arith
 
--- a line that was put in: what stands before its kind is as it was, it is the last of its kind, and nothing stands behind
+-- the draft after an item is added: the lines before its kind are unchanged, the item is the last
+-- of its kind, and no line comes after it
 pub record IsPut (kind : Kind) (d : Draft) (item : Item) (e : Draft) : Type 0 where
   pub front : flat_map (λ k. kind_lines e k) (kinds_before kind) ≡ flat_map (λ k. kind_lines d k) (kinds_before kind)
   pub here : kind_lines e kind ≡ kind_lines d kind ++ item ∷ []
@@ -38,16 +39,16 @@ pub record IsPut (kind : Kind) (d : Draft) (item : Item) (e : Draft) : Type 0 wh
   pub none_then : none_stands (has_line d) (kinds_behind kind) ≡ true
   pub none_now : none_stands (has_line e) (kinds_behind kind) ≡ true
 
--- what a place tells: what must stand before does, nothing stands behind, and what may not repeat does not stand
+-- the parts of the test whether a line may come next
 place_parts : (met repeats here none : Bool) → (met && (repeats || not here) && none) ≡ true →
     (met ≡ true) × ((none ≡ true) × (repeats ≡ false → not here ≡ true))
 place_parts met repeats here none placed = grind arith
 
--- what stands before a kind and behind it
+-- the lines before a kind, and the flags of the kinds around it
 abbrev beside : Draft → Kind → List Item × (Bool × Bool)
 beside d kind = (flat_map (λ k. kind_lines d k) (kinds_before kind), (are_met (has_line d) (kinds_before kind), none_stands (has_line d) (kinds_behind kind)))
 
--- lines up to a kind behind which nothing stands
+-- the lines of a draft end with a kind if no kind after it has been read
 lines_up_to : (kind : Kind) (d : Draft) → none_stands (has_line d) (kinds_behind kind) ≡ true →
     lines_read d ≡ flat_map (λ k. kind_lines d k) (kinds_before kind) ++ kind_lines d kind
 lines_up_to kind d none =
@@ -63,7 +64,7 @@ put_last kind d e item is =
     ∙ rw (is.front, is.here, ← append_assoc (flat_map (λ k. kind_lines d k) (kinds_before kind)) (kind_lines d kind) (item ∷ []))
     (ap (λ (s : List Item). s ++ item ∷ []) (sym (lines_up_to kind d is.none_then)))
 
--- a further one
+-- a list with one more item has one more line
 mapped_more : {X : Type 0} (f : X → Item) (xs : List X) (x : X) → Grows (map f xs) (map f (xs ++ x ∷ [])) (f x)
 mapped_more f xs x = map-append f xs (x ∷ [])
 
@@ -71,7 +72,7 @@ pub filled_more : {X : Type 0} (xs : List X) (x : X) → not (is_empty (xs ++ x 
 filled_more [] x = refl
 filled_more (y ∷ ys) x = grind (arith, nat_tests)
 
--- the words behind others
+-- the lines of two consecutive lists of words
 pub word_lines-append : (w : ℕ) (xs ys : List ℕ) → word_lines w (xs ++ ys) ≡ word_lines w xs ++ word_lines (w + length xs) ys
 word_lines-append w [] ys = let same : w ≡ w + 0 = omega arith in ap (λ k. word_lines k ys) same
 word_lines-append w (x ∷ xs) ys = grind (arith, word_lines-append (w + 1) xs ys)
@@ -81,12 +82,12 @@ pub word_lines-zeros : (w n : ℕ) → word_lines w (replicate n 0) ≡ []
 word_lines-zeros w zero = refl
 word_lines-zeros w (suc n) = word_lines-zeros (w + 1) n
 
--- a word behind zeros
+-- the line of a word after zeros
 word_more : (xs : List ℕ) (w x : ℕ) → length xs ≤ w → (x == 0) ≡ false →
     Grows (word_lines 0 xs) (word_lines 0 (xs ++ replicate (w - length xs) 0 ++ x ∷ [])) (Word w x)
 word_more xs w x within some = grind (arith, common_steps, word_lines-append, word_lines-zeros)
 
--- what a line leaves of a draft, where it says what may be said
+-- the draft with an item's contents, without checks
 abbrev said : Draft → Item → Draft
 said d Object = record d { begun = true }
 said d (Start h) = record d { start = Some h }
@@ -102,12 +103,12 @@ said d (Ask (Snap t)) = record d { asked = record d.asked { snaps = d.asked.snap
 said d (Ask (Back k)) = record d { asked = record d.asked { back = k } }
 said d Fin = record d { ended = true }
 
--- what is put in is that
+-- an item that is accepted gives that draft
 value_said : (d e : Draft) (item : Item) → draft_with_value d item ≡ Some e → said d item ≡ e
 unfolding draft_with_value
 value_said d e item same = grind arith
 
--- it changes the lines of its kind alone, and is the last of them
+-- an item changes only the lines of its kind, and becomes the last of them
 beside_said : (d : Draft) (item : Item) → beside (said d item) (kind_of_line item) ≡ beside d (kind_of_line item)
 beside_said d item = grind arith
 
@@ -118,7 +119,7 @@ said_last : (d e : Draft) (item : Item) → draft_with_value d item ≡ Some e �
 unfolding draft_with_value
 said_last d e item same first = grind (arith, nat_tests, word_more, filled_more, mapped_more)
 
--- each line that is added is put in
+-- each accepted line changes the draft in this way
 pub added : (d e : Draft) (item : Item) → with_item d item ≡ Some e → IsPut (kind_of_line item) d item e
 unfolding has_place
 added d e item same =
@@ -137,6 +138,6 @@ added d e item same =
       none_now = ap (λ t. t.1.1) beside ∙ places.1.0;
     }
 
--- each line that is added stands behind those that were read
+-- each accepted line is appended to the lines that were read before
 pub grown : (d e : Draft) (item : Item) → with_item d item ≡ Some e → Grows (lines_read d) (lines_read e) item
 grown d e item same = put_last (kind_of_line item) d e item (added d e item same)

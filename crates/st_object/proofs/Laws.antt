@@ -1,4 +1,4 @@
--- What holds of object texts themselves, and not of one call, proved.
+-- Proofs of the laws of object texts.
 use Rattle.st_object.proofs.Spellings.{spelled_again}
 use Rattle.st_object.proofs.LineMeanings.{told}
 use Rattle.st_object.proofs.AcceptedTexts.{accepted}

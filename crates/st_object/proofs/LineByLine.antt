@@ -1,4 +1,4 @@
--- A text line by line.
+-- Lemmas on reading a text line by line.
 use Rattle.std.proofs.Common.{◌≡◌, ◌+◌, ℕ, List, [], ◌∷◌, ◌++◌, length, Option, Some, None, Result, Err, arith, refl, ap, sym, ◌∙◌, append_assoc, append-nil, length-append}
 use Rattle.std.specs.Option.{option_map_or, option_and_then}
 use Rattle.st_text.specs.Pieces.{pieces_of}
@@ -14,7 +14,7 @@ use Rattle.st_object.proofs.DraftLemmas.{kept}
 use Rattle.st_object.proofs.WrittenLines.{text_of-append}
 use Rattle.st_object.proofs.Completions.{IsOrderly, ordered}
 
--- the first line of more than one
+-- reading the first of several lines
 pub read_step : (d : Draft) (n : ℕ) (line next : List ℕ) (before more : List (List ℕ)) →
     read_from d n (line ∷ before ++ next ∷ more) ≡ option_map_or (λ e. read_from e (n + 1) (before ++ next ∷ more)) (draft_with_line d line) (Err n)
 read_step d n line next [] more = refl
@@ -24,18 +24,18 @@ first_line : (d : Draft) (n : ℕ) (line rest after : List ℕ) → pieces_of 10
     read_from d n (pieces_of 10 rest) ≡ option_map_or (λ e. read_from e (n + 1) (pieces_of 10 after)) (draft_with_line d line) (Err n)
 first_line d n line rest after cut = let first = first_piece 10 after in rw (cut, first.1.1)
 
--- a bad line
+-- reading a bad line
 pub line_refused : (d : Draft) (n : ℕ) (line rest after : List ℕ) (read : Result Program ℕ) →
     pieces_of 10 rest ≡ line ∷ pieces_of 10 after → draft_with_line d line ≡ None → read_from d n (pieces_of 10 rest) ≡ read → read ≡ Err n
 line_refused d n line rest after read cut bad same = sym same ∙ (first_line d n line rest after cut ∙ rw bad)
 
--- a good line
+-- reading a good line
 pub line_added : (d e : Draft) (n : ℕ) (line rest after : List ℕ) (read : Result Program ℕ) →
     pieces_of 10 rest ≡ line ∷ pieces_of 10 after → draft_with_line d line ≡ Some e → read_from d n (pieces_of 10 rest) ≡ read →
     read_from e (n + 1) (pieces_of 10 after) ≡ read
 line_added d e n line rest after read cut good same = rw good at (sym (first_line d n line rest after cut) ∙ same)
 
--- what a good line makes of a draft
+-- the properties of a draft after a good line
 pub record IsGood (d e : Draft) (line : List ℕ) : Type 0 where
   pub kept : IsDraft d → IsDraft e
   pub orderly : IsOrderly e

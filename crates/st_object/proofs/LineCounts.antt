@@ -1,4 +1,4 @@
--- How many lines a draft has.
+-- A bound on the number of lines of a draft.
 use Rattle.std.proofs.Common.{◌≤◌, ◌+◌, ℕ, Bool, List, [], ◌∷◌, length, Option, length-append, arith}
 use Rattle.std.proofs.lemmas.List.{length-map}
 use Rattle.st_bits.specs.Storage.{words_of_storage_is}
@@ -20,7 +20,7 @@ few_words : (w : ℕ) (xs : List ℕ) → length (word_lines w xs) ≤ length xs
 few_words w [] = omega arith
 few_words w (x ∷ xs) = grind (arith, few_words (w + 1) xs)
 
--- the lines of a draft
+-- a draft has at most 110,000 lines
 pub few_lines : (d : Draft) → IsDraft d → length (lines_read d) ≤ 110000
 few_lines d is =
     simp (length-append, length-map)

@@ -1,4 +1,4 @@
--- What a line that was read spells.
+-- A line that was read is the spelling of its item.
 use Rattle.std.proofs.Common.{◌≡◌, ◌<◌, ◌%◌, ◌^◌, ℕ, List, [], Option, Some, None, arith}
 use Rattle.std.specs.Option.{option_and_then}
 use Rattle.std.specs.Cmp.Lexicographic.{same_text}
@@ -12,7 +12,8 @@ use Rattle.st_card.specs.declared.written.Control.TheVariants.{Snap}
 use Rattle.st_object.specs.declared.items.Item.TheVariants.{Word, Ask}
 use Rattle.st_object.specs.declared.items.Kind.{Kind}
 
--- what the rest of a program needs of an item: a word has 64 bits, and a tick 12 digits
+-- the property of an item that the rest of a program needs: a word has 64 bits, and a tick at most
+-- 12 digits
 abbrev pub IsNarrow : Item → Type 0
 IsNarrow (Word w x) = x < 2 ^ 64
 IsNarrow (Ask (Snap t)) = IsShort t
@@ -35,6 +36,6 @@ loosely_narrow : (parts : Option (List ℕ × List ℕ)) (line : List ℕ) (item
 loosely_narrow None line item same = item_narrow (row_of line line_keywords) [] item same
 loosely_narrow (Some p) line item same = item_narrow (row_of p.0 line_keywords) p.1 item same
 
--- what was read spells the line
+-- the item that was read spells the line
 pub told : (line : List ℕ) (item : Item) → item_in line ≡ Some item → (line_text item ≡ line) × IsNarrow item
 told line item same = grind (arith, same_text, loosely_narrow)

@@ -1,4 +1,5 @@
--- Object texts that differ in their lines of delays alone are of programs that differ in their delays alone.
+-- Object texts that differ only in their delay lines contain programs that differ only in their
+-- delays.
 use Rattle.std.proofs.Common.{◌≡◌, ◌≤◌, ◌+◌, ◌==◌, ℕ, Bool, true, false, not, if◌then◌else◌, List, [], ◌∷◌, ◌++◌, map, filter, Ok, refl, sym, ◌∙◌, ap, append_assoc, append-nil, arith}
 use Rattle.std.proofs.lemmas.Bool.{cond_both}
 use Rattle.std.proofs.lemmas.Bool.Decides.{nat_tests}
@@ -18,11 +19,11 @@ use Rattle.st_object.proofs.ProgramLines.{made_again}
 use Rattle.st_object.proofs.ReadBack.{parted-text_of, read_back}
 use Rattle.st_object.specs.DelayLines.{is_delay_line, is_budget_line, with_delay_lines, DifferInDelayLines, HasDelayLines}
 
--- the lines that items spell
+-- the lines of items
 abbrev lines_of : List Item → List (List ℕ)
 lines_of items = map line_text items
 
--- lines without those of delays
+-- lines without delay lines
 abbrev others : List (List ℕ) → List (List ℕ)
 others lines = filter (λ line. not (is_delay_line line)) lines
 
@@ -30,7 +31,7 @@ others lines = filter (λ line. not (is_delay_line line)) lines
 abbrev with_delays : Program → List ℕ → Program
 with_delays p delays = record p { controls = record p.controls { delays = delays } }
 
--- ---- lines that are not of delays stay
+-- ---- lines other than delay lines are kept
 
 abbrev Stay : List Item → Type 0
 Stay items = others (lines_of items) ≡ lines_of items
@@ -46,12 +47,12 @@ stay-words w [] = refl
 stay-words w (x ∷ xs) =
     cond_both (x == 0) _ _ Stay (λ none. stay-words (w + 1) xs) (λ some. ap (λ l. line_text (Word w x) ∷ l) (stay-words (w + 1) xs))
 
--- a line for each of a list
+-- no line for an item of a list is a delay line
 stay-each : {X : Type 0} (line : X → Item) → ((x : X) → is_delay_line (line_text (line x)) ≡ false) → (xs : List X) → Stay (map line xs)
 stay-each line other [] = refl
 stay-each line other (x ∷ xs) = rw (other x) (ap (λ l. line_text (line x) ∷ l) (stay-each line other xs))
 
--- one line or none
+-- an optional line is not a delay line
 stay-if : (b : Bool) (item : Item) → is_delay_line (line_text item) ≡ false → Stay (if b then item ∷ [] else [])
 stay-if true item other = rw other refl
 stay-if false item other = refl
@@ -67,16 +68,16 @@ none-stays (d ∷ delays) = none-stays delays
 
 -- ---- the lines of a program in four parts
 
--- up to the words
+-- the lines of a program up to the words
 abbrev head : Program → List Item
 head p = Object ∷ Start p.start ∷ [] ++ word_lines 0 p.words
 
--- behind the delays
+-- the lines of a program after the delays
 abbrev rest : Program → List Item
 rest p = map (λ s. Ask (Signal s.count s.indicator)) p.controls.signals
     ++ (map (λ q. Ask (Dump q.0 q.1)) p.controls.dumps ++ (shows Ask p.controls ++ Fin ∷ []))
 
--- what stands between the line ends of its object text
+-- the pieces of a program's object text between its line ends
 abbrev pieces : Program → List (List ℕ)
 pieces p = lines_of (object_lines p) ++ [] ∷ []
 
@@ -88,7 +89,7 @@ in-parts : (p : Program) → object_lines p
 in-parts p = regrouped (head p) (unless_zero p.controls.budget (Ask (Budget p.controls.budget))) (map (λ n. Ask (Delay n)) p.controls.delays)
     (map (λ s. Ask (Signal s.count s.indicator)) p.controls.signals) (map (λ q. Ask (Dump q.0 q.1)) p.controls.dumps) (shows Ask p.controls) (Fin ∷ [])
 
--- lines of four parts, with an end
+-- the lines of four consecutive parts, with an end
 four-parts : (w b d r : List Item) (end : List (List ℕ)) → lines_of (w ++ (b ++ (d ++ r))) ++ end
     ≡ lines_of w ++ (lines_of b ++ (lines_of d ++ (lines_of r ++ end)))
 four-parts w b d r end =
@@ -133,7 +134,7 @@ stay-rest p =
     (stay-both dumps shown (stay-each (λ (q : ℕ × ℕ). Ask (Dump q.0 q.1)) (λ q. refl) p.controls.dumps)
     (stay-both (shows Ask p.controls) (Fin ∷ []) (stay-show p) refl))
 
--- four parts of which one goes
+-- four parts without delay lines, one of which is dropped
 three-left : (w b d r end : List (List ℕ)) → others w ≡ w → others b ≡ b → others d ≡ [] → others r ≡ r → others end ≡ end
     → others (w ++ (b ++ (d ++ (r ++ end)))) ≡ w ++ (b ++ (r ++ end))
 three-left w b d r end one two three four five =
@@ -154,7 +155,7 @@ others-parts p =
     ∙ three-left (lines_of (head p)) (lines_of (unless_zero p.controls.budget (Ask (Budget p.controls.budget)))) (lines_of (map (λ n. Ask (Delay n)) p.controls.delays))
     (lines_of (rest p)) ([] ∷ []) (stay-head p) (stay-budget p) (none-stays p.controls.delays) (stay-rest p) empty-stays
 
--- the same of lines alone
+-- the lines of a program without delay lines
 others-lines : (p : Program) → others (lines_of (object_lines p))
     ≡ lines_of (head p) ++ (lines_of (unless_zero p.controls.budget (Ask (Budget p.controls.budget))) ++ (lines_of (rest p) ++ []))
 others-lines p =
@@ -163,7 +164,7 @@ others-lines p =
     ∙ three-left (lines_of (head p)) (lines_of (unless_zero p.controls.budget (Ask (Budget p.controls.budget)))) (lines_of (map (λ n. Ask (Delay n)) p.controls.delays))
     (lines_of (rest p)) [] (stay-head p) (stay-budget p) (none-stays p.controls.delays) (stay-rest p) refl
 
--- which they are does not depend on the delays
+-- the lines of a program without delay lines do not depend on its delays
 pub others-same : (p : Program) (delays : List ℕ)
     → filter (λ line. not (is_delay_line line)) (map line_text (object_lines (record p { controls = record p.controls { delays = delays } })))
     ≡ filter (λ line. not (is_delay_line line)) (map line_text (object_lines p))
@@ -171,7 +172,7 @@ others-same p delays = others-lines (with_delays p delays) ∙ sym (others-lines
 
 -- ---- with other delays
 
--- the words are passed
+-- the lines of the words come before the inserted delay lines
 passes-words : (delays : List ℕ) (w : ℕ) (xs : List ℕ) (more : List (List ℕ))
     → with_delay_lines delays (lines_of (word_lines w xs) ++ more) ≡ lines_of (word_lines w xs) ++ with_delay_lines delays more
 unfolding line_text control_line is_budget_line
@@ -192,7 +193,7 @@ spelled-each (d ∷ delays) = ap (λ l. line_text (Ask (Delay d)) ∷ l) (spelle
 one-budget : (n : ℕ) → 1 ≤ n → unless_zero n (Ask (Budget n)) ≡ Ask (Budget n) ∷ []
 one-budget n some = let is : (n == 0) ≡ false = grind (arith, nat_tests) in rw is refl
 
--- behind the budget they come
+-- the delay lines are inserted after the budget line
 comes : (delays : List ℕ) (n : ℕ) (more : List (List ℕ)) → 1 ≤ n → with_delay_lines delays (lines_of (unless_zero n (Ask (Budget n))) ++ more)
     ≡ lines_of (unless_zero n (Ask (Budget n))) ++ (lines_of (map (λ d. Ask (Delay d)) delays) ++ more)
 unfolding line_text control_line is_budget_line
@@ -221,7 +222,7 @@ text-pieces text p read =
     let is = accepted text p read in
     ap (pieces_of line_end) is.same ∙ pieces-are p is.program is.words
 
--- the lines of an object text's own delays
+-- an object text has the lines of its program's delays
 pub has-lines : (text : List ℕ) (p : Program) → read_text text ≡ Ok p → HasDelayLines text p.controls.delays
 has-lines text p read =
     let is = accepted text p read in
@@ -233,7 +234,7 @@ has-lines text p read =
           ∙ exchanged p p.controls.delays is.program.budget);
     }
 
--- a text with the same lines but for those of delays is read as the same program, with these delays
+-- a text with equal lines apart from delay lines is read as the program with these delays
 pub again-read : (text other delays : List ℕ) (p : Program) → read_text text ≡ Ok p → DifferInDelayLines text other
     → HasDelayLines other delays → read_text other ≡ Ok (with_delays p delays)
 unfolding read_text
@@ -260,7 +261,8 @@ again-read text other delays p read same good =
     ∙ exchanged p delays is.program.budget ∙ sym (pieces-are (with_delays p delays) program is.words) in
     ap (read_from draft_at_start 1) lines ∙ read_back (with_delays p delays) program is.words
 
--- two object texts with the same lines but for those of delays are of programs that differ in their delays alone
+-- two object texts with equal lines apart from delay lines contain programs that differ only in
+-- their delays
 pub lines-differ : (text other : List ℕ) (p q : Program) → read_text text ≡ Ok p → read_text other ≡ Ok q → DifferInDelayLines text other
     → with_delays p q.controls.delays ≡ q
 lines-differ text other p q is also same =

@@ -1,4 +1,4 @@
--- A text cut at its first byte of a kind.
+-- Lemmas on splitting a text at the first occurrence of a byte.
 use Rattle.std.proofs.Common.{◌≡◌, ℕ, true, IsTrue, List, [], ◌∷◌, ◌++◌, Option, Some, None, MatchOption, IfSome, refl, ap, sym, ◌∙◌, arith}
 use Rattle.std.proofs.lemmas.Bool.{eq-eqb}
 use Rattle.std.specs.Option.{option_map}
@@ -6,17 +6,17 @@ use Rattle.std.specs.Borrow.{Bor}
 use Rattle.st_text.specs.Pieces.{lacks}
 use Rattle.st_object.specs.Meaning.{parts_at}
 
--- a text around the byte
+-- a text around the byte is split there
 pub parts_around : (at : ℕ) (front back : List ℕ) → lacks at front ≡ true → parts_at at (front ++ at ∷ back) ≡ Some (front, back)
 parts_around at [] back lacking = rw (eq-eqb at at refl)
 parts_around at (c ∷ cs) back lacking = grind (arith, parts_around at cs back)
 
--- a text without the byte
+-- a text without the byte is not split
 pub parts_none : (at : ℕ) (text : List ℕ) → lacks at text ≡ true → parts_at at text ≡ None
 parts_none at [] lacking = refl
 parts_none at (c ∷ cs) lacking = grind (arith, parts_none at cs)
 
--- what was cut is the two parts
+-- the result of the split is the two parts
 pub parts_found : (at : ℕ) (text : List ℕ) (r : Option (Bor (List ℕ) × Bor (List ℕ))) →
     MatchOption r (IsTrue (lacks at text)) (λ p. IsTrue (lacks at p.0.now)) →
     IfSome r (λ p. text ≡ p.0.now ++ at ∷ p.1.now) →

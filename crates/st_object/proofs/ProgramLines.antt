@@ -23,11 +23,11 @@ use Rattle.st_object.specs.declared.items.Kind.{Kind}
 use Rattle.st_object.specs.declared.items.Kind.TheVariants as kinds
 use Rattle.st_object.proofs.WrittenLines.{draft_of, whole_lines}
 
--- a line that can be read and may follow
+-- a line that can be read and may come next
 abbrev IsStep : Draft → Item → Draft → Type 0
 IsStep d item e = (with_item d item ≡ Some e) × IsItem item
 
--- lines that can be read and may follow one another lead from one draft to another
+-- lines that can be read and may come one after the other lead from one draft to another
 abbrev pub Leads : Draft → List Item → Draft → Type 0
 Leads d [] e = d ≡ e
 Leads d (item ∷ more) e = (next : Draft) × (with_item d item ≡ Some next) × IsItem item × Leads next more e
@@ -39,7 +39,7 @@ leads_on d e f (x ∷ xs) ys first second = (first.0, first.1, first.2, leads_on
 one : (d e : Draft) (item : Item) → IsStep d item e → Leads d (item ∷ []) e
 one d e item step = (e, step.0, step.1, refl)
 
--- a line for each item of a list
+-- the lines of a list's items lead from one draft to another
 leads_each : {X : Type 0} (at : List X → Draft) (line : X → Item) (Fits : List X → Type 0) →
     ((done rest : List X) (x : X) → Fits (done ++ x ∷ rest) → IsStep (at done) (line x) (at (done ++ x ∷ []))) →
     (done rest : List X) → Fits (done ++ rest) → Leads (at done) (map line rest) (at (done ++ rest))
@@ -49,7 +49,7 @@ leads_each at line Fits step done (x ∷ rest) fits =
     let regrouped = append_assoc done (x ∷ []) rest in
     (at (done ++ x ∷ []), this.0, this.1, rw regrouped at (leads_each at line Fits step (done ++ x ∷ []) rest (rw regrouped fits)))
 
--- a line that stands there where it is asked for
+-- an optional line leads from one draft to another
 leads_marked : (at : Bool → Draft) (item : Item) → IsStep (at false) item (at true) → (b : Bool) →
     Leads (at false) (where_asked b item) (at b)
 leads_marked at item step false = refl
@@ -65,14 +65,14 @@ some_is n some = grind (arith, nat_tests)
 at_least : (n : ℕ) → (n == 0) ≡ false → 1 ≤ n
 at_least n some = grind (arith, nat_tests)
 
--- words that lines add, with zeros behind them
+-- the words that lines add, with zeros after them
 record Adds (h : ℕ) (ws whole : List ℕ) (items : List Item) : Type 0 where
   last : List ℕ
   zeros : ℕ
   filled : last ++ replicate zeros 0 ≡ whole
   steps : Leads (open_draft h ws nothing_asked) items (open_draft h last nothing_asked)
 
--- a word that is not zero stands above the registers
+-- the address of a word that is not zero is above the registers, so a line may have it
 holds : (next w x : ℕ) → (w < 32 → x ≡ 0) → next ≤ w → w < words_of_storage → (x == 0) ≡ false → may_hold next w x ≡ true
 holds next w x registers behind inside some = grind (arith, nat_tests)
 
@@ -99,19 +99,19 @@ add_words h k w ws (x ∷ rest) place registers room each =
     let readable : IsItem (Word w x) = (omega arith, each 0 0 (omega arith)) in
     record { last = later.last; zeros = later.zeros; filled = later.filled; steps = (open_draft h new nothing_asked, rw fits, readable, later.steps) })
 
--- words up to the last that is not zero, filled up again
+-- words up to the last that is not zero, padded with zeros again, are the words
 filled_again : (last words : List ℕ) (count : ℕ) → last ++ replicate count 0 ≡ words → length words ≡ words_of_storage →
     filled_up last ≡ words
 filled_again last words count whole size = grind (arith, common_steps)
 
--- kinds that stand one behind the other from a place on
+-- kinds that are consecutive in the order from a position on
 abbrev AreNext : ℕ → List Kind → Type 0
 AreNext i [] = Unit {0}
 AreNext i (kind ∷ more) = ((row_of_kind kind).place ≡ i) × AreNext (i + 1) more
 
--- the lines of a program, kind by kind
+-- the lines of a program, by kind
 module _ (p : Program) (ws : List ℕ) where
-  -- what the kinds before a place say
+  -- the requests in the lines of the kinds before a position
   abbrev asked_before : ℕ → Asked
   asked_before i = record {
     budget = if nat_lt 3 i then p.controls.budget else 0;
@@ -145,7 +145,8 @@ module _ (p : Program) (ws : List ℕ) where
     delays : is_empty p.controls.delays ≡ false
     delays = some_is (length p.controls.delays) is.delays
 
-    -- the lines of a kind lead from what the kinds before say to what they say with it
+    -- the lines of a kind lead from the requests of the kinds before it to the requests that
+    -- include its own
     add_kind : (kind : Kind) → Leads (draft_before (row_of_kind kind).place) (lines_at kind) (draft_before ((row_of_kind kind).place + 1))
     unfolding has_place draft_with_value
     add_kind kinds.Object = one (draft_before 0) (draft_before 1) Object (refl, tt)
@@ -185,7 +186,7 @@ module _ (p : Program) (ws : List ℕ) where
         (rw (budget, delays, back-asked (asked_before 11) k refl (at_least k some) is.limits.back), omega (arith, is.limits.back)))
     add_kind kinds.Fin = one (draft_before 12) (draft_before 13) Fin (rw (budget, delays), tt)
 
-    -- so do those of kinds that stand one behind the other
+    -- the lines of consecutive kinds lead from one draft to another
     add_kinds : (more : List Kind) (i : ℕ) → AreNext i more → Leads (draft_before i) (flat_map (λ k. lines_at k) more) (draft_before (i + length more))
     add_kinds [] i next = let same : i ≡ i + 0 = omega arith in ap (λ j. draft_before j) same
     add_kinds (kind ∷ more) i next =

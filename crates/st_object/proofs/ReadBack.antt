@@ -12,14 +12,14 @@ use Rattle.st_object.proofs.Spellings.{short_small, lacks-decimal, lacks-hex, sp
 use Rattle.st_object.proofs.LineByLine.{read_step}
 use Rattle.st_object.proofs.ProgramLines.{Leads, made_again}
 
--- no line end stands among digits
+-- digits contain no line end
 lacks_number : (n : ℕ) → IsShort n → lacks 10 (decimal n) ≡ true
 lacks_number n short = lacks-decimal 10 n (omega arith) (short_small n short)
 
 lacks_behind : (n c : ℕ) (back : List ℕ) → IsShort n → not (c == 10) ≡ true → lacks 10 back ≡ true → lacks 10 (decimal n ++ c ∷ [] ++ back) ≡ true
 lacks_behind n c back short other lacking = grind (arith, common_steps, lacks_number)
 
--- no line end stands in a line
+-- a line contains no line end
 lacks-spelled : (item : Item) → IsItem item → lacks 10 (line_text item) ≡ true
 unfolding line_text control_line
 lacks-spelled item short = grind (arith, lacks_number, lacks_behind, lacks-hex)
@@ -29,14 +29,14 @@ pub parted_line : (line rest : List ℕ) → lacks 10 line ≡ true → pieces_o
 parted_line [] rest lacking = refl
 parted_line (c ∷ cs) rest lacking = grind (arith, parted_line cs rest)
 
--- the lines of a text that lines were written to
+-- the lines of the text of items
 pub parted-text_of : (items : List Item) (d e : Draft) → Leads d items e → pieces_of 10 (object_text_of items) ≡ map line_text items ++ [] ∷ []
 parted-text_of [] d e leads = refl
 parted-text_of (item ∷ more) d e leads =
     rw (append_assoc (line_text item) (10 ∷ []) (object_text_of more), parted_line (line_text item) (object_text_of more) (lacks-spelled item leads.2))
     (ap (λ (pieces : List (List ℕ)). line_text item ∷ pieces) (parted-text_of more leads.0 e leads.3))
 
--- a line that may follow is read
+-- the line of an item that may come next is read
 pub with_spelled : (d e : Draft) (item : Item) → with_item d item ≡ Some e → IsItem item → draft_with_line d (line_text item) ≡ Some e
 with_spelled d e item added readable = cc (spelled_again item readable)
 
@@ -46,7 +46,7 @@ read_lines [] d e n leads whole = rw (leads, whole)
 read_lines (item ∷ more) d e n leads whole =
     rw (read_step d n (line_text item) [] (map line_text more) [], with_spelled d leads.0 item leads.1 leads.2) (read_lines more leads.0 e (n + 1) leads.3 whole)
 
--- what was written reads as the same program
+-- the text of a program is read as that program
 pub read_back : (p : Program) → IsProgram p → AreWords p.words → read_text (object_text p) ≡ Ok p
 unfolding read_text
 read_back p is each =

@@ -1,4 +1,4 @@
--- A text is read as what it is.
+-- Each text has its specified reading.
 use Rattle.std.specs.Prelude.{Result, Ok, Err}
 use Rattle.std.proofs.Common.{◌≡◌, ℕ, List, refl, ap, ◌∙◌}
 use Rattle.st_object.specs.Object.{Program, IsReading, read_text}

@@ -1,4 +1,4 @@
--- What is spelled is read as the same item, and what is read is spelled so.
+-- The line of an item is read as that item, and a line that is read as an item is its line.
 use Rattle.std.proofs.Common.{◌≡◌, ◌<◌, ◌+◌, ◌*◌, ◌/◌, ◌%◌, ◌^◌, ◌==◌, ℕ, suc, zero, true, not, List, [], ◌∷◌, ◌++◌, Some, length, decimal, refl, sym, ◌∙◌, ap, length-append, arith, rules}
 use Rattle.std.specs.Char.{is_ascii_digit}
 use Rattle.std.specs.List.{list_all}
@@ -36,7 +36,7 @@ short_number-decimal n short =
     let some : 0 < length (decimal n) = decimal_nonempty n small in
     grind (arith, nat_tests)
 
--- a byte below the digits does not stand among them
+-- a byte below the digits is not a digit
 digit_not : (at c : ℕ) → at < 48 → is_ascii_digit c ≡ true → not (c == at) ≡ true
 digit_not at c low digit = grind (arith, nat_tests)
 
@@ -56,7 +56,7 @@ lacks-hex at (suc k) x low = grind (arith, nat_tests, lacks-hex at k (x / 16), l
 digit_again : (d : ℕ) → d < 16 → hex_digit_in (hex_digit d) ≡ d
 digit_again d fits = grind (arith, nat_tests)
 
--- one digit more behind others
+-- the value of hexadecimal digits with one more digit
 hex_number-last : (xs : List ℕ) (c : ℕ) → hex_number (xs ++ c ∷ []) ≡ hex_number xs * 16 + hex_digit_in c
 hex_number-last [] c = omega arith
 hex_number-last (x ∷ xs) c =
@@ -75,14 +75,14 @@ hex_number-hex_text (suc k) x room =
     hex_number-last (hex_text k (x / 16)) (hex_digit (x % 16))
     ∙ omega (arith, hex_number-hex_text k (x / 16) (omega arith), digit_again (x % 16) (omega arith))
 
--- of the digits before another one only the last fifteen count
+-- only the last fifteen digits before another one count
 hex_step : (n d p h : ℕ) → ((n % 2 ^ 60 * 16 + d) * p + h) % 2 ^ 64 ≡ (n * (16 * p) + (d * p + h)) % 2 ^ 64
 hex_step n d p h =
     let split : n * (16 * p) ≡ 2 ^ 64 * (n / 2 ^ 60 * p) + 16 * (n % 2 ^ 60 * p) =
     ap (λ m. m * (16 * p)) (omega arith) ∙ add-mul (2 ^ 60 * (n / 2 ^ 60)) (n % 2 ^ 60) (16 * p) ∙ omega arith in
     omega (arith, split)
 
--- what was read of a text, and its next digit
+-- the value so far, with the next digit of the text
 pub digit_on : (text rest after : List ℕ) (n d c : ℕ) → rest ≡ c ∷ after → d ≡ hex_digit_in c
     → (n * 16 ^ length rest + hex_number rest) % 2 ^ 64 ≡ hex_number text % 2 ^ 64
     → ((n % 2 ^ 60 * 16 + d) * 16 ^ length after + hex_number after) % 2 ^ 64 ≡ hex_number text % 2 ^ 64
@@ -110,7 +110,7 @@ start_again h short =
     let same : 2 * (h / 2) + 32 * (h % 2) / 32 ≡ h = omega arith in
     rw (both_numbers 46 (h / 2) (32 * (h % 2)) (omega arith) short (omega arith), same)
 
--- what a line means, where it is spelled so
+-- a line has the meaning of its item
 loosely_again : (item : Item) → IsItem item → item_loosely (parts_at 32 (line_text item)) (line_text item) ≡ Some item
 unfolding line_text control_line
 loosely_again item short = grind (arith, short_number-decimal, both_numbers, word_again, start_again)

@@ -1,4 +1,4 @@
--- What is written line by line.
+-- Lemmas on writing an object text line by line.
 use Rattle.std.proofs.Common.{◌≡◌, ◌<◌, ◌+◌, ℕ, true, List, [], ◌∷◌, ◌++◌, length, map, take, get_or, refl, ap, append_assoc, arith, Some}
 use Rattle.std.proofs.lemmas.Grind.{common_steps}
 use Rattle.std.proofs.lemmas.List.Concat.{flat_map-append}
@@ -18,7 +18,7 @@ use Rattle.st_object.proofs.FurtherLines.{word_lines-append}
 pub text_of-append : (xs ys : List Item) → object_text_of (xs ++ ys) ≡ object_text_of xs ++ object_text_of ys
 text_of-append xs ys = flat_map-append (λ i. line_text i ++ lf) xs ys
 
--- the line of a further word, where it is not zero
+-- the line of one more word, if it is not zero
 word_taken : (xs : List ℕ) (i x : ℕ) → i < length xs → get_or xs i 0 ≡ x →
     word_lines 0 (take (i + 1) xs) ≡ word_lines 0 (take i xs) ++ unless_zero x (Word i x)
 word_taken xs i x within here = grind (arith, common_steps, word_lines-append)
@@ -29,7 +29,7 @@ pub words_more : (old now new : List ℕ) (xs : List ℕ) (i x : ℕ) → i < le
 words_more old now new xs i x within here before further =
     rw (further, before, word_taken xs i x within here, text_of-append (word_lines 0 (take i xs)) (unless_zero x (Word i x)), append_assoc)
 
--- what is asked for, as items
+-- the text of requests as the text of items
 pub controls-written : (a : Asked) → text_of_lines (controls_made (control_line ObjectLine) a) ≡ object_text_of (controls_made Ask a)
 unfolding line_text
 controls-written a = controls-same (λ i. line_text i ++ lf) Ask (control_line ObjectLine) (λ c. refl) a
@@ -38,11 +38,11 @@ regrouped : (w b d g m t i c n k f : List Item) → w ++ (b ++ (d ++ (g ++ (m ++
     ≡ w ++ ((b ++ d ++ g ++ m) ++ (t ++ i ++ c ++ n ++ k)) ++ f
 regrouped w b d g m t i c n k f = simp append_assoc refl
 
--- the draft that is a whole program
+-- the complete draft of a program
 abbrev pub draft_of : Program → Draft
 draft_of p = record { begun = true; start = Some p.start; words = p.words; asked = p.controls; ended = true }
 
--- its lines are those of the program
+-- the lines of a program's complete draft are those of the program
 pub whole_lines : (p : Program) → lines_read (draft_of p) ≡ object_lines p
 whole_lines p = ap (λ (s : List Item). Object ∷ Start p.start ∷ s) (regrouped (word_lines 0 p.words)
     (unless_zero p.controls.budget (Ask (Budget p.controls.budget))) (map (λ n. Ask (Delay n)) p.controls.delays)

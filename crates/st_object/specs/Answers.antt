@@ -1,4 +1,4 @@
--- What adding a line answers, and what reading an object text does.
+-- The results of adding a line and of reading an object text, related to the specified results.
 use Rattle.std.specs.Prelude.{◌≡◌, ℕ, List, ◌++◌, Option, Some, None, Result, Ok, Err}
 use Rattle.st_card.specs.declared.faults.Fault.TheVariants.{BadObjectCard}
 use Rattle.st_object.specs.Draft.{Draft}
@@ -8,30 +8,30 @@ use Rattle.st_object.specs.declared.reading.ObjectError.TheVariants.{Refused as 
 use Rattle.st_card.specs.declared.keywords.Addition.{Addition}
 use Rattle.st_card.specs.declared.keywords.Addition.TheVariants.{Added, Refused, NoMemory}
 
--- what an addition says of a draft after a line: it is the one that is wanted, or none is; there
--- may be no memory
+-- relation of an addition's outcome to the draft after it and to the specified draft, if the line
+-- is allowed
 abbrev pub Settles : Draft → Option Draft → Addition → Type 0
 Settles new wanted Added = wanted ≡ Some new
 Settles new wanted Refused = wanted ≡ None
 Settles new wanted NoMemory = Unit {0}
 
--- what an addition says of a list before and after items are appended
+-- relation of an addition's outcome to a list before and after items are appended
 abbrev pub Appends : {X : Type 0} → List X → List X → List X → Addition → Type 0
 Appends old new items Added = new ≡ old ++ items
 Appends old new items Refused = ⊥
 Appends old new items NoMemory = Unit {0}
 
--- why a text was not read: it is no object text, or there was no memory for what it holds
+-- why a text was not read: it is not an object text, or there was not enough memory
 abbrev pub Explains : Result Program ℕ → ObjectError → Type 0
 Explains read (ObjectRefused card fault) = (read ≡ Err card) × (fault ≡ BadObjectCard)
 Explains read ObjectNoMemory = Unit {0}
 
--- what an answer says of what a text holds
+-- relation of the specified reading of a text to the result of reading it
 abbrev pub Gives : Result Program ℕ → Result Program ObjectError → Type 0
 Gives read (Ok program) = read ≡ Ok program
 Gives read (Err e) = Explains read e
 
--- a refusal names the bad line of a text
+-- a refusal has the number of the bad line of a text
 abbrev pub NamesBadLine : List ℕ → ObjectError → Type 0
 NamesBadLine text (ObjectRefused card fault) = IsBadLine text card
 NamesBadLine text ObjectNoMemory = Unit {0}

@@ -1,4 +1,5 @@
--- What the lines of an object text say up to some line, and which line may follow.
+-- The program that the lines of an object text have described so far, and the lines that may come
+-- next.
 use Rattle.std.specs.Prelude.{ℕ, ◌≡◌, ◌≤◌, ◌<◌, ◌-◌, ◌^◌, ◌==◌, ◌&&◌, Bool, true, false, not, nat_le, nat_lt, List, [], ◌∷◌, ◌++◌, length, map, replicate, slice_index, IfSome, Option, Some, None, is_some, if◌then◌else◌}
 use Rattle.std.specs.List.{All, flat_map}
 use Rattle.std.specs.Option.{option_map}
@@ -17,8 +18,8 @@ use Rattle.st_object.specs.declared.items.Item.TheVariants.{Object, Start, Word,
 use Rattle.st_object.specs.declared.items.Kind.{Kind}
 use Rattle.st_object.specs.declared.items.Kind.TheVariants as kinds
 
--- whether the first line was read, the start, the words up to the last that was read, what is asked
--- for, and whether the last line was read
+-- whether the first line was read, the start, the words up to the last that was read, the requests,
+-- and whether the last line was read
 pub record Draft : Type 0 where
   pub begun : Bool
   pub start : Option ℕ
@@ -26,7 +27,7 @@ pub record Draft : Type 0 where
   pub asked : Asked
   pub ended : Bool
 
--- before the first line
+-- the draft before the first line
 abbrev pub draft_at_start : Draft
 draft_at_start = record {
   begun = false;
@@ -40,7 +41,7 @@ draft_at_start = record {
 abbrev pub is_empty : {X : Type 0} → List X → Bool
 is_empty xs = length xs == 0
 
--- the start, where it was read
+-- the line of the start, if it was read
 abbrev pub start_lines : Option ℕ → List Item
 start_lines None = []
 start_lines (Some h) = Start h ∷ []
@@ -81,35 +82,35 @@ has_line d kinds.Snap = not (is_empty d.asked.snaps)
 has_line d kinds.Back = not (d.asked.back == 0)
 has_line d kinds.Fin = d.ended
 
--- whether all that must stand was read
+-- whether every required line was read
 unfoldable pub is_whole : Draft → Bool
 is_whole d = are_met (has_line d) order
 
--- whether a line of a kind has its place here
+-- whether a line of a kind may come next
 unfoldable pub has_place : Draft → Kind → Bool
 has_place d kind = may_follow (has_line d) kind
 
--- a start is a half-word of the first 2^18 words
+-- the draft with a start, if it is a half-word address of the first 2^18 words
 abbrev pub with_start : Draft → ℕ → Option Draft
 with_start d h = if nat_lt h (2 ^ 19) then Some (record d { start = Some h }) else None
 
--- whether a word is not zero and lies in storage, above the registers and above the words before it
+-- whether a word is not zero and its address is in storage, above the registers and at least `next`
 abbrev pub may_hold : ℕ → ℕ → ℕ → Bool
 may_hold next w x = nat_le FIRST_STORAGE_WORD w && nat_le next w && nat_lt w words_of_storage
     && not (x == 0)
 
--- the draft with a word at a place, with zeros up to it
+-- the draft with a word at an address, after zeros up to it, if the word is allowed there
 abbrev pub draft_with_word : Draft → ℕ → ℕ → Option Draft
 draft_with_word d w x =
     if may_hold (length d.words) w x
     then Some (record d { words = d.words ++ replicate (w - length d.words) 0 ++ x ∷ [] }) else None
 
--- what is asked for, where that is within the limits of control cards
+-- the draft with a request, if it is within the limits of control cards
 abbrev pub draft_with_order : Draft → Keyword → List ℕ → Option Draft
 draft_with_order d keyword numbers = option_map (λ a. record d { asked = a })
     (with_keyword keyword d.asked numbers)
 
--- what a line says is put in
+-- the draft with an item, without a check of its order
 unfoldable pub draft_with_value : Draft → Item → Option Draft
 draft_with_value d Object = Some (record d { begun = true })
 draft_with_value d (Start h) = with_start d h
@@ -125,11 +126,11 @@ draft_with_value d (Ask (Snap t)) = draft_with_order d keywords.Snap (t ∷ [])
 draft_with_value d (Ask (Back k)) = draft_with_order d keywords.Back (k ∷ [])
 draft_with_value d Fin = Some (record d { ended = true })
 
--- the draft with a further line, where that line may follow
+-- the draft with a further item, if it may come next
 abbrev pub with_item : Draft → Item → Option Draft
 with_item d item = if has_place d (kind_of_line item) then draft_with_value d item else None
 
--- what holds of each draft that lines make
+-- invariants of every draft that lines can lead to
 pub record IsDraft (d : Draft) : Type 0 where
   pub few : length d.words ≤ words_of_storage
   pub each : All (λ x. x < 2 ^ 64) d.words

@@ -8,7 +8,7 @@ use Rattle.st_card.specs.declared.written.ControlForm.TheVariants.{ObjectLine}
 use Rattle.st_object.specs.declared.items.Item.{Item}
 use Rattle.st_object.specs.declared.items.Item.TheVariants.{Object, Start, Word, Fin, Ask}
 
--- what a line says, in its one spelling
+-- the only spelling of an item as a line
 unfoldable pub line_text : Item → List ℕ
 line_text Object = codes "OBJECT"
 line_text (Start h) = codes "START " ++ half_address h
@@ -16,11 +16,11 @@ line_text (Word w x) = codes "W " ++ decimal w ++ codes " " ++ hex_word x
 line_text (Ask asked) = control_line ObjectLine asked
 line_text Fin = codes "FIN"
 
--- lines, each with its line end
+-- the text of lines, each with its line end
 abbrev pub object_text_of : List Item → List ℕ
 object_text_of items = flat_map (λ i. line_text i ++ lf) items
 
--- the words from word w on that are not zero, rising
+-- the lines of the words from word w on that are not zero, in order of address
 abbrev pub word_lines : ℕ → List ℕ → List Item
 word_lines w [] = []
 word_lines w (x ∷ xs) = if x == 0 then word_lines (w + 1) xs else Word w x ∷ word_lines (w + 1) xs

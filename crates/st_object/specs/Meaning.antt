@@ -1,4 +1,4 @@
--- What a line of an object text means.
+-- The meaning of a line of an object text.
 use Rattle.std.specs.Prelude.{ℕ, ◌<◌, ◌+◌, ◌*◌, ◌/◌, ◌%◌, ◌^◌, ◌==◌, nat_lt, List, [], ◌∷◌, length, codes, Option, Some, None, if◌then◌else◌}
 use Rattle.std.specs.Option.{option_map, option_and_then, option_zip}
 use Rattle.st_card.specs.Written.{IsShort, IsShortControl}
@@ -13,38 +13,38 @@ use Rattle.st_object.specs.declared.items.Item.TheVariants.{Object, Start, Word,
 use Rattle.st_object.specs.declared.items.Kind.{Kind}
 use Rattle.st_object.specs.declared.items.Kind.TheVariants as kinds
 
--- what stands before the first byte `at` of a text, and what stands behind it
+-- the text before the first byte `at` of a text, and the text after it
 abbrev pub parts_at : ℕ → List ℕ → Option (List ℕ × List ℕ)
 parts_at at [] = None
 parts_at at (c ∷ cs) = if c == at then Some ([], cs) else option_map (λ p. (c ∷ p.0, p.1))
     (parts_at at cs)
 
--- the number that a text is, of 12 digits at most
+-- the number that a text spells with at most 12 digits
 abbrev pub short_number : List ℕ → Option ℕ
 short_number text = number_up_to MOST_NUMBER text
 
--- two numbers with a byte between them
+-- two numbers with a separator byte between them
 abbrev pub two_numbers : ℕ → List ℕ → Option (ℕ × ℕ)
 two_numbers at text = option_and_then (λ p. option_zip (short_number p.0) (short_number p.1))
     (parts_at at text)
 
--- a hexadecimal digit: the character of 0 is a multiple of 16, and nine behind that of A, which is
--- 10, stands ten behind one
+-- the value of a hexadecimal digit: the code of `0` is a multiple of 16, and the code of `A`, whose
+-- value is 10, is 1 above a multiple of 16, so 9 is added
 abbrev pub hex_digit_in : ℕ → ℕ
 hex_digit_in c = (if nat_lt c letter_a then c else c + 9) % 16
 
--- the number that hexadecimal digits are
+-- the value of hexadecimal digits
 abbrev pub hex_number : List ℕ → ℕ
 hex_number [] = 0
 hex_number (c ∷ cs) = hex_digit_in c * 16 ^ length cs + hex_number cs
 
--- a word of storage: its address, and the 64 bits that it holds
+-- a word of storage: its address, and its 64 bits
 abbrev pub word_in : List ℕ → Option Item
 word_in text = option_and_then
     (λ p. option_map (λ w. Word w (hex_number p.1 % 2 ^ 64)) (short_number p.0))
     (parts_at blank text)
 
--- the first words of lines
+-- the keywords at the beginning of lines, each with its kind
 abbrev pub line_keywords : List (List ℕ × Kind)
 line_keywords =
     (codes "OBJECT", kinds.Object) ∷ (codes "START", kinds.Start) ∷ (codes "W", kinds.Word)
@@ -53,7 +53,7 @@ line_keywords =
     ∷ (codes "TRACE", kinds.Trace) ∷ (codes "TIME", kinds.Time) ∷ (codes "CHART", kinds.Chart)
     ∷ (codes "SNAP", kinds.Snap) ∷ (codes "BACK", kinds.Back) ∷ (codes "FIN", kinds.Fin) ∷ []
 
--- what stands behind a first word
+-- the item in the text after the keyword of a kind
 abbrev pub item_behind : Kind → List ℕ → Option Item
 item_behind kinds.Object text = Some Object
 item_behind kinds.Start text = option_map (λ p. Start (2 * p.0 + p.1 / 32))
@@ -70,17 +70,17 @@ item_behind kinds.Snap text = option_map (λ n. Ask (Snap n)) (short_number text
 item_behind kinds.Back text = option_map (λ n. Ask (Back n)) (short_number text)
 item_behind kinds.Fin text = Some Fin
 
--- what a first word says with what stands behind it
+-- the item of a keyword and the text after it
 abbrev pub item_of : List ℕ → List ℕ → Option Item
 item_of word rest = option_and_then (λ kind. item_behind kind rest) (row_of word line_keywords)
 
--- what a line means if it is spelled so: leading zeros, other letters and what stands in excess are
--- not looked at here
+-- the item of a line if its spelling is right: leading zeros, other letters and extra text are not
+-- checked here
 abbrev pub item_loosely : Option (List ℕ × List ℕ) → List ℕ → Option Item
 item_loosely None line = item_of line []
 item_loosely (Some p) line = item_of p.0 p.1
 
--- an item, where the line is its spelling
+-- an item, if the line is its spelling
 abbrev pub if_spelled : List ℕ → Item → Option Item
 if_spelled line item = if is_same (line_text item) line then Some item else None
 
@@ -89,7 +89,7 @@ abbrev pub item_in : List ℕ → Option Item
 item_in line = option_and_then (λ item. if_spelled line item)
     (item_loosely (parts_at blank line) line)
 
--- items that can be read
+-- the bounds of items that can be read
 abbrev pub IsItem : Item → Type 0
 IsItem Object = Unit {0}
 IsItem (Start h) = IsShort (h / 2)

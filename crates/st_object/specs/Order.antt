@@ -1,4 +1,4 @@
--- The order in which the lines of an object text stand.
+-- The order of the lines in an object text.
 use Rattle.std.specs.Prelude.{◌+◌, ◌&&◌, ◌||◌, Bool, true, false, not, List, [], ◌∷◌, take, drop}
 use Rattle.std.specs.List.{list_all}
 use Rattle.st_object.specs.declared.items.Item.{Item}
@@ -8,7 +8,7 @@ use Rattle.st_object.specs.declared.items.Kind.{Kind}
 use Rattle.st_object.specs.declared.items.Kind.TheVariants as kinds
 use Rattle.st_object.specs.declared.order.KindRow.{KindRow}
 
--- the kind of a line
+-- the kind of an item's line
 abbrev pub kind_of_line : Item → Kind
 kind_of_line Object = kinds.Object
 kind_of_line (Start h) = kinds.Start
@@ -24,14 +24,14 @@ kind_of_line (Ask (Snap t)) = kinds.Snap
 kind_of_line (Ask (Back k)) = kinds.Back
 kind_of_line Fin = kinds.Fin
 
--- the kinds of lines in their order
+-- the kinds of lines in their order in an object text
 abbrev pub order : List Kind
 order =
     kinds.Object ∷ kinds.Start ∷ kinds.Word ∷ kinds.Budget ∷ kinds.Delay ∷ kinds.Signal ∷ kinds.Dump
     ∷ kinds.Trace
     ∷ kinds.Time ∷ kinds.Chart ∷ kinds.Snap ∷ kinds.Back ∷ kinds.Fin ∷ []
 
--- a kind's place in that order, whether it may stand more than once, and whether it must stand
+-- a kind's position in the order, whether it may occur more than once, and whether it is required
 abbrev pub row_of_kind : Kind → KindRow
 row_of_kind kinds.Object = record { place = 0; repeats = false; required = true }
 row_of_kind kinds.Start = record { place = 1; repeats = false; required = true }
@@ -47,30 +47,30 @@ row_of_kind kinds.Snap = record { place = 10; repeats = true; required = false }
 row_of_kind kinds.Back = record { place = 11; repeats = false; required = false }
 row_of_kind kinds.Fin = record { place = 12; repeats = false; required = true }
 
--- the kinds before one
+-- the kinds before a kind in the order
 abbrev pub kinds_before : Kind → List Kind
 kinds_before kind = take (row_of_kind kind).place order
 
--- the kinds behind one
+-- the kinds after a kind in the order
 abbrev pub kinds_behind : Kind → List Kind
 kinds_behind kind = drop ((row_of_kind kind).place + 1) order
 
--- by which kinds stand
+-- definitions that depend on the kinds that have been read
 module _ (stands : Kind → Bool) where
-  -- whether a kind stands or need not
+  -- whether a kind has been read or is not required
   abbrev pub is_met : Kind → Bool
   is_met kind = not (row_of_kind kind).required || stands kind
 
-  -- whether each of some kinds does
+  -- whether each of some kinds has been read or is not required
   abbrev pub are_met : List Kind → Bool
   are_met kinds = list_all is_met kinds
 
-  -- whether none of some kinds stands
+  -- whether none of some kinds has been read
   abbrev pub none_stands : List Kind → Bool
   none_stands kinds = list_all (λ kind. not (stands kind)) kinds
 
-  -- whether a line of a kind may follow: what must stand before it does, it is the first or may
-  -- stand more than once, and nothing stands behind it
+  -- whether a line of a kind may come next: every required kind before it has been read, it has not
+  -- been read or may be repeated, and no kind after it has been read
   abbrev pub may_follow : Kind → Bool
   may_follow kind = are_met (kinds_before kind) && ((row_of_kind kind).repeats || not (stands kind))
       && none_stands (kinds_behind kind)

@@ -1,4 +1,4 @@
-//! A program in the making, line by line.
+//! The program that the lines of an object text have described so far.
 
 ghost use Rattle.std.specs.Prelude.{◌≡◌, ◌≤◌, ◌-◌, ◌++◌, [], ◌∷◌, length, vec_len, replicate, true, Some, OnOk};
 ghost use Rattle.st_object.specs.Draft as spec;
@@ -13,10 +13,10 @@ use st_card::{Addition, Control, Controls, Keyword};
 use std::alloc::{AllocError, Global};
 use std::marker::Model;
 
-// The most half-words at which a program may start.
+// The number of half-words at which a program may start.
 const STARTS: u64 = 1 << 19;
 
-// What the lines up to some line say.
+// The contents of the lines read so far.
 #[derive(Drop)]
 pub(crate) struct Draft {
     pub(crate) begun: bool,
@@ -40,9 +40,9 @@ impl Model for Draft {
     } };
 }
 
-// Which lines were read.
+// The kinds of lines that have been read.
 impl Draft {
-    // Whether a line of a kind was read.
+    // Whether a line of a kind has been read.
     fn stands(&self, kind: Kind) -> bool
         ensures { result ≡ spec.has_line self.now kind }
     {
@@ -63,7 +63,7 @@ impl Draft {
         }
     }
 
-    // Whether a kind stands, where it must.
+    // Whether a line of a kind has been read, if it is required.
     fn is_met(&self, kind: Kind) -> bool
         ensures { result ≡ is_met (spec.has_line self.now) kind }
     {
@@ -71,7 +71,7 @@ impl Draft {
         !needed || self.stands(kind)
     }
 
-    // Whether each of some kinds stands that must.
+    // Whether every required line among some kinds has been read.
     fn are_met(&self, kinds: &[Kind]) -> bool
         ensures { result ≡ are_met (spec.has_line self.now) kinds.now }
     {
@@ -85,7 +85,7 @@ impl Draft {
         true
     }
 
-    // Whether none of some kinds stands.
+    // Whether no line of some kinds has been read.
     fn none_stands(&self, kinds: &[Kind]) -> bool
         ensures { result ≡ none_stands (spec.has_line self.now) kinds.now }
     {
@@ -99,14 +99,14 @@ impl Draft {
         true
     }
 
-    // Whether all that must stand was read.
+    // Whether every required line has been read.
     pub(crate) fn is_whole(&self) -> bool
         ensures { result ≡ spec.is_whole self.now }
     {
         self.are_met(&ORDER)
     }
 
-    // Whether a line of a kind has its place here.
+    // Whether a line of a kind may come next.
     fn has_place(&self, kind: Kind) -> bool
         ensures { result ≡ spec.has_place self.now kind }
     {
@@ -118,7 +118,7 @@ impl Draft {
 }
 
 impl Draft {
-    // A draft before the first line.
+    // The draft before the first line.
     pub(crate) fn new(alloc: Global) -> Draft
         ensures { result ≡ spec.draft_at_start }
     {
@@ -131,7 +131,7 @@ impl Draft {
         }
     }
 
-    // Adds what a line says, where that line may follow.
+    // Adds the contents of a line, if that line may come next.
     pub(crate) fn add(&mut self, item: Item) -> Addition
         ensures { Settles self.new (spec.with_item self.old item) result }
     {
@@ -142,7 +142,7 @@ impl Draft {
         }
     }
 
-    // Puts in what a line says.
+    // Adds the contents of a line without checking its order.
     pub(crate) fn put(&mut self, item: Item) -> Addition
         ensures { Settles self.new (spec.draft_with_value self.old item) result }
     {
@@ -166,7 +166,7 @@ impl Draft {
         }
     }
 
-    // Adds what is asked for, within the limits of control cards.
+    // Adds a request, if it is within the limits of control cards.
     fn ask(&mut self, keyword: Keyword, numbers: &[u64]) -> Addition
         requires { length numbers.now ≤ 36 }
         ensures { Settles self.new (spec.draft_with_order self.old keyword numbers.now) result }
@@ -210,7 +210,8 @@ impl Draft {
     }
 }
 
-// Whether a word is not zero and lies in storage, above the registers and not before `next`.
+// Whether a word is not zero and its address is in storage, above the registers and at least
+// `next`.
 fn may_hold(next: u64, address: u64, word: u64) -> bool
     ensures { result ≡ spec.may_hold next address word }
 {
@@ -220,7 +221,7 @@ fn may_hold(next: u64, address: u64, word: u64) -> bool
         && word != 0
 }
 
-// Appends zeros up to a length.
+// Appends zeros until the list has this length.
 pub(crate) fn fill_up(words: &mut Vec<u64>, length: usize) -> Result<(), AllocError>
     requires { vec_len words.old ≤ length }
     ensures { let zeros = replicate (length - vec_len words.old) 0 in
@@ -229,7 +230,7 @@ pub(crate) fn fill_up(words: &mut Vec<u64>, length: usize) -> Result<(), AllocEr
     words.resize(length, 0)
 }
 
-// Appends a word at its address, behind zeros.
+// Appends zeros and then a word, so that the word is at its address.
 fn push_word(words: &mut Vec<u64>, address: usize, word: u64) -> Addition
     requires { length words.old.items ≤ address }
     ensures { let zeros = replicate (address - length words.old.items) 0 in

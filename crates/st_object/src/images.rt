@@ -1,16 +1,16 @@
-//! What an object text holds.
+//! The program that an object text contains.
 
 use st_card::Controls;
 use std::marker::Model;
 
-/// A program as it is laid into storage, with where it starts and what is asked for.
+/// A program as an image of storage, with its start and its requests.
 #[derive(Debug, Drop)]
 pub struct Image {
-    /// The words of storage, 98,304 of them, the first 32 zero.
+    /// The words of storage, 98,304 of them; the first 32 are zero.
     pub words: Vec<u64>,
     /// The half-word address, below 2^19, at which the program starts.
     pub start: u32,
-    /// What is asked for: a budget, a delay at least, and no listing.
+    /// The requests: a budget, at least one delay, and no listing.
     pub controls: Controls,
 }
 

@@ -1,8 +1,8 @@
-//! What the lines of an object text say.
+//! The contents of the lines of an object text.
 
 use st_card::Control;
 
-// What a line says.
+// The contents of a line.
 #[derive(Clone, Copy)]
 pub(crate) enum Item {
     Object,
@@ -12,7 +12,7 @@ pub(crate) enum Item {
     Fin,
 }
 
-// The kinds of lines.
+// The kind of a line.
 #[derive(Clone, Copy)]
 pub(crate) enum Kind {
     Object,

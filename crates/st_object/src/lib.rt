@@ -1,4 +1,5 @@
-//! Object texts: a program as text in the format of `docs/object-text.md`, and back.
+//! Object texts: writes a program as text in the format of `docs/object-text.md`, and reads it
+//! back.
 #![tactic(auto, using(st_bits::specs::Storage::words_of_storage_is), unfolding(crate::specs::Draft::draft_with_value, crate::specs::Draft::has_place, crate::specs::Draft::is_whole, crate::specs::Lines::line_text, crate::specs::Object::read_text))]
 
 mod drafts;

@@ -1,4 +1,4 @@
-//! What the lines of an object text mean.
+//! Parses the lines of an object text.
 
 ghost use Rattle.std.specs.Prelude.{◌≡◌, ◌≤◌, ◌<◌, ◌%◌, ◌^◌, IfSome};
 ghost use Rattle.std.specs.Option.{option_map};
@@ -13,7 +13,7 @@ use st_card::Control;
 use st_card::limits::MOST_NUMBER;
 use st_text::{cut, number_up_to, row_of};
 
-// The first words of lines.
+// The keywords at the beginning of lines.
 const KEYWORDS: [(&[u8], Kind); 13] = [
     (b"OBJECT", Kind::Object),
     (b"START", Kind::Start),
@@ -30,14 +30,14 @@ const KEYWORDS: [(&[u8], Kind); 13] = [
     (b"FIN", Kind::Fin),
 ];
 
-// What stands before the first byte `at` of a text, and what stands behind it.
+// The text before the first byte `at` of a text, and the text after it.
 fn parts_at(at: u8, text: &[u8]) -> Option<(&[u8], &[u8])>
     ensures { option_map (λ p. (p.0.now, p.1.now)) result ≡ spec.parts_at at text.now }
 {
     cut(text, at)
 }
 
-// The number that a text is, of 12 digits at most.
+// The number that a text spells with at most 12 digits.
 fn short_number(text: &[u8]) -> Option<u64>
     ensures value { result ≡ spec.short_number text.now }
     ensures short { IfSome result (λ n. n ≤ MOST_NUMBER) }
@@ -45,7 +45,7 @@ fn short_number(text: &[u8]) -> Option<u64>
     number_up_to(text, MOST_NUMBER)
 }
 
-// Two numbers with a byte between them.
+// Two numbers with a separator byte between them.
 fn two_numbers(at: u8, text: &[u8]) -> Option<(u64, u64)>
     ensures value { result ≡ spec.two_numbers at text.now }
     ensures short { IfSome result (λ p. p.0 ≤ MOST_NUMBER) }
@@ -54,7 +54,7 @@ fn two_numbers(at: u8, text: &[u8]) -> Option<(u64, u64)>
     Some((short_number(first)?, short_number(second)?))
 }
 
-// A hexadecimal digit.
+// The value of a hexadecimal digit.
 fn hex_digit_in(c: u8) -> u8
     ensures value { result ≡ spec.hex_digit_in c }
     ensures small { result < 16 }
@@ -62,7 +62,7 @@ fn hex_digit_in(c: u8) -> u8
     if c < b'A' { c % 16 } else { (c % 16 + 9) % 16 }
 }
 
-// The number that hexadecimal digits are, the last sixteen of them.
+// The value of the last sixteen hexadecimal digits of a text.
 fn hex_in(text: &[u8]) -> u64
     ensures { result ≡ spec.hex_number text.now % 2 ^ 64 }
 {
@@ -75,7 +75,7 @@ fn hex_in(text: &[u8]) -> u64
     number
 }
 
-// A word of storage: its address and what it holds.
+// Parses a word of storage: its address and its contents.
 fn word_in(text: &[u8]) -> Option<Item>
     ensures { result ≡ spec.word_in text.now }
 {
@@ -83,7 +83,7 @@ fn word_in(text: &[u8]) -> Option<Item>
     Some(Item::Word(short_number(address)?, hex_in(word)))
 }
 
-// A start as a half-word address.
+// Parses a start as a half-word address.
 fn start_in(text: &[u8]) -> Option<Item>
     ensures { result ≡ spec.item_behind kinds.Start text.now }
 {
@@ -105,7 +105,7 @@ fn dump_in(text: &[u8]) -> Option<Item>
     Some(Item::Ask(Control::Dump(first, last)))
 }
 
-// What stands behind a first word.
+// Parses the text after the keyword of this kind.
 fn item_behind(kind: Kind, text: &[u8]) -> Option<Item>
     ensures { result ≡ spec.item_behind kind text.now }
 {
@@ -126,14 +126,14 @@ fn item_behind(kind: Kind, text: &[u8]) -> Option<Item>
     }
 }
 
-// What a first word says with what stands behind it.
+// Parses a line, given its keyword and the text after that.
 fn item_of(word: &[u8], rest: &[u8]) -> Option<Item>
     ensures { result ≡ spec.item_of word.now rest.now }
 {
     item_behind(row_of(&KEYWORDS, word)?, rest)
 }
 
-// What a line means if it is spelled so.
+// Parses a line without checking its spelling.
 fn item_loosely(line: &[u8]) -> Option<Item>
     ensures { result ≡ spec.item_loosely (spec.parts_at blank line.now) line.now }
 {
@@ -143,7 +143,7 @@ fn item_loosely(line: &[u8]) -> Option<Item>
     }
 }
 
-// The item that a line spells.
+// Parses a line; `None` if it is not exactly the spelling of an item.
 pub(crate) fn item_in(line: &[u8]) -> Option<Item>
     ensures { result ≡ spec.item_in line.now }
 {

@@ -1,4 +1,4 @@
-//! The order in which the lines of an object text stand.
+//! The order of the lines in an object text.
 
 ghost use Rattle.std.specs.Prelude.{◌≡◌, ◌<◌};
 ghost use Rattle.st_object.specs.Order as spec;
@@ -6,7 +6,7 @@ ghost use Rattle.st_object.specs.Order as spec;
 use crate::items::{Item, Kind};
 use st_card::Control;
 
-// The kinds of lines in their order.
+// The kinds of lines in their order in an object text.
 pub(crate) const ORDER: [Kind; 13] = [
     Kind::Object,
     Kind::Start,
@@ -23,18 +23,18 @@ pub(crate) const ORDER: [Kind; 13] = [
     Kind::Fin,
 ];
 
-// Where a kind of line stands.
+// The position of a kind of line in an object text.
 #[derive(Clone, Copy)]
 pub(crate) struct KindRow {
-    // Its place in that order.
+    // The kind's position in the order of kinds.
     pub place: usize,
-    // Whether it may stand more than once.
+    // Whether the line may occur more than once.
     pub repeats: bool,
-    // Whether it must stand.
+    // Whether the line is required.
     pub required: bool,
 }
 
-// A row of the table of the kinds of lines.
+// Makes a row of the table of the kinds of lines.
 fn kind_row(place: usize, repeats: bool, required: bool) -> KindRow
     ensures { result ≡ record { place = place; repeats = repeats; required = required } }
 {
@@ -45,7 +45,7 @@ fn kind_row(place: usize, repeats: bool, required: bool) -> KindRow
     }
 }
 
-// A kind's place in that order, whether it may stand more than once, and whether it must stand.
+// A kind's position in the order, whether it may occur more than once, and whether it is required.
 pub(crate) fn row(kind: Kind) -> KindRow
     ensures row { result ≡ spec.row_of_kind kind }
     ensures within { result.place < 13 }

@@ -1,4 +1,4 @@
-//! Reading an object text.
+//! Reads an object text.
 
 ghost use Rattle.std.specs.Prelude.{◌≡◌, ◌+◌, ◌<◌, ◌^◌, IfOk, IfErr, Ok};
 ghost use Rattle.st_card.specs.declared.faults.Fault.TheVariants.{BadObjectCard};
@@ -18,14 +18,14 @@ use std::alloc::Global;
 /// Why a text was not read.
 #[derive(Clone, Copy, Debug, PartialEq, Eq)]
 pub enum ObjectError {
-    /// The text is no object text. `card` is the number of its bad line, counted from 1, and
-    /// `fault` says that it is a bad object card.
+    /// The text is not an object text. `card` is the number of its bad line, counted from 1, and
+    /// `fault` is `BadObjectCard`.
     Refused { card: u32, fault: Fault },
-    /// There was no memory for what the text holds.
+    /// There was not enough memory for the contents of the text.
     NoMemory,
 }
 
-// Adds a line, where it may follow.
+// Adds a line, if it may come next.
 fn add_line(draft: &mut Draft, line: &[u8]) -> Addition
     ensures { Settles draft.new (spec.draft_with_line draft.old line.now) result }
 {
@@ -35,7 +35,7 @@ fn add_line(draft: &mut Draft, line: &[u8]) -> Addition
     }
 }
 
-// The refusal of a line.
+// The refusal of the line with this number.
 fn refused(card: u32) -> ObjectError
     ensures { result ≡ errors.Refused card BadObjectCard }
 {
@@ -45,7 +45,7 @@ fn refused(card: u32) -> ObjectError
     }
 }
 
-// The program that a draft is.
+// The program that a draft describes.
 fn image_of(draft: Draft) -> Result<Image, ObjectError>
     requires { IsDraft draft }
     ensures { Gives (Ok (spec.program_of draft)) result }
@@ -66,7 +66,7 @@ fn image_of(draft: Draft) -> Result<Image, ObjectError>
     })
 }
 
-// A text that ends here, where `card` is the number of the line behind its last.
+// The program of a text that ends here; `card` is the number after that of its last line.
 fn finish(draft: Draft, card: u32) -> Result<Image, ObjectError>
     requires { IsDraft draft }
     ensures { Gives (spec.program_at_end draft card) result }
@@ -77,7 +77,7 @@ fn finish(draft: Draft, card: u32) -> Result<Image, ObjectError>
     image_of(draft)
 }
 
-// A text whose last line has no line end.
+// The refusal of a text whose last line has no line end.
 fn refuse_unended(draft: &mut Draft, card: u32, line: &[u8]) -> ObjectError
     requires { card + 1 < 2 ^ 32 }
     ensures { Explains (spec.program_cut draft.old card line.now) result }
@@ -89,7 +89,7 @@ fn refuse_unended(draft: &mut Draft, card: u32, line: &[u8]) -> ObjectError
     }
 }
 
-// What stands behind the last line end of a text.
+// The program of a text, given the text after its last line end.
 fn end_of(mut draft: Draft, card: u32, rest: &[u8]) -> Result<Image, ObjectError>
     requires draft { IsDraft draft }
     requires counted { card + 1 < 2 ^ 32 }
@@ -101,7 +101,7 @@ fn end_of(mut draft: Draft, card: u32, rest: &[u8]) -> Result<Image, ObjectError
     Err(refuse_unended(&mut draft, card, rest))
 }
 
-// The program that a text holds.
+// Reads the program of a text.
 fn read(alloc: Global, text: &[u8]) -> Result<Image, ObjectError>
     ensures { Gives (spec.read_text text.now) result }
 {
@@ -120,20 +120,21 @@ fn read(alloc: Global, text: &[u8]) -> Result<Image, ObjectError>
     end_of(draft, card, rest)
 }
 
-/// The program that an object text holds.
+/// Reads the program that an object text contains.
 ///
-/// A text that is no object text is refused, with its bad line: the first after which the lines so
-/// far begin no object text, or where the text ends too early the line behind its last. The other
-/// error is that memory ran out. `docs/object-text.md` has the format.
+/// A text that is not an object text is refused with the number of its bad line: the first line
+/// such that no object text begins with the lines up to it, or, if the text ends too early, the
+/// number after that of the last line. The other error is that memory ran out.
+/// `docs/object-text.md` has the format.
 pub fn read_object(alloc: Global, text: &[u8]) -> Result<Image, ObjectError>
     ensures ok { IfOk result (λ image. spec.read_text text.now ≡ Ok image) }
     ensures err { IfErr result (Explains (spec.read_text text.now)) }
 
-    // What is read is within the limits, and the text is its object text.
+    // The program is within the limits, and the text is its object text.
     ensures program { IfOk result (λ image. spec.IsProgram image) }
     ensures same { IfOk result (λ image. text.now ≡ spec.object_text image) }
 
-    // The named line is the first bad one.
+    // The number in a refusal is that of the first bad line.
     ensures first { IfErr result (NamesBadLine text.now) }
 {
     read(alloc, text)

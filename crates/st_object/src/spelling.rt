@@ -1,4 +1,4 @@
-//! How the lines of an object text are spelled.
+//! The spelling of the lines of an object text.
 
 ghost use Rattle.std.specs.Prelude.{◌≡◌, ◌++◌, codes, decimal};
 ghost use Rattle.st_text.specs.Numerals.{hex_word, half_address};
@@ -8,7 +8,7 @@ use crate::items::Item;
 use st_card::{ControlForm, control_line};
 use st_text::{Line, begun, push_decimal, push_hex};
 
-// Where the program starts.
+// The line of the program's start, a half-word address.
 fn start_line(half: u64) -> Line
     ensures { result.bytes ≡ codes "START " ++ half_address half }
 {
@@ -19,7 +19,7 @@ fn start_line(half: u64) -> Line
     line
 }
 
-// A word of storage.
+// The line of word `w` of storage.
 fn word_line(w: u64, word: u64) -> Line
     ensures { result.bytes ≡ codes "W " ++ (decimal w ++ (codes " " ++ hex_word word)) }
 {
@@ -30,7 +30,7 @@ fn word_line(w: u64, word: u64) -> Line
     line
 }
 
-// What a line says, in its one spelling.
+// The only spelling of an item as a line.
 pub(crate) fn spelled(item: Item) -> Line
     ensures { result.bytes ≡ spec.line_text item }
 {

@@ -1,4 +1,4 @@
-//! Writing an object text.
+//! Writes an object text.
 
 ghost use Rattle.std.specs.Prelude.{◌≡◌, ◌++◌, [], ◌∷◌, OnOk, IfOk, Ok};
 ghost use Rattle.st_card.specs.Written.{unless_zero};
@@ -13,7 +13,7 @@ use st_bits::NoMemory;
 use st_card::{ControlForm, Controls, push_controls};
 use std::alloc::{AllocError, Global};
 
-// Appends a line.
+// Appends the line of an item.
 fn push_line(text: &mut Vec<u8>, item: Item) -> Result<(), AllocError>
     ensures { OnOk result (text.new.items ≡ text.old.items ++ lines.object_text_of (item ∷ [])) }
 {
@@ -21,7 +21,7 @@ fn push_line(text: &mut Vec<u8>, item: Item) -> Result<(), AllocError>
     text.extend_from_slice(b"\n")
 }
 
-// Appends the line of a word that is not zero.
+// Appends the line of a word, if the word is not zero.
 fn push_filled(text: &mut Vec<u8>, address: u64, word: u64) -> Result<(), AllocError>
     ensures { let filled = unless_zero word (items.Word address word) in
         OnOk result (text.new.items ≡ text.old.items ++ lines.object_text_of filled) }
@@ -32,7 +32,7 @@ fn push_filled(text: &mut Vec<u8>, address: u64, word: u64) -> Result<(), AllocE
     push_line(text, Item::Word(address, word))
 }
 
-// Appends the words that are not zero.
+// Appends the lines of the words that are not zero.
 fn push_words(text: &mut Vec<u8>, words: &[u64]) -> Result<(), AllocError>
     ensures { OnOk result
         (text.new.items ≡ text.old.items ++ lines.object_text_of (lines.word_lines 0 words.now)) }
@@ -43,7 +43,7 @@ fn push_words(text: &mut Vec<u8>, words: &[u64]) -> Result<(), AllocError>
     Ok(())
 }
 
-// Appends the lines of a program before what is asked for.
+// Appends the lines of a program before its requests.
 fn push_program(text: &mut Vec<u8>, words: &[u64], start: u32) -> Result<(), AllocError>
     ensures { let program = items.Object ∷ items.Start start ∷ [] ++ lines.word_lines 0 words.now in
         OnOk result (text.new.items ≡ text.old.items ++ lines.object_text_of program) }
@@ -72,17 +72,17 @@ fn push_object(
     push_line(text, Item::Fin)
 }
 
-/// The object text of a program.
+/// Writes the object text of a program.
 ///
 /// The program has 98,304 words, the first 32 zero; its start is a half-word address below 2^19.
-/// What it asks for is within the limits of control cards, with a budget, a delay at least, and no
-/// listing. Each program has one object text, and `read_object` reads it as that program. The one
-/// error is that memory ran out. `docs/object-text.md` has the format.
+/// Its requests are within the limits of control cards, with a budget, at least one delay, and no
+/// listing. Each program has exactly one object text, and `read_object` reads it as that program.
+/// The only error is that memory ran out. `docs/object-text.md` has the format.
 pub fn write_object(alloc: Global, image: &Image) -> Result<Vec<u8>, NoMemory>
     requires { IsProgram image.now }
     ensures text { IfOk result (λ text. text.items ≡ object_text image.now) }
 
-    // It is read as the same program.
+    // The text is read back as the given program.
     ensures again { IfOk result (λ text. read_text text.items ≡ Ok image.now) }
 {
     let words = image.words.as_slice();

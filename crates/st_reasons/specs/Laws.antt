@@ -1,4 +1,4 @@
--- What holds of the waits of a charge, and of the words that they are found from.
+-- Laws of the waits of a charge, and of the words from which they are found.
 use Rattle.std.specs.Prelude.{ℕ, ◌-◌, ◌≤◌, List, All, Option}
 use Rattle.st_ledger.specs.declared.charges.Charge.{Charge}
 use Rattle.st_prep.specs.declared.entries.Words.{Words}
@@ -10,14 +10,14 @@ use Rattle.st_reasons.specs.Words.{IsReadInTime}
 use Rattle.st_reasons.specs.Waits.{charge_waits}
 use Rattle.st_reasons.specs.Sums.{all_stalled}
 
--- The waits of a charge are no more ticks than it has.
+-- The waits of a charge have at most as many ticks as the charge.
 abbrev pub WaitsAreWithinTheirCharge : Type 0
 WaitsAreWithinTheirCharge = (x : Charge) (uses before : List Use) →
     All IsReadInTime uses → All IsReadInTime before →
     all_stalled (charge_waits x uses before) ≤ x.to - x.from
 
--- Each word of an entry that is read is accepted when it is wanted or later, and answered no
--- earlier than that.
+-- Each word that an entry reads is accepted when it is wanted or later, and answered no earlier
+-- than that.
 abbrev pub ReadsOfAnEntryAreInTime : Type 0
 ReadsOfAnEntryAreInTime = (ds : List ℕ) (n : ℕ) (f : Front) (e : Entry) (side : Option ℕ)
     (reads : Words) → All IsReadInTime (uses_of_entry ds n f e side reads)

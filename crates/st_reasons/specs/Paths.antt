@@ -1,6 +1,6 @@
--- What kept a row back, as a path without a gap: from the tick before its address is formed, over
--- answers and wants of its instruction words, down to what the row could do nothing about. Words
--- stand youngest first.
+-- The cause of a row's delay as a path without a gap: from the tick before its address is formed,
+-- back over the answers and wants of its instruction words, to an event outside the row. Words are
+-- listed youngest first.
 use Rattle.std.specs.Prelude.{ℕ, ◌≡◌, ◌⊎◌, ◌+◌, ◌-◌, ◌<◌, max, Bool, true, false, not, ◌&&◌, ◌||◌, nat_eq, nat_le, nat_lt, if◌then◌else◌, List, ◌∷◌, ◌++◌, length, reverse, None, Some}
 use Rattle.std.specs.List.{list_any}
 use Rattle.st_rows.specs.Rows.{tick_a, tick_y, tick_p, done_before}
@@ -17,46 +17,47 @@ use Rattle.st_reasons.specs.declared.because.Cause.{Cause}
 use Rattle.st_reasons.specs.declared.because.Reason.{Reason}
 use Rattle.st_reasons.specs.declared.because.Reason.TheVariants.{Serial, Store, Level, Forwarding, Bus, Order}
 
--- ---- what may have come at the tick t, to a row behind the front f; in the order of the page
+-- ---- the possible events at tick t for a row after the front f, in the order of the page
 
--- the row before was done, and it is done alone, or what is awaited has to be behind it (`alone`)
+-- the row before completed at t, and it is serialized, or the awaited words must come after it
+-- (`alone`)
 abbrev pub is_serial_at : Front → Bool → ℕ → Bool
 is_serial_at f alone t = not (is_first f) && (nat_eq t f.c && (alone || f.serial))
 
--- a row was done that wrote one of these instruction words
+-- a row completed at t that wrote one of these instruction words
 abbrev pub is_store_at : Front → ℕ → List Use → Bool
 is_store_at f t words = not (is_first f) && list_any (is_stored f.past t) words
 
--- neither of them came
+-- no row completed at t that serializes this one or wrote one of these instruction words
 pub record IsNothingDone (f : Front) (alone : Bool) (t : ℕ) (words : List Use) : Type 0 where
   pub serial : is_serial_at f alone t ≡ false
   pub store : is_store_at f t words ≡ false
 
--- the word u was answered, the first of these instruction words that was
+-- the word u is the first of these instruction words that was answered at t
 pub record IsFirstAnswered (t : ℕ) (words : List Use) (u : Use) : Type 0 where
   pub later : List Use
   pub earlier : List Use
   pub parts : words ≡ later ++ (u ∷ earlier)
   pub first : decides Instruction t u earlier ≡ true
 
--- none of them was
+-- none of these instruction words was answered at t
 abbrev pub IsNoneAnswered : ℕ → List Use → Type 0
 IsNoneAnswered t words = list_any (is_answered_at Instruction t) words ≡ false
 
--- the last read of the rows before was accepted, later than the row before was prepared
+-- the last read of the rows before was accepted at t, after the row before was prepared
 abbrev pub is_bus_at : Front → ℕ → Bool
 is_bus_at f t = nat_eq f.bus.free (t + 1) && nat_lt f.p t
 
--- and nothing of all this came
+-- no completion that counts, no answer and no accepted read came at t
 pub record IsNothingThere (f : Front) (alone : Bool) (t : ℕ) (words : List Use) : Type 0 where
   pub done : IsNothingDone f alone t words
   pub answered : IsNoneAnswered t words
   pub bus : is_bus_at f t ≡ false
 
--- ---- what is told of the tick t, where the path ends: it came then, and nothing that stands before
--- it in that order; `before` are the words of the row before
+-- ---- the event at tick t at which the path ends: it came at t, and no event that precedes it in
+-- that order did; `before` are the words of the row before
 
--- a read that was wanted at a tick and accepted at t
+-- a use is a read that was wanted at tick `want` and accepted at t
 abbrev pub is_read_between : ℕ → ℕ → Use → Bool
 is_read_between want t u =
     is_read u.supply && (nat_eq (read_of u.supply).want want && nat_eq (read_of u.supply).accept t)
@@ -85,9 +86,9 @@ EndsAt f alone before words t (Prefetch x) =
 EndsAt f alone before words t (Earlier x) =
     EndsByRow f alone before words t x x.reason × (x.late ≡ t - f.p)
 
--- ---- the path from the tick t backwards: it ends there, or no row was done at it that counts, and
--- it goes on from the answer of a word to its want; `own` is how many instruction words are none of
--- the target of EX, which have to be behind the row before
+-- ---- the path from tick t backwards: it ends at t, or no completion that counts came at t and the
+-- path continues from the answer of a word to its want; `own` is the number of instruction words
+-- outside the target of EX, which must come after the row before
 pub data IsPath : Front → ℕ → List Use → Bool → List Use → ℕ → Because → Type 0 where
   PathEnds : (f : Front) (own : ℕ) (before : List Use) (alone : Bool) (words : List Use) (t : ℕ)
       (b : Because) → EndsAt f alone before words t b → IsPath f own before alone words t b
@@ -97,11 +98,12 @@ pub data IsPath : Front → ℕ → List Use → Bool → List Use → ℕ → B
       → IsPath f own before (nat_le own (length is.earlier)) is.earlier (read_of u.supply).want b
       → IsPath f own before alone words t b
 
--- ---- what kept the entry e behind the front f back; it uses some words until its address is
--- formed, and the row before it others, in the order of their reads
+-- ---- the cause that delayed the entry e after the front f; `words` are the words that it uses
+-- until
+-- its address is formed, and `before` those of the row before it, in the order of their reads
 
--- A level: it is prepared right behind the completion of the row whose level it takes over, and so
--- many ticks later than its address and its index-side word let it.
+-- The cause is a level: the entry is prepared directly after the completion of the row whose level
+-- it takes over, x.late ticks later than its address and its index-side word would allow.
 pub record IsForLevel (ds : List ℕ) (n : ℕ) (f : Front) (e : Entry) (x : Cause) : Type 0 where
   pub reason : x.reason ≡ Level
   pub row : done_before x.back f.past ≡ x.tick
@@ -110,8 +112,8 @@ pub record IsForLevel (ds : List ℕ) (n : ℕ) (f : Front) (e : Entry) (x : Cau
   pub late : tick_p ds n f e ≡ max (tick_a ds f e) (tick_y ds f e) + 1 + x.late
   pub some : 0 < x.late
 
--- Its index-side word: it is prepared right behind the completion of the row that wrote it. It waits
--- for no level.
+-- The cause is the index-side word: the entry is prepared directly after the completion of the row
+-- that wrote that word, and it waits for no level.
 pub record IsForForwarding (ds : List ℕ) (n : ℕ) (f : Front) (e : Entry) (words : List Use)
     (x : Cause) : Type 0 where
   pub reason : x.reason ≡ Forwarding
@@ -122,15 +124,15 @@ pub record IsForForwarding (ds : List ℕ) (n : ℕ) (f : Front) (e : Entry) (wo
   pub late : x.tick ≡ tick_a ds f e + x.late
   pub some : 0 < x.late
 
--- the index-side word, wanted and answered at these ticks
+-- a use is a read of the index-side word with this want and this answer
 abbrev pub is_side_read : ℕ → ℕ → Use → Bool
 is_side_read want answer u = is_index u.role
     && (is_read u.supply
     && (nat_eq (read_of u.supply).want want && nat_eq (read_of u.supply).answer answer))
 
--- What its address awaited: there the path ends. It waits for no level, and its index-side word is
--- not forwarded; so it is prepared behind its address, or behind the answer of that word, which is
--- wanted at the address's tick.
+-- The cause is that of the address, where the path ends. The entry waits for no level, and its
+-- index-side word is not forwarded; so it is prepared directly after its address, or after the
+-- answer of that word, which is wanted at the address's tick.
 pub record IsForAddress (ds : List ℕ) (n : ℕ) (f : Front) (e : Entry) (words before : List Use)
     (b : Because) : Type 0 where
   pub unlevelled : level_wait ds n f e ≡ 0
@@ -139,7 +141,7 @@ pub record IsForAddress (ds : List ℕ) (n : ℕ) (f : Front) (e : Entry) (words
       ⊎ (list_any (is_side_read (tick_a ds f e) (tick_p ds n f e - 1)) words ≡ true)
   pub path : IsPath f e.own.len (reverse before) e.serial (reverse words) (tick_a ds f e - 1) b
 
--- the first of these that does
+-- the cause that applies first
 pub data IsReason (ds : List ℕ) (n : ℕ) (f : Front) (e : Entry) (words before : List Use) : Because
     → Type 0 where
   ForLevel : (x : Cause) → IsForLevel ds n f e x → IsReason ds n f e words before (Earlier x)

@@ -1,6 +1,6 @@
--- What is true of the reasons that the ledger tells, in each segment of each machine. A machine has
--- the delays ds and n levels, and its segment starts at a tick with these banks; the entry x comes
--- behind the others, which stand youngest first.
+-- Laws of the causes in the ledger, for each segment on each machine. The machine has the delays ds
+-- and n levels, and the segment starts at a tick with these banks; the entry x comes after the
+-- others, which are listed youngest first.
 use Rattle.std.specs.Prelude.{ℕ, ◌≤◌, ◌<◌, List, ◌∷◌, All}
 use Rattle.st_banks.specs.declared.answers.LastAnswers.{LastAnswers}
 use Rattle.st_rows.specs.Rows.{tick_a, tick_p, completion_of}
@@ -10,17 +10,18 @@ use Rattle.st_reasons.specs.Paths.{IsReason}
 use Rattle.st_reasons.specs.Reasons.{because}
 use Rattle.st_reasons.specs.Segments.{Told, IsTold, front_of, last_uses}
 
--- No two rows of a segment are done at one tick: so a row that is told by how many rows before it
--- lies is the one that was done then.
+-- No two rows of a segment complete at the same tick, so a distance in rows identifies the row that
+-- completed at a tick.
 abbrev pub NoTwoRowsAreDoneAtOnce : Type 0
 NoTwoRowsAreDoneAtOnce = (ds : List ℕ) (n : ℕ) (banks : LastAnswers) (start : ℕ)
     (rows : List Told) (i j : ℕ) → All IsTold rows → i < j →
     let past = (front_of ds n banks start rows).past in
     1 ≤ completion_of past j → completion_of past j < completion_of past i
 
--- What is told to have kept a row back did: a level, a row that its index-side word came from, or
--- where the path behind its address ends, with its row, its tick, and by how much it was late. Of
--- what came at that tick it is the first in the order of the page.
+-- The cause that the ledger names did delay the row: a level, a row that wrote its index-side word,
+-- or the end of the path that leads back from its address, with its row, its tick, and the number
+-- of ticks that the row was later for it. If several causes came at that tick, it is the first in
+-- the order of the page.
 abbrev pub ReasonsAreTrue : Type 0
 ReasonsAreTrue = (ds : List ℕ) (n : ℕ) (banks : LastAnswers) (start : ℕ) (older : List Told)
     (x : Told) → 1 ≤ n → n ≤ 8 → All IsTold (x ∷ older) →

@@ -1,5 +1,5 @@
--- What kept a row from being prepared earlier: where the path ends that goes back from its
--- completion. Words stand youngest first: those of the row, and those of the row before it.
+-- The cause for which a row was not prepared earlier: the end of the path that leads back from its
+-- completion. Words are listed youngest first: those of the row, and those of the row before it.
 use Rattle.std.specs.Prelude.{ℕ, ◌-◌, Bool, ◌&&◌, ◌||◌, nat_eq, nat_le, nat_lt, if◌then◌else◌, List, [], ◌∷◌, find, length, reverse, Option, None, Some, unwrap_or}
 use Rattle.std.specs.List.{list_any}
 use Rattle.st_bits.specs.declared.register.TheConstants.{FIRST_STORAGE_WORD}
@@ -19,33 +19,33 @@ use Rattle.st_reasons.specs.declared.because.Because.TheVariants.{Start, Prefetc
 use Rattle.st_reasons.specs.declared.because.Reason.{Reason}
 use Rattle.st_reasons.specs.declared.because.Reason.TheVariants.{Serial, Store, Level, Forwarding, Bus, Order}
 
--- it is an earlier row, or what the row itself is: how many rows before, the tick at which the path
--- ends, and by how many ticks at most the row was later for it
+-- a cause with its reason, its distance in rows, the tick at which the path ends, and the greatest
+-- number of ticks by which it delayed the row
 abbrev pub row_reason : Reason → ℕ → ℕ → ℕ → Because
 row_reason reason back tick late =
     Earlier (record { reason = reason; back = back; tick = tick; late = late })
 
--- how many entries before the one lies that is done at the tick t, 1 to 8; 0 where there is none
+-- the distance, 1 to 8, to the entry that completes at tick t; 0 if there is none
 abbrev pub back_to : ℕ → List Past → ℕ
 back_to t past = unwrap_or (find (λ k. nat_eq (done_before k past) t)
     (1 ∷ 2 ∷ 3 ∷ 4 ∷ 5 ∷ 6 ∷ 7 ∷ 8 ∷ [])) 0
 
--- no entry of the segment lies before it
+-- whether no entry of the segment precedes the one after this front
 abbrev pub is_first : Front → Bool
 is_first f = nat_eq (done_before 1 f.past) 0
 
--- ---- what came at a tick
+-- ---- the events at a tick
 
--- the latest writer of the word w is done at the tick t; registers are left out
+-- whether the latest writer of the word w, if w is not a register, completes at tick t
 abbrev pub is_written : List Past → ℕ → ℕ → Bool
 is_written past t w = nat_le FIRST_STORAGE_WORD w && nat_eq (latest_done past w) t
 
--- and it is an instruction word
+-- whether a word is used as an instruction word and its latest writer completes at tick t
 unfoldable pub is_stored : List Past → ℕ → Use → Bool
 is_stored past t u = is_instruction u.role && is_written past t u.word
 
--- the entry before was done, where it is done alone or something is awaited that has to be behind
--- it; or an entry that wrote one of these words
+-- the cause of a completion at tick t: the entry before, if it is serialized or the awaited words
+-- must come after it; or an entry that wrote one of these words
 unfoldable pub reason_done : Front → Bool → ℕ → List Use → Option Because
 reason_done f alone t words =
     if is_first f then None
@@ -55,11 +55,12 @@ reason_done f alone t words =
     then Some (row_reason Store (back_to t f.past) t (t - f.p))
     else None
 
--- the segment starts, or the entry before was prepared
+-- the cause without other events: the start of the segment, or the preparation of the entry before
 unfoldable pub reason_in_order : Front → Because
 reason_in_order f = if is_first f then Start f.p else row_reason Order 1 f.p 0
 
--- the last read of the row before was accepted, where that is later than its preparation
+-- the cause at tick t if no word was answered: the last read of the row before, if it was accepted
+-- at t, after that row was prepared; else the order
 unfoldable pub reason_of_bus : Front → ℕ → List Use → Because
 reason_of_bus f t [] = reason_in_order f
 reason_of_bus f t (u ∷ older) =
@@ -71,14 +72,14 @@ reason_of_bus f t (u ∷ older) =
 
 -- ---- the path
 
--- the first of these reasons, if there is one
+-- the first cause if it is present, else the second
 abbrev pub reason_or : Option Because → Because → Because
 reason_or (Some reason) other = reason
 reason_or None other = other
 
--- an instruction word was answered at the tick t: an earlier row asked for it, or the path goes on
--- at its want; `own` is how many instruction words are none of the target of EX, which have to be
--- behind the entry before
+-- the cause on the path from tick t backwards: if an instruction word was answered at t, an earlier
+-- row requested it, or the path continues at its want. `own` is the number of instruction words
+-- outside the target of EX, which must come after the entry before
 unfoldable pub reason_of_words : Front → ℕ → List Use → ℕ → List Use → Because
 reason_of_words f own before t [] = reason_of_bus f t before
 reason_of_words f own before t (u ∷ earlier) =
@@ -90,21 +91,22 @@ reason_of_words f own before t (u ∷ earlier) =
     else Prefetch (record { word = u.word; late = t - f.p })
     else reason_of_words f own before t earlier
 
--- from the tick t on, at which all was there that the address is formed from
+-- the cause on the path from tick t on, at which everything was available that the address is
+-- formed from
 abbrev pub reason_of_address : Front → Entry → ℕ → List Use → List Use → Because
 reason_of_address f e t before words =
     reason_or (reason_done f e.serial t words) (reason_of_words f e.own.len before t words)
 
 -- ---- the row
 
--- the writer of a word that is forwarded
+-- the writer of a word that is forwarded; None if it is not forwarded
 unfoldable pub writer_of_supply : Supply → Option Writer
 writer_of_supply (Read r) = None
 writer_of_supply (Held answer) = None
 writer_of_supply (Forwarded w) = Some w
 writer_of_supply Register = None
 
--- that of the index-side word, if it is
+-- the writer of the index-side word, if that is forwarded
 unfoldable pub side_writer : List Use → Option Writer
 side_writer [] = None
 side_writer (u ∷ uses) = if is_index u.role then writer_of_supply u.supply else side_writer uses
@@ -113,10 +115,11 @@ abbrev pub reason_of_side : Option Writer → ℕ → Because → Because
 reason_of_side (Some w) a other = row_reason Forwarding w.back w.done (w.done - a)
 reason_of_side None a other = other
 
--- what kept the entry e behind the front f back, whose address is formed at the tick a and which is
--- prepared at p, so many ticks later for want of a level: that level, its index-side word, or else
--- what its address awaited. It uses some words until its address is formed, and the row before it
--- others, none where it is the first one of its segment; they stand in the order of their reads
+-- the cause that delayed the entry e after the front f, whose address is formed at tick a and which
+-- is prepared at p, `wait` ticks later because no level was free: the level, the index-side word,
+-- or else the cause of the address. `words` are the words that it uses until its address is formed,
+-- and `before` those of the row before, none for the first row of a segment; both are in the order
+-- of their reads
 unfoldable pub because : Front → Entry → ℕ → ℕ → ℕ → List Use → List Use → Because
 because f e a p wait words before =
     if nat_lt 0 wait then row_reason Level (back_to (p - 1) f.past) (p - 1) wait

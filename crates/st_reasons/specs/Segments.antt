@@ -1,4 +1,4 @@
--- The words that the entries of a segment use, as the ledger tells them: the segment so far.
+-- The words that the entries of a segment use, as the ledger lists them, for the segment so far.
 use Rattle.std.specs.Prelude.{ℕ, ◌≡◌, List, [], ◌∷◌, ◌++◌, reverse, Option}
 use Rattle.st_banks.specs.declared.answers.LastAnswers.{LastAnswers}
 use Rattle.st_prep.specs.declared.entries.Words.{Words}
@@ -14,44 +14,44 @@ use Rattle.st_plain.specs.declared.uses.Use.{Use}
 use Rattle.st_reasons.specs.Waits.{charge_waits}
 use Rattle.st_reasons.specs.declared.waits.Wait.{Wait}
 
--- an entry, with its index-side word and its operand words, registers among them
+-- an entry, with its index-side word and its operand words, including registers
 pub record Told : Type 0 where
   pub entry : Entry
   pub side : Option ℕ
   pub reads : Words
 
--- it is one that a machine can have
+-- an entry that a machine can have
 pub record IsTold (x : Told) : Type 0 where
   pub side : x.entry.side ≡ side_to_read x.side
   pub entry : IsEntryInTime x.entry
 
--- on a machine with the delays ds and n levels, in a segment that starts at a tick with these banks;
--- the entries stand youngest first
+-- definitions on a machine with the delays ds and n levels, in a segment that starts at a tick with
+-- these banks; the entries are listed youngest first
 module _ (ds : List ℕ) (n : ℕ) (banks : LastAnswers) (start : ℕ) where
-  -- the front behind them
+  -- the front after these entries
   unfoldable pub front_of : List Told → Front
   front_of [] = opening_front banks start
   front_of (x ∷ older) = front_after_entry ds n (front_of older) x.entry
 
-  -- the words that an entry behind others uses, in the order of their reads
+  -- the words that an entry after these uses, in the order of their reads
   unfoldable pub uses_behind : List Told → Told → List Use
   uses_behind older x = uses_of_entry ds n (front_of older) x.entry x.side x.reads
 
-  -- those of the last one, none where there is none
+  -- the words that the last entry uses; none if there is no entry
   unfoldable pub last_uses : List Told → List Use
   last_uses [] = []
   last_uses (x ∷ older) = uses_behind older x
 
-  -- those of all of them, youngest first
+  -- the words that all entries use, youngest first
   unfoldable pub all_uses : List Told → List Use
   all_uses [] = []
   all_uses (x ∷ older) = reverse (uses_behind older x) ++ all_uses older
 
-  -- the charges of an entry behind others, where the last entry of the run was done at a tick
+  -- the charges of an entry after these, if the run's last entry completed at this tick
   abbrev pub charges_behind_all : ℕ → List Told → Told → List Charge
   charges_behind_all t older x =
       charges t (front_of older) (row_of_entry ds n (front_of older) x.entry)
 
-  -- the waits of one of them
+  -- the waits of one charge of an entry after these
   abbrev pub waits_behind : List Told → Told → Charge → List Wait
   waits_behind older x c = charge_waits c (uses_behind older x) (last_uses older)

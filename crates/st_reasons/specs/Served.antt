@@ -1,4 +1,4 @@
--- Reads with their ticks, as a bus serves them and as the words of entries tell them.
+-- Reads with their ticks, as the bus serves them and as the words of entries list them.
 use Rattle.std.specs.Prelude.{ℕ, ◌-◌, get_or, Some, ◌≡◌, ◌≤◌, Bool, true, false, ◌&&◌, nat_eq, if◌then◌else◌, List, [], ◌∷◌, ◌++◌}
 use Rattle.std.specs.List.{list_any}
 use Rattle.st_banks.specs.Bank.{bank_of, last_of}
@@ -17,26 +17,26 @@ use Rattle.st_plain.specs.declared.uses.Writer.{Writer}
 use Rattle.st_reasons.specs.Reasons.{writer_of_supply}
 use Rattle.st_reasons.specs.Words.{is_read, read_of}
 
--- a read: its word, and its ticks
+-- a read: the address of its word, and its ticks
 pub record Served : Type 0 where
   pub w : ℕ
   pub ticks : ReadTicks
 
--- those of a list, made one after another from the bus b on
+-- the reads of a list with their ticks, made in order from the state b of the bus on
 unfoldable pub served : List ℕ → List Read → Bus → List Served
 served ds [] b = []
 served ds (r ∷ reads) b =
     record { w = r.w; ticks = read_ticks ds b r.w r.want } ∷ served ds reads (after_one ds b r)
 
--- those among some words
+-- the reads among the words that an entry uses
 unfoldable pub reads_told : List Use → List Served
 reads_told [] = []
 reads_told (u ∷ us) =
     (if is_read u.supply then record { w = u.word; ticks = read_of u.supply } ∷ [] else [])
     ++ reads_told us
 
--- until when the bank of the word w is busy behind some words, the youngest first: up to the answer
--- of the last read in it, or as long as it was before all of them
+-- the tick until which the bank of the word w is busy after the uses in a list, youngest first: up
+-- to the answer of the last read in that bank, or as long as it was before all of them
 unfoldable pub busy_until : LastAnswers → List Use → ℕ → ℕ
 busy_until banks [] w = last_of banks.ticks w
 busy_until banks (u ∷ older) w =
@@ -45,32 +45,32 @@ busy_until banks (u ∷ older) w =
     else busy_until banks older w
     else busy_until banks older w
 
--- each read finds its bank so
+-- each read finds its bank busy until the tick that the uses before it determine
 unfoldable pub AreBankedBehind : LastAnswers → List Use → Type 0
 AreBankedBehind banks [] = Unit {0}
 AreBankedBehind banks (u ∷ older) =
     (is_read u.supply ≡ true → (read_of u.supply).free ≡ busy_until banks older u.word)
     × AreBankedBehind banks older
 
--- where a word comes from a row that was not done, that is the one so many entries before: it writes
--- the word, and is done at the tick told
+-- a word that is forwarded comes from the row at the listed distance, which writes the word and
+-- completes at the listed tick
 abbrev pub IsWrittenBy : List Past → Use → Type 0
 IsWrittenBy past u = (w : Writer) → writer_of_supply u.supply ≡ Some w →
     (done_before w.back past ≡ w.done)
     × (is_among u.word (get_or past (w.back - 1) (record { c = 0; writes = no_runs })).writes ≡ true)
 
--- it is the read of the word w, and is answered at the tick t
+-- whether a use is a read of the word w that is answered at tick t
 abbrev pub brings : ℕ → ℕ → Use → Bool
 brings w t u = is_read u.supply && (nat_eq u.word w && nat_eq (read_of u.supply).answer t)
 
--- it is held, and answered at the tick t
+-- whether a word is held and answered at tick t
 unfoldable pub is_held_until : ℕ → Supply → Bool
 is_held_until t (ByRead r) = false
 is_held_until t (Held answer) = nat_eq answer t
 is_held_until t (Forwarded writer) = false
 is_held_until t Register = false
 
--- each word of storage that is held is brought by a read before it, the youngest first
+-- each word of storage that is held was brought by a read before it; uses are listed youngest first
 unfoldable pub AreBrought : List Use → Type 0
 AreBrought [] = Unit {0}
 AreBrought (u ∷ older) =

@@ -1,4 +1,4 @@
--- The sums of waits, by the stage of their charge and by what was waited for.
+-- The totals of waits, by the stage of their charge and by kind of wait.
 use Rattle.std.specs.Prelude.{ℕ, ◌+◌, ◌-◌, ◌≤◌, Bool, true, false, nat_eq, if◌then◌else◌, List, [], ◌∷◌}
 use Rattle.st_ledger.specs.Charges.{is_stage}
 use Rattle.st_ledger.specs.declared.charges.Charge.{Charge}
@@ -15,42 +15,43 @@ use Rattle.st_reasons.specs.declared.waits.Wait.{Wait}
 
 -- ---- the ticks of waits
 
--- all of them
+-- the number of ticks of a list of waits
 unfoldable pub all_stalled : List Wait → ℕ
 all_stalled [] = 0
 all_stalled (x ∷ xs) = (x.to - x.from) + all_stalled xs
 
--- the number of a thing that is waited for
+-- the number of a kind of wait
 abbrev pub stall_number : Stall → ℕ
 stall_number Turn = 0
 stall_number Bank = 1
 stall_number Storage = 2
 
--- it is the same
+-- whether two kinds of waits are equal
 abbrev pub is_stall : Stall → Stall → Bool
 is_stall s r = nat_eq (stall_number s) (stall_number r)
 
--- those in which one thing is waited for
+-- the number of ticks of the waits of one kind
 unfoldable pub stalled_for : Stall → List Wait → ℕ
 stalled_for s [] = 0
 stalled_for s (x ∷ xs) = (if is_stall s x.why then x.to - x.from else 0) + stalled_for s xs
 
--- those of the charges of a row in a stage; the row uses some words, and the row before it others
+-- the number of ticks of one kind of wait in the charges of a row in a stage, given the words that
+-- the row uses and those of the row before it
 unfoldable pub row_stalled : Stage → Stall → List Use → List Use → List Charge → ℕ
 row_stalled r s uses before [] = 0
 row_stalled r s uses before (x ∷ xs) =
     (if is_stage r x.stage then stalled_for s (charge_waits x uses before) else 0)
     + row_stalled r s uses before xs
 
--- ---- the sums
+-- ---- the totals
 
--- that of one thing
+-- the total of one kind of wait
 abbrev pub share_at : Stall → Shares → ℕ
 share_at Turn shares = shares.turn
 share_at Bank shares = shares.bank
 share_at Storage shares = shares.storage
 
--- a stage whose charges have waits
+-- whether the charges of a stage have waits
 abbrev pub is_parted : Stage → Bool
 is_parted Restart = false
 is_parted Instruction = true
@@ -60,7 +61,7 @@ is_parted Preparing = false
 is_parted Operand = true
 is_parted Executing = false
 
--- that of one thing in a stage, 0 where its charges have no waits
+-- the total of one kind of wait in a stage; 0 if its charges have no waits
 abbrev pub waited_at : Stage → Stall → WaitTotals → ℕ
 waited_at Restart s sums = 0
 waited_at Instruction s sums = share_at s sums.instruction
@@ -70,7 +71,7 @@ waited_at Preparing s sums = 0
 waited_at Operand s sums = share_at s sums.operand
 waited_at Executing s sums = 0
 
--- none is greater than t
+-- no total is greater than t
 pub record AreSharesWithin (t : ℕ) (shares : Shares) : Type 0 where
   pub turn : shares.turn ≤ t
   pub bank : shares.bank ≤ t
@@ -81,7 +82,7 @@ pub record AreWaitsWithin (t : ℕ) (sums : WaitTotals) : Type 0 where
   pub index : AreSharesWithin t sums.index
   pub operand : AreSharesWithin t sums.operand
 
--- ---- the sums in their order; no index-side word waits for a turn
+-- ---- the totals in the order of their lines; an index-side word never waits for a turn
 
 abbrev pub wait_sums_by : (Stage → Stall → ℕ) → List WaitSum
 wait_sums_by f =

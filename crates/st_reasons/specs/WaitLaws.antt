@@ -1,6 +1,6 @@
--- What is true of the waits that the ledger tells, in each segment of each machine. A machine has
--- the delays ds and n levels, and its segment starts at a tick with these banks; the entry x comes
--- behind the others, which stand youngest first, and the last entry of the run was done at t.
+-- Laws of the waits in the ledger, for each segment on each machine. The machine has the delays ds
+-- and n levels, and the segment starts at a tick with these banks; the entry x comes after the
+-- others, which are listed youngest first, and the run's last entry completed at tick t.
 use Rattle.std.specs.Prelude.{ℕ, ◌≡◌, ◌+◌, ◌<◌, true, false, List, ◌∷◌, All, drop, length, Option}
 use Rattle.st_banks.specs.declared.answers.LastAnswers.{LastAnswers}
 use Rattle.st_banks.specs.declared.answers.TheConstants.{BANKS}
@@ -25,34 +25,35 @@ use Rattle.st_reasons.specs.declared.waits.Stall.{Stall}
 use Rattle.st_reasons.specs.declared.waits.Stall.TheVariants.{Turn, Bank, Storage}
 use Rattle.st_reasons.specs.declared.waits.Wait.{Wait}
 
--- ---- the words that waits are found from
+-- ---- the words from which waits are found
 
 -- The reads among the words of an entry are its reads in the timetable, in their order, each with
--- the ticks at which the bus and its bank are free then.
+-- the ticks at which the bus and its bank become free.
 abbrev pub ReadsToldAreThoseOfTheBus : Type 0
 ReadsToldAreThoseOfTheBus = (ds : List ℕ) (n : ℕ) (f : Front) (e : Entry) (side : Option ℕ)
     (reads : Words) → e.side ≡ side_to_read side →
     reads_told (uses_of_entry ds n f e side reads) ≡ served ds (reads_of_entry ds n f e) f.bus
 
--- Each read of a segment finds its bank busy up to the answer of the last read in it before, in the
--- order of the timetable; where there is none, as long as it was when the segment began.
+-- Each read of a segment finds its bank busy up to the answer of the previous read in it, in the
+-- order of the timetable; if there is none, as long as it was busy at the start of the segment.
 abbrev pub BanksAreHeldByTheReadBefore : Type 0
 BanksAreHeldByTheReadBefore = (ds : List ℕ) (n : ℕ) (banks : LastAnswers) (start : ℕ)
     (rows : List Told) → length banks.ticks ≡ BANKS → All IsTold rows →
     AreBankedBehind banks (all_uses ds n banks start rows)
 
--- Each word that is held is brought by a read of that word before it in its segment, whose answer it
--- has.
+-- For each word that is held, a read of that word precedes it in its segment, and the word has the
+-- answer of that read.
 abbrev pub HeldWordsAreBrought : Type 0
 HeldWordsAreBrought = (ds : List ℕ) (n : ℕ) (banks : LastAnswers) (start : ℕ) (rows : List Told) →
     All IsTold rows → AreBrought (all_uses ds n banks start rows)
 
--- Each word that is forwarded comes from the row that is told: it writes the word, and is done then.
+-- Each word that is forwarded comes from the row that the ledger names, which writes the word and
+-- completes at that tick.
 abbrev pub ForwardedWordsAreWritten : Type 0
 ForwardedWordsAreWritten = (ds : List ℕ) (n : ℕ) (f : Front) (e : Entry) (side : Option ℕ)
     (reads : Words) → All (IsWrittenBy f.past) (uses_of_entry ds n f e side reads)
 
--- The first four words of an entry have all its instruction words.
+-- The first four words that an entry uses include all its instruction words.
 abbrev pub InstructionWordsAreFirst : Type 0
 InstructionWordsAreFirst = (ds : List ℕ) (n : ℕ) (f : Front) (e : Entry) (side : Option ℕ)
     (reads : Words) → IsEntryInTime e →
@@ -61,16 +62,16 @@ InstructionWordsAreFirst = (ds : List ℕ) (n : ℕ) (f : Front) (e : Entry) (si
 
 -- ---- the waits of a row
 
--- Each wait is true at each of its ticks: at a TURN the read that it names is accepted, at a BANK
--- that read is wanted and first in turn and its bank is busy, and it is accepted at the end; at a
--- STORAGE it is on its way. These reads are among those of the segment.
+-- Each wait is true at each of its ticks. In a TURN the named read is accepted; in a BANK that read
+-- is wanted and first in turn, its bank is busy, and it is accepted at the end; in a STORAGE the
+-- read is in progress. The reads are among those of the segment.
 abbrev pub WaitsAreTrue : Type 0
 WaitsAreTrue = (ds : List ℕ) (n t : ℕ) (banks : LastAnswers) (start : ℕ) (older : List Told)
     (x : Told) → All IsTold (x ∷ older) →
     All (λ (c : Charge). All (IsTrueOf (all_uses ds n banks start (x ∷ older)))
     (waits_behind ds n banks start older x c)) (charges_behind_all ds n banks start t older x)
 
--- The waits of a charge cover it, without a gap and without an overlap.
+-- The waits of a charge cover its ticks without a gap and without an overlap.
 abbrev pub WaitsCoverTheirCharge : Type 0
 WaitsCoverTheirCharge = (ds : List ℕ) (n t : ℕ) (banks : LastAnswers) (start : ℕ)
     (older : List Told) (x : Told) → All IsTold (x ∷ older) →
@@ -78,7 +79,8 @@ WaitsCoverTheirCharge = (ds : List ℕ) (n t : ℕ) (banks : LastAnswers) (start
     FallTo c.from c.to (waits_behind ds n banks start older x c))
     (charges_behind_all ds n banks start t older x)
 
--- They end before the row is done, so each read that is named was accepted before its segment ends.
+-- The waits of a row end before the row completes, so each read that they name was accepted before
+-- the segment ends.
 abbrev pub WaitsEndBeforeTheirRow : Type 0
 WaitsEndBeforeTheirRow = (ds : List ℕ) (n t : ℕ) (banks : LastAnswers) (start : ℕ)
     (older : List Told) (x : Told) → All IsTold (x ∷ older) →
@@ -86,7 +88,7 @@ WaitsEndBeforeTheirRow = (ds : List ℕ) (n t : ℕ) (banks : LastAnswers) (star
     w.to < (row_of_entry ds n (front_of ds n banks start older) x.entry).c)
     (waits_behind ds n banks start older x c)) (charges_behind_all ds n banks start t older x)
 
--- So of each stage that has waits its turns, its banks and its storage add up to its ticks.
+-- For each stage with waits, its turns, banks and storage waits add up to its ticks.
 abbrev pub WaitsAddUpToTheirStage : Type 0
 WaitsAddUpToTheirStage = (ds : List ℕ) (n t : ℕ) (banks : LastAnswers) (start : ℕ)
     (older : List Told) (x : Told) (s : Stage) → All IsTold (x ∷ older) → is_parted s ≡ true →

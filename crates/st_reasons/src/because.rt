@@ -1,4 +1,4 @@
-//! What kept a row from being prepared earlier.
+//! Finds the cause for which a row was not prepared earlier.
 ghost use Rattle.std.specs.Prelude.{◌≡◌, ◌-◌, ◌≤◌, nat_eq, find, reverse, All, unwrap_or};
 ghost use Rattle.st_reasons.specs.declared.because.Because.TheVariants.{Prefetch as PrefetchOf};
 ghost use Rattle.std.specs.List.{list_any};
@@ -10,56 +10,56 @@ use st_bits::register::FIRST_STORAGE_WORD;
 use st_plain::{Begun, Role, Supply, Use, Writer};
 use st_rows::{Entry, Front, LastEntries};
 
-/// What kept a row back, of what ties it to a row before it.
+/// The kind of dependence of a row on an earlier row that delayed it.
 #[derive(Clone, Copy, Debug, PartialEq, Eq)]
 pub enum Reason {
-    /// The row before was done, and that or this one is done alone.
+    /// The row before completed, and that row or this one is serialized.
     Serial,
-    /// A row was done that wrote one of its instruction words.
+    /// A row completed that wrote one of the instruction words.
     Store,
-    /// A row was done whose level it takes over.
+    /// A row completed whose level this row takes over.
     Level,
-    /// A row was done that wrote its index-side word.
+    /// A row completed that wrote the index-side word.
     Forwarding,
-    /// The row before made reads, of which the last one was accepted before its own.
+    /// The row before made reads, the last of which was accepted before those of this row.
     Bus,
     /// The row before was prepared.
     Order,
 }
 
-/// A reason with its row.
+/// A reason with the row that it concerns.
 #[derive(Clone, Copy, Debug, PartialEq, Eq)]
 pub struct Cause {
     pub reason: Reason,
-    /// How many rows before it lies, 0 where it is the row itself.
+    /// The distance to that row in rows: 1 is the row before, 0 the row itself.
     pub back: u8,
-    /// The tick at which the path to the completion begins.
+    /// The tick at which the path to the row's completion begins.
     pub tick: u64,
-    /// By how many ticks at most the row was later for it.
+    /// The greatest number of ticks by which this cause delayed the row.
     pub late: u64,
 }
 
-/// An instruction word that an earlier row asked for.
+/// An instruction word that an earlier row requested.
 #[derive(Clone, Copy, Debug, PartialEq, Eq)]
 pub struct Prefetched {
-    /// Its address.
+    /// The word's address.
     pub word: u32,
-    /// By how many ticks at most the row was later for it.
+    /// The greatest number of ticks by which this cause delayed the row.
     pub late: u64,
 }
 
-/// What kept a row from being prepared earlier.
+/// The cause for which a row was not prepared earlier.
 #[derive(Clone, Copy, Debug, PartialEq, Eq)]
 pub enum Because {
-    /// Its segment starts at this tick.
+    /// The row's segment starts at this tick.
     Start(u64),
-    /// An earlier row asked for one of its instruction words.
+    /// An earlier row requested one of the row's instruction words.
     Prefetch(Prefetched),
-    /// An earlier row, or what the row itself is.
+    /// An earlier row, or a property of the row itself.
     Earlier(Cause),
 }
 
-// A reason with its row.
+// The cause with these parts.
 #[inline(always)]
 fn earlier_reason(reason: Reason, back: u8, tick: u64, late: u64) -> Because
     ensures { result ≡ row_reason reason back tick late }
@@ -72,8 +72,8 @@ fn earlier_reason(reason: Reason, back: u8, tick: u64, late: u64) -> Because
     })
 }
 
-// The first of some numbers from 1 to 8 for which the entry so many before is done at the tick; 0
-// where there is none.
+// The first of some distances, 1 to 8, such that the entry at that distance completes at tick `t`;
+// 0 if there is none.
 fn first_done(t: u64, past: &LastEntries, numbers: &[u8]) -> u8
     requires { All (λ k. (1 ≤ k) × (k ≤ 8)) numbers.now }
     ensures { result
@@ -90,14 +90,14 @@ fn first_done(t: u64, past: &LastEntries, numbers: &[u8]) -> u8
     }
 }
 
-// How many entries before the one lies that is done at the tick, 1 to 8; 0 where there is none.
+// The distance, 1 to 8, to the entry that completes at tick `t`; 0 if there is none.
 fn back_to(t: u64, past: &LastEntries) -> u8
     ensures { result ≡ back_by t past.now }
 {
     first_done(t, past, &[1, 2, 3, 4, 5, 6, 7, 8])
 }
 
-// Whether an entry is the first one of its segment.
+// Whether the entry after this front is the first of its segment.
 #[inline(always)]
 fn is_first(front: &Front) -> bool
     ensures { result ≡ is_first_of front.now }
@@ -105,7 +105,7 @@ fn is_first(front: &Front) -> bool
     front.past.done_before(1) == 0
 }
 
-// Whether the latest writer of a word of storage is done at the tick.
+// Whether the latest writer of a word of storage completes at tick `t`.
 #[inline(always)]
 fn is_written(past: &LastEntries, t: u64, w: u32) -> bool
     ensures { result ≡ is_written_of past.now t w }
@@ -113,7 +113,8 @@ fn is_written(past: &LastEntries, t: u64, w: u32) -> bool
     w >= FIRST_STORAGE_WORD && past.latest_done(w) == t
 }
 
-// Whether a word is an instruction word that was written by an entry that is done at the tick.
+// Whether a word is used as an instruction word and was written by an entry that completes at tick
+// `t`.
 #[inline(always)]
 fn is_stored(past: &LastEntries, t: u64, one: &Use) -> bool
     ensures { result ≡ is_stored_of past.now t one.now }
@@ -121,7 +122,8 @@ fn is_stored(past: &LastEntries, t: u64, one: &Use) -> bool
     is_instruction(one.role) && is_written(past, t, one.word)
 }
 
-// Whether one of some words is.
+// Whether one of some words is an instruction word that was written by an entry that completes at
+// tick `t`.
 fn is_any_stored(past: &LastEntries, t: u64, uses: &[Use]) -> bool
     ensures { result ≡ list_any (is_stored_of past.now t) (reverse uses.now) }
 {
@@ -134,8 +136,8 @@ fn is_any_stored(past: &LastEntries, t: u64, uses: &[Use]) -> bool
     is_any_stored(past, t, earlier)
 }
 
-// What was done at the tick: the entry before, where that or this one is done alone, or one that
-// wrote one of these words.
+// The cause that a completion at tick `t` gives: the entry before, if it or this entry is
+// serialized, or an entry that wrote one of these words.
 #[inline(always)]
 fn done_at(front: &Front, alone: bool, t: u64, words: &[Use]) -> Option<Because>
     ensures { result ≡ reason_done front.now alone t (reverse words.now) }
@@ -153,7 +155,8 @@ fn done_at(front: &Front, alone: bool, t: u64, words: &[Use]) -> Option<Because>
     None
 }
 
-// The start of the segment, or the entry before.
+// The cause without any other dependence: the start of the segment, or the preparation of the entry
+// before.
 fn in_order(front: &Front) -> Because
     ensures { result ≡ reason_in_order front.now }
 {
@@ -163,8 +166,8 @@ fn in_order(front: &Front) -> Because
     earlier_reason(Reason::Order, 1, front.p, 0)
 }
 
-// The last read of the row before, where it was accepted at the tick and later than that row was
-// prepared, or else what the order is.
+// The cause `Bus` if the last read of the row before was accepted at tick `t`, after that row was
+// prepared; else the cause from the order.
 fn bus_or_order(front: &Front, t: u64, before: &[Use]) -> Because
     ensures { result ≡ reason_of_bus front.now t (reverse before.now) }
 {
@@ -181,7 +184,7 @@ fn bus_or_order(front: &Front, t: u64, before: &[Use]) -> Because
     in_order(front)
 }
 
-// An instruction word that an earlier row asked for.
+// The cause of an instruction word that an earlier row requested.
 #[inline(always)]
 fn asked_before(front: &Front, word: u32, t: u64) -> Because
     ensures { result ≡ PrefetchOf (record { word = word; late = t - front.now.p }) }
@@ -192,7 +195,7 @@ fn asked_before(front: &Front, word: u32, t: u64) -> Because
     })
 }
 
-// What the words awaited that were asked for so far, where the path is at the tick `t`.
+// The cause for which the words requested so far came late, on the path from tick `t` backwards.
 fn of_words(front: &Front, own: u8, t: u64, words: &[Use], before: &[Use]) -> Because
     ensures { result
         ≡ reason_of_words front.now own (reverse before.now) t (reverse words.now) }
@@ -214,7 +217,7 @@ fn of_words(front: &Front, own: u8, t: u64, words: &[Use], before: &[Use]) -> Be
     }
 }
 
-// What the address awaited, which is formed one tick behind the tick `t`.
+// The cause for which the address was not formed earlier; it is formed at the tick after `t`.
 fn of_address(front: &Front, entry: &Entry, t: u64, words: &[Use], before: &[Use]) -> Because
     ensures { result ≡ reason_of_address front.now entry.now t (reverse before.now)
         (reverse words.now) }
@@ -225,7 +228,7 @@ fn of_address(front: &Front, entry: &Entry, t: u64, words: &[Use], before: &[Use
     }
 }
 
-// The writer of a word that is forwarded.
+// The writer of a word that is forwarded; `None` if the word is not forwarded.
 #[inline(always)]
 fn writer_of(supply: &Supply) -> Option<Writer>
     ensures { result ≡ writer_by supply.now }
@@ -249,9 +252,9 @@ fn side_writer(uses: &[Use]) -> Option<Writer>
     side_writer(more)
 }
 
-/// What kept the entry behind a front from being prepared earlier, which is begun so. It uses some
-/// words until its address is formed, and the row before it in its segment the words `before`; the
-/// first row of a segment has none before it.
+/// The cause for which the entry after a front was not prepared earlier. `words` are the words that
+/// the entry uses until its address is formed, and `before` those of the row before it in its
+/// segment; the first row of a segment has none before it.
 pub fn find_reason(
     front: &Front,
     entry: &Entry,

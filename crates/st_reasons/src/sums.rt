@@ -1,4 +1,4 @@
-//! The ticks of waits, by stage and by what was waited for.
+//! The ticks of waits, by stage and by kind of wait.
 ghost use Rattle.std.specs.Prelude.{◌≡◌, ◌+◌, ◌-◌, ◌≤◌, ◌<◌, ◌^◌, true, if◌then◌else◌};
 ghost use Rattle.st_ledger.specs.declared.charges.Stage.{Stage as StageOf};
 ghost use Rattle.st_ledger.specs.Charges.{is_stage};
@@ -8,7 +8,7 @@ ghost use Rattle.st_reasons.specs.Sums.{is_stall, stalled_for, all_stalled, shar
 use crate::waits::{Stall, Wait};
 use st_ledger::{Charge, Stage};
 
-/// The ticks of waits, by what was waited for.
+/// The ticks of waits, by kind of wait.
 #[derive(Clone, Copy, Debug, Default, PartialEq, Eq)]
 pub struct Shares {
     pub turn: u64,
@@ -16,7 +16,7 @@ pub struct Shares {
     pub storage: u64,
 }
 
-/// The ticks of the waits of charges, stage by stage.
+/// The ticks of the waits of charges, by stage.
 #[derive(Clone, Copy, Debug, Default, PartialEq, Eq)]
 pub struct WaitTotals {
     pub instruction: Shares,
@@ -42,7 +42,7 @@ impl Shares {
         }
     }
 
-    // Adds waits.
+    // Adds the ticks of several waits.
     fn add(&mut self, waits: &[Wait])
         requires turn { self.old.turn + all_stalled waits.now < 2 ^ 64 }
         requires bank { self.old.bank + all_stalled waits.now < 2 ^ 64 }
@@ -59,8 +59,8 @@ impl Shares {
 }
 
 impl WaitTotals {
-    /// Adds the waits of a charge, which are no more ticks than that has. No sum is greater than
-    /// the tick at which it begins.
+    /// Adds the waits of a charge, which have at most as many ticks as the charge. No total may be
+    /// greater than the tick at which the charge begins.
     pub fn add(&mut self, charge: Charge, waits: &[Wait])
         requires within { AreWaitsWithin charge.from self.old }
         requires few { charge.from + all_stalled waits.now ≤ charge.to }
@@ -78,7 +78,7 @@ impl WaitTotals {
     }
 }
 
-/// The ticks of one thing that was waited for in a stage, in the whole run.
+/// The ticks of one kind of wait in a stage, in the whole run.
 #[derive(Clone, Copy, Debug, PartialEq, Eq)]
 pub struct WaitSum {
     pub stage: Stage,
@@ -86,7 +86,7 @@ pub struct WaitSum {
     pub ticks: u64,
 }
 
-// The sum of one thing in a stage.
+// The total of one kind of wait in a stage as a `WaitSum`.
 #[inline(always)]
 fn made_sum(stage: Stage, why: Stall, ticks: u64) -> WaitSum
     ensures { result ≡ record { stage = stage; why = why; ticks = ticks } }
@@ -94,7 +94,7 @@ fn made_sum(stage: Stage, why: Stall, ticks: u64) -> WaitSum
     WaitSum { stage, why, ticks }
 }
 
-/// The sums in their order.
+/// The totals in the order of their lines.
 pub fn wait_sums(totals: &WaitTotals) -> [WaitSum; 8]
     ensures { result ≡ wait_sums_by (λ r s. waited_at r s totals.now) }
 {

@@ -1,11 +1,11 @@
-//! Uses as their waits see them.
+//! The words that an entry uses, as needed for its waits.
 ghost use Rattle.std.specs.Prelude.{◌≡◌, ◌+◌, ◌∷◌, [], length, reverse, MatchOption, IfSome};
 ghost use Rattle.std.specs.List.{list_any};
 ghost use Rattle.st_reasons.specs.Words.{is_read as is_read_of, read_of as read_by, is_instruction as is_instruction_of, is_index as is_index_of, is_operand as is_operand_of, is_role as is_role_of, is_answered as is_answered_of, is_answered_at as is_due_of, decides as decides_of};
 
 use st_plain::{ReadTicks, Role, Supply, Use};
 
-/// The last of some uses, and those before it.
+/// The last of some uses, and the uses before it.
 #[inline(always)]
 pub(crate) fn last_use(uses: &[Use]) -> Option<(&Use, &[Use])>
     ensures parts { MatchOption result (reverse uses.now ≡ [])
@@ -29,7 +29,7 @@ pub(crate) fn is_read(supply: &Supply) -> bool
     }
 }
 
-/// The ticks of the read of a word, all 0 where it is not read.
+/// The ticks of the read of a word; all are 0 if the word is not read.
 #[inline(always)]
 pub(crate) fn read_of(supply: &Supply) -> ReadTicks
     ensures { result ≡ read_by supply.now }
@@ -57,7 +57,7 @@ pub(crate) fn is_instruction(role: Role) -> bool
     }
 }
 
-/// Whether it is used as the index-side word.
+/// Whether a word is used as the index-side word.
 #[inline(always)]
 pub(crate) fn is_index(role: Role) -> bool
     ensures { result ≡ is_index_of role }
@@ -68,7 +68,7 @@ pub(crate) fn is_index(role: Role) -> bool
     }
 }
 
-// Whether it is used as an operand word.
+// Whether a word is used as an operand word.
 #[inline(always)]
 fn is_operand(role: Role) -> bool
     ensures { result ≡ is_operand_of role }
@@ -79,7 +79,7 @@ fn is_operand(role: Role) -> bool
     }
 }
 
-// Whether it is of a role that a row waits for.
+// Whether a word is used in a role that a row waits for.
 #[inline(always)]
 fn is_role(role: Role, other: Role) -> bool
     ensures { result ≡ is_role_of role other }
@@ -92,7 +92,7 @@ fn is_role(role: Role, other: Role) -> bool
     }
 }
 
-// Whether a word is answered at the tick.
+// Whether a word is answered at tick `t`.
 #[inline(always)]
 fn is_answered(t: u64, supply: &Supply) -> bool
     ensures { result ≡ is_answered_of t supply.now }
@@ -104,7 +104,7 @@ fn is_answered(t: u64, supply: &Supply) -> bool
     }
 }
 
-// Whether a word has this role and is answered at the tick.
+// Whether a word has this role and is answered at tick `t`.
 #[inline(always)]
 fn is_due(role: Role, t: u64, one: &Use) -> bool
     ensures { result ≡ is_due_of role t one.now }
@@ -112,7 +112,7 @@ fn is_due(role: Role, t: u64, one: &Use) -> bool
     is_role(role, one.role) && is_answered(t, &one.supply)
 }
 
-// Whether one of some words has this role and is answered at the tick.
+// Whether one of some words has this role and is answered at tick `t`.
 fn is_any_due(role: Role, t: u64, uses: &[Use]) -> bool
     ensures { result ≡ list_any (is_due_of role t) (reverse uses.now) }
 {
@@ -125,8 +125,8 @@ fn is_any_due(role: Role, t: u64, uses: &[Use]) -> bool
     is_any_due(role, t, earlier)
 }
 
-/// Whether a word is the first one of its role that is answered at the tick; these are those before
-/// it.
+/// Whether a word is the first of its role that is answered at tick `t`; `earlier` are the words
+/// before it.
 #[inline(always)]
 pub(crate) fn decides(role: Role, t: u64, one: &Use, earlier: &[Use]) -> bool
     ensures { result ≡ decides_of role t one.now (reverse earlier.now) }

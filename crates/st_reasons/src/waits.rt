@@ -1,4 +1,4 @@
-//! What the ticks of a charge were waited for.
+//! Finds the waits in the ticks of a charge.
 ghost use Rattle.std.specs.Prelude.{◌≡◌, ◌+◌, ◌*◌, ◌≤◌, ◌<◌, ◌++◌, List, length, take, reverse, nat_eq, ◌&&◌};
 ghost use Rattle.st_plain.specs.declared.uses.Use.{Use as UseOf};
 ghost use Rattle.st_reasons.specs.Words.{is_read as is_read_of, read_of as read_by};
@@ -9,14 +9,14 @@ use arrayvec::ArrayVec;
 use st_ledger::{Charge, Stage};
 use st_plain::{Role, Supply, Use};
 
-/// Why a word is waited for.
+/// The kind of a wait for a word.
 #[derive(Clone, Copy, Debug, PartialEq, Eq)]
 pub enum Stall {
-    /// Another read has its turn on the bus.
+    /// Another read is accepted on the bus.
     Turn,
     /// The read that is next on the bus waits for its bank.
     Bank,
-    /// Its read is on its way.
+    /// The word's read is in progress in storage.
     Storage,
 }
 
@@ -31,38 +31,38 @@ impl Default for Stall {
     }
 }
 
-/// The ticks behind `from`, up to and with `to`, in which a word is waited for.
+/// The ticks `from` + 1 to `to`, in which a row waits for a word.
 #[derive(Clone, Copy, Debug, Default, PartialEq, Eq)]
 pub struct Wait {
     pub from: u64,
     pub to: u64,
     pub why: Stall,
-    /// The address of the word that is waited for.
+    /// The address of the word that the row waits for.
     pub word: u32,
-    /// That of the word whose read is on its way, is next on the bus, or has its turn.
+    /// The address of the word whose read is in progress, is next on the bus, or is accepted.
     pub read: u32,
 }
 
-/// A read that was accepted.
+/// An accepted read.
 #[derive(Clone, Copy, Debug, Default, PartialEq, Eq)]
 pub struct Accepted {
-    /// The address of its word.
+    /// The address of the word that is read.
     pub word: u32,
-    /// When it was accepted.
+    /// The tick at which the read was accepted.
     pub tick: u64,
 }
 
 /// The waits of a charge, the last one first.
 pub type Waits = ArrayVec<Wait, 514>;
 
-// The ticks behind `from`, up to and with `to`: those of a charge, or of a part of it.
+// The ticks `from` + 1 to `to`: those of a charge, or of a part of it.
 #[derive(Clone, Copy, Debug, PartialEq, Eq)]
 struct Span {
     from: u64,
     to: u64,
 }
 
-// Adds the ticks of a span, where there are any.
+// Adds the wait of a span, unless the span is empty.
 #[inline(always)]
 fn add_piece(waits: &mut Waits, span: Span, why: Stall, word: u32, read: u32)
     requires { length waits.old.items < 514 }
@@ -83,7 +83,7 @@ fn add_piece(waits: &mut Waits, span: Span, why: Stall, word: u32, read: u32)
     });
 }
 
-// The read of a word.
+// The acceptance of a word's read.
 #[inline(always)]
 fn acceptance(one: &Use) -> Accepted
     ensures { result ≡ accepted_of one.now }
@@ -94,7 +94,7 @@ fn acceptance(one: &Use) -> Accepted
     }
 }
 
-// Whether a word is read, and accepted from the tick `from` on and before another.
+// Whether a word is read, and its read is accepted at `from` or later and before the tick `before`.
 #[inline(always)]
 fn is_between(from: u64, before: u64, supply: &Supply) -> bool
     ensures { result ≡ is_between_of from before supply.now }
@@ -103,7 +103,7 @@ fn is_between(from: u64, before: u64, supply: &Supply) -> bool
     is_read(supply) && from <= accept && accept < before
 }
 
-// The tick behind one that lies before another.
+// The tick after `tick`; the later tick `before` shows that it does not overflow.
 #[inline(always)]
 fn tick_behind(tick: u64, before: u64) -> u64
     requires { tick < before }
@@ -112,8 +112,8 @@ fn tick_behind(tick: u64, before: u64) -> u64
     tick + 1
 }
 
-// Adds what stands before the acceptance of a read, from the tick `from` on, as far as it is told
-// by some words, the last one first. The result is the read that is then next.
+// Adds the waits before the acceptance of a read, from tick `from` on, given the reads among some
+// words, the last one first. Returns the read that is then next.
 fn add_turns(waits: &mut Waits, from: u64, word: u32, next: Accepted, uses: &[Use]) -> Accepted
     requires room { length waits.old.items + 2 * length uses.now ≤ 514 }
     ensures items { (older : List UseOf) →
@@ -142,8 +142,8 @@ fn add_turns(waits: &mut Waits, from: u64, word: u32, next: Accepted, uses: &[Us
     add_turns(waits, from, word, next, earlier)
 }
 
-// Adds all that stands before the acceptance of a read, from the tick `from` on, behind words of
-// its row and words of the row before.
+// Adds all waits before the acceptance of a read, from tick `from` on, given the earlier words of
+// its row and the words of the row before.
 fn add_all_turns(waits: &mut Waits, from: u64, read: Accepted, earlier: &[Use], before: &[Use])
     requires room { length waits.old.items + 2 * (length earlier.now + length before.now) < 514 }
     ensures items { waits.new.items ≡ waits.old.items
@@ -160,7 +160,7 @@ fn add_all_turns(waits: &mut Waits, from: u64, read: Accepted, earlier: &[Use], 
     add_piece(waits, at_bank, Stall::Bank, read.word, there.word);
 }
 
-// Adds the waits of a word that is read, which is answered at the end of the span.
+// Adds the waits of a word that is read and is answered at the end of the span.
 fn add_read(waits: &mut Waits, span: Span, one: &Use, earlier: &[Use], before: &[Use])
     requires room { length waits.old.items + 2 * (length earlier.now + length before.now) + 2
         ≤ 514 }
@@ -200,7 +200,7 @@ fn add_data(waits: &mut Waits, role: Role, span: Span, uses: &[Use], before: &[U
     add_data(waits, role, span, earlier, before);
 }
 
-// Whether a word is read of which this is the address, and answered at the tick.
+// Whether a use is a read of the word with this address and is answered at tick `t`.
 #[inline(always)]
 fn is_read_at(word: u32, t: u64, one: &Use) -> bool
     ensures { result ≡ (is_read_of one.now.supply
@@ -209,7 +209,7 @@ fn is_read_at(word: u32, t: u64, one: &Use) -> bool
     is_read(&one.supply) && one.word == word && read_of(&one.supply).answer == t
 }
 
-// Adds the waits of an instruction word that is held and answered at the end of the span, by the
+// Adds the waits of an instruction word that is held and answered at the end of the span, given the
 // words of the row before.
 fn add_held(waits: &mut Waits, span: Span, word: u32, before: &[Use])
     requires room { length waits.old.items + 2 * length before.now + 2 ≤ 514 }
@@ -228,8 +228,8 @@ fn add_held(waits: &mut Waits, span: Span, word: u32, before: &[Use])
     add_held(waits, span, word, earlier);
 }
 
-// Adds what stands before the acceptance of the last read of the row before, where that is at the
-// end of the span.
+// Adds the waits before the acceptance of the last read of the row before, if that is accepted at
+// the end of the span.
 fn add_bus(waits: &mut Waits, span: Span, before: &[Use])
     requires room { length waits.old.items + 2 * length before.now + 2 ≤ 514 }
     ensures items { waits.new.items ≡ waits.old.items
@@ -256,7 +256,7 @@ fn add_bus(waits: &mut Waits, span: Span, before: &[Use])
 }
 
 // Adds the waits of instruction words: of the first one that is answered at the end of the span,
-// and from its want on of those before it.
+// and before its want those of the words before it.
 fn add_fetches(waits: &mut Waits, span: Span, words: &[Use], before: &[Use])
     requires words { length words.now ≤ 4 }
     requires before { length before.now ≤ 48 }
@@ -293,8 +293,9 @@ fn first_four(uses: &[Use]) -> &[Use]
     &uses[..uses.len().min(4)]
 }
 
-/// Fills a list with the waits of a charge of a row that uses these words, where those of the row
-/// before it in its segment are `before`, none for the first row of one. What the list had is gone.
+/// Fills a list with the waits of a charge of a row that uses the words `uses`; `before` are the
+/// words of the row before it in its segment, none for the first row of a segment. The previous
+/// contents are overwritten.
 pub fn fill_waits(waits: &mut Waits, charge: Charge, uses: &[Use], before: &[Use])
     requires uses { length uses.now ≤ 48 }
     requires before { length before.now ≤ 48 }

@@ -25,11 +25,11 @@ use Rattle.st_mnemonic.specs.declared.operations.Operation.TheVariants.{Half, Su
 use Rattle.st_strap.specs.Statements.{Statement}
 use Rattle.std.specs.Result.{result_err}
 
--- the first of the faults that fields may have
+-- the first fault of a field in the order of faults, given whether it has each
 abbrev pub first-of : Bool → Bool → Bool → Bool → Option Fault
 first-of c e i l = first_fault ((c, BadFieldCount) ∷ (e, BadExpression) ∷ (i, BadIndex) ∷ (l, NumberTooLarge) ∷ [])
 
--- the earlier of two faults, where there are any
+-- the earlier of two optional faults
 abbrev pub earliest : Option Fault → Option Fault → Option Fault
 earliest None b = b
 earliest (Some a) None = Some a
@@ -87,7 +87,7 @@ fault-mapped f (Err e) = refl
 filled : (c : ℕ) (cs : List ℕ) → is_filled (c ∷ cs) ≡ true
 filled c cs = grind (arith, nat_tests)
 
--- the fault of a field as it is wanted
+-- the fault of a field that should be of a kind
 abbrev pub field-fault : Wanted → List ℕ → Option Fault
 field-fault wanted field = first-of false (lacks_expression wanted field) (lacks_index wanted field) (is_past wanted field)
 
@@ -131,7 +131,7 @@ address-fault must field =
     ∙ (ap (λ x. earliest (first-of false (any_bad (parts (field_front field))) false (any_large (parts (field_front field)))) x) (part-fault must (index_part field))
     ∙ beside-index (any_bad (parts (field_front field))) (any_large (parts (field_front field))) (lacks_index (an_address must) field))))
 
--- an index part in excess
+-- the fault of an index part that is not allowed
 excess : {A : Type 0} (c : ℕ) (cs : List ℕ) (value : Result A Fault) →
     result_err (reading_without_index (c ∷ cs) value) ≡ earliest (result_err value) (Some BadIndex)
 excess c cs (Ok a) = refl
@@ -181,7 +181,7 @@ signed_number-fault field = unindexed-fault (index_part field) (signed_of (field
 
 -- ---- several fields
 
--- the earliest fault of fields as they are wanted
+-- the earliest fault of fields with their required kinds
 abbrev pub fields-fault : List (Wanted × List ℕ) → Option Fault
 fields-fault [] = None
 fields-fault (p ∷ ps) = earliest (field-fault p.0 p.1) (fields-fault ps)
@@ -194,7 +194,7 @@ any-fault (p ∷ ps) =
     ∙ first-joined false (lacks_expression p.0 p.1) (lacks_index p.0 p.1) (is_past p.0 p.1)
     false (list_any (λ p. lacks_expression p.0 p.1) ps) (list_any (λ p. lacks_index p.0 p.1) ps) (list_any (λ p. is_past p.0 p.1) ps)
 
--- the first fault of fields, their count among them
+-- the first fault of fields, including a wrong count
 abbrev pub counted : List Wanted × List Wanted → List (List ℕ) → Option Fault
 counted wanted fields = first-of (has_other_count wanted fields) (any_field lacks_expression wanted fields)
     (any_field lacks_index wanted fields) (any_field is_past wanted fields)
@@ -218,7 +218,7 @@ none-behind : (x : Option Fault) → earliest x None ≡ x
 none-behind None = refl
 none-behind (Some f) = refl
 
--- a field more
+-- the faults of fields with one more field in front
 one-more : (k : Wanted) (field : List ℕ) (ks ms : List Wanted) (fields : List (List ℕ)) →
     earliest (field-fault k field) (counted (ks, ms) fields) ≡ counted (k ∷ ks, ms) (field ∷ fields)
 one-more k field ks ms fields =
@@ -345,7 +345,7 @@ unfolding without_fields
 without_fields-fault statement [] = refl
 without_fields-fault statement (a ∷ more) = too-many ([], []) (a ∷ more) (omega arith)
 
--- an index word put to a list
+-- the fault of a list of index words with one added
 listed-fault : (a b : Result ℕ Fault) (i r : Bool) → result_err a ≡ first-of false false i false → result_err b ≡ first-of false false r false →
     result_err (with_selected a b) ≡ first-of false false (i || r) false
 listed-fault (Ok j) (Ok list) false false first rest = refl
@@ -374,7 +374,7 @@ index_words-fault (suc n) (field ∷ more) few =
     ap (λ x. earliest (field-fault an_index_word field) x) (index_words-fault n more (omega (arith, few)))
     ∙ first-joined false false (is_none (row_of field index_fields)) false false false (none-such more) false
 
--- fields of which there are neither too few nor too many
+-- the fault of fields whose count is right
 right-count : (wanted : List Wanted × List Wanted) (fields : List (List ℕ)) → has_other_count wanted fields ≡ false →
     fields-fault (zip (wanted.0 ++ wanted.1) fields) ≡ counted wanted fields
 right-count wanted fields right =
@@ -456,7 +456,7 @@ named-fault true o text = refl
 named-fault false None text = refl
 named-fault false (Some op) text = said-fault op text
 
--- the fault of a card is the first that it has
+-- the fault of a card is the first that it has in the order of faults
 pub card-fault : (name text : List ℕ) → result_err (statement_of name text) ≡ first_fault (faults_on name text)
 unfolding clean_statement_of
 card-fault name text =

@@ -1,4 +1,4 @@
--- The first field and the rest, and two readings joined.
+-- Lemmas on the first field and the rest, and on two combined readings.
 use Rattle.std.proofs.Common.{◌≡◌, ◌≤◌, ◌-◌, suc, List, [], ◌∷◌, length, get_or, take, drop, Result, ap, sym, ◌∙◌, arith}
 use Rattle.std.proofs.Math.Seq.{take-length}
 use Rattle.st_card.specs.declared.faults.Fault.{Fault}
@@ -6,7 +6,7 @@ use Rattle.st_strap.specs.Order.{both_of}
 use Rattle.st_mnemonic.specs.Fields.{texts}
 use Rattle.st_mnemonic.specs.declared.field.FieldText.{FieldText}
 
--- the texts of fields are that of the first and those of the rest
+-- the texts of fields are the text of the first followed by those of the rest
 pub texts_first : (fields : List FieldText) (first : FieldText) → 1 ≤ length fields → first ≡ get_or fields 0 first →
     texts fields ≡ first.text.now ∷ texts (take (length fields - 1) (drop 1 fields))
 texts_first [] first some is_first = let no : ⊥ = omega arith in absurd no
@@ -16,7 +16,7 @@ texts_first (f ∷ fs) first some is_first =
     ap (λ (y : FieldText). y.text.now ∷ texts fs) (sym is_first)
     ∙ ap (λ (t : List FieldText). first.text.now ∷ texts t) tail
 
--- readings that are the same give the same together
+-- equal readings have equal combinations
 pub joined : {A B : Type 0} (a p : Result A Fault) (b q : Result B Fault) (r : Result (A × B) Fault) → r ≡ both_of a b → a ≡ p →
     b ≡ q → r ≡ both_of p q
 joined a p b q r is same_a same_b =

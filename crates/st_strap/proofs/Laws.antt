@@ -1,4 +1,4 @@
--- What holds of statement cards, whatever they say, proved.
+-- Proofs of the laws of all statement cards.
 use Rattle.st_strap.proofs.FaultLemmas.{card-fault}
 use Rattle.st_strap.proofs.NumberCards.{data-read}
 use Rattle.st_strap.proofs.PlaceCards.{set-read, end-read}

@@ -1,4 +1,4 @@
--- A number laid by DD is read as it stands.
+-- A DD card with a decimal number is read as that number.
 use Rattle.std.proofs.Common.{◌≡◌, ◌<◌, ◌^◌, ◌==◌, ◌||◌, ℕ, true, false, List, [], ◌∷◌, ◌++◌, Option, Some, None, unwrap_or, if◌then◌else◌, length, take, drop, codes, decimal, Ok, Err, refl, ap, ◌∙◌, arith}
 use Rattle.std.proofs.lemmas.List.{take_all, drop_all}
 use Rattle.std.specs.Option.{option_and_then}
@@ -45,7 +45,7 @@ number-decimal n small =
     ap (λ (part : List ℕ). reading_without_index part (signed_of (field_front (decimal n)))) nothing
     ∙ (ap (λ (text : List ℕ). signed_of text) whole ∙ signed-decimal n small)
 
--- the field behind the description
+-- the field after the description is read as the number
 field-read : (n : ℕ) → n < 2 ^ 64 → with_fields DataOperation word_form (fields_of (44 ∷ decimal n)) ≡ Ok (Data word_form false n)
 unfolding with_fields number_alone fields_of
 field-read n small =
@@ -54,7 +54,7 @@ field-read n small =
     ap (λ (fields : List (List ℕ)). reading_map (λ p. Data word_form p.0 p.1) (number_alone fields)) one
     ∙ ap (λ r. reading_map (λ p. Data word_form p.0 p.1) r) (number-decimal n small)
 
--- no progressive form stands before it
+-- a text that begins with a comma has no progressive form
 pub is_behind_groups-comma : (text : List ℕ) → is_behind_groups (44 ∷ text) ≡ true
 is_behind_groups-comma text = elim (length (44 ∷ text) == 0) as (λ b. (b || true) ≡ true) [ true ↦ refl | false ↦ refl ]
 
@@ -68,7 +68,7 @@ formed-read n small =
     ap (λ (f : Option Form). next_reading BadProgressive f (λ f. with_fields DataOperation f (fields_of (behind_group (44 ∷ decimal n)))))
     (progressed-none (decimal n)) ∙ field-read n small
 
--- the description
+-- the length of the description
 description-length : (text : List ℕ) → group_length (codes "(BU,64)," ++ text) ≡ 7
 unfolding group_length
 description-length text = omega arith
@@ -110,7 +110,7 @@ unfolding clean_statement_of is_misnamed
 clean-read text =
     ap (λ op. if is_misnamed [] op then Err BadName else next_reading UnknownOperation op (λ found. reading_of_operation found (codes "(BU,64)," ++ text))) data-operation
 
--- the card of a number
+-- the text of a card with a number
 abbrev pub number_card : ℕ → List ℕ
 number_card n = codes "DD(BU,64)," ++ decimal n
 

@@ -1,4 +1,4 @@
--- What holds of statement cards, whatever they say.
+-- Laws of all statement cards.
 use Rattle.std.specs.Prelude.{◌≡◌, ◌≤◌, ◌<◌, ◌+◌, ◌*◌, ◌^◌, ◌++◌, ℕ, List, [], false, true, codes, decimal, None, Ok}
 use Rattle.st_card.specs.Cards.{first_fault}
 use Rattle.st_mnemonic.specs.Describing.{plain_form}
@@ -13,19 +13,18 @@ use Rattle.st_bits.specs.declared.operations.HalfOp.TheVariants.{Lvi, VPlusI}
 use Rattle.st_strap.specs.Reading.{number_expr}
 use Rattle.std.specs.Result.{result_err}
 
--- A statement card has a fault exactly where it has one of the list, each told by itself, and it is
--- refused for the first of those that it has.
+-- A statement card is refused if and only if it has a fault of the list, each defined by itself,
+-- and then for the first of those that it has.
 abbrev pub TheFirstFaultOfTheListCounts : Type 0
 TheFirstFaultOfTheListCounts = (name text : List ℕ) →
     result_err (statement_of name text) ≡ first_fault (faults_on name text)
 
--- A number below 2^64 behind `DD(BU,64),` is read as that number, a whole word.
+-- `DD(BU,64),` followed by a number below 2^64 is read as that number, a whole word.
 abbrev pub NumbersOfWordsAreRead : Type 0
 NumbersOfWordsAreRead = (n : ℕ) → n < 2 ^ 64 → statement_of [] (codes "DD(BU,64)," ++ decimal n)
     ≡ Ok (Data (plain_form false true 64 8) false n)
 
--- A place, word w and bit b, is read as bit address 64w + b where it stands behind `SLC,` or
--- `END,`.
+-- A location of word w and bit b after `SLC,` or `END,` is read as bit address 64w + b.
 pub record PlacesAreRead : Type 0 where
   pub set : (w b : ℕ) → w ≤ 262143 → b ≤ 63 →
       statement_of [] (codes "SLC," ++ decimal w ++ codes "." ++ decimal b)
@@ -34,7 +33,7 @@ pub record PlacesAreRead : Type 0 where
       statement_of [] (codes "END," ++ decimal w ++ codes "." ++ decimal b)
       ≡ Ok (End (number_expr (64 * w + b)))
 
--- An operation on index word j and bit 0 of word w is read as that operation.
+-- A card of an operation on index word j and bit 0 of word w is read as that operation.
 pub record IndexOperationsAreRead : Type 0 where
   pub load : (j w : ℕ) → 1 ≤ j → j ≤ 7 → w ≤ 262143 →
       statement_of [] (codes "LVI,$X" ++ decimal j ++ codes "," ++ decimal w ++ codes ".0")
@@ -43,7 +42,8 @@ pub record IndexOperationsAreRead : Type 0 where
       statement_of [] (codes "V+I,$X" ++ decimal j ++ codes "," ++ decimal w ++ codes ".0")
       ≡ Ok (Half VPlusI j (number_spot (64 * w) 0))
 
--- An operation on a field of n bits at bit b of word w, with an offset, is read as that operation.
+-- A card of an operation on a field of n bits at bit b of word w, with an offset, is read as that
+-- operation.
 pub record FieldOperationsAreRead : Type 0 where
   pub add : (n w b o : ℕ) → AreOperandNumbers n w b o →
       statement_of [] (codes "+" ++ operands_text n w b o)
@@ -66,6 +66,6 @@ pub record FieldOperationsAreRead : Type 0 where
       ++ codes ")")
       ≡ Ok (Vfl Mul false (progressive_form n) (number_spot 32 j) 0)
 
--- The branch that waits is read as that branch.
+-- A card of the branch that waits, BEW, is read as that branch.
 abbrev pub WaitsAreRead : Type 0
 WaitsAreRead = statement_of [] (codes "BEW") ≡ Ok (Branch Bew None)

@@ -1,9 +1,9 @@
--- Of two faults on one card the one that stands earlier in the list counts.
+-- Order of faults: of two faults on one card, the earlier in the list counts.
 use Rattle.std.specs.Prelude.{ℕ, nat_lt, Option, Some, None, Result, Ok, Err, if◌then◌else◌}
 use Rattle.st_card.specs.declared.faults.Fault.{Fault}
 use Rattle.st_card.specs.declared.faults.Fault.TheVariants.{NotAscii, CardTooLong, BadName, UnknownOperation, BadDataDescription, BadProgressive, BadFieldCount, BadExpression, BadIndex, NumberTooLarge, BadControlCard, CardAfterEnd, NoEnd, TooManyCards, NameTwice, UndefinedSymbol, SymbolNotEarlier, TooManyNames, AddressOutOfRange, ValueDoesNotFit, NotOnABoundary, LocationOutOfStorage, BadObjectCard}
 
--- a fault's place in the list of all faults
+-- a fault's position in the list of all faults
 abbrev pub rank : Fault → ℕ
 rank NotAscii = 0
 rank CardTooLong = 1
@@ -29,23 +29,23 @@ rank NotOnABoundary = 20
 rank LocationOutOfStorage = 21
 rank BadObjectCard = 22
 
--- the earlier of two faults
+-- the fault of two that is earlier in the list
 abbrev pub earlier_fault : Fault → Fault → Fault
 earlier_fault a b = if nat_lt (rank b) (rank a) then b else a
 
--- two readings, or the earlier of their faults
+-- both values, or the earlier fault if one or both are faults
 abbrev pub both_of : {A B : Type 0} → Result A Fault → Result B Fault → Result (A × B) Fault
 both_of (Ok a) (Ok b) = Ok (a, b)
 both_of (Ok a) (Err f) = Err f
 both_of (Err e) (Ok b) = Err e
 both_of (Err e) (Err f) = Err (earlier_fault e f)
 
--- a reading made into something else
+-- a reading with a function applied to its value
 abbrev pub reading_map : {A B : Type 0} → (A → B) → Result A Fault → Result B Fault
 reading_map f (Ok a) = Ok (f a)
 reading_map f (Err e) = Err e
 
--- what comes next where there is something, else a fault
+-- the next reading from an optional value; the given fault if there is no value
 abbrev pub next_reading : {A B : Type 0} → Fault → Option A → (A → Result B Fault) → Result B Fault
 next_reading fault None next = Err fault
 next_reading fault (Some a) next = next a

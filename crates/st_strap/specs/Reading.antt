@@ -1,4 +1,4 @@
--- What the fields of a statement say, each by itself.
+-- The readings of single fields of a statement.
 use Rattle.std.specs.Prelude.{ℕ, ◌+◌, ◌-◌, ◌==◌, ◌^◌, ◌/◌, Bool, true, false, bit_or, List, [], ◌∷◌, length, take, drop, codes, Option, None, Some, unwrap_or, Result, Ok, Err, if◌then◌else◌}
 use Rattle.std.specs.Option.{option_map, option_or, ok_or}
 use Rattle.st_text.specs.Bytes.{open_parenthesis, close_parenthesis, plus_sign, minus_sign}
@@ -16,14 +16,14 @@ use Rattle.st_strap.specs.Order.{earlier_fault, both_of, reading_map}
 use Rattle.st_mnemonic.specs.Text.{begins_with, ends_with}
 use Rattle.st_strap.specs.Statements.{Spot}
 
--- where the last opening parenthesis of a text stands
+-- the offset of the last opening parenthesis of a text, if it has one
 abbrev pub last_open : List ℕ → Option ℕ
 last_open [] = None
 last_open (c ∷ cs) = option_or (option_map (λ n. n + 1) (last_open cs))
     (if c == open_parenthesis then Some 0 else None)
 
--- where the index part of a field begins: at its last `(` where it ends with `)`; the field's end
--- where it has none
+-- the offset at which the index part of a field begins: at its last `(` if the field ends with `)`,
+-- else the field's length
 unfoldable pub index_start : List ℕ → ℕ
 index_start field = if ends_with close_parenthesis field
     then unwrap_or (last_open field) (length field) else length field
@@ -36,7 +36,7 @@ field_front field = take (index_start field) field
 abbrev pub index_part : List ℕ → List ℕ
 index_part field = drop (index_start field) field
 
--- the index fields
+-- the texts of index fields, each with its index word
 unfoldable pub index_fields : List (List ℕ × ℕ)
 index_fields =
     (codes "$X0", 0) ∷ (codes "$X1", 1) ∷ (codes "$X2", 2) ∷ (codes "$X3", 3) ∷ (codes "$X4", 4)
@@ -44,7 +44,7 @@ index_fields =
     ∷ (codes "$X10", 10) ∷ (codes "$X11", 11) ∷ (codes "$X12", 12) ∷ (codes "$X13", 13)
     ∷ (codes "$X14", 14) ∷ (codes "$X15", 15) ∷ []
 
--- the index parts
+-- the texts of index parts, each with its index word
 unfoldable pub index_parts : List (List ℕ × ℕ)
 index_parts =
     (codes "($X1)", 1) ∷ (codes "($X2)", 2) ∷ (codes "($X3)", 3) ∷ (codes "($X4)", 4)
@@ -52,45 +52,46 @@ index_parts =
     ∷ (codes "($X9)", 9) ∷ (codes "($X10)", 10) ∷ (codes "($X11)", 11) ∷ (codes "($X12)", 12)
     ∷ (codes "($X13)", 13) ∷ (codes "($X14)", 14) ∷ (codes "($X15)", 15) ∷ []
 
--- an index field
+-- the number of the index word that an index field names, or its fault
 unfoldable pub index_field : List ℕ → Result ℕ Fault
 index_field field = ok_or (row_of field index_fields) BadIndex
 
--- the index word that an index part names: 0 where no part stands and none must
+-- the number of the index word that an index part names: 0 if there is no part and none is required
 unfoldable pub index_named : Bool → List ℕ → Result ℕ Fault
 index_named must [] = if must then Err BadIndex else Ok 0
 index_named must (c ∷ cs) = ok_or (row_of (c ∷ cs) index_parts) BadIndex
 
--- an address that may have, or must have, an index part
+-- the reading of an address with an index part, which is required if `must` is true and optional
+-- otherwise
 unfoldable pub spot : Bool → List ℕ → Result Spot Fault
 spot must field = reading_map (λ p. record { expr = p.0; index = p.1 })
     (both_of (expr_of (field_front field)) (index_named must (index_part field)))
 
--- a reading behind which no index part may stand
+-- a reading, or the fault BadIndex if an index part follows it
 abbrev pub reading_without_index : {A : Type 0} → List ℕ → Result A Fault → Result A Fault
 reading_without_index [] value = value
 reading_without_index (c ∷ cs) (Ok a) = Err BadIndex
 reading_without_index (c ∷ cs) (Err e) = Err (earlier_fault e BadIndex)
 
--- an address without an index part
+-- the reading of an address without an index part
 unfoldable pub expression : List ℕ → Result (ArrayVec Term) Fault
 expression field = reading_without_index (index_part field) (expr_of (field_front field))
 
--- a number that was read
+-- the number of a reading, or its fault
 abbrev pub number_or_fault : Reading → Result ℕ Fault
 number_or_fault Bad = Err BadExpression
 number_or_fault Large = Err NumberTooLarge
 number_or_fault (Good n) = Ok n
 
--- a plain number below 2^64
+-- the reading of a text as a number below 2^64
 unfoldable pub number_result : List ℕ → Result ℕ Fault
 number_result text = number_or_fault (reading (2 ^ 64 - 1) text)
 
--- a field that is a plain number
+-- the reading of a field as a number without a sign
 unfoldable pub plain_number : List ℕ → Result ℕ Fault
 plain_number field = reading_without_index (index_part field) (number_result (field_front field))
 
--- whether a minus stands before a number, and the number: it may have a sign
+-- the reading of a number with an optional sign: whether the sign is a minus, and the magnitude
 unfoldable pub signed_of : List ℕ → Result (Bool × ℕ) Fault
 signed_of text =
     if begins_with minus_sign text then reading_map (λ n. (true, n)) (number_result (drop 1 text))
@@ -98,25 +99,25 @@ signed_of text =
     (number_result (drop 1 text))
     else reading_map (λ n. (false, n)) (number_result text))
 
--- a field that is a number with a sign or none
+-- the reading of a field as a number with an optional sign
 unfoldable pub signed_number : List ℕ → Result (Bool × ℕ) Fault
 signed_number field = reading_without_index (index_part field) (signed_of (field_front field))
 
--- the bit of a list of index words that stands for one of them
+-- the bit of a list of index words that represents index word j
 abbrev pub selector : ℕ → ℕ
 selector j = 2 ^ 15 / 2 ^ j
 
--- an index word put to a list of them; either may be none
+-- a list of index words with one added, or the first fault of both
 abbrev pub with_selected : Result ℕ Fault → Result ℕ Fault → Result ℕ Fault
 with_selected (Ok j) (Ok list) = Ok (bit_or (selector j) list)
 with_selected (Ok j) (Err e) = Err BadIndex
 with_selected (Err e) list = Err BadIndex
 
--- the list of index words that fields name
+-- the list of index words, as bits, that fields name
 abbrev pub index_selector : List (List ℕ) → Result ℕ Fault
 index_selector [] = Ok 0
 index_selector (field ∷ more) = with_selected (index_field field) (index_selector more)
 
--- the expression that is one number
+-- the expression that consists of the number n
 abbrev pub number_expr : ℕ → ArrayVec Term
 number_expr n = record { items = record { minus = false; atom = Number n } ∷ [] }

@@ -1,4 +1,4 @@
--- What a statement says.
+-- The statement that a card's text means.
 use Rattle.std.specs.Prelude.{ℕ, ◌&&◌, ◌||◌, Bool, false, not, nat_le, List, [], ◌∷◌, length, Option, None, Some, Result, Ok, Err, if◌then◌else◌}
 use Rattle.std.specs.Option.{option_and_then, option_map_or}
 use Rattle.arrayvec.specs.ArrayVec.{ArrayVec}
@@ -23,107 +23,107 @@ use Rattle.st_strap.specs.declared.statement.Statement.TheVariants.{Half, Sum, R
 use Rattle.st_mnemonic.specs.declared.operations.Operation.{Operation}
 use Rattle.st_mnemonic.specs.declared.operations.Operation.TheVariants.{Half as HalfOperation, Sum as SumOperation, Refill as RefillOperation, Execute as ExecuteOperation, Branch as BranchOperation, Bare as BareOperation, Floating as FloatingOperation, Vfl as VflOperation, Connect as ConnectOperation, Move as MoveOperation, BitBranch as BitBranchOperation, IndBranch as IndBranchOperation, StoreCounter as StoreCounterOperation, Transfer as TransferOperation, Data as DataOperation, IndexWord as IndexWordOperation, Synonym as SynonymOperation, SetLocation as SetLocationOperation, Reserve as ReserveOperation, End as EndOperation}
 
--- one field that is an index word
+-- the reading of one field that is an index word
 unfoldable pub index_alone : List (List ℕ) → Result ℕ Fault
 index_alone (j ∷ []) = index_field j
 index_alone _ = Err BadFieldCount
 
--- one address that may have an index part
+-- the reading of one address with an optional index part
 unfoldable pub spot_alone : List (List ℕ) → Result Spot Fault
 spot_alone (place ∷ []) = spot false place
 spot_alone _ = Err BadFieldCount
 
--- one address without an index part
+-- the reading of one address without an index part
 unfoldable pub expression_alone : List (List ℕ) → Result (ArrayVec Term) Fault
 expression_alone (place ∷ []) = expression place
 expression_alone _ = Err BadFieldCount
 
--- one number with a sign or none
+-- the reading of one number with an optional sign
 unfoldable pub number_alone : List (List ℕ) → Result (Bool × ℕ) Fault
 number_alone (n ∷ []) = signed_number n
 number_alone _ = Err BadFieldCount
 
--- an index word and an address
+-- the reading of an index word and an address
 unfoldable pub index_and_spot : List (List ℕ) → Result (ℕ × Spot) Fault
 index_and_spot (j ∷ place ∷ []) = both_of (index_field j) (spot false place)
 index_and_spot _ = Err BadFieldCount
 
--- an index word, and 1 to 15 that are listed
+-- the reading of an index word and a list of 1 to 15 index words
 unfoldable pub index_and_list : List (List ℕ) → Result (ℕ × ℕ) Fault
 index_and_list (j ∷ k ∷ ks) =
     if nat_le (length ks) 14 then both_of (index_field j) (index_selector (k ∷ ks))
     else Err BadFieldCount
 index_and_list _ = Err BadFieldCount
 
--- the address of a field and an offset or none; a progressive form but the first needs an index
--- part
+-- the reading of a field's address and an optional offset; progressive forms from 2 on require an
+-- index part
 unfoldable pub operand_spot : Form → List (List ℕ) → Result (Spot × ℕ) Fault
 operand_spot form (place ∷ []) = both_of (spot (nat_le 2 form.p) place) (Ok 0)
 operand_spot form (place ∷ offset ∷ []) = both_of (spot (nat_le 2 form.p) place)
     (plain_number offset)
 operand_spot form _ = Err BadFieldCount
 
--- an address and a second one
+-- the reading of an address and a second one without an index part
 unfoldable pub two_addresses : List (List ℕ) → Result (Spot × ArrayVec Term) Fault
 two_addresses (place ∷ second ∷ []) = both_of (spot false place) (expression second)
 two_addresses _ = Err BadFieldCount
 
--- an address and a number
+-- the reading of an address and a number
 unfoldable pub spot_and_number : List (List ℕ) → Result (Spot × ℕ) Fault
 spot_and_number (place ∷ n ∷ []) = both_of (spot false place) (plain_number n)
 spot_and_number _ = Err BadFieldCount
 
--- an address and a number that were read
+-- the readings of an address and a number, combined
 abbrev pub address_with_number : Result (ArrayVec Term) Fault → Result ℕ Fault →
     Result AddressAndNumber Fault
 address_with_number address number = reading_map (λ p. record { address = p.0; number = p.1 })
     (both_of address number)
 
--- an address without an index part and a number
+-- the reading of an address without an index part and a number
 unfoldable pub address_and_number : List (List ℕ) → Result AddressAndNumber Fault
 address_and_number (place ∷ n ∷ []) = address_with_number (expression place) (plain_number n)
 address_and_number _ = Err BadFieldCount
 
--- two addresses and a number
+-- the reading of two addresses and a number
 unfoldable pub two_addresses_and_number : List (List ℕ) → Result (Spot × AddressAndNumber) Fault
 two_addresses_and_number [] = Err BadFieldCount
 two_addresses_and_number (place ∷ more) = both_of (spot false place) (address_and_number more)
 
--- a refill address and flags that were read
+-- the readings of a refill address and flags, combined
 abbrev pub refill_with_flags : Result (ArrayVec Term) Fault → Result ℕ Fault →
     Result RefillAndFlags Fault
 refill_with_flags refill flags = reading_map (λ p. record { refill = p.0; flags = p.1 })
     (both_of refill flags)
 
--- a refill address, and flags or none
+-- the reading of a refill address and optional flags
 unfoldable pub refill_and_flags : List (List ℕ) → Result RefillAndFlags Fault
 refill_and_flags (refill ∷ []) = refill_with_flags (expression refill) (Ok 0)
 refill_and_flags (refill ∷ flags ∷ []) = refill_with_flags (expression refill) (plain_number flags)
 refill_and_flags _ = Err BadFieldCount
 
--- a count, a refill address and flags that were read
+-- the readings of a count and of a refill address with flags, combined
 abbrev pub count_with_refill : Result ℕ Fault → Result RefillAndFlags Fault →
     Result CountAndRefill Fault
 count_with_refill count more =
     reading_map (λ p. record { count = p.0; refill = p.1.refill; flags = p.1.flags })
     (both_of count more)
 
--- a count, a refill address, and flags or none
+-- the reading of a count, a refill address and optional flags
 unfoldable pub count_and_refill : List (List ℕ) → Result CountAndRefill Fault
 count_and_refill [] = Err BadFieldCount
 count_and_refill (count ∷ more) = count_with_refill (plain_number count) (refill_and_flags more)
 
--- the parts of an index word: a value, and those
+-- the reading of the parts of an index word: value, count, refill address and flags
 unfoldable pub index_word_parts : List (List ℕ) → Result (ArrayVec Term × CountAndRefill) Fault
 index_word_parts [] = Err BadFieldCount
 index_word_parts (value ∷ more) = both_of (expression value) (count_and_refill more)
 
--- a statement without fields
+-- a statement without fields; a fault if there are any
 unfoldable pub without_fields : Statement → List (List ℕ) → Result Statement Fault
 without_fields statement [] = Ok statement
 without_fields statement _ = Err BadFieldCount
 
--- what an operation says with its form and its fields
+-- the statement of an operation with its form and its fields
 unfoldable pub with_fields : Operation → Form → List (List ℕ) → Result Statement Fault
 with_fields (HalfOperation op) form fields = reading_map (λ p. Half op p.0 p.1)
     (index_and_spot fields)
@@ -158,31 +158,31 @@ with_fields SetLocationOperation form fields = reading_map (λ at. SetLocation a
 with_fields ReserveOperation form fields = reading_map (λ at. Reserve at) (expression_alone fields)
 with_fields EndOperation form fields = reading_map (λ at. End at) (expression_alone fields)
 
--- whether a card of this operation may not have a name, or must have one
+-- whether a name is present on an operation that allows none, or absent on one that requires a name
 abbrev pub misnames : Bool → Operation → Bool
 misnames named SynonymOperation = not named
 misnames named SetLocationOperation = named
 misnames named EndOperation = named
 misnames named _ = false
 
--- whether the name is none, or the operation is one of those that ask for a name or for none
+-- whether the name is malformed, or not allowed or missing for the operation
 unfoldable pub is_misnamed : List ℕ → Option Operation → Bool
 is_misnamed name op =
     (is_filled name && not (is_name name)) || option_map_or (misnames (is_filled name)) op false
 
--- what an operation says with an allowed description and the text behind that
+-- the statement of an operation with an allowed description and the text after that
 unfoldable pub statement_in_form : Operation → Form → List ℕ → Result Statement Fault
 statement_in_form op form text = next_reading BadProgressive (form_with_progress op form text)
     (λ f. with_fields op f (fields_of (behind_group text)))
 
--- what an operation says with the text behind it
+-- the statement of an operation with the text after it
 unfoldable pub reading_of_operation : Operation → List ℕ → Result Statement Fault
 reading_of_operation op text =
     next_reading BadDataDescription (option_and_then (described_form op)
     (description_of (description_in text)))
     (λ d. statement_in_form d.0 d.1 (behind_description text))
 
--- what a statement without comment and blanks says on a card with this name
+-- the statement of a text without comment and blanks on a card with this name
 unfoldable pub clean_statement_of : List ℕ → List ℕ → Result Statement Fault
 clean_statement_of name statement =
     let op = operation_of_word (operation_text statement) in
@@ -190,6 +190,6 @@ clean_statement_of name statement =
     else next_reading UnknownOperation op
     (λ found. reading_of_operation found (behind_word statement))
 
--- what the card of a name and a text says: its statement, or the first of its faults
+-- the statement of a card with a name and a text, or the first of its faults
 abbrev pub statement_of : List ℕ → List ℕ → Result Statement Fault
 statement_of name text = clean_statement_of name (statement_text text)

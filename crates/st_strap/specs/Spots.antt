@@ -1,4 +1,4 @@
--- Operands with an address that is a number, as text and as what is read.
+-- Operands whose addresses are numbers: their texts and their readings.
 use Rattle.std.specs.Prelude.{ℕ, ◌≤◌, ◌<◌, ◌^◌, true, false, List, ◌++◌, codes, decimal}
 use Rattle.st_strap.specs.Reading.{number_expr}
 use Rattle.st_mnemonic.specs.Describing.{plain_form}
@@ -9,13 +9,13 @@ use Rattle.st_strap.specs.Statements.{Spot}
 abbrev pub number_spot : ℕ → ℕ → Spot
 number_spot place index = record { expr = number_expr place; index = index }
 
--- a field of n bits at bit b of word w, and an offset, as text
+-- the text of a field of n bits at bit b of word w, and of an offset
 abbrev pub operands_text : ℕ → ℕ → ℕ → ℕ → List ℕ
 operands_text n w b o =
     codes "(BU," ++ decimal n ++ codes ")," ++ decimal w ++ codes "." ++ decimal b ++ codes ","
     ++ decimal o
 
--- the numbers of such operands
+-- the bounds of an operand's numbers: n bits at bit b of word w, with offset o
 pub record AreOperandNumbers (n w b o : ℕ) : Type 0 where
   pub some_bits : 1 ≤ n
   pub few_bits : n ≤ 64
@@ -23,7 +23,7 @@ pub record AreOperandNumbers (n w b o : ℕ) : Type 0 where
   pub bit : b ≤ 63
   pub offset : o < 2 ^ 64
 
--- an unsigned binary field of n bits in bytes of eight, its address taken from an index word that
--- is then raised by it
+-- the form of an unsigned binary field of n bits in bytes of eight, with the progressive form that
+-- takes the address from an index word and then increments the index word by it
 abbrev pub progressive_form : ℕ → Form
 progressive_form n = record (plain_form false true n 8) { p = 2 }

@@ -1,4 +1,4 @@
--- What the parts of a statement keep: the widths of their places in an instruction.
+-- Bounds of a statement's parts: they fit in their fields of an instruction.
 use Rattle.std.specs.Prelude.{◌<◌, ◌≤◌, IsFalse, Option, None, Some}
 use Rattle.st_format.specs.Operations.{writes_field}
 use Rattle.st_format.specs.Validity.{misfits, misuses_p}
@@ -7,7 +7,7 @@ use Rattle.st_mnemonic.specs.declared.form.Form.{Form}
 use Rattle.st_strap.specs.Statements.{Spot, Statement}
 use Rattle.st_strap.specs.declared.statement.Statement.TheVariants.{Half, Sum, Refill, Branch, Floating, Vfl, Connect, Move, BitBranch, IndBranch, StoreCounter, Transfer, Data, IndexWord, Synonym, SetLocation, Reserve, End}
 
--- a field has 1 to 64 bits in bytes of 1 to 8
+-- a field has 1 to 64 bits and bytes of 1 to 8 bits
 pub record IsForm (form : Form) : Type 0 where
   pub some_bits : 1 ≤ form.length
   pub few_bits : form.length ≤ 64
@@ -15,21 +15,21 @@ pub record IsForm (form : Form) : Type 0 where
   pub small_byte : form.byte ≤ 8
   pub p_fits : form.p < 8
 
--- and one of binary or decimal numbers fits its bytes
+-- a field of binary or decimal numbers has a length that fits its byte size
 pub record IsNumberForm (form : Form) : Type 0 where
   pub sizes : IsForm form
   pub fits : IsFalse (misfits form.decimal form.unsigned form.length form.byte)
 
--- an index part is 0 where there is none, else that of an index word
+-- the number of an address's index word is below 16; 0 means no index word
 abbrev pub IsSpot : Spot → Type 0
 IsSpot at = at.index < 16
 
--- so is that of an operand that may be missing
+-- the index word of an optional operand's address is below 16
 abbrev pub IsSpotOrNone : Option Spot → Type 0
 IsSpotOrNone None = Unit {0}
 IsSpotOrNone (Some at) = IsSpot at
 
--- what each statement that was read keeps
+-- bounds of the parts of every statement that has been read
 abbrev pub IsWellFormed : Statement → Type 0
 IsWellFormed (Half op j at) = (j < 16) × IsSpot at
 IsWellFormed (Sum j listed) = j < 16
@@ -54,7 +54,7 @@ IsWellFormed (SetLocation at) = Unit {0}
 IsWellFormed (Reserve at) = Unit {0}
 IsWellFormed (End at) = Unit {0}
 
--- a card without a statement keeps this of itself
+-- bounds of the parts of a statement, if there is one
 abbrev pub IsWellFormedIfAny : Option Statement → Type 0
 IsWellFormedIfAny None = Unit {0}
 IsWellFormedIfAny (Some s) = IsWellFormed s

@@ -1,4 +1,4 @@
-//! What the fields of a statement say, each by itself.
+//! Parsers of single fields of a statement.
 
 ghost use Rattle.std.specs.Prelude.{◌≡◌, ◌≤◌, ◌<◌, length, IfOk, IfSome};
 ghost use Rattle.st_text.specs.Tables.{row_of};
@@ -49,21 +49,21 @@ const INDEX_PARTS: [(&[u8], u8); 15] = [
     (b"($X15)", 15),
 ];
 
-// A fault's place in the list of all faults.
+// A fault's position in the list of all faults.
 fn rank(fault: Fault) -> u8
     ensures { result ≡ order.rank fault }
 {
     fault as u8
 }
 
-// The earlier of two faults.
+// The fault of two that is earlier in the list.
 fn earlier(a: Fault, b: Fault) -> Fault
     ensures { result ≡ order.earlier_fault a b }
 {
     if rank(b) < rank(a) { b } else { a }
 }
 
-// Two readings, or the earlier of their faults.
+// Both values, or the earlier fault if one or both are faults.
 pub(crate) fn both<A: Drop, B: Drop>(
     a: Result<A, Fault>,
     b: Result<B, Fault>,
@@ -77,7 +77,7 @@ pub(crate) fn both<A: Drop, B: Drop>(
     }
 }
 
-// Where the last opening parenthesis of a text stands.
+// The offset of the last opening parenthesis of a text, if it has one.
 fn last_open(text: &[u8]) -> Option<usize>
     ensures value { result ≡ spec.last_open text.now }
     ensures within { IfSome result (λ n. n < length text.now) }
@@ -92,7 +92,7 @@ fn last_open(text: &[u8]) -> Option<usize>
     }
 }
 
-// Where the index part of a field begins, the field's end where it has none.
+// The offset at which the index part of a field begins; the field's length if it has none.
 fn index_start(field: &[u8]) -> usize
     ensures value { result ≡ spec.index_start field.now }
     ensures within { result ≤ length field.now }
@@ -106,7 +106,7 @@ fn index_start(field: &[u8]) -> usize
     }
 }
 
-// A field without its index part, and that part.
+// Splits a field into the text before its index part and the index part.
 fn split_index(field: &[u8]) -> (&[u8], &[u8])
     ensures front { result.0.now ≡ spec.field_front field.now }
     ensures part { result.1.now ≡ spec.index_part field.now }
@@ -127,7 +127,7 @@ fn part_row(part: &[u8]) -> Option<u8>
     row_of(&INDEX_PARTS, part)
 }
 
-// The index word that an index field names.
+// The number of the index word that an index field names.
 #[tactic(auto, unfolding(crate::specs::Reading::index_field))]
 pub(crate) fn index_field(field: &[u8]) -> Result<u8, Fault>
     ensures value { result ≡ spec.index_field field.now }
@@ -136,7 +136,8 @@ pub(crate) fn index_field(field: &[u8]) -> Result<u8, Fault>
     field_row(field).ok_or(Fault::BadIndex)
 }
 
-// The index word that an index part names, 0 where no part stands and none must.
+// The number of the index word that an index part names; 0 if there is no part and `must` is not
+// set.
 fn index_of(must: bool, part: &[u8]) -> Result<u8, Fault>
     ensures { result ≡ spec.index_named must part.now }
 {
@@ -147,7 +148,7 @@ fn index_of(must: bool, part: &[u8]) -> Result<u8, Fault>
     }
 }
 
-// An address that may have, or must have, an index part.
+// Parses an address with an index part, which is required if `must` is set and optional otherwise.
 #[tactic(auto, unfolding(crate::specs::Reading::spot))]
 pub(crate) fn spot(must: bool, field: &[u8]) -> Result<CompactSpot, Fault>
     requires { length field.now ≤ 63 }
@@ -160,7 +161,7 @@ pub(crate) fn spot(must: bool, field: &[u8]) -> Result<CompactSpot, Fault>
     }
 }
 
-// A reading behind which no index part may stand.
+// A value, or the fault `BadIndex` if an index part follows it.
 fn unindexed<A: Drop>(part: &[u8], value: Result<A, Fault>) -> Result<A, Fault>
     ensures { result ≡ spec.reading_without_index part.now value }
 {
@@ -173,7 +174,7 @@ fn unindexed<A: Drop>(part: &[u8], value: Result<A, Fault>) -> Result<A, Fault>
     }
 }
 
-// An address without an index part.
+// Parses an address without an index part.
 #[tactic(auto, unfolding(crate::specs::Reading::expression))]
 pub(crate) fn expression(field: &[u8]) -> Result<ExprText, Fault>
     requires { length field.now ≤ 63 }
@@ -183,7 +184,7 @@ pub(crate) fn expression(field: &[u8]) -> Result<ExprText, Fault>
     unindexed(part, ExprText::read(front))
 }
 
-// A plain number below 2^64.
+// Parses a number below 2^64.
 fn number_of(text: &[u8]) -> Result<u64, Fault>
     ensures { result ≡ spec.number_result text.now }
 {
@@ -194,7 +195,7 @@ fn number_of(text: &[u8]) -> Result<u64, Fault>
     }
 }
 
-// A field that is a plain number.
+// Parses a field that is a number without a sign.
 pub(crate) fn plain_number(field: &[u8]) -> Result<u64, Fault>
     ensures { result ≡ spec.plain_number field.now }
 {
@@ -202,7 +203,7 @@ pub(crate) fn plain_number(field: &[u8]) -> Result<u64, Fault>
     unindexed(part, number_of(front))
 }
 
-// A sign and a number, the sign being the caller's.
+// Parses a number whose sign the caller has read.
 fn with_sign(minus: bool, text: &[u8]) -> Result<(bool, u64), Fault>
     ensures { result ≡ order.reading_map (λ n. (minus, n)) (spec.number_result text.now) }
 {
@@ -212,7 +213,7 @@ fn with_sign(minus: bool, text: &[u8]) -> Result<(bool, u64), Fault>
     }
 }
 
-// Whether a minus stands before a number, and the number.
+// Parses a number with an optional sign: whether the sign is a minus, and the magnitude.
 fn signed_of(text: &[u8]) -> Result<(bool, u64), Fault>
     ensures { result ≡ spec.signed_of text.now }
 {
@@ -225,7 +226,7 @@ fn signed_of(text: &[u8]) -> Result<(bool, u64), Fault>
     with_sign(false, text)
 }
 
-// A field that is a number with a sign or none.
+// Parses a field that is a number with an optional sign.
 #[tactic(auto, unfolding(crate::specs::Reading::signed_number))]
 pub(crate) fn signed_number(field: &[u8]) -> Result<(bool, u64), Fault>
     ensures { result ≡ spec.signed_number field.now }
@@ -234,7 +235,7 @@ pub(crate) fn signed_number(field: &[u8]) -> Result<(bool, u64), Fault>
     unindexed(part, signed_of(front))
 }
 
-// The bit of a list of index words that stands for one of them.
+// The bit of a list of index words that represents index word j.
 fn selector(j: u8) -> u16
     requires { j < 16 }
     ensures { result ≡ spec.selector j }
@@ -242,7 +243,7 @@ fn selector(j: u8) -> u16
     0x8000 >> j
 }
 
-// A list of index words from fields that name them.
+// The list of index words, as bits, that fields name.
 pub(crate) fn selected(fields: &[FieldText]) -> Result<u16, Fault>
     ensures { result ≡ spec.index_selector (texts fields.now) }
 {

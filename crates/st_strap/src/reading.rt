@@ -1,4 +1,4 @@
-//! Reading a statement.
+//! Parses a statement.
 
 ghost use Rattle.std.specs.Prelude.{◌≡◌, ◌≤◌, length};
 ghost use Rattle.st_mnemonic.specs.Fields.{texts};
@@ -19,12 +19,11 @@ use st_mnemonic::{
     split_description, split_word,
 };
 
-/// The statement of a card, or the first of its faults.
+/// Parses the statement of a card, or returns the first of its faults.
 ///
-/// `name` is what columns 2 to 9 hold without the blanks at both ends, empty where they are blank;
-/// `text` is what columns 10 to 72 hold, at most 63 bytes. The faults are those of the form pass
-/// from `BadName` down to `NumberTooLarge`, and of several on the card it is the earliest in that
-/// list.
+/// `name` is columns 2 to 9 without the blanks at both ends, empty if they are blank; `text` is
+/// columns 10 to 72, at most 63 bytes. The faults are those of the form pass from `BadName` down to
+/// `NumberTooLarge`; if the card has several, the earliest in that list is returned.
 pub fn read_statement(name: &[u8], text: &[u8]) -> Result<Statement, Fault>
     requires { length text.now ≤ 63 }
     ensures { result ≡ spec.statement_of name.now text.now }
@@ -33,7 +32,7 @@ pub fn read_statement(name: &[u8], text: &[u8]) -> Result<Statement, Fault>
     Ok(statement_terms(statement))
 }
 
-/// The same, with the addresses kept as their texts.
+/// Parses the statement of a card like `read_statement`, but keeps the addresses as their texts.
 pub fn read_compact(name: &[u8], text: &[u8]) -> Result<CompactStatement, Fault>
     requires { length text.now ≤ 63 }
     ensures { result ≡ spec.statement_of name.now text.now }
@@ -42,7 +41,7 @@ pub fn read_compact(name: &[u8], text: &[u8]) -> Result<CompactStatement, Fault>
     read_clean(name, statement.as_slice())
 }
 
-// The statement of a name and of a text without comment and blanks.
+// Parses the statement of a name and a text without comment and blanks.
 fn read_clean(name: &[u8], statement: &[u8]) -> Result<CompactStatement, Fault>
     requires { length statement.now ≤ 63 }
     ensures { result ≡ spec.clean_statement_of name.now statement.now }
@@ -58,7 +57,8 @@ fn read_clean(name: &[u8], statement: &[u8]) -> Result<CompactStatement, Fault>
     }
 }
 
-// Whether the name is none, or the operation is one of those that ask for a name or for none.
+// Whether the name is malformed, present on an operation that allows none, or absent on one that
+// requires a name.
 fn is_misnamed(name: &[u8], op: Option<Operation>) -> bool
     ensures { result ≡ spec.is_misnamed name.now op }
 {
@@ -75,7 +75,7 @@ fn misnames(named: bool, op: Operation) -> bool
     }
 }
 
-// What an operation says with the text behind it.
+// Parses the statement of an operation with the text after it.
 fn say(op: Operation, text: &[u8]) -> Result<CompactStatement, Fault>
     requires { length text.now ≤ 63 }
     ensures { result ≡ spec.reading_of_operation op text.now }
@@ -87,7 +87,7 @@ fn say(op: Operation, text: &[u8]) -> Result<CompactStatement, Fault>
     }
 }
 
-// What an operation says with an allowed description and the text behind that.
+// Parses the statement of an operation with an allowed description and the text after that.
 fn say_formed(op: Operation, form: Form, text: &[u8]) -> Result<CompactStatement, Fault>
     requires { length text.now ≤ 63 }
     ensures { result ≡ spec.statement_in_form op form text.now }
@@ -99,7 +99,7 @@ fn say_formed(op: Operation, form: Form, text: &[u8]) -> Result<CompactStatement
     }
 }
 
-// What an operation says with its form and the text of its fields.
+// Parses the statement of an operation with its form and the text of its fields.
 fn with_text(op: Operation, form: Form, text: &[u8]) -> Result<CompactStatement, Fault>
     requires { length text.now ≤ 63 }
     ensures { result ≡ spec.with_fields op form (fields_of text.now) }
@@ -107,7 +107,7 @@ fn with_text(op: Operation, form: Form, text: &[u8]) -> Result<CompactStatement,
     with_fields(op, form, fields(text).as_slice())
 }
 
-// What an operation says with its form and its fields.
+// Parses the statement of an operation with its form and its fields.
 fn with_fields(op: Operation, form: Form, fields: &[FieldText]) -> Result<CompactStatement, Fault>
     ensures { result ≡ spec.with_fields op form (texts fields.now) }
 {

@@ -1,5 +1,6 @@
-//! What each operation says with its form and its fields. Each has a function of its own that is
-//! never inlined, so that no other one's large values are cleared for it.
+//! The statement of each operation, parsed from its form and its fields. Each operation has a
+//! function of its own that is never inlined, so that the large values of the other operations need
+//! not be cleared.
 
 ghost use Rattle.std.specs.Prelude.{◌≡◌};
 ghost use Rattle.st_mnemonic.specs.Fields.{texts};
@@ -15,7 +16,7 @@ use st_bits::{BranchOp, ConnKind, HalfOp, VflOp};
 use st_card::Fault;
 use st_mnemonic::{FieldText, Form, Operation};
 
-// What an operation on an index word says.
+// Parses the statement of an operation on an index word.
 #[inline(never)]
 pub(crate) fn say_half(op: HalfOp, fields: &[FieldText]) -> Result<CompactStatement, Fault>
     ensures { (form : FormOf) → result ≡ spec.with_fields (Operation.Half op) form
@@ -25,7 +26,7 @@ pub(crate) fn say_half(op: HalfOp, fields: &[FieldText]) -> Result<CompactStatem
     Ok(Statement::Half { op, j, at })
 }
 
-// What LVS says.
+// Parses the statement of LVS.
 #[inline(never)]
 pub(crate) fn say_sum(fields: &[FieldText]) -> Result<CompactStatement, Fault>
     ensures { (form : FormOf) → result ≡ spec.with_fields Operation.Sum form (texts fields.now) }
@@ -34,7 +35,7 @@ pub(crate) fn say_sum(fields: &[FieldText]) -> Result<CompactStatement, Fault>
     Ok(Statement::Sum { j, list })
 }
 
-// What R says.
+// Parses the statement of R.
 #[inline(never)]
 pub(crate) fn say_refill(fields: &[FieldText]) -> Result<CompactStatement, Fault>
     ensures { (form : FormOf) → result ≡ spec.with_fields Operation.Refill form (texts fields.now) }
@@ -44,7 +45,7 @@ pub(crate) fn say_refill(fields: &[FieldText]) -> Result<CompactStatement, Fault
     })
 }
 
-// What EX says.
+// Parses the statement of EX.
 #[inline(never)]
 pub(crate) fn say_execute(fields: &[FieldText]) -> Result<CompactStatement, Fault>
     ensures { (form : FormOf) → result ≡ spec.with_fields Operation.Execute form
@@ -57,7 +58,7 @@ pub(crate) fn say_execute(fields: &[FieldText]) -> Result<CompactStatement, Faul
     })
 }
 
-// What a branch says.
+// Parses the statement of a branch.
 #[inline(never)]
 pub(crate) fn say_branch(op: BranchOp, fields: &[FieldText]) -> Result<CompactStatement, Fault>
     ensures { (form : FormOf) → result ≡ spec.with_fields (Operation.Branch op) form
@@ -69,7 +70,7 @@ pub(crate) fn say_branch(op: BranchOp, fields: &[FieldText]) -> Result<CompactSt
     })
 }
 
-// What an operation of the branch group without an address says.
+// Parses the statement of an operation of the branch group without an address.
 #[inline(never)]
 pub(crate) fn say_bare(op: BranchOp, fields: &[FieldText]) -> Result<CompactStatement, Fault>
     ensures { (form : FormOf) → result ≡ spec.with_fields (Operation.Bare op) form
@@ -78,7 +79,7 @@ pub(crate) fn say_bare(op: BranchOp, fields: &[FieldText]) -> Result<CompactStat
     without_fields(Statement::Branch { op, at: None }, fields)
 }
 
-// What an operation of the floating group says.
+// Parses the statement of an operation of the floating group.
 #[inline(never)]
 pub(crate) fn say_floating(number: u8, fields: &[FieldText]) -> Result<CompactStatement, Fault>
     ensures { (form : FormOf) → result ≡ spec.with_fields (Operation.Floating number) form
@@ -90,7 +91,7 @@ pub(crate) fn say_floating(number: u8, fields: &[FieldText]) -> Result<CompactSt
     })
 }
 
-// What an operation on a field says.
+// Parses the statement of an operation on a field.
 #[inline(never)]
 pub(crate) fn say_vfl(
     op: VflOp,
@@ -110,7 +111,7 @@ pub(crate) fn say_vfl(
     })
 }
 
-// What a connective says.
+// Parses the statement of a connective.
 #[inline(never)]
 pub(crate) fn say_connect(
     kind: ConnKind,
@@ -130,7 +131,7 @@ pub(crate) fn say_connect(
     })
 }
 
-// What T or SWAP says.
+// Parses the statement of T or SWAP.
 #[inline(never)]
 pub(crate) fn say_move(swap: bool, fields: &[FieldText]) -> Result<CompactStatement, Fault>
     ensures { (form : FormOf) → result ≡ spec.with_fields (Operation.Move swap) form
@@ -145,7 +146,7 @@ pub(crate) fn say_move(swap: bool, fields: &[FieldText]) -> Result<CompactStatem
     })
 }
 
-// What a branch on a bit says.
+// Parses the statement of a branch on a bit.
 #[inline(never)]
 pub(crate) fn say_bit_branch(
     sense: bool,
@@ -164,7 +165,7 @@ pub(crate) fn say_bit_branch(
     })
 }
 
-// What a branch on an indicator says.
+// Parses the statement of a branch on an indicator.
 #[inline(never)]
 pub(crate) fn say_ind_branch(
     sense: bool,
@@ -183,7 +184,7 @@ pub(crate) fn say_ind_branch(
     })
 }
 
-// What SIC says.
+// Parses the statement of SIC.
 #[inline(never)]
 pub(crate) fn say_store_counter(fields: &[FieldText]) -> Result<CompactStatement, Fault>
     ensures { (form : FormOf) → result ≡ spec.with_fields Operation.StoreCounter form
@@ -193,7 +194,7 @@ pub(crate) fn say_store_counter(fields: &[FieldText]) -> Result<CompactStatement
     Ok(Statement::StoreCounter { at, second })
 }
 
-// What RD or WR says.
+// Parses the statement of RD or WR.
 #[inline(never)]
 pub(crate) fn say_transfer(write: bool, fields: &[FieldText]) -> Result<CompactStatement, Fault>
     ensures { (form : FormOf) → result ≡ spec.with_fields (Operation.Transfer write) form
@@ -203,7 +204,7 @@ pub(crate) fn say_transfer(write: bool, fields: &[FieldText]) -> Result<CompactS
     Ok(Statement::Transfer { write, at, count })
 }
 
-// What DD says.
+// Parses the statement of DD.
 #[inline(never)]
 pub(crate) fn say_data(form: Form, fields: &[FieldText]) -> Result<CompactStatement, Fault>
     ensures { result ≡ spec.with_fields Operation.Data form (texts fields.now) }
@@ -216,7 +217,7 @@ pub(crate) fn say_data(form: Form, fields: &[FieldText]) -> Result<CompactStatem
     })
 }
 
-// What XW says.
+// Parses the statement of XW.
 #[inline(never)]
 pub(crate) fn say_index_word(fields: &[FieldText]) -> Result<CompactStatement, Fault>
     ensures { (form : FormOf) → result ≡ spec.with_fields Operation.IndexWord form
@@ -231,7 +232,7 @@ pub(crate) fn say_index_word(fields: &[FieldText]) -> Result<CompactStatement, F
     })
 }
 
-// What SYN says.
+// Parses the statement of SYN.
 #[inline(never)]
 pub(crate) fn say_synonym(fields: &[FieldText]) -> Result<CompactStatement, Fault>
     ensures { (form : FormOf) → result ≡ spec.with_fields Operation.Synonym form
@@ -242,7 +243,7 @@ pub(crate) fn say_synonym(fields: &[FieldText]) -> Result<CompactStatement, Faul
     })
 }
 
-// What SLC says.
+// Parses the statement of SLC.
 #[inline(never)]
 pub(crate) fn say_set_location(fields: &[FieldText]) -> Result<CompactStatement, Fault>
     ensures { (form : FormOf) → result ≡ spec.with_fields Operation.SetLocation form
@@ -253,7 +254,7 @@ pub(crate) fn say_set_location(fields: &[FieldText]) -> Result<CompactStatement,
     })
 }
 
-// What DR says.
+// Parses the statement of DR.
 #[inline(never)]
 pub(crate) fn say_reserve(fields: &[FieldText]) -> Result<CompactStatement, Fault>
     ensures { (form : FormOf) → result ≡ spec.with_fields Operation.Reserve form
@@ -264,7 +265,7 @@ pub(crate) fn say_reserve(fields: &[FieldText]) -> Result<CompactStatement, Faul
     })
 }
 
-// What END says.
+// Parses the statement of END.
 #[inline(never)]
 pub(crate) fn say_end(fields: &[FieldText]) -> Result<CompactStatement, Fault>
     ensures { (form : FormOf) → result ≡ spec.with_fields Operation.End form (texts fields.now) }

@@ -1,4 +1,4 @@
-//! The shapes that the fields of operations have.
+//! Parsers of the field lists of operations.
 
 ghost use Rattle.std.specs.Prelude.{◌≡◌};
 ghost use Rattle.st_mnemonic.specs.Fields.{texts};
@@ -24,7 +24,7 @@ pub(crate) struct RefillAndFlags {
     pub flags: u64,
 }
 
-// What stands behind the value of an index word.
+// The fields of an index word after its value: count, refill address and flags.
 #[derive(Drop)]
 pub(crate) struct CountAndRefill {
     pub count: u64,
@@ -32,7 +32,7 @@ pub(crate) struct CountAndRefill {
     pub flags: u64,
 }
 
-// One field that is an index word.
+// Parses one field that is an index word.
 pub(crate) fn index_alone(fields: &[FieldText]) -> Result<u8, Fault>
     ensures { result ≡ spec.index_alone (texts fields.now) }
 {
@@ -42,7 +42,7 @@ pub(crate) fn index_alone(fields: &[FieldText]) -> Result<u8, Fault>
     }
 }
 
-// One address that may have an index part.
+// Parses one address with an optional index part.
 pub(crate) fn spot_alone(fields: &[FieldText]) -> Result<CompactSpot, Fault>
     ensures { result ≡ spec.spot_alone (texts fields.now) }
 {
@@ -52,7 +52,7 @@ pub(crate) fn spot_alone(fields: &[FieldText]) -> Result<CompactSpot, Fault>
     }
 }
 
-// One address without an index part.
+// Parses one address without an index part.
 pub(crate) fn expression_alone(fields: &[FieldText]) -> Result<ExprText, Fault>
     ensures { result ≡ spec.expression_alone (texts fields.now) }
 {
@@ -62,7 +62,7 @@ pub(crate) fn expression_alone(fields: &[FieldText]) -> Result<ExprText, Fault>
     }
 }
 
-// One number with a sign or none.
+// Parses one number with an optional sign.
 pub(crate) fn number_alone(fields: &[FieldText]) -> Result<(bool, u64), Fault>
     ensures { result ≡ spec.number_alone (texts fields.now) }
 {
@@ -72,7 +72,7 @@ pub(crate) fn number_alone(fields: &[FieldText]) -> Result<(bool, u64), Fault>
     }
 }
 
-// An index word and an address.
+// Parses an index word and an address.
 pub(crate) fn index_and_spot(fields: &[FieldText]) -> Result<(u8, CompactSpot), Fault>
     ensures { result ≡ spec.index_and_spot (texts fields.now) }
 {
@@ -82,7 +82,7 @@ pub(crate) fn index_and_spot(fields: &[FieldText]) -> Result<(u8, CompactSpot), 
     }
 }
 
-// An index word, and 1 to 15 that are listed.
+// Parses an index word and a list of 1 to 15 index words.
 pub(crate) fn index_and_list(fields: &[FieldText]) -> Result<(u8, u16), Fault>
     ensures { result ≡ spec.index_and_list (texts fields.now) }
 {
@@ -94,7 +94,7 @@ pub(crate) fn index_and_list(fields: &[FieldText]) -> Result<(u8, u16), Fault>
     }
 }
 
-// The address of a field and an offset or none.
+// Parses the address of a field and an optional offset.
 pub(crate) fn operand(form: Form, fields: &[FieldText]) -> Result<(CompactSpot, u64), Fault>
     ensures { result ≡ spec.operand_spot form (texts fields.now) }
 {
@@ -105,7 +105,7 @@ pub(crate) fn operand(form: Form, fields: &[FieldText]) -> Result<(CompactSpot, 
     }
 }
 
-// An address and a second one.
+// Parses an address and a second one without an index part.
 pub(crate) fn two_addresses(fields: &[FieldText]) -> Result<(CompactSpot, ExprText), Fault>
     ensures { result ≡ spec.two_addresses (texts fields.now) }
 {
@@ -115,7 +115,7 @@ pub(crate) fn two_addresses(fields: &[FieldText]) -> Result<(CompactSpot, ExprTe
     }
 }
 
-// An address and a number.
+// Parses an address and a number.
 pub(crate) fn spot_and_number(fields: &[FieldText]) -> Result<(CompactSpot, u64), Fault>
     ensures { result ≡ spec.spot_and_number (texts fields.now) }
 {
@@ -125,7 +125,7 @@ pub(crate) fn spot_and_number(fields: &[FieldText]) -> Result<(CompactSpot, u64)
     }
 }
 
-// An address and a number that were read.
+// Combines the readings of an address and a number.
 fn address_with_number(
     address: Result<ExprText, Fault>,
     number: Result<u64, Fault>,
@@ -138,7 +138,7 @@ fn address_with_number(
     }
 }
 
-// An address without an index part and a number.
+// Parses an address without an index part and a number.
 fn address_and_number(fields: &[FieldText]) -> Result<AddressAndNumber, Fault>
     ensures { result ≡ spec.address_and_number (texts fields.now) }
 {
@@ -148,7 +148,7 @@ fn address_and_number(fields: &[FieldText]) -> Result<AddressAndNumber, Fault>
     }
 }
 
-// Two addresses and a number.
+// Parses two addresses and a number.
 pub(crate) fn two_addresses_and_number(
     fields: &[FieldText],
 ) -> Result<(CompactSpot, AddressAndNumber), Fault>
@@ -160,7 +160,7 @@ pub(crate) fn two_addresses_and_number(
     }
 }
 
-// A refill address and flags that were read.
+// Combines the readings of a refill address and flags.
 fn refill_with_flags(
     refill: Result<ExprText, Fault>,
     flags: Result<u64, Fault>,
@@ -173,7 +173,7 @@ fn refill_with_flags(
     }
 }
 
-// A refill address, and flags or none.
+// Parses a refill address and optional flags.
 fn refill_and_flags(fields: &[FieldText]) -> Result<RefillAndFlags, Fault>
     ensures { result ≡ spec.refill_and_flags (texts fields.now) }
 {
@@ -184,7 +184,7 @@ fn refill_and_flags(fields: &[FieldText]) -> Result<RefillAndFlags, Fault>
     }
 }
 
-// A count, a refill address and flags that were read.
+// Combines the readings of a count and of a refill address with flags.
 fn count_with_refill(
     count: Result<u64, Fault>,
     more: Result<RefillAndFlags, Fault>,
@@ -201,7 +201,7 @@ fn count_with_refill(
     }
 }
 
-// A count, a refill address, and flags or none.
+// Parses a count, a refill address and optional flags.
 fn count_and_refill(fields: &[FieldText]) -> Result<CountAndRefill, Fault>
     ensures { result ≡ spec.count_and_refill (texts fields.now) }
 {
@@ -211,7 +211,7 @@ fn count_and_refill(fields: &[FieldText]) -> Result<CountAndRefill, Fault>
     }
 }
 
-// The parts of an index word.
+// Parses the parts of an index word: value, count, refill address and flags.
 pub(crate) fn index_word_parts(fields: &[FieldText]) -> Result<(ExprText, CountAndRefill), Fault>
     ensures { result ≡ spec.index_word_parts (texts fields.now) }
 {
@@ -221,7 +221,7 @@ pub(crate) fn index_word_parts(fields: &[FieldText]) -> Result<(ExprText, CountA
     }
 }
 
-// A statement without fields.
+// Checks that a statement has no fields.
 pub(crate) fn without_fields(
     statement: CompactStatement,
     fields: &[FieldText],

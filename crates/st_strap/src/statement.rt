@@ -1,23 +1,23 @@
-//! What a statement says.
+//! Statements and their addresses.
 
 use st_bits::{BranchOp, ConnKind, HalfOp, VflOp};
 use st_expr::{Expr, ExprText};
 use st_mnemonic::Form;
 
-/// An address, and the index word that changes it. The address is kept in the form `E`: as its
-/// terms, or as its text.
+/// An address with the index word that modifies it. `E` is the representation of the address: its
+/// terms or its text.
 #[derive(Drop, Debug, PartialEq)]
 pub struct Spot<E = Expr> {
-    /// The address, a bit address.
+    /// The expression of the address, a bit address.
     pub expr: E,
-    /// The number of the index word, 1 to 15, or 0 where there is none.
+    /// The number of the index word, 1 to 15, or 0 for none.
     pub index: u8,
 }
 
 /// A statement: an instruction, or an order to the assembler. `at` is its first address, and
-/// `second` is another one, in bits, without an index part. Numbers (`offset`, `count`, `number`,
-/// `flags`) are as they were read, below 2^64; only the assembler tries them against what has room.
-/// Addresses are kept in the form `E`: as their terms, or as their texts.
+/// `second` is another one, in bits, without an index part. The numbers `offset`, `count`, `number`
+/// and `flags` are the values read, below 2^64; the assembler checks later whether they fit. `E` is
+/// the representation of addresses: their terms or their texts.
 #[derive(Drop, Debug, PartialEq)]
 pub enum Statement<E = Expr> {
     /// An operation on the index word `j`, 0 to 15; EX has `j` 0.
@@ -26,7 +26,8 @@ pub enum Statement<E = Expr> {
         j: u8,
         at: Spot<E>,
     },
-    /// LVS: the highest bit of `list` stands for index word 0, the lowest for index word 15.
+    /// LVS: the most significant bit of `list` represents index word 0, the least significant one
+    /// index word 15.
     Sum {
         j: u8,
         list: u16,
@@ -61,21 +62,21 @@ pub enum Statement<E = Expr> {
         at: Spot<E>,
         offset: u64,
     },
-    /// T, or SWAP where `swap` says so, of `count` words.
+    /// T, or SWAP if `swap` is set, of `count` words.
     Move {
         swap: bool,
         at: Spot<E>,
         second: E,
         count: u64,
     },
-    /// BB: what becomes of the bit is 0 to 3: it is left, zeroed, set to one or inverted.
+    /// BB. `change` is the change of the bit: 0 none, 1 to zero, 2 to one, 3 inverted.
     BitBranch {
         sense: bool,
         change: u8,
         at: Spot<E>,
         second: E,
     },
-    /// BI, which turns the indicator off where `off` says so.
+    /// BI, which turns the indicator off if `off` is set.
     IndBranch {
         sense: bool,
         off: bool,
@@ -87,13 +88,13 @@ pub enum Statement<E = Expr> {
         at: Spot<E>,
         second: E,
     },
-    /// RD, or WR where `write` says so: the order takes effect `count` instructions later.
+    /// RD, or WR if `write` is set: the order takes effect `count` instructions later.
     Transfer {
         write: bool,
         at: Spot<E>,
         count: u64,
     },
-    /// DD: a number that is laid as a field, with a minus where `minus` says so.
+    /// DD: a number that is assembled as a field, negative if `minus` is set.
     Data {
         form: Form,
         minus: bool,
@@ -107,26 +108,26 @@ pub enum Statement<E = Expr> {
         refill: E,
         flags: u64,
     },
-    /// SYN: the card's name gets the value.
+    /// SYN: defines the card's name with this value.
     Synonym {
         at: E,
     },
-    /// SLC: the location is set.
+    /// SLC: sets the location counter.
     SetLocation {
         at: E,
     },
-    /// DR: so many bits are passed over.
+    /// DR: reserves (skips) this number of bits.
     Reserve {
         at: E,
     },
-    /// END, with the start.
+    /// END, with the start address of the program.
     End {
         at: E,
     },
 }
 
-/// An address that is kept as its text.
+/// An address that is kept as text.
 pub type CompactSpot = Spot<ExprText>;
 
-/// A statement whose addresses are kept as their texts, which takes a seventh of the room.
+/// A statement whose addresses are kept as text, which takes a seventh of the memory.
 pub type CompactStatement = Statement<ExprText>;

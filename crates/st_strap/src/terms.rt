@@ -1,10 +1,10 @@
-//! A statement whose addresses are lists of terms.
+//! Conversion of statements to ones whose addresses are lists of terms.
 
 ghost use Rattle.std.specs.Prelude.{◌≡◌};
 
 use crate::statement::{CompactSpot, CompactStatement, Spot, Statement};
 
-// The same statement.
+// The statement with its addresses as lists of terms.
 pub(crate) fn statement_terms(statement: CompactStatement) -> Statement
     ensures { result ≡ statement }
 {
@@ -120,7 +120,7 @@ pub(crate) fn statement_terms(statement: CompactStatement) -> Statement
     }
 }
 
-// The same address.
+// The address as a list of terms.
 fn spot_terms(at: CompactSpot) -> Spot
     ensures { result ≡ at }
 {

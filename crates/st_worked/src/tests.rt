@@ -1,5 +1,5 @@
-//! The whole program over sources and sinks in memory that fail. What it answers and writes where
-//! none fails is compared in `vectors`.
+//! Tests of the whole program over sources and sinks in memory that fail. `vectors` compares the
+//! results and the output of runs without failures.
 use st_io::{MemSink, MemSource, Sink, Source};
 use st_top::{Answer, stretch};
 use std::alloc::Global;
@@ -9,8 +9,8 @@ mod decks;
 mod delays;
 mod devices;
 
-// Gives a word of the command line and a job to the program. It has no contract, so the tests do
-// not carry that of the program.
+// Calls the program with a word of the command line and a job. This function has no contract, so
+// the tests do not carry that of the program.
 fn answered<S: Source, K: Sink>(
     alloc: Global,
     word: &str,
@@ -21,8 +21,8 @@ fn answered<S: Source, K: Sink>(
     Ok(stretch(alloc, &words, job, out))
 }
 
-// Answers a job where the read and the write with these numbers fail, from 1 on (0 is none), and
-// the sink has so much room.
+// The result for a job if the read and the write with these numbers fail, counted from 1 (0 is
+// none), and the sink has this much room.
 fn answer_failing(
     alloc: Global,
     word: &str,

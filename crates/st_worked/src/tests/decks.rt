@@ -1,12 +1,12 @@
-//! Jobs and the reports on them, worked out by hand or by an independent model of the machine.
+//! Jobs and their reports, worked out by hand or by an independent model of the machine.
 
-/// A load and a wait.
+/// A job of a load and a wait.
 pub const LOAD: &str = "         LVI,$X1,100.0
          BEW
          END,32.0
 ";
 
-/// The report on a load and a wait.
+/// The report of `LOAD`.
 pub const LOADED: &str = "END WAIT
 DONE 2
 IC 33.0
@@ -16,7 +16,7 @@ REG 12 FFFFF00000000000
 REG 17 0019000000000000
 ";
 
-/// A load and a wait, with names and a listing.
+/// A job of a load and a wait, with names and a listing.
 pub const LISTED: &str = " A       LVI,$X1,B
          BEW
  B       SYN,100.0
@@ -24,7 +24,7 @@ pub const LISTED: &str = " A       LVI,$X1,B
 /LIST
 ";
 
-/// Its report: five lines of cards, two of symbols, and the end.
+/// The report of `LISTED`: five lines of cards, two of symbols, and the end.
 pub const LISTING: &str = "    1      32.0 00190300          A       LVI,$X1,B
     2     32.32 00000970                  BEW
     3     100.0                   B       SYN,100.0
@@ -41,7 +41,7 @@ REG 12 FFFFF00000000000
 REG 17 0019000000000000
 ";
 
-/// A counting loop that is traced.
+/// A counting loop with a trace.
 pub const TRACED: &str = "         LCI,$X1,2
          CB,$X1,32.32
          BEW
@@ -49,7 +49,7 @@ pub const TRACED: &str = "         LCI,$X1,2
 /TRACE
 ";
 
-/// Its report: four lines of trace, and the end.
+/// The report of `TRACED`: four lines of trace, and the end.
 pub const TRACE: &str = "TRC 1 32.0
 TRC 2 32.32
 TRC 3 32.32
@@ -88,7 +88,7 @@ pub const TABLE_SUM: &str = "* SUM OF A TABLE
 /DUMP 41 42
 ";
 
-/// Its report: eleven lines of the interrupt, and thirteen of the end.
+/// The report of `TABLE_SUM`: eleven lines of the interrupt, and thirteen of the end.
 pub const TABLE_SUMMED: &str = "INT 13 AFTER 6
 IC 34.0
 EN 1
@@ -115,7 +115,7 @@ MEM 41 0000090000007002
 MEM 42 0000000000000001
 ";
 
-/// A line for the printer.
+/// A job that prints a line.
 pub const PRINTS: &str = "         WR,50.0,1
          BI0Z,$EOP,33.0
          BEW
@@ -124,7 +124,7 @@ pub const PRINTS: &str = "         WR,50.0,1
          END,32.0
 ";
 
-/// Its report: the printed line, and the end.
+/// The report of `PRINTS`: the printed line, and the end.
 pub const PRINTED: &str = "PRT HI
 END WAIT
 DONE 4
@@ -133,7 +133,7 @@ EN 1
 REG 12 FFFFF00000000000
 ";
 
-/// Four early index changes, one behind the other.
+/// A job with four consecutive early index changes.
 pub const CALM: &str = "         *(BU,64),100.0
          V+I,$X1,1.0
          V+I,$X1,1.0
@@ -143,7 +143,7 @@ pub const CALM: &str = "         *(BU,64),100.0
          END,32.0
 ";
 
-/// Their ticks on machines of one to eight levels.
+/// The output of `CALM` on machines of one to eight levels: the ticks of each.
 pub const CALM_LINES: &str = "LEVELS 1 TICKS 27
 LEVELS 2 TICKS 25
 LEVELS 3 TICKS 23
@@ -155,7 +155,7 @@ LEVELS 8 TICKS 23
 CALM 1
 ";
 
-/// A division that slow storage keeps waiting, and eleven index changes that run ahead of it.
+/// A division that waits for slow storage, and eleven index changes that run ahead of it.
 pub const SLOW_DIVISION: &str = "         /(BU,64),100.0
          V+I,$X1,1.0
          V+I,$X1,1.0
@@ -186,7 +186,8 @@ pub const CHANGING: &str = " START   LX,$X1,CTL
 /DUMP 34 34
 ";
 
-/// Its report: eighteen lines of trace, and the end. The last value is five half-words.
+/// The report of `CHANGING`: eighteen lines of trace, and the end. The last value is five
+/// half-words.
 pub const CHANGED: &str = "TRC 1 32.0
 TRC 2 32.32
 TRC 3 33.0

@@ -1,4 +1,4 @@
-//! A run with one list of delays and another.
+//! Tests that compare runs with different lists of delays.
 
 use super::answer_failing;
 use super::decks::{CHANGED, CHANGING};
@@ -7,14 +7,15 @@ use st_top::Status;
 use std::alloc::Global;
 use std::test::Fail;
 
-// A job with a card more.
+// A job with one more card.
 fn with_card(alloc: Global, job: &str, card: &str) -> Result<Vec<u8>, Fail> {
     let mut bytes = Vec::from_slice(alloc, job.as_bytes())?;
     bytes.extend_from_slice(card.as_bytes())?;
     Ok(bytes)
 }
 
-// Whether the loop that changes its own next instruction has its report with this card of delays.
+// Whether the loop that changes its own next instruction has the expected report with this card of
+// delays.
 fn is_changed(alloc: Global, delays: &str) -> Result<bool, Fail> {
     let job = with_card(alloc, CHANGING, delays)?;
     let (answer, out) = answer_failing(alloc, "run", job, (0, 0, 4000))?;

@@ -1,4 +1,4 @@
-//! Sources and sinks that fail.
+//! Tests with sources and sinks that fail.
 ghost use Rattle.std.specs.Prelude.{◌<◌};
 ghost use Rattle.st_io.specs.Memory.{memory_output};
 
@@ -12,12 +12,12 @@ use st_top::Status;
 use std::alloc::Global;
 use std::test::Fail;
 
-// What a test shows, where it does not hold.
+// Fails with the given message if a condition does not hold.
 fn check(holds: bool, shows: &'static str) -> Result<(), Fail> {
     if holds { Ok(()) } else { Err(Fail::new(shows)) }
 }
 
-// A job behind so many comment cards.
+// A job after this number of comment cards.
 fn behind_comments(alloc: Global, comments: u32, job: &str) -> Result<Vec<u8>, Fail> {
     let mut bytes = Vec::new(alloc);
     for _ in 0..comments {
@@ -27,7 +27,8 @@ fn behind_comments(alloc: Global, comments: u32, job: &str) -> Result<Vec<u8>, F
     Ok(bytes)
 }
 
-// The status, and how many bytes are written, where this read of a job behind comment cards fails.
+// The status and the number of bytes written if the `read`-th read of a job after comment cards
+// fails.
 fn at_read(alloc: Global, comments: u32, job: &str, read: u32) -> Result<(Status, usize), Fail> {
     let job = behind_comments(alloc, comments, job)?;
     let (answer, out) = answer_failing(alloc, "run", job, (read, 0, 4000))?;
@@ -36,7 +37,7 @@ fn at_read(alloc: Global, comments: u32, job: &str, read: u32) -> Result<(Status
 
 #[test]
 fn each_read_that_fails_leaves_nothing_written(rt: HostRuntime) -> Result<(), Fail> {
-    // A read takes 4096 bytes at most, and the last one finds the end.
+    // A read takes at most 4096 bytes, and the last one finds the end.
     for (comments, job, reads) in [(0, LOAD, 2), (0, TABLE_SUM, 2), (19_997, LOAD, 11)] {
         for read in 1..reads + 1 {
             let failed = at_read(rt.alloc(), comments, job, read)?;
@@ -48,8 +49,8 @@ fn each_read_that_fails_leaves_nothing_written(rt: HostRuntime) -> Result<(), Fa
     Ok(())
 }
 
-// A command, its job and what is written, and for groups of lines the number of instructions done
-// when they are written: each group ends before the line that it names, counted from 0.
+// A command, its job and its output, and for each group of lines the number of instructions that
+// have completed when the group is written: each group ends before the named line, counted from 0.
 #[derive(Clone, Copy)]
 struct Written {
     word: &'static str,
@@ -84,21 +85,21 @@ const WRITTEN: [Written; 7] = [
         report: TRACE,
         groups: &[(1, 1), (2, 2), (3, 3), (10, 4)],
     },
-    // The printer prints behind the second instruction.
+    // The printer prints after the second instruction.
     Written {
         word: "run",
         job: PRINTS,
         report: PRINTED,
         groups: &[(1, 2), (6, 4)],
     },
-    // A sweep whose write fails has done nothing.
+    // A sweep whose write fails has completed no instruction.
     Written {
         word: "sweep",
         job: CALM,
         report: CALM_LINES,
         groups: &[(9, 0)],
     },
-    // So may the line that refuses.
+    // The write of a refusal may fail too.
     Written {
         word: "run",
         job: "",
@@ -107,8 +108,8 @@ const WRITTEN: [Written; 7] = [
     },
 ];
 
-// How many instructions are done when this line is written, counted from 0; None behind the last
-// line.
+// The number of instructions that have completed when this line is written, counted from 0; `None`
+// after the last line.
 fn done_at(groups: &[(u32, u64)], line: u32) -> Option<u64> {
     for (end, done) in groups {
         if line < *end {
@@ -118,7 +119,7 @@ fn done_at(groups: &[(u32, u64)], line: u32) -> Option<u64> {
     None
 }
 
-// So many lines from the front of a report.
+// The first `lines` lines of a report.
 fn first_lines(alloc: Global, report: &str, lines: u32) -> Result<Vec<u8>, Fail> {
     let mut front = Vec::new(alloc);
     let mut left = lines;
@@ -134,8 +135,8 @@ fn first_lines(alloc: Global, report: &str, lines: u32) -> Result<Vec<u8>, Fail>
     Ok(front)
 }
 
-// Lets the write of this line fail, counted from 0: the lines before it are written, or where there
-// is none the whole report. Says whether there is such a line.
+// Makes the write of this line fail, counted from 0, and checks that the lines before it are
+// written, or the whole report if there is no such line. Returns whether there is such a line.
 fn fails_at_line(alloc: Global, run: &Written, line: u32) -> Result<bool, Fail>
     requires { line < 100 }
 {
@@ -166,7 +167,7 @@ fn each_write_that_fails_leaves_the_lines_before_it(rt: HostRuntime) -> Result<(
     Ok(())
 }
 
-// Whether a sink with so much room holds a front of the report of one load.
+// Whether a sink with this much room receives a prefix of the report of one load.
 fn holds_front(alloc: Global, room: usize) -> Result<bool, Fail> {
     let job = LOAD.as_bytes().to_vec(alloc)?;
     let (answer, out) = answer_failing(alloc, "run", job, (0, 0, room))?;
@@ -205,7 +206,7 @@ impl Sink for Slow {
     }
 }
 
-// Whether this write of five bytes fails so.
+// Whether the program fails as expected if this write of five bytes fails.
 fn fails_within(alloc: Global, write: u32, written: &str) -> Result<bool, Fail> {
     let buffer = Vec::with_capacity(alloc, 1000)?;
     let mut out = Slow {
