@@ -1,57 +1,92 @@
 // The editor: a plain text area, so that undo, marking, the clipboard, input methods and screen readers are the browser's own. Behind it lies
-// the same text in colours, of which only the lines that are seen are drawn, and beside it a gutter.
+// the same text in colours, of which only the lines that are seen are drawn, and beside it a gutter. A deck of very many cards is put into an
+// element that the browser edits in blocks (longtext.js).
 import { h } from './dom.js';
+import { LongText, editsPlainText } from './longtext.js';
 import { piecesOf } from './columns.js';
-import { STATEMENT, READ, endOf } from './decks.js';
+import { STATEMENT, READ, endOf, sameEnds } from './decks.js';
 
 const LINE = 20;            // pixels, as in the style sheet
 const TAB = 8;
 const SHOWN = 400;          // characters of a line that are drawn
 const BEYOND = 3;           // lines that are drawn above and below what is seen
 const HEAT = 38;            // pixels of the longest bar
+const MANY = 3000;          // from so many lines on a text that is put in stands in blocks
 
 // Puts text in the place of what is marked, so that the browser's undo knows of it.
-function type(area, text) {
-  if (document.execCommand('insertText', false, text)) return;
-  area.setRangeText(text, area.selectionStart, area.selectionEnd, 'end');
-  area.dispatchEvent(new Event('input', { bubbles: true }));
+function type(field, text) {
+  if (field instanceof LongText) {
+    field.type(text);
+    return;
+  }
+  if (document.execCommand(text ? 'insertText' : 'delete', false, text)) return;
+  field.setRangeText(text, field.selectionStart, field.selectionEnd, 'end');
+  field.dispatchEvent(new Event('input', { bubbles: true }));
 }
 
 export class Editor {
   // `on` is told: `change(text, isTyped)`, `caret(card, column)`, `card(number)` of a click on a card's number, `run()`.
   constructor(box, on) {
     Object.assign(this, { box, on, lines: [''], end: 1, wrong: null, card: null, marks: new Map(), heat: new Map(), hottest: 1, capitals: true, leaves: false });
-    Object.assign(this, { height: 400, letter: 8, at: 0, column: 0, asked: false });
-    this.area = h('textarea', {
-      id: 'deck', spellcheck: 'false', autocapitalize: 'off', autocomplete: 'off', autocorrect: 'off', wrap: 'off', 'aria-label': 'deck, one card a line',
-      'aria-describedby': 'fault keys-hint',
-    });
+    Object.assign(this, { height: 400, letter: 8, at: 0, column: 0, asked: false, heard: new Set() });
+    this.attributes = {
+      id: 'deck', class: 'area', spellcheck: 'false', autocapitalize: 'off', autocomplete: 'off', autocorrect: 'off', wrap: 'off',
+      'aria-label': 'deck, one card a line', 'aria-describedby': 'fault keys-hint',
+    };
+    // What has the text and what is marked in it, and the element that is seen.
+    this.short = h('textarea', this.attributes);
+    [this.field, this.area] = [this.short, this.short];
+    this.room = new ResizeObserver(() => this.measure());
     this.colours = h('div', { class: 'colours', 'aria-hidden': 'true' });
     this.gutter = h('div', { class: 'gutter', 'aria-hidden': 'true' });
     this.ruler = h('div', { class: 'ruler', 'aria-hidden': 'true' });
     this.probe = h('span', { class: 'probe', 'aria-hidden': 'true' }, '0'.repeat(100));
     box.replaceChildren(this.ruler, this.gutter, h('div', { class: 'paper' }, this.colours, this.area), this.probe);
     this.listen();
-    new ResizeObserver(() => this.measure()).observe(this.area);
+    this.listenTo(this.area);
   }
 
   get text() {
-    return this.area.value;
+    return this.field.value;
   }
 
-  // Puts another text in: where it is to be undone by the browser's undo it is typed, else set.
+  // Puts another text in: where it is to be undone by the browser's undo what differs is typed, else it is set.
   set(text, { undo = false } = {}) {
     if (undo && text.length < 200000) {
-      this.area.focus();
-      this.area.select();
-      type(this.area, text);
-      this.area.setSelectionRange(0, 0);
+      const before = this.text;
+      const [front, back] = sameEnds(before, text);
+      this.select(front, before.length - back);
+      type(this.field, text.slice(front, text.length - back));
     } else {
-      this.area.value = text;
-      this.area.setSelectionRange(0, 0);
+      this.take(text.split('\n', MANY).length < MANY || !editsPlainText() ? this.short : this.many);
+      this.field.value = text;
     }
+    this.field.setSelectionRange(0, 0);
     this.area.scrollTo(0, 0);
     this.changed();
+  }
+
+  get many() {
+    this.long ??= new LongText(this.attributes);
+    return this.long;
+  }
+
+  // Another of the two has the text from now on.
+  take(field) {
+    if (field === this.field) return;
+    const area = field.box ?? field;
+    const isFocused = document.activeElement === this.area;
+    this.room.disconnect();
+    this.area.replaceWith(area);
+    Object.assign(this, { field, area });
+    this.listenTo(area);
+    if (isFocused) area.focus();
+  }
+
+  // Marks a part of the text, and takes the keyboard.
+  select(start, end) {
+    this.field.focus();
+    this.field.setSelectionRange(start, end);
   }
 
   changed(isTyped = false) {
@@ -65,7 +100,17 @@ export class Editor {
   }
 
   listen() {
-    const { area } = this;
+    document.addEventListener('selectionchange', () => { if (document.activeElement === this.area) this.where(); });
+    this.gutter.addEventListener('click', (event) => {
+      const card = Math.floor((event.clientY - this.gutter.getBoundingClientRect().top + this.area.scrollTop) / LINE) + 1;
+      if (card <= this.lines.length) this.on.card(card);
+    });
+  }
+
+  listenTo(area) {
+    this.room.observe(area);
+    if (this.heard.has(area)) return;
+    this.heard.add(area);
     area.addEventListener('input', () => this.changed(true));
     area.addEventListener('scroll', () => this.draw());
     area.addEventListener('keydown', (event) => this.press(event));
@@ -75,11 +120,6 @@ export class Editor {
       this.leaves = false;
       this.box.classList.remove('focused');
     });
-    document.addEventListener('selectionchange', () => { if (document.activeElement === area) this.where(); });
-    this.gutter.addEventListener('click', (event) => {
-      const card = Math.floor((event.clientY - this.gutter.getBoundingClientRect().top + area.scrollTop) / LINE) + 1;
-      if (card <= this.lines.length) this.on.card(card);
-    });
   }
 
   // ---- the caret
@@ -87,7 +127,7 @@ export class Editor {
   // Its line and column, from 0 on.
   caret() {
     const { text } = this;
-    const at = this.area.selectionStart;
+    const at = this.field.selectionStart;
     const begin = text.lastIndexOf('\n', at - 1) + 1;
     let line = 0;
     for (let k = text.indexOf('\n'); k >= 0 && k < at; k = text.indexOf('\n', k + 1)) line += 1;
@@ -103,8 +143,7 @@ export class Editor {
   }
 
   press(event) {
-    const { area } = this;
-    const isPlain = area.selectionStart === area.selectionEnd && !event.shiftKey;
+    const isPlain = !event.shiftKey && this.field.selectionStart === this.field.selectionEnd;
     const { key } = event;
     if (key === 'Enter' && (event.ctrlKey || event.metaKey)) {
       event.preventDefault();
@@ -122,7 +161,7 @@ export class Editor {
     const { column, text } = this.caret();
     if (column >= STATEMENT && !text.slice(0, column).trim()) return;
     const stop = column < STATEMENT ? STATEMENT : STATEMENT + TAB * (Math.floor((column - STATEMENT) / TAB) + 1);
-    type(this.area, ' '.repeat(stop - column));
+    type(this.field, ' '.repeat(stop - column));
   }
 
   // Behind a statement the next card begins in column 10.
@@ -130,7 +169,7 @@ export class Editor {
     const { line, text, column } = this.caret();
     if (line >= this.end || text[0] === '*' || text[0] === '/' || column < STATEMENT) return;
     event.preventDefault();
-    type(this.area, `\n${' '.repeat(STATEMENT)}`);
+    type(this.field, `\n${' '.repeat(STATEMENT)}`);
     const below = (line + 3) * LINE - this.area.scrollTop - this.height;
     if (below > 0) this.area.scrollTop += below;
     this.area.scrollLeft = 0;
@@ -141,8 +180,8 @@ export class Editor {
     const { column, text } = this.caret();
     if (column !== STATEMENT || text.slice(0, STATEMENT).trim() !== '') return;
     event.preventDefault();
-    const at = this.area.selectionStart;
-    this.area.setSelectionRange(at - STATEMENT + 1, at);
+    const at = this.field.selectionStart;
+    this.field.setSelectionRange(at - STATEMENT + 1, at);
     document.execCommand('delete');
   }
 
@@ -154,7 +193,7 @@ export class Editor {
     const isText = text[0] === '*' || (text[0] !== '/' && (/^[^;']*('[^']*'[^;']*)*;/.test(before) || (before.match(/'/g) ?? []).length % 2));
     if (isText || (line > this.end && text[0] !== '/') || /0x[0-9a-f]*$/i.test(before) || (/(^|[,+-])0$/.test(before) && event.data === 'x')) return;
     event.preventDefault();
-    type(this.area, event.data.toUpperCase());
+    type(this.field, event.data.toUpperCase());
   }
 
   // ---- what is shown beside the text
@@ -170,8 +209,7 @@ export class Editor {
   // Puts the caret at a card, and scrolls to it.
   goTo(card) {
     const begin = this.lines.slice(0, card - 1).reduce((sum, line) => sum + line.length + 1, 0);
-    this.area.focus();
-    this.area.setSelectionRange(begin, begin + (this.lines[card - 1] ?? '').length);
+    this.select(begin, begin + (this.lines[card - 1] ?? '').length);
     const y = (card - 1) * LINE;
     if (y < this.area.scrollTop || y + LINE > this.area.scrollTop + this.height) this.area.scrollTop = Math.max(0, y - this.height / 3);
     this.where();

@@ -1,5 +1,6 @@
 // The decks of one who writes: each that was typed, or opened as a file, stays until it is dropped, whatever else is opened in its place.
 import { h } from './dom.js';
+import { sameEnds } from './decks.js';
 
 const KEY = 'stretch.decks';
 const MOST = 8;                 // so many decks are kept; the oldest goes first, but never the newest of one's own
@@ -16,11 +17,7 @@ function nameOf({ title, text }, isNewest) {
 // Whether a text is another deck than the one that stood there: hardly anything before and behind the change is the same.
 function isAnother(before, text) {
   if (before.trim().length < LEAST || Math.abs(before.length - text.length) < 2) return false;
-  const most = Math.min(before.length, text.length);
-  let front = 0;
-  while (front < most && before[front] === text[front]) front += 1;
-  let back = 0;
-  while (back < most - front && before[before.length - 1 - back] === text[text.length - 1 - back]) back += 1;
+  const [front, back] = sameEnds(before, text);
   return 3 * (front + back) < before.length;
 }
 

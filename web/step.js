@@ -303,7 +303,7 @@ export class Stepper {
     const { target, key, ctrlKey, shiftKey } = event;
     if (key === 'Escape' && this.cause) this.chooseCause(this.cause);
     const room = this.view.closest('[role=tabpanel]') ?? document.body;
-    if (!this.runs.length || event.altKey || event.metaKey || !this.view.clientWidth || !(target === document.body || room.contains(target)) || target.matches('input, select, textarea')) return;
+    if (!this.runs.length || event.altKey || event.metaKey || !this.view.clientWidth || !(target === document.body || room.contains(target)) || target.matches('input, select, textarea, [contenteditable]')) return;
     if (key === ' ' && target.matches('button, summary')) return;
     const steps = {
       ArrowLeft: () => (ctrlKey ? this.event(false) : shiftKey ? this.completion(false) : this.go(this.t - 1)),
