@@ -157,8 +157,9 @@ export class Editor {
 
   // To column 10, and behind an operation to every eighth from there.
   tabulate(event) {
-    event.preventDefault();
     const { column, text } = this.caret();
+    if (/^[*/]/.test(text) && column === 0) return;
+    event.preventDefault();
     if (column >= STATEMENT && !text.slice(0, column).trim()) return;
     const stop = column < STATEMENT ? STATEMENT : STATEMENT + TAB * (Math.floor((column - STATEMENT) / TAB) + 1);
     type(this.field, ' '.repeat(stop - column));
@@ -210,9 +211,14 @@ export class Editor {
   goTo(card) {
     const begin = this.lines.slice(0, card - 1).reduce((sum, line) => sum + line.length + 1, 0);
     this.select(begin, begin + (this.lines[card - 1] ?? '').length);
+    this.show(card);
+    this.where();
+  }
+
+  // Scrolls to a card.
+  show(card) {
     const y = (card - 1) * LINE;
     if (y < this.area.scrollTop || y + LINE > this.area.scrollTop + this.height) this.area.scrollTop = Math.max(0, y - this.height / 3);
-    this.where();
   }
 
   // Marks the cards of the levels and of what is prepared next (as Deck does).

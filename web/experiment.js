@@ -13,7 +13,7 @@ const MOST_DELAY = 255;
 const MOST_DELAYS = 4096;
 const LATIN = new TextDecoder('latin1');
 const CALM = 'The program says that the run is calm under all of these delays; then it is proved that more levels are never slower.';
-const NOT_CALM = 'The run is not calm under all of these delays: more levels may be slower at times.';
+const NOT_CALM = 'Under these delays it is not proved that more levels are never slower: the run is not what the glossary calls calm.';
 // The lines of a report that delays may change, and the cards that ask for such lines.
 const OF_TICKS = /^(ROW|DROP|TIME|TICKS) .*\n/gm;
 const ASK_TICKS = ['DELAYS', 'TIME', 'CHART', 'SNAP', 'LIST'];
@@ -48,6 +48,8 @@ export class Experiment {
   // Shows the experiment with a deck, where it is not shown yet.
   async show(text, isSure = false) {
     if (this.shown === text) return;
+    if (this.text !== text) this.lists = [...DELAYS];       // lists that were added are for the deck of then
+    this.text = text;
     this.runner.stop();
     this.shown = text;
     const lines = linesOf(text);
@@ -96,6 +98,7 @@ export class Experiment {
       h('p', { class: isSame ? 'claim' : 'claim bad', role: 'status' }, isSame
         ? `✓ All other lines of the reports are the same, byte for byte, under ${lists.length} lists of delays: only ticks change. They were compared now.`
         : '✗ Other lines of the reports differ as well. That must not be: please report this deck.'),
+      this.ask(text),
       h('div', { class: 'plots' },
         plot({
           title: 'Ticks of the run with more levels', name: 'levels', xs: LEVELS, series: lists.map((list) => ({ name: name(list), ys: found.get(list).ticks })),
@@ -105,8 +108,7 @@ export class Experiment {
           title: 'Ticks of the run with slower storage', name: 'delay', xs: uniform.map(Number),
           series: SHOWN_LEVELS.map((levels) => ({ name: plural(levels, 'level'), ys: uniform.map((list) => found.get(list).ticks[levels - 1]) })),
           note: 'Each read of storage takes as many ticks as the delay.',
-        }) : null),
-      this.ask(text));
+        }) : null));
   }
 
   // Adds a list of delays.
@@ -124,6 +126,13 @@ export class Experiment {
       if (!this.lists.includes(list)) this.lists.push(list);
       this.shown = null;
       this.show(text, true);
-    } }, h('label', {}, 'another list of delays ', input), h('button', {}, 'Add'));
+    } }, h('label', {}, 'another list of delays ', input), h('button', {}, 'Add'),
+    this.lists.filter((list) => !DELAYS.includes(list)).map((list) => [' ', h('button', { type: 'button', onclick: () => this.without(list, text) }, `without ${list.slice(0, 20)}`)]));
+  }
+
+  without(list, text) {
+    this.lists = this.lists.filter((one) => one !== list);
+    this.shown = null;
+    this.show(text, true);
   }
 }

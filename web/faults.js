@@ -4,6 +4,7 @@ import { h } from './dom.js';
 import { READ, STATEMENT, controlOf, endOf, linesOf, operationOf } from './decks.js';
 import { listed, plural } from './words.js';
 
+const SPELT = { ä: 'AE', ö: 'OE', ü: 'UE', ß: 'SS' };
 const BLANKS = ' '.repeat(STATEMENT);
 const MOST_OFFERED = 3;
 const MOST_TRIED = 28;
@@ -32,7 +33,7 @@ function distance(a, b) {
 // ---- cards that may be meant: [what was done, the card]
 
 function ofCharacters(line) {
-  const plain = line.replace(/\t/g, '        ').replace(/[\u2010-\u2015\u2212]/g, '-').replace(/[\u2018\u2019]/g, "'").replace(/\u00a0/g, ' ').replace(/[^\x20-\x7e]/g, '');
+  const plain = line.replace(/[ÄÖÜäöüß]/g, (letter) => SPELT[letter.toLowerCase()]).normalize('NFD').replace(/[\u0300-\u036f]/g, '').replace(/\t/g, '        ').replace(/[\u2010-\u2015\u2212]/g, '-').replace(/[\u2018\u2019]/g, "'").replace(/\u00a0/g, ' ').replace(/[^\x20-\x7e]/g, '');
   return [['capitals', line[0] === '*' ? line : line.toUpperCase()], ['only characters of a card', plain], ['80 characters', line.slice(0, 80).trimEnd()]];
 }
 
@@ -117,6 +118,7 @@ const FORMS = [
   ['without a description', /\((BU?|DU?)(,\d+)?(,\d+)?\)/, ''],
 ];
 const FIELDS = [
+  ['an address before the index', /,\((\$X\d+)\)/, ',0.0($1)'],
   ['an index register', /^(.{9}[A-Z+]+,)(\d{1,2}),/, '$1$$X$2,'],
   ['the index register first', /^(.{9}[A-Z+]+,)([^,]+),(\$X\d+)/, '$1$3,$2'],
   ['index register 1', /^(.{9}(?:L|S|V|K|CB)[A-Z+-]*,)(?=[^$])/, '$1$$X1,'],
@@ -163,7 +165,7 @@ function unknownIn(line, names) {
 function ofNames(line, lines) {
   const names = namesOf(lines);
   const near = (word) => names.filter((name) => distance(word, name) <= (word.length > 3 ? 2 : 1)).sort((a, b) => distance(word, a) - distance(word, b));
-  return unknownIn(line, names).flatMap(([word, at]) => near(word).map((name) => [`${name} for ${word}`, line.slice(0, at) + name + line.slice(at + word.length)]));
+  return unknownIn(line, names).flatMap(([word, at]) => [`$${word}`, ...near(word)].map((name) => [`${name} for ${word}`, line.slice(0, at) + name + line.slice(at + word.length)]));
 }
 
 // A card for a name that no card has, before END: a word for data, where the operation is no branch.
@@ -174,6 +176,34 @@ function withField(lines, line, { operations }) {
   if (!unknown || unknown[0].length > 8 || end >= lines.length || !/^(field|connective|index word)$/.test(operation?.kind) || /^(CB|BI)/.test(operation.name)) return [];
   const card = ` ${unknown[0].padEnd(STATEMENT - 1)}DD(BU,64),0`;
   return [[`a card for ${unknown[0]}`, [...lines.slice(0, end), card, ...lines.slice(end)], card]];
+}
+
+// A remark behind a statement without the ; that begins it.
+function ofRemarkBehind(line, isWhole) {
+  const found = /^(.{9}\S+) +([^;\s].*)$/.exec(line);
+  return found && isWhole(found[1]) ? [['a ; before the remark', `${found[1]} ; ${found[2]}`]] : [];
+}
+
+// Whether a statement has all fields of its operation.
+function hasAllFields({ operations }) {
+  return (statement) => {
+    const operation = operations.find(({ name }) => name === operationOf(statement));
+    return operation !== undefined && statement.split(',').length > operation.fields.length;
+  };
+}
+
+// How many parentheses of a statement are not closed.
+function unclosed(line) {
+  const body = line.slice(STATEMENT, READ).split(';')[0].replace(/'[^']*'/g, '');
+  return body.split('(').length - body.split(')').length;
+}
+
+// The card with a parenthesis put in before a comma, or at the end of the statement.
+function ofParentheses(line) {
+  if (unclosed(line) < 1) return [];
+  const end = line.slice(0, READ).split(';')[0].trimEnd().length;
+  const places = [...line.slice(0, end)].flatMap((letter, k) => (k > line.indexOf('(') && /[,(]/.test(letter) ? [k] : []));
+  return [end, ...places].map((k) => ['a )', `${line.slice(0, k)})${line.slice(k)}`]);
 }
 
 function ofRemark(line) {
@@ -198,10 +228,18 @@ const BY_FAULT = {
   'VALUE DOES NOT FIT': (line) => changed(line, FORMS),
 };
 
+// Whether a card behind the end is neither one of the reader's nor a control card, and begins where these begin.
+function isBehindEnd(lines, card) {
+  return card - 1 > endOf(lines) && /^[^ */]/.test(lines[card - 1]);
+}
+
 function candidates(lines, card, fault, knowledge) {
   const line = lines[card - 1];
   const known = /^\*/.test(line) ? line : line.toUpperCase();
-  const made = [...(BY_FAULT[fault]?.(known, knowledge, lines) ?? []), ...ofCharacters(line), ...ofOperation(known, knowledge), ...ofCommas(known), ...ofColumns(line)];
+  const isOperation = (word) => knowledge.operations.some(({ name }) => name === word);
+  const isBeside = !isOperation(operationOf(known)) && isOperation(firstOf(known.trim()));
+  const first = [...(isBehindEnd(lines, card) ? [['a card for the reader', `*${line}`]] : []), ...(isBeside ? ofColumns(line) : []), ...ofParentheses(known), ...ofRemarkBehind(known, hasAllFields(knowledge))];
+  const made = [...first, ...(BY_FAULT[fault]?.(known, knowledge, lines) ?? []), ...ofCharacters(line), ...ofOperation(known, knowledge), ...ofCommas(known), ...ofColumns(line)];
   return made.filter(([, text], k) => text !== line && text !== known && text.trim() && made.findIndex(([, other]) => other === text) === k).slice(0, MOST_TRIED);
 }
 
@@ -215,6 +253,12 @@ function ofDeck(lines, card, fault, knowledge) {
   const end = others.findIndex((one) => !/^[*/]/.test(one) && operationOf(one) === 'END');
   if (fault === 'UNDEFINED SYMBOL') return withField(lines, line, knowledge);
   if (fault === 'CARD AFTER END' && end >= 0) return [['before the END card', [...others.slice(0, end), line, ...others.slice(end)], line]];
+  if (fault === 'BAD CONTROL CARD' && endOf(lines) >= card - 1) {
+    const last = `${BLANKS}END,32.0`;
+    const before = lines.slice(0, card - 1);
+    return [['an END card before it', end < 0 ? [...before, last, ...lines.slice(card - 1)] : [...before, ...lines.slice(card - 1, endOf(lines) + 1).filter((one) => !one.startsWith('/')),
+      ...lines.slice(card - 1, endOf(lines)).filter((one) => one.startsWith('/')), ...lines.slice(endOf(lines) + 1)], end < 0 ? last : line]];
+  }
   if (fault === 'BAD CONTROL CARD' && lines.slice(0, card - 1).some((one) => controlOf(one) === controlOf(line))) return [['without this card', others, '']];
   return [];
 }
@@ -260,12 +304,24 @@ function wants({ name, fields, optional, card }, line) {
   return h('p', {}, h('code', {}, name), ` wants ${most ? number : 'no field'}${what}. This card has ${body.split(',').length - 1}. As in `, h('code', {}, card.trim()));
 }
 
+// The characters that no card has, with their columns.
+function strangeIn(line) {
+  const found = [...line].flatMap((letter, k) => (/[^\x20-\x7e]/.test(letter) ? [`${letter === '\t' ? 'a tabulator' : letter} in column ${k + 1}`] : []));
+  return h('p', {}, `A card has letters without accents, digits and signs alone; here ${found.length === 1 ? 'is' : 'are'} ${listed(found.slice(0, 5))}.`);
+}
+
 // What can be said of this card beside its fault.
 function hintOf({ fault, card }, lines, { operations, elsewhere }) {
   const line = lines[card - 1] ?? '';
   const word = operationOf(line);
-  const [name] = misplaced(line, (one) => operations.some((operation) => operation.name === one)) ?? [];
-  if (name && /^(UNKNOWN OPERATION|BAD NAME)$/.test(fault)) return h('p', {}, h('code', {}, name), ' looks like a name. A name begins in column 2, and what it names in column 10.');
+  const isOperation = (one) => operations.some((operation) => operation.name === one);
+  const [name] = misplaced(line, (one) => isOperation(one) || Object.hasOwn(elsewhere, one)) ?? [];
+  if (isBehindEnd(lines, card)) return h('p', {}, 'This card stands behind the END card. A card for the reader begins with *, and a control card with /.');
+  if (fault === 'BAD CONTROL CARD' && endOf(lines) >= card - 1) return h('p', {}, 'No END card stands before it. Control cards stand behind the END card.');
+  if (fault === 'NOT ASCII') return strangeIn(line);
+  if (unclosed(line) > 0 && !/^[*/]/.test(line)) return h('p', {}, 'A ( of this card has no ).');
+  if (ofRemarkBehind(line.toUpperCase(), hasAllFields({ operations })).length && /^(UNKNOWN OPERATION|BAD EXPRESSION)$/.test(fault)) return h('p', {}, 'A remark behind a statement begins with a semicolon.');
+  if (name && /^(UNKNOWN OPERATION|BAD NAME)$/.test(fault)) return h('p', {}, h('code', {}, name), ' looks like a name. A name begins in column 2, and what it names in column 10. On a new card Backspace goes from column 10 to column 2.');
   if (fault === 'UNKNOWN OPERATION' && elsewhere[word]) return h('p', {}, h('code', {}, word), ` is a word of other machines; here it is ${elsewhere[word].says}.`);
   const operation = operations.find((one) => one.name === word);
   if (fault === 'BAD FIELD COUNT' && operation) return wants(operation, line);

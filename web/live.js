@@ -94,7 +94,7 @@ export class Live {
       runs.push(new Run(other.object, other.label, other.isCut ?? isCut));
       runs[1].isOther = beside === 'keep';
     }
-    this.made = { text, plain, deck, cards: plain.cards, report, bytes: answer.bytes, left: answer.left, runs, isCut };
+    this.made = { text, plain, deck, cards: plain.cards, report, bytes: answer.bytes, left: answer.left, runs, isCut, levels };
     this.isCurrent = true;
     return this.made;
   }

@@ -65,7 +65,7 @@ class App {
         this.editor.card = card;
         this.editor.later();
       },
-      wordOf: (name) => registerOf(name) ?? this.views.wordOf(name), nameOf: (word) => this.views.nameOf(word),
+      addressOf: (name) => this.views.symbols?.get(name), wordOf: (name) => registerOf(name) ?? this.views.wordOf(name), nameOf: (word) => this.views.nameOf(word),
     });
     byId('view-step').append(this.stepper.view, this.stepper.machine);
     this.experiment = new Experiment(byId('view-experiment'), new Runner(this.programs));
@@ -92,7 +92,7 @@ class App {
     addEventListener('click', (event) => { if (!byId('save').contains(event.target)) byId('save').open = false; });
     addEventListener('keydown', (event) => { if (event.key === 'Escape') this.escape(); });
     const on = (id, act, what = 'click') => byId(id).addEventListener(what, act);
-    on('run-now', () => this.go());
+    on('run-now', () => this.runNow());
     on('stop', () => this.stop());
     on('show-lessons', () => this.lesson(document.body.classList.contains('lesson') ? null : this.lessons.at ?? 'lesson-1'));
     on('share', () => this.share());
@@ -227,8 +227,14 @@ class App {
 
   // ---- decks that come from elsewhere
 
+  // The address names the deck of a link no more, so that a reload has the deck that is there.
+  leaveLink() {
+    if (wordsOf(location.hash).has('d')) history.replaceState(null, '', location.href.split('#')[0]);
+  }
+
   // Another deck takes the place of the one that is there, which can be put back where it was typed.
-  open(deck, title, { view, isOwn = false, said = `${title} is open.` } = {}) {
+  open(deck, title, { view, isOwn = false, isLink = false, said = `${title} is open.` } = {}) {
+    if (!isLink) this.leaveLink();
     this.editor.set(deck);
     this.kept.opened(title, deck, isOwn);
     this.say(said);
@@ -260,6 +266,14 @@ class App {
       return;
     }
     const text = new TextDecoder('utf-8', { ignoreBOM: true }).decode(await file.arrayBuffer());
+    if (/[\0-\x08\x0e-\x1f\ufffd]/.test(text)) {
+      this.say(`${file.name} is no text, so it was not opened. A deck is a file of cards, one in each line.`);
+      return;
+    }
+    if (/^END [A-Z]+ .*\nPC |^CARD \d+ [A-Z ]+\n$/.test(text)) {
+      this.say(`${file.name} is what a run writes; the deck is another file.`);
+      return;
+    }
     if (/^OBJECT\b/.test(text)) {
       const { status, bytes } = await this.side.run('stretch', ['disassemble'], bytesOf(text));
       if (status === 0) await this.open(LATIN.decode(bytes), `${file.name}, an object text, as a deck`, { isOwn: true });
@@ -272,9 +286,18 @@ class App {
 
   // ---- runs
 
+  // On a narrow screen the result is what is seen next, where there is one.
+  async runNow() {
+    await this.go();
+    if (this.live.isCurrent && byId('places').checkVisibility()) this.place('result');
+  }
+
   changed(text, isTyped) {
     clearTimeout(this.timer);
-    if (isTyped) this.kept.typed(text);
+    if (isTyped) {
+      this.kept.typed(text);
+      this.leaveLink();
+    }
     this.typedAt = performance.now();
     if (this.openedAt && this.typedAt - this.openedAt > 8000) {
       this.openedAt = 0;
@@ -385,7 +408,7 @@ class App {
     const card = Math.min(line, this.editor.lines.length);
     this.old('This deck does not run yet.');
     this.editor.fault(line);
-    this.state('bad', message ? `Card ${line} is not plain` : `Card ${line} is refused: ${fault}`);
+    this.state('bad', message ? `Card ${line} can not be read` : `Card ${line} is refused: ${fault}`);
     const refusal = { card: line, fault: message ?? fault };
     const shown = (offers) => byId('fault').replaceChildren(...faultBox(refusal, linesOf(text), this.book.knowledge, offers, () => this.editor.goTo(card)));
     shown([]);
@@ -451,7 +474,7 @@ class App {
     if (['step', 'report', 'where', 'experiment', 'picture', 'listing', 'object'].includes(words.get('v'))) this.choose(words.get('v'));
     if (!words.has('d')) return false;
     try {
-      await this.open(await unpacked(words.get('d'), MOST_BYTES + 1), 'The deck of the link');
+      await this.open(await unpacked(words.get('d'), MOST_BYTES + 1), 'The deck of the link', { isLink: true });
       return true;
     } catch {
       this.say('This link has no deck in it that can be read, or one that is too long.');

@@ -44,7 +44,7 @@ function grid(scale, name) {
     free = scale.x(k);
     parts.push(s('text', { x: free, y: INNER_BOTTOM + 18, 'text-anchor': 'middle', class: 'soft' }, String(x)));
   });
-  return [...parts, s('text', { x: (EDGE.left + INNER_RIGHT) / 2, y: SIZE.height - 6, 'text-anchor': 'middle', class: 'soft' }, name), s('text', { x: 2, y: 12, class: 'soft' }, 'ticks')];
+  return [...parts, s('text', { x: (EDGE.left + INNER_RIGHT) / 2, y: SIZE.height - 6, 'text-anchor': 'middle', class: 'soft' }, name), s('text', { x: EDGE.left + 4, y: 12, class: 'soft' }, 'ticks')];
 }
 
 // The names at the ends of their lines, moved apart where they would meet.

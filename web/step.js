@@ -97,8 +97,8 @@ export class Stepper {
   untilChosen() {
     const kind = this.untilKind.value;
     this.untilWhat.hidden = kind === 'interrupt';
-    this.untilWhat.placeholder = kind === 'card' ? 'number' : '50, $X1';
-    this.untilWhat.title = kind === 'card' ? 'the number of a card' : 'a word by number or name, or a register: 50, TOTAL, $X1, $IND';
+    this.untilWhat.placeholder = kind === 'card' ? '5, LOOP' : '50, $X1';
+    this.untilWhat.title = kind === 'card' ? 'the number of a card, its name or its address: 5, LOOP, 34.32' : 'a word by number or name, or a register: 50, TOTAL, $X1, $IND';
     this.untilWhat.setCustomValidity('');
   }
 
@@ -248,12 +248,14 @@ export class Stepper {
     const { rows, data } = this.chosen;
     if (kind === 'interrupt') return { ticks: data.interrupts.map((one) => one.tick), none: 'the run has no interrupt' };
     if (kind === 'card') {
-      if (!/^\d{1,7}$/.test(what)) return { none: 'the number of a card' };
+      const address = /^\d{1,6}\.(0|32)$/.test(what) ? what : this.on.addressOf?.(what);
+      if (address) return { ticks: rows.filter((row) => row.address === address).map((row) => row.c), none: `no instruction at ${address} is done` };
+      if (!/^\d{1,7}$/.test(what)) return { none: 'the number of a card, its name or its address: 5, LOOP, 34.32' };
       return { ticks: rows.filter((row) => row.card === Number(what)).map((row) => row.c), none: `no instruction of card ${what} is done` };
     }
     const ticks = this.chosen.fields?.ticks(what, this.chosen);
     if (ticks) return { ticks, none: `the field ${what} does not change` };
-    const word = /^\d{1,7}$/.test(what) ? Number(what) : this.on.wordOf?.(what) ?? null;
+    const word = /^\d{1,7}(\.0)?$/.test(what) ? Number(what) : this.on.wordOf?.(what) ?? this.on.wordOf?.(`$${what}`) ?? null;
     if (word === null) return { none: 'a word by number or name, or a register: 50, TOTAL, $X1' };
     return { ticks: rows.filter((row) => row.state.words.some(([one]) => one === word)).map((row) => row.c), none: `word ${word} does not change` };
   }
@@ -360,5 +362,5 @@ function compared(one, two) {
   const differing = other ? ` The first that differs is ${other.row}, ${other.address} ${(other.text || '').replace(/\s+/g, ' ').trim()}.` : '';
   return `${grouped(same)} of ${plural(all, 'instruction')} ${same === 1 ? 'is' : 'are'} the same, in the same order, and each leaves the same; at the end `
     + `${differ === 0 && counters ? 'all registers and all storage are the same' : `${plural(differ, 'word')} of registers and storage differ`}.${differing} `
-    + `The timetable is ${by === 0 && a.dropped === b.dropped ? 'as long' : 'not'}: ${grouped(a.ticks)} and ${grouped(b.ticks)} ticks (${by > 0 ? '+' : ''}${by}); dropped ${a.dropped} and ${b.dropped}.`;
+    + `It takes ${plural(a.ticks, 'tick')} with ${one.label}, and ${plural(b.ticks, 'tick')} with ${two.label}${by ? `, ${grouped(Math.abs(by))} ${by > 0 ? 'more' : 'fewer'}` : ''}; dropped are ${a.dropped} and ${b.dropped}.`;
 }

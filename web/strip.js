@@ -1,7 +1,8 @@
 // The stack of causes as a bar with its names, and the strip below it: which cause each tick went to. The strip is the slider.
 import { h, s } from './dom.js';
-import { CAUSES, grouped } from './words.js';
+import { CAUSES, grouped, plural } from './words.js';
 
+const A_HAIR = 0.02;            // of a tick
 const HEIGHT = 20;
 const ABOVE = 10;
 // Marks are drawn as triangles only where they stand so far apart.
@@ -32,7 +33,7 @@ export function bar(run, most, choose) {
       class: `piece b-${cause}`,
       'data-cause': cause,
       style: `flex:${shares[cause]} 0 0`,
-      title: `${name}: ${grouped(shares[cause])} ticks`,
+      title: `${name}: ${plural(shares[cause], 'tick')}`,
       'aria-label': `${name}: ${shares[cause]} ticks; marks them below`,
       onclick: () => choose(cause),
     }, shares[cause] / run.totals.ticks > 0.05 ? grouped(shares[cause]) : '')));
@@ -96,7 +97,7 @@ export class Strip {
     }, this.svg);
     const point = (event) => {
       const x = event.clientX - this.box.getBoundingClientRect().left - this.left;
-      go(Math.round(first + (x / this.width) * (last - first)));
+      go(Math.ceil(first + (x / this.width) * (last - first) - A_HAIR));     // a tick is drawn up to its place on the axis
     };
     this.box.addEventListener('pointerdown', (event) => {
       this.box.setPointerCapture(event.pointerId);

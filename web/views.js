@@ -5,8 +5,8 @@ import { Fields } from './fields.js';
 import { listingDeck, listingOf, listingView, namesOf } from './listing.js';
 import { Stopped } from './programs.js';
 import { reportView } from './report.js';
-import { phases } from './step.js';
 import { legend } from './strip.js';
+import { plural } from './words.js';
 import { whereView } from './where.js';
 
 const PICTURE_ROWS = 200;
@@ -79,6 +79,13 @@ export class Views {
     const [run] = made.runs;
     const end = made.isCut ? null : { words: run.state(Infinity).words, before: new Map(run.data.first.words) };
     reportView(box, { report: made.report, left: made.left, indicators: this.app.book.indicators, listing, end });
+    box.prepend(...this.ofFour('report', made));
+  }
+
+  // The program has four levels; where the timetable is of another number, that is said.
+  ofFour(what, { levels }) {
+    return levels === 4 ? [] : [h('p', { class: 'note' }, `This ${what} is that of a machine of 4 levels; the timetable shows ${plural(levels, 'level')}. `
+      + 'Only lines about ticks, and about what is ahead, may differ.')];
   }
 
   async where(box, { runs: [run] }) {
@@ -95,8 +102,8 @@ export class Views {
     this.svg = await this.pictureText();
     this.image = h('img', { alt: 'the timetable of the run, as the program chart draws it' });
     this.paint();
-    box.replaceChildren(h('p', { class: 'soft' }, `The picture that ./chart draws of the report: at most ${PICTURE_ROWS} rows. `
-      + 'Here it has the colours of the timetable. Save it as a file for a text or a slide.'), h('p', { class: 'key' }, phases()),
+    box.replaceChildren(...this.ofFour('picture', this.made), h('p', { class: 'soft' }, `The picture that ./chart draws of the report: at most ${PICTURE_ROWS} rows. `
+      + 'Here it has the colours of the timetable. Save it as a file for a text or a slide.'),
     h('div', { class: 'picture-room', tabindex: '0' }, this.image));
   }
 
@@ -150,9 +157,9 @@ export class Views {
     return address === undefined ? null : Number(address.split('.')[0]);
   }
 
-  // Marks a card in the editor and its rows in the timetable.
+  // Marks a card in the editor and its rows in the timetable; the keyboard stays where it is.
   toCard(card) {
-    this.app.editor.goTo(card);
+    this.app.editor.show(card);
     if (this.app.stepper.card !== card) this.app.stepper.chooseCard(card);
   }
 }

@@ -82,7 +82,7 @@ function placesTable(places, most, cardOf, choose) {
 function reasonsTable(byReason) {
   const rows = Object.entries(byReason).filter(([, one]) => one.rows).sort(([, a], [, b]) => b.ticks - a.ticks).map(([reason, one]) => h('tr', {},
     h('th', { scope: 'row' }, REASONS[reason][0]), h('td', { class: 'number' }, grouped(one.rows)), h('td', { class: 'number' }, h('b', {}, grouped(one.ticks))), h('td', { class: 'number' }, one.late ? grouped(one.late) : '–'), h('td', { class: 'soft' }, REASONS[reason][1])));
-  return wideTable('reasons', 'What kept rows back, and what may help', ['because', 'rows', 'ticks', 'at most for it', 'may help'], rows);
+  return wideTable('reasons', 'What kept rows back, and what may help', ['because', 'rows', 'ticks', 'of them at most for this', 'may help'], rows);
 }
 
 function meters(caption, names, numbers, whole) {

@@ -145,7 +145,8 @@ function restartText(run, t) {
   const k = t - earlier.end;
   const whole = segment.start - earlier.end;
   const what = k <= dropped.length ? `the price of ${dropped[k - 1].address}, which was dropped` : 'to start anew';
-  return [`Tick ${k} of ${whole} before the next segment: ${what}`];
+  const why = run.rows[run.bySegment[earlier.place].to - 1]?.missed ? `; the branch at ${run.rows[run.bySegment[earlier.place].to - 1].address} was guessed wrongly` : '';
+  return [`Tick ${k} of ${whole} before the next segment: ${what}${why}`];
 }
 
 // What a row that is done at this tick leaves.
