@@ -43,6 +43,11 @@ const store = {
   },
 };
 
+// Whether a row is of a card that lays data, or of none.
+function isNoInstruction({ card, text }) {
+  return !card || /^\s*(DD|XW|DR)\b/i.test(text);
+}
+
 // The bytes of a block of the page.
 function block(id) {
   return Uint8Array.from(atob(byId(id).textContent), (letter) => letter.charCodeAt(0));
@@ -428,11 +433,25 @@ class App {
       data.interrupts.length ? plural(data.interrupts.length, 'interrupt') : null, totals.dropped ? `${grouped(totals.dropped)} dropped` : null].filter(Boolean);
     this.state(isWait ? 'good' : 'warn', h('b', {}, isWait ? 'Ended in a wait' : 'Ended by its budget'), ` ${facts.join(', ')}`);
     if (isCut) this.say('The run is longer: timetable and sums are of its first rows, the report is of all of it.');
+    this.left(run, report.kind === 'BUDGET');
     const heat = new Map();
     for (const row of run.rows) if (row.card) heat.set(row.card, (heat.get(row.card) ?? 0) + row.c - (row.charges[0]?.from ?? row.c));
     this.editor.setHeat(heat);
     this.views.fresh();
     this.views.show(this.view);
+  }
+
+  // Where the counter came to what is no instruction of the deck, a deck most often lacks its BEW.
+  left(run, isBudget) {
+    if (this.isStray) this.say();
+    const strange = isBudget && run.rows.length && !isNoInstruction(run.rows[0]) ? run.rows.find(isNoInstruction) : null;
+    this.isStray = Boolean(strange);
+    if (!strange) return;
+    const from = run.rows[run.rows.indexOf(strange) - 1];
+    const what = strange.card ? `card ${strange.card} (${strange.text.replace(/\s+/g, ' ').trim()}), which is no instruction` : 'no instruction card of the deck';
+    this.say(h('span', {}, `Behind ${from.card ? `card ${from.card}` : from.address} the counter came to ${strange.address}, ${what}. Is there a BEW where the program ends? `),
+      h('button', { onclick: () => { this.choose('step'); this.stepper.go(strange.c); } }, `Tick ${strange.c}`), ' ',
+      h('button', { onclick: () => this.lesson('first-faults') }, 'My first deck failed'));
   }
 
   // ---- files, links, paper
