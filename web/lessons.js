@@ -6,7 +6,7 @@ export class Lessons {
   // `book` has pages {id, title, lesson, html, decks}, exercises and pictures. `on` is asked: `open(deck, title, view)`, `close()`,
   // `run(deck)` for a report, `text()` for the deck in the editor.
   constructor(box, { pages, exercises, pictures }, on) {
-    Object.assign(this, { exercises, pictures, on, at: null, urls: new Map(), pages: new Map(pages.map((page) => [page.id, page])) });
+    Object.assign(this, { exercises, pictures, on, at: null, urls: new Map(), left: new Map(), pages: new Map(pages.map((page) => [page.id, page])) });
     const options = (isLesson) => pages.filter((page) => page.lesson === isLesson).map((page) => h('option', { value: page.id }, page.title));
     this.choice = h('select', { 'aria-label': 'lesson or page of the manual', onchange: () => this.show(this.choice.value) },
       h('optgroup', { label: 'Lessons' }, options(true)), h('optgroup', { label: 'Manual' }, options(false)));
@@ -25,10 +25,19 @@ export class Lessons {
     return true;
   }
 
+  // A page that was left is as it was: its place, and what stands in its fields.
   put(page) {
+    if (this.at) this.left.set(this.at, { nodes: [...this.content.childNodes], top: this.content.scrollTop });
     this.at = page.id;
+    this.on.shown?.(page.id);
     this.choice.value = page.id;
     this.content.dataset.at = page.id;
+    const before = this.left.get(page.id);
+    if (before) {
+      this.content.replaceChildren(...before.nodes);
+      this.content.scrollTop = before.top;
+      return;
+    }
     this.content.innerHTML = page.html;         // made by the build of the repository's pages alone: no card and no link is ever in it
     for (const image of this.content.querySelectorAll('img[data-picture]')) image.src = this.picture(image.dataset.picture);
     for (const table of this.content.querySelectorAll('table')) {
@@ -50,7 +59,7 @@ export class Lessons {
   click(event) {
     const page = this.pages.get(this.at);
     const open = event.target.closest('button[data-deck]');
-    if (open) this.on.open(page.decks[Number(open.dataset.deck)], page.title, open.dataset.view);
+    if (open) this.on.open(page.decks[Number(open.dataset.deck)], page.title, open.dataset.view, Number(open.dataset.levels ?? 4));
     const link = event.target.closest('a[data-page]');
     if (!link) return;
     event.preventDefault();

@@ -20,7 +20,7 @@ const A_MOMENT = 1000;          // and one more for so many characters of the de
 const SLOW = 250;               // from so many on it is said that something runs
 const MOST_KEPT = 400000;       // a longer deck is not kept for the next time
 const MOST_LINK = 30000;
-const KEYS = { deck: 'stretch.deck', theme: 'stretch.theme' };
+const KEYS = { deck: 'stretch.deck', theme: 'stretch.theme', lesson: 'stretch.lesson' };
 const LATIN = new TextDecoder('latin1');
 // A deck to begin with.
 const NEW_DECK = '* A NEW DECK\n START   BEW\n         END,START\n';
@@ -42,6 +42,11 @@ const store = {
     } catch { /* no room, or not allowed */ }
   },
 };
+
+// What a deck is called: its first card, where that is a comment.
+function titleOf(lines) {
+  return (lines[0]?.[0] === '*' && lines[0].slice(1).trim()) || 'stretch';
+}
 
 // Whether a row is of a card that lays data, or of none.
 function isNoInstruction({ card, text }) {
@@ -84,7 +89,11 @@ class App {
       this.say();
     });
     this.lessons = new Lessons(byId('lesson'), book, {
-      open: (deck, title, view) => this.open(deck, title, { view }), close: () => this.lesson(null), text: () => this.editor.text,
+      open: (deck, title, view, levels) => {
+        if (levels) this.setLevels(levels);
+        this.open(deck, title, { view });
+      },
+      close: () => this.lesson(null), text: () => this.editor.text, shown: (id) => store.set(KEYS.lesson, id),
       run: (text, program, words) => this.live.reportOf(text, this.exam, program, words),
     });
     this.build();
@@ -99,7 +108,7 @@ class App {
     const on = (id, act, what = 'click') => byId(id).addEventListener(what, act);
     on('run-now', () => this.runNow());
     on('stop', () => this.stop());
-    on('show-lessons', () => this.lesson(document.body.classList.contains('lesson') ? null : this.lessons.at ?? 'lesson-1'));
+    on('show-lessons', () => this.lesson(document.body.classList.contains('lesson') ? null : this.lastLesson()));
     on('share', () => this.share());
     on('theme', () => this.setTheme());
     on('capitals', (event) => { this.editor.capitals = event.target.checked; }, 'change');
@@ -185,9 +194,20 @@ class App {
   place(place) {
     document.body.dataset.place = place;
     for (const button of document.querySelectorAll('#places button')) button.setAttribute('aria-pressed', String(button.dataset.place === place));
-    if (place === 'lesson' && !document.body.classList.contains('lesson')) this.lesson(this.lessons.at ?? 'lesson-1');
+    if (place === 'lesson' && !document.body.classList.contains('lesson')) this.lesson(this.lastLesson());
     this.editor.measure();
     this.stepper.fit();
+  }
+
+  // The page that was read last, also over a visit.
+  lastLesson() {
+    const last = this.lessons.at ?? store.get(KEYS.lesson);
+    return this.lessons.pages.has(last) ? last : 'lesson-1';
+  }
+
+  setLevels(levels) {
+    this.levels = levels;
+    byId('level-count').value = String(levels);
   }
 
   lesson(id, part) {
@@ -511,7 +531,7 @@ class App {
   paper() {
     const made = this.live.isCurrent ? this.live.made : null;
     const runs = made ? this.stepper.runs : [];
-    fillPaper(byId('paper'), { title: 'stretch', runs, stepper: this.stepper, deck: linesOf(this.editor.text), report: made?.report.lines, notes: [byId('state').textContent] });
+    fillPaper(byId('paper'), { title: titleOf(linesOf(this.editor.text)), runs, stepper: this.stepper, deck: linesOf(this.editor.text), report: made?.report.lines, notes: [byId('state').textContent] });
   }
 
   async begin() {

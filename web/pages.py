@@ -64,6 +64,9 @@ class Decks:
         if path is None or not path.is_file():
             return "This deck gives:"
         name = f"`{found[2]}`" if found[2] else f"`{found[1]}`"
+        levels = levels_of(command)
+        if levels:
+            name += f" on {levels} level{'s' if levels != '1' else ''}"
         changes = changed(path.read_text(encoding="latin-1").splitlines(), self.all[number].splitlines())
         return f"The deck {name}{changes} gives:" if changes is not None else "This deck gives:"
 
@@ -101,8 +104,14 @@ def answers_of(lines):
     return [(command, written) for command, written, _ in found]
 
 
+def levels_of(command):
+    """The number of levels that a command names, or ''."""
+    found = re.search(r"--levels (\d)", command)
+    return found[1] if found else ""
+
+
 def view_of(command):
-    return "experiment" if re.search(r"stretch sweep|tools/delays", command) else "where" if "./explain" in command else ""
+    return levels_of(command) + ("experiment" if re.search(r"stretch sweep|tools/delays", command) else "where" if "./explain" in command else "")
 
 
 def folded(indent, lines):
@@ -183,8 +192,9 @@ def anchor(text):
     return re.sub(r"[^a-z0-9 -]", "", html.unescape(re.sub("<.*?>", "", text)).lower()).replace(" ", "-")
 
 
-def button(number, view):
-    return f'<button class="open" data-deck="{number}"' + (f' data-view="{view}"' if view else "") + ">Open in the editor</button>"
+def button(number, levels, view):
+    more = "".join(f' data-{name}="{value}"' for name, value in (("levels", levels), ("view", view)) if value)
+    return f'<button class="open" data-deck="{number}"{more}>Open in the editor</button>'
 
 
 def linked(made, name, known, pictures):
@@ -225,7 +235,7 @@ def answers(lesson):
 def page(name, known, pictures):
     text, decks = with_decks(name)
     done = subprocess.run(["cmark-gfm", "-e", "table", "--to", "html"], input=joined(text).encode(), stdout=subprocess.PIPE, check=True)
-    made = re.sub(r"(<p>)?@@DECK (\d+) (\w*)@@(</p>)?", lambda found: (found[1] or "") + button(found[2], found[3]) + (found[4] or ""), done.stdout.decode())
+    made = re.sub(r"(<p>)?@@DECK (\d+) (\d?)(\w*)@@(</p>)?", lambda found: (found[1] or "") + button(*found.groups()[1:4]) + (found[5] or ""), done.stdout.decode())
     made = made.replace("<p>@@SHELL@@</p>", '<details class="shell"><summary>in a shell</summary>').replace("<p>@@UNFOLD@@</p>", "</details>")
     made = re.sub(r"<p>The answers stand <a [^>]*>on a page apart</a>\.</p>", "<p>At each exercise you find its answer, once you have tried it.</p>", made)
     made = made.replace("<td><code>*", '<td><code class="wraps">*')          # a comment card may be long

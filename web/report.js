@@ -53,7 +53,7 @@ function registersView({ registers, counter, enabled }, indicators, nameOf) {
   const rows = [...registers].map(([number, hex]) => h('tr', {}, h('th', { scope: 'row', class: 'code' }, registerName(number)), h('td', { class: 'code' }, hex),
     h('td', {}, number === 11 ? indicatorsOn(hex, indicators) : registerText(number, hex, indicators))));
   return [
-    h('p', {}, 'The counter stands at ', h('span', { class: 'code' }, counter), nameOf(counter), `; interrupts are ${enabled ? 'enabled' : 'disabled'}.`,
+    h('p', {}, 'The counter stands at ', h('span', { class: 'code' }, counter), nameOf(counter), `, which would be next; interrupts are ${enabled ? 'enabled' : 'disabled'}.`,
       total.isZero ? null : [' The accumulator is ', h('b', {}, total.number), ' as a binary number', total.digits ? [', and ', h('b', {}, total.digits), ' in digits'] : null, '.']),
     wideTable('registers-named', 'Registers that are not zero', ['name', 'word', 'what it says'], rows),
   ];

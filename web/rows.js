@@ -258,11 +258,14 @@ export function sheets(run, app, tick) {
   const near = Math.max(0, countWhile(lines, (line) => ticksOf(line)[1] <= tick) - SHEET.most / 2);
   const from = lines.length > SHEET.most ? near : 0;
   const pictures = [];
+  let widest = SHEET.widest;
   for (let k = from; k < Math.min(lines.length, from + SHEET.most); k += SHEET.lines) {
     const shown = lines.slice(k, k + SHEET.lines);
     const first = Math.min(...shown.map((line) => ticksOf(line)[0]));
     const last = Math.max(...shown.map((line) => ticksOf(line)[1]), first + 1);
-    const scale = Math.min(SHEET.widest, (SHEET.width - SHEET.left - 20) / (last - first));
+    // A shorter last piece has the scale of the one before it.
+    const scale = Math.min(shown.length < SHEET.lines ? widest : SHEET.widest, (SHEET.width - SHEET.left - 20) / (last - first));
+    widest = scale;
     const table = new Timetable(run, { ...PLAIN, snaps: app.snaps, left: SHEET.left }, last);
     Object.assign(table, { first, scale, width: SHEET.width, height: AXIS + shown.length * LINE + 4, scrollLeft: 0, scrollTop: k * LINE });
     pictures.push(s('svg', { class: 'rows', viewBox: `0 0 ${table.width} ${table.height}`, role: 'img', 'aria-label': 'timetable' }, table.drawn(k, k + shown.length)));
