@@ -62,7 +62,8 @@ export function delayCards(delays) {
 
 // The list of delays that the deck has, as text; '' where it has none.
 export function delaysOf(lines) {
-  return lines.filter((line) => controlOf(line) === 'DELAYS').map((line) => line.slice(7, READ).trim().replace(/ +/g, ' ')).join(' ');
+  return lines.filter((line) => controlOf(line) === 'DELAYS').map((line) =>
+    line.slice(7, READ).trim().replace(/ +/g, ' ')).join(' ');
 }
 
 // How many instructions a run may do.

@@ -1,5 +1,7 @@
-// The editor: a plain text area, so that undo, marking, the clipboard, input methods and screen readers are the browser's own. Behind it lies
-// the same text in colours, of which only the lines that are seen are drawn, and beside it a gutter. A deck of very many cards is put into an
+// The editor: a plain text area, so that undo, marking, the clipboard, input methods and screen readers are the
+// browser's own. Behind it lies
+// the same text in colours, of which only the lines that are seen are drawn, and beside it a gutter. A deck of very
+// many cards is put into an
 // element that the browser edits in blocks (longtext.js).
 import { h } from './dom.js';
 import { LongText, editsPlainText } from './longtext.js';
@@ -25,12 +27,15 @@ function type(field, text) {
 }
 
 export class Editor {
-  // `on` is told: `change(text, isTyped)`, `caret(card, column)`, `card(number)` of a click on a card's number, `run()`.
+  // `on` is told: `change(text, isTyped)`, `caret(card, column)`, `card(number)` of a click on a card's number,
+  // `run()`.
   constructor(box, on) {
-    Object.assign(this, { box, on, lines: [''], end: 1, wrong: null, card: null, marks: new Map(), heat: new Map(), hottest: 1, capitals: true, leaves: false });
+    Object.assign(this, { box, on, lines: [''], end: 1, wrong: null, card: null, marks: new Map(), heat: new Map(),
+      hottest: 1, capitals: true, leaves: false });
     Object.assign(this, { height: 400, letter: 8, at: 0, column: 0, asked: false, heard: new Set() });
     this.attributes = {
-      id: 'deck', class: 'area', spellcheck: 'false', autocapitalize: 'off', autocomplete: 'off', autocorrect: 'off', wrap: 'off',
+      id: 'deck', class: 'area', spellcheck: 'false', autocapitalize: 'off', autocomplete: 'off', autocorrect: 'off',
+      wrap: 'off',
       'aria-label': 'deck, one card a line', 'aria-describedby': 'fault keys-hint',
     };
     // What has the text and what is marked in it, and the element that is seen.
@@ -102,7 +107,8 @@ export class Editor {
   listen() {
     document.addEventListener('selectionchange', () => { if (document.activeElement === this.area) this.where(); });
     this.gutter.addEventListener('click', (event) => {
-      const card = Math.floor((event.clientY - this.gutter.getBoundingClientRect().top + this.area.scrollTop) / LINE) + 1;
+      const card = Math.floor((event.clientY - this.gutter.getBoundingClientRect().top + this.area.scrollTop) / LINE)
+        + 1;
       if (card <= this.lines.length) this.on.card(card);
     });
   }
@@ -148,7 +154,8 @@ export class Editor {
     if (key === 'Enter' && (event.ctrlKey || event.metaKey)) {
       event.preventDefault();
       this.on.run();
-    } else if (key === 'Tab' && !event.shiftKey && !event.ctrlKey && !event.altKey && !event.metaKey && !this.leaves) this.tabulate(event);
+    } else if (key === 'Tab' && !event.shiftKey && !event.ctrlKey && !event.altKey && !event.metaKey
+      && !this.leaves) this.tabulate(event);
     else if (key === 'Enter' && isPlain) this.enter(event);
     else if (key === 'Backspace' && isPlain) this.backspace(event);
     if (key === 'Escape') this.leaves = true;
@@ -188,11 +195,14 @@ export class Editor {
 
   // The machine has no small letters: in statements and control cards they become capitals as they are typed.
   typed(event) {
-    if (!this.capitals || event.inputType !== 'insertText' || event.isComposing || !/^[a-z]$/.test(event.data ?? '')) return;
+    if (!this.capitals || event.inputType !== 'insertText' || event.isComposing
+      || !/^[a-z]$/.test(event.data ?? '')) return;
     const { line, column, text } = this.caret();
     const before = text.slice(0, column);
-    const isText = text[0] === '*' || (text[0] !== '/' && (/^[^;']*('[^']*'[^;']*)*;/.test(before) || (before.match(/'/g) ?? []).length % 2));
-    if (isText || (line > this.end && text[0] !== '/') || /0x[0-9a-f]*$/i.test(before) || (/(^|[,+-])0$/.test(before) && event.data === 'x')) return;
+    const isText = text[0] === '*' || (text[0] !== '/' && (/^[^;']*('[^']*'[^;']*)*;/.test(before)
+      || (before.match(/'/g) ?? []).length % 2));
+    if (isText || (line > this.end && text[0] !== '/') || /0x[0-9a-f]*$/i.test(before)
+      || (/(^|[,+-])0$/.test(before) && event.data === 'x')) return;
     event.preventDefault();
     type(this.field, event.data.toUpperCase());
   }
@@ -218,7 +228,8 @@ export class Editor {
   // Scrolls to a card.
   show(card) {
     const y = (card - 1) * LINE;
-    if (y < this.area.scrollTop || y + LINE > this.area.scrollTop + this.height) this.area.scrollTop = Math.max(0, y - this.height / 3);
+    if (y < this.area.scrollTop || y + LINE > this.area.scrollTop + this.height) this.area.scrollTop = Math.max(0,
+      y - this.height / 3);
   }
 
   // Marks the cards of the levels and of what is prepared next (as Deck does).
@@ -262,18 +273,21 @@ export class Editor {
     for (let k = from; k < to; k += 1) {
       const kind = this.kindOf(k + 1);
       const style = `transform:translateY(${k * LINE - scrollTop}px)`;
-      texts.push(h('div', { class: kind, style }, h('span', { class: 'text', style: `margin-left:${-scrollLeft}px` }, this.piecesOf(k))));
+      texts.push(h('div', { class: kind, style }, h('span', { class: 'text', style: `margin-left:${-scrollLeft}px` },
+        this.piecesOf(k))));
       numbers.push(h('div', { class: kind, style }, this.numberOf(k + 1)));
     }
     this.colours.replaceChildren(
-      h('div', { class: 'names', style: `left:${x(2)}px;width:${STATEMENT * this.letter - this.letter}px` }), h('div', { class: 'edge', style: `left:${x(STATEMENT + 1)}px` }),
+      h('div', { class: 'names', style: `left:${x(2)}px;width:${STATEMENT * this.letter - this.letter}px` }),
+      h('div', { class: 'edge', style: `left:${x(STATEMENT + 1)}px` }),
       h('div', { class: 'past', style: `left:${x(READ + 1)}px` }), ...texts);
     this.gutter.replaceChildren(...numbers);
     this.ruler.replaceChildren(h('div', { class: 'scale' }, this.columnsOf(x)));
   }
 
   kindOf(card) {
-    const kinds = { wrong: this.wrong === card, here: this.marks.has(card), marked: this.card === card, caret: card === this.at + 1 };
+    const kinds = { wrong: this.wrong === card, here: this.marks.has(card), marked: this.card === card,
+      caret: card === this.at + 1 };
     return ['line', ...Object.keys(kinds).filter((kind) => kinds[kind])].join(' ');
   }
 
@@ -288,14 +302,18 @@ export class Editor {
     const heat = h('span', { class: 'heat' });
     if (ticks !== undefined) {
       heat.title = `${ticks} ticks`;
-      heat.append(h('i', { style: `width:${Math.max(2, (HEAT * ticks) / this.hottest)}px` }), h('b', {}, ticks > 9999 ? `${Math.round(ticks / 1000)}k` : String(ticks)));
+      heat.append(h('i', { style: `width:${Math.max(2, (HEAT * ticks) / this.hottest)}px` }),
+        h('b', {}, ticks > 9999 ? `${Math.round(ticks / 1000)}k` : String(ticks)));
     }
-    return [h('span', { class: 'marks' }, (this.marks.get(card) ?? []).join('')), h('span', { class: 'number' }, String(card)), heat];
+    return [h('span', { class: 'marks' }, (this.marks.get(card) ?? []).join('')),
+      h('span', { class: 'number' }, String(card)), heat];
   }
 
   columnsOf(x) {
     const word = (column, text) => h('span', { class: 'part', style: `left:${x(column)}px` }, text);
-    const tens = [10, 20, 30, 40, 50, 60, 70, 80].map((k) => h('span', { class: 'ten', style: `left:${x(k)}px;width:${this.letter}px` }, String(k)));
-    return [word(2, 'name'), word(11, 'statement'), word(READ + 1, 'unread'), ...tens, h('i', { class: 'now', style: `left:${x(this.column + 1)}px;width:${this.letter}px` })];
+    const tens = [10, 20, 30, 40, 50, 60, 70, 80].map((k) => h('span',
+      { class: 'ten', style: `left:${x(k)}px;width:${this.letter}px` }, String(k)));
+    return [word(2, 'name'), word(11, 'statement'), word(READ + 1, 'unread'), ...tens,
+      h('i', { class: 'now', style: `left:${x(this.column + 1)}px;width:${this.letter}px` })];
   }
 }

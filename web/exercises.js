@@ -24,7 +24,8 @@ export function found(report, { line, behind }) {
 
 // What is given and what is found are compared without commas, and without the letters P, R and C of a row.
 function plain(text) {
-  return text.toUpperCase().replace(/(\d)[\u00a0\u2009\u202f](?=\d{3}\b)/g, '$1').replace(/\b[PRC] /g, ' ').replace(/[\s,]+/g, ' ').trim();
+  return text.toUpperCase().replace(/(\d)[\u00a0\u2009\u202f](?=\d{3}\b)/g, '$1').replace(/\b[PRC] /g, ' ')
+    .replace(/[\s,]+/g, ' ').trim();
 }
 
 // Whether a prediction is what is wanted; one number may be written with commas between its thousands.
@@ -40,16 +41,19 @@ export async function predicted({ deck, ask, program, words }, run) {
 
 // Of a prediction: for each field whether it was right; null where it is empty.
 export async function judgePrediction(exercise, given, run) {
-  return (await predicted(exercise, run)).map((wanted, k) => (plain(given[k] ?? '') === '' ? null : isSame(given[k], wanted)));
+  return (await predicted(exercise, run)).map((wanted, k) => (plain(given[k] ?? '') === '' ? null
+    : isSame(given[k], wanted)));
 }
 
 // What is wrong with a prediction, as far as it can be said without the answer.
 export function hintOf(given, wanted) {
   const [mine, right] = [plain(given), plain(wanted)];
   const [numbers, asked] = [mine.split(' ').length, right.split(' ').length];
-  if (numbers !== asked) return `${plural(asked, 'number')} ${asked === 1 ? 'is' : 'are'} asked for, here ${numbers === 1 ? 'is' : 'are'} ${numbers}`;
+  if (numbers !== asked) return `${plural(asked, 'number')} ${asked === 1 ? 'is' : 'are'} asked for, here `
+    + `${numbers === 1 ? 'is' : 'are'} ${numbers}`;
   if (right.length < DIGITS) return '';
-  if (mine.length !== right.length) return `${plural(right.replace(/ /g, '').length, 'digit')} are asked for, here ${mine.replace(/ /g, '').length === 1 ? 'is' : 'are'} ${mine.replace(/ /g, '').length}`;
+  if (mine.length !== right.length) return `${plural(right.replace(/ /g, '').length, 'digit')} are asked for, here `
+    + `${mine.replace(/ /g, '').length === 1 ? 'is' : 'are'} ${mine.replace(/ /g, '').length}`;
   const same = [...right].findIndex((letter, k) => letter !== mine[k]);
   return same ? `the first ${same === 1 ? 'digit is' : `${same} are`} right` : 'the first digit differs';
 }
@@ -59,8 +63,10 @@ function insteadOf(text, { line }, deck) {
   if (text) return `it is ${text}`;
   const word = Number(/^\^MEM (\d+)/.exec(line)?.[1]);
   if (!word) return 'the report has no such line';
-  const isAsked = [...deck.matchAll(/^\/DUMP +(\d+) +(\d+)/gim)].some(([, from, to]) => Number(from) <= word && word <= Number(to));
-  return isAsked ? `word ${word} is zero` : `the report has no word ${word}; the card /DUMP ${word} ${word} asks for it`;
+  const isAsked = [...deck.matchAll(/^\/DUMP +(\d+) +(\d+)/gim)].some(([, from, to]) => Number(from) <= word
+    && word <= Number(to));
+  return isAsked ? `word ${word} is zero`
+    : `the report has no word ${word}; the card /DUMP ${word} ${word} asks for it`;
 }
 
 // Of a deck that was written: lines [whether it is so, what], for the data of the exercise and for others.
@@ -69,7 +75,9 @@ export async function judgeDeck(exercise, deck, run) {
   for (const data of [{}, ...(exercise.data ?? [])]) {
     const [mine, answer] = [withData(deck, data), withData(exercise.answer, data)];
     if (mine.missing) {
-      lines.push([false, `it can not be tried with other numbers: no card DD of it has the name ${mine.missing}. Give its data the names ${listed(Object.keys(data))}`]);
+      lines.push(
+        [false, `it can not be tried with other numbers: no card DD of it has the name ${mine.missing}. Give its `
+          + `data the names ${listed(Object.keys(data))}`]);
       continue;
     }
     const [got, wanted] = [await run(mine.text), await run(answer.text)];
@@ -78,7 +86,8 @@ export async function judgeDeck(exercise, deck, run) {
     const where = Object.entries(data).map(([name, value]) => `${name} is ${value}`).join(' and ');
     for (const one of exercise.same) {
       const [a, b] = [found(got, one), found(wanted, one)];
-      lines.push([a === b, `${one.say}${where ? `, where ${where}` : ''}${a === b ? '' : `: ${insteadOf(a, one, mine.text)}`}`]);
+      lines.push(
+        [a === b, `${one.say}${where ? `, where ${where}` : ''}${a === b ? '' : `: ${insteadOf(a, one, mine.text)}`}`]);
     }
   }
   for (const { card, say } of exercise.cards ?? []) lines.push([new RegExp(card, 'mi').test(deck), say]);

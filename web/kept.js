@@ -1,4 +1,5 @@
-// The decks of one who writes: each that was typed, or opened as a file, stays until it is dropped, whatever else is opened in its place.
+// The decks of one who writes: each that was typed, or opened as a file, stays until it is dropped, whatever else is
+// opened in its place.
 import { h } from './dom.js';
 import { sameEnds } from './decks.js';
 import { plural } from './words.js';
@@ -17,10 +18,13 @@ function newId() {
 // How a deck is named: one's own by its first card, where it is not the newest; a changed one by where it came from.
 function nameOf({ title, text }, isNewest) {
   if (title) return `${title[0].toLowerCase()}${title.slice(1)}, as I changed it`;
-  return isNewest ? 'my deck' : `my deck ${text.trim().split('\n')[0].slice(0, MOST_NAMED).trim()} (${plural(text.trim().split('\n').length, 'card')})`;
+  return isNewest ? 'my deck'
+    : `my deck ${text.trim().split('\n')[0].slice(0, MOST_NAMED).trim()} `
+      + `(${plural(text.trim().split('\n').length, 'card')})`;
 }
 
-// Whether a text is another deck than the one that stood there: hardly anything before and behind the change is the same.
+// Whether a text is another deck than the one that stood there: hardly anything before and behind the change is the
+// same.
 function isAnother(before, text) {
   if (before.trim().length < LEAST || Math.abs(before.length - text.length) < 2) return false;
   const [front, back] = sameEnds(before, text);
@@ -30,7 +34,8 @@ function isAnother(before, text) {
 export class Kept {
   // `put` is told of a deck that is to be put back: its text.
   constructor(box, store, put) {
-    Object.assign(this, { box, store, put, decks: [], now: null, title: null, text: '', written: new Map(), dropped: new Set() });
+    Object.assign(this, { box, store, put, decks: [], now: null, title: null, text: '', written: new Map(),
+      dropped: new Set() });
   }
 
   // The decks of the last time; `text` is the deck that the editor had then.
@@ -46,7 +51,8 @@ export class Kept {
   stored() {
     try {
       const { decks, now, title } = JSON.parse(this.store.get(KEY));
-      return { decks: decks.filter((deck) => typeof deck.text === 'string' && (deck.title === null || typeof deck.title === 'string')), now, title };
+      return { decks: decks.filter((deck) => typeof deck.text === 'string'
+        && (deck.title === null || typeof deck.title === 'string')), now, title };
     } catch {
       return {};
     }
@@ -69,7 +75,8 @@ export class Kept {
     this.limit();
   }
 
-  // The deck in the editor was changed by hand. Where it was made empty, or another pasted over it, it stays as it was, and the other is a new one.
+  // The deck in the editor was changed by hand. Where it was made empty, or another pasted over it, it stays as it
+  // was, and the other is a new one.
   typed(text) {
     if (!text.trim() || isAnother(this.text, text)) Object.assign(this, { now: null, title: null });
     this.text = text;
@@ -125,10 +132,13 @@ export class Kept {
     const others = this.decks.filter((deck) => deck !== this.now);
     const buttons = others.map((deck) => {
       const name = nameOf(deck, deck === own);
-      return h('span', { class: 'group' }, h('button', { class: 'back', onclick: () => this.back(deck) }, deck === own ? 'Put my deck back' : `Put back ${name}`),
-        h('button', { class: 'quiet', title: `drop ${name}`, 'aria-label': `drop ${name}`, onclick: () => this.drop(deck) }, '✕'));
+      return h('span', { class: 'group' }, h('button', { class: 'back', onclick: () => this.back(deck) }, deck === own
+        ? 'Put my deck back' : `Put back ${name}`),
+        h('button', { class: 'quiet', title: `drop ${name}`, 'aria-label': `drop ${name}`,
+          onclick: () => this.drop(deck) }, '✕'));
     });
     const rest = buttons.slice(MOST_SHOWN);
-    this.box.replaceChildren(...buttons.slice(0, MOST_SHOWN), rest.length ? h('details', {}, h('summary', {}, `${rest.length} more`), rest) : '');
+    this.box.replaceChildren(...buttons.slice(0, MOST_SHOWN), rest.length
+      ? h('details', {}, h('summary', {}, `${rest.length} more`), rest) : '');
   }
 }

@@ -1,5 +1,7 @@
-// A text of very many lines that can be edited. A browser lays out a text area whole at each key; here the lines stand in blocks,
-// and a key lays out its own block alone. Editing itself, with its undo, is the browser's, which may split, join or drop blocks.
+// A text of very many lines that can be edited. A browser lays out a text area whole at each key; here the lines stand
+// in blocks,
+// and a key lays out its own block alone. Editing itself, with its undo, is the browser's, which may split, join or
+// drop blocks.
 import { h } from './dom.js';
 
 const LINES = 200;          // of a block, as it is made
@@ -51,7 +53,8 @@ function runsOf(parent, runs = []) {
 // It has of a text area what the editor asks it for.
 export class LongText {
   constructor(attributes) {
-    this.box = h('div', { ...attributes, role: 'textbox', 'aria-multiline': 'true', contenteditable: 'plaintext-only' });
+    this.box = h('div', { ...attributes, role: 'textbox', 'aria-multiline': 'true',
+      contenteditable: 'plaintext-only' });
     Object.assign(this, { known: null, last: [0, 0] });
     this.box.addEventListener('input', () => { this.known = null; });
     this.box.addEventListener('beforeinput', (event) => this.before(event));
@@ -112,7 +115,8 @@ export class LongText {
 
   setSelectionRange(start, end) {
     this.last = [start, end];
-    if (document.activeElement === this.box) getSelection().setBaseAndExtent(...this.pointOf(start), ...this.pointOf(end));
+    if (document.activeElement === this.box) getSelection().setBaseAndExtent(...this.pointOf(start),
+      ...this.pointOf(end));
   }
 
   focus() {
@@ -129,7 +133,8 @@ export class LongText {
   placeOf(node, offset) {
     const { runs, value } = this.told;
     const own = runs.find(({ nodes }) => nodes.includes(node));
-    if (own) return own.begin + Math.min(lengthOf(own.nodes.slice(0, own.nodes.indexOf(node))) + offset, own.text.length);
+    if (own) return own.begin + Math.min(lengthOf(own.nodes.slice(0, own.nodes.indexOf(node))) + offset,
+      own.text.length);
     // A point between nodes is before the first of those behind it.
     const range = document.createRange();
     const isBehind = (one) => {
@@ -174,7 +179,8 @@ export class LongText {
     document.execCommand(text ? 'insertText' : 'delete', false, text);
   }
 
-  // Whether what is marked begins at the first character of a line and ends within another block: Chromium would take the line end before
+  // Whether what is marked begins at the first character of a line and ends within another block: Chromium would take
+  // the line end before
   // it as well, but not behind a letter.
   isTorn() {
     const [start, end] = this.selection();
@@ -186,7 +192,8 @@ export class LongText {
   before(event) {
     const { inputType } = event;
     const [start, end] = this.selection();
-    if (start === end || !event.cancelable || !/^(insert(Text|LineBreak|Paragraph|FromPaste)$|delete)/.test(inputType) || !this.isTorn()) return;
+    if (start === end || !event.cancelable || !/^(insert(Text|LineBreak|Paragraph|FromPaste)$|delete)/.test(inputType)
+      || !this.isTorn()) return;
     event.preventDefault();
     const given = event.data ?? event.dataTransfer?.getData('text/plain') ?? '';
     if (inputType.startsWith('delete')) this.type('');

@@ -13,10 +13,13 @@ const PICTURE_ROWS = 200;
 const LONG = 20000;
 const LATIN = new TextDecoder('latin1');
 
-// What of the picture of ./chart has which colour of the timetable: a part, what is coloured, and the colour's name in the style sheet.
+// What of the picture of ./chart has which colour of the timetable: a part, what is coloured, and the colour's name in
+// the style sheet.
 const PAINT = [
-  ['text', 'fill', 'text'], ['.m', 'fill', 'soft'], ['.p', 'fill', 'ground'], ['.g', 'stroke', 'grid'], ['.w', 'fill', 'operand'],
-  ['.t', 'fill', 'turn'], ['.t', 'stroke', 'soft'], ['.e', 'fill', 'executing'], ['.d', 'stroke', 'drop'], ['.i', 'stroke', 'restart'],
+  ['text', 'fill', 'text'], ['.m', 'fill', 'soft'], ['.p', 'fill', 'ground'], ['.g', 'stroke', 'grid'],
+  ['.w', 'fill', 'operand'],
+  ['.t', 'fill', 'turn'], ['.t', 'stroke', 'soft'], ['.e', 'fill', 'executing'], ['.d', 'stroke', 'drop'],
+  ['.i', 'stroke', 'restart'],
   ['.s', 'stroke', 'soft'], ['#h rect', 'fill', 'ground'], ['#h rect+rect', 'fill', 'drop'],
 ];
 
@@ -84,14 +87,16 @@ export class Views {
 
   // The program has four levels; where the timetable is of another number, that is said.
   ofFour(what, { levels }) {
-    return levels === 4 ? [] : [h('p', { class: 'note' }, `This ${what} is that of a machine of 4 levels; the timetable shows ${plural(levels, 'level')}. `
+    return levels === 4 ? [] : [h('p', { class: 'note' },
+      `This ${what} is that of a machine of 4 levels; the timetable shows ${plural(levels, 'level')}. `
       + 'Only lines about ticks, and about what is ahead, may differ.')];
   }
 
   async where(box, { runs: [run] }) {
     const cards = new Map();
     for (const row of run.rows) if (row.card && !cards.has(row.address)) cards.set(row.address, row.card);
-    whereView(box, run, cards, { cause: (cause) => this.app.stepper.chooseCause(cause), card: (card) => this.toCard(card) });
+    whereView(box, run, cards, { cause: (cause) => this.app.stepper.chooseCause(cause),
+      card: (card) => this.toCard(card) });
   }
 
   experiment(box, { deck }) {
@@ -102,7 +107,8 @@ export class Views {
     this.svg = await this.pictureText();
     this.image = h('img', { alt: 'the timetable of the run, as the program chart draws it' });
     this.paint();
-    box.replaceChildren(...this.ofFour('picture', this.made), h('p', { class: 'soft' }, `The picture that ./chart draws of the report: at most ${PICTURE_ROWS} rows. `
+    box.replaceChildren(...this.ofFour('picture', this.made), h('p', { class: 'soft' },
+      `The picture that ./chart draws of the report: at most ${PICTURE_ROWS} rows. `
       + 'Here it has the colours of the timetable. Save it as a file for a text or a slide.'),
     h('div', { class: 'picture-room', tabindex: '0' }, this.image));
   }
@@ -118,7 +124,8 @@ export class Views {
 
   async listing(box = null) {
     const { plain, cards } = this.made;
-    this.listed ??= this.app.side.run('stretch', ['run'], bytesOf(listingDeck(cards))).then(({ bytes }) => listingOf(LATIN.decode(bytes), cards, (card) => plain.lines[card - 1]));
+    this.listed ??= this.app.side.run('stretch', ['run'], bytesOf(listingDeck(cards)))
+      .then(({ bytes }) => listingOf(LATIN.decode(bytes), cards, (card) => plain.lines[card - 1]));
     const listed = await this.listed;
     this.symbols = new Map(listed.symbols);
     this.names = namesOf(listed.symbols);
@@ -128,7 +135,9 @@ export class Views {
 
   async object(box) {
     const text = await this.objectText();
-    box.replaceChildren(h('p', { class: 'soft' }, 'What the assembler lays, as text: ', h('code', {}, './stretch load'), ' runs it, and this page opens it.'), h('pre', { class: 'output', tabindex: '0' }, text.slice(0, 200000)));
+    box.replaceChildren(h('p', { class: 'soft' }, 'What the assembler lays, as text: ',
+      h('code', {}, './stretch load'), ' runs it, and this page opens it.'),
+      h('pre', { class: 'output', tabindex: '0' }, text.slice(0, 200000)));
   }
 
   // ---- texts
