@@ -37,11 +37,13 @@ class Browser:
             os.set_inheritable(3, True)
             os.set_inheritable(4, True)
 
-        words = [found(), '--headless', '--remote-debugging-pipe', f'--user-data-dir={self.folder}', '--no-first-run', '--disable-gpu',
+        words = [found(), '--headless', '--remote-debugging-pipe', f'--user-data-dir={self.folder}', '--no-first-run',
+            '--disable-gpu',
                  '--hide-scrollbars', '--disable-dev-shm-usage', '--no-proxy-server']
         if os.geteuid() == 0:
             words.append('--no-sandbox')
-        self.process = subprocess.Popen(words, preexec_fn=child, close_fds=False, stdout=subprocess.DEVNULL, stderr=subprocess.DEVNULL)
+        self.process = subprocess.Popen(words, preexec_fn=child, close_fds=False, stdout=subprocess.DEVNULL,
+            stderr=subprocess.DEVNULL)
         os.close(to_read)
         os.close(to_write)
         self.number, self.rest, self.events, self.lines, self.session = 0, b'', [], [], None
@@ -88,7 +90,8 @@ class Browser:
             self.lines.append(' '.join(str(one.get('value', one.get('description'))) for one in told['args']))
         elif name == 'Log.entryAdded':
             self.lines.append(told['entry']['text'])
-        elif name == 'Network.requestWillBeSent' and not told['request']['url'].startswith(('file:', 'data:', 'about:', 'blob:')):
+        elif name == 'Network.requestWillBeSent' and not told['request']['url'].startswith(
+            ('file:', 'data:', 'about:', 'blob:')):
             self.lines.append(f"asks the network for {told['request']['url']}")
         self.events.append(name)
 
@@ -137,8 +140,10 @@ class Browser:
 
     def press(self, key, control=False, shift=False):
         """Presses a key and lets it go."""
-        codes = {'ArrowLeft': 37, 'ArrowRight': 39, 'Home': 36, 'End': 35, 'Tab': 9, 'Enter': 13, 'Escape': 27, ' ': 32, 'Backspace': 8}
-        words = {'key': key, 'modifiers': 2 * control + 8 * shift, 'windowsVirtualKeyCode': codes.get(key, ord(key.upper()) if len(key) == 1 and key.isalnum() else 0)}
+        codes = {'ArrowLeft': 37, 'ArrowRight': 39, 'Home': 36, 'End': 35, 'Tab': 9, 'Enter': 13, 'Escape': 27,
+            ' ': 32, 'Backspace': 8}
+        words = {'key': key, 'modifiers': 2 * control + 8 * shift, 'windowsVirtualKeyCode': codes.get(key,
+            ord(key.upper()) if len(key) == 1 and key.isalnum() else 0)}
         if key == 'Enter':
             words['text'] = '\r'
         if len(key) == 1 and not control:
@@ -161,7 +166,8 @@ class Browser:
         self.ask('new Promise((done) => requestAnimationFrame(() => requestAnimationFrame(() => done(1))))')
 
     def dark(self, on):
-        self.call('Emulation.setEmulatedMedia', features=[{'name': 'prefers-color-scheme', 'value': 'dark' if on else 'light'}])
+        self.call('Emulation.setEmulatedMedia', features=[{'name': 'prefers-color-scheme',
+            'value': 'dark' if on else 'light'}])
         self.frames()
 
     def picture(self, path):

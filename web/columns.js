@@ -3,11 +3,14 @@ import { READ, STATEMENT } from './decks.js';
 import { partsOf } from './plain.js';
 
 const PSEUDO = new Set(['DD', 'XW', 'DR', 'SYN', 'SLC', 'END']);
-const FIELDS = /('(?:[^']|'')*')|(\([A-Za-z+-][A-Za-z+-]*(?:,\d+)*\))|(\$[A-Za-z0-9]+)|(0[xX][0-9A-Fa-f]+|\d+(?:\.\d+)?)|([A-Za-z][A-Za-z0-9]*)|([^A-Za-z0-9$('][^A-Za-z0-9$(']*|.)/gs;
+const FIELDS = new RegExp([/('(?:[^']|'')*')/, /(\([A-Za-z+-][A-Za-z+-]*(?:,\d+)*\))/, /(\$[A-Za-z0-9]+)/,
+  /(0[xX][0-9A-Fa-f]+|\d+(?:\.\d+)?)/, /([A-Za-z][A-Za-z0-9]*)/, /([^A-Za-z0-9$('][^A-Za-z0-9$(']*|.)/]
+  .map(({ source }) => source).join('|'), 'gs');
 const KINDS = ['text', 'form', 'register', 'number', 'label', 'plain'];
 
 function fieldsOf(text) {
-  return [...text.matchAll(FIELDS)].map((found) => [KINDS[found.slice(1).findIndex((part) => part !== undefined)], found[0]]);
+  return [...text.matchAll(FIELDS)].map((found) => [KINDS[found.slice(1).findIndex((part) => part !== undefined)],
+    found[0]]);
 }
 
 function statementOf(text) {

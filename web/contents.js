@@ -1,5 +1,7 @@
-// What words of the machine say: registers by name and parts, indicators, fields, characters (tools/read says the same of a report).
-const REGISTERS = new Map([[0, '$Z'], [2, '$IA'], [3, '$UB'], [7, '$LZC'], [8, '$L'], [9, '$R'], [10, '$SB'], [11, '$IND'], [12, '$MASK'], [13, '$RM'], [14, '$FT'], [15, '$TR']]);
+// What words of the machine say: registers by name and parts, indicators, fields, characters (tools/read says the same
+// of a report).
+const REGISTERS = new Map([[0, '$Z'], [2, '$IA'], [3, '$UB'], [7, '$LZC'], [8, '$L'], [9, '$R'], [10, '$SB'],
+  [11, '$IND'], [12, '$MASK'], [13, '$RM'], [14, '$FT'], [15, '$TR']]);
 const FIRST_INDEX = 16;
 const FIRST_STORAGE = 32;
 const FIXED_MASK = 20;          // so many bits of the mask are always one
@@ -44,11 +46,13 @@ function named(numbers, indicators) {
 export function digitsOf(hex) {
   if (!/^[0-9]+$/.test(hex) || /^0+$/.test(hex)) return null;
   const plain = hex.replace(/^0+(?=.)/, '');
-  return { unsigned: plain, signed: /[08]$/.test(hex) ? `${hex.endsWith('8') ? '-' : '+'}${hex.slice(0, -1).replace(/^0+(?=.)/, '')}` : null };
+  return { unsigned: plain, signed: /[08]$/.test(hex)
+    ? `${hex.endsWith('8') ? '-' : '+'}${hex.slice(0, -1).replace(/^0+(?=.)/, '')}` : null };
 }
 
 export function charactersOf(hex) {
-  return hex.match(/../g).map((byte) => parseInt(byte, 16)).map((byte) => (byte >= 32 && byte <= 126 ? String.fromCharCode(byte) : '·')).join('');
+  return hex.match(/../g).map((byte) => parseInt(byte, 16)).map((byte) =>
+    (byte >= 32 && byte <= 126 ? String.fromCharCode(byte) : '·')).join('');
 }
 
 function signedOf(hex) {
@@ -74,7 +78,9 @@ const PARTS = {
   2: (word) => `the interrupt table begins at word ${bits(word, 0, 18)}`,
   3: (word) => `protected from word ${bits(word, 32, 18)} up to ${bits(word, 0, 18)}, control ${bits(word, 57, 1)}`,
   7: (word) => `leading zeros ${bits(word, 17, 7)}, ones ${bits(word, 44, 7)}`,
-  10: (word) => `sign ${bits(word, 4, 1) ? 'minus' : 'plus'}, zone ${bits(word, 0, 4)}, flags ${bits(word, 5, 3).toString(2).padStart(3, '0')}`,
+  10: (word) =>
+    `sign ${bits(word, 4, 1) ? 'minus' : 'plus'}, zone ${bits(word, 0, 4)}, flags `
+      + `${bits(word, 5, 3).toString(2).padStart(3, '0')}`,
 };
 
 // What a register's word says. `indicators` are {name, says} by their numbers.
@@ -82,11 +88,15 @@ export function registerText(number, hex, indicators) {
   const word = wordOf(hex);
   if (number >= FIRST_INDEX && number < FIRST_STORAGE) {
     const flags = bits(word, 25, 3) ? `, flags ${bits(word, 25, 3).toString(2).padStart(3, '0')}` : '';
-    return `value ${bits(word, 24, 1) ? '-' : ''}${place(bits(word, 0, 24))}, count ${bits(word, 28, 18)}, refill ${bits(word, 46, 18)}${flags}`;
+    return `value ${bits(word, 24, 1) ? '-' : ''}${place(bits(word, 0, 24))}, count ${bits(word, 28, 18)}, refill `
+      + `${bits(word, 46, 18)}${flags}`;
   }
   if (PARTS[number]) return PARTS[number](word);
   if (number === 11) return named(onIn(hex), indicators).join(', ') || 'none is on';
-  if (number === 12) return `0 to ${FIXED_MASK - 1}${named(onIn(hex).slice(FIXED_MASK), indicators).map((one) => `, ${one}`).join('')}`;
+  if (number === 12) {
+    const more = named(onIn(hex).slice(FIXED_MASK), indicators).map((one) => `, ${one}`);
+    return `0 to ${FIXED_MASK - 1}${more.join('')}`;
+  }
   return formsOf(hex, false).map(([form, text]) => `${form} ${text}`).join(', ');
 }
 
@@ -97,7 +107,8 @@ export function bitsOf(words, first, length) {
   return (whole >> BigInt(2 * WORD - bit - length)) & ((1n << BigInt(length)) - 1n);
 }
 
-// What a field says that begins at a bit: `words` gives a word by its number, `form` is {decimal, unsigned, length, byte}.
+// What a field says that begins at a bit: `words` gives a word by its number, `form` is {decimal, unsigned, length,
+// byte}.
 export function fieldOf(words, first, form) {
   const { decimal, unsigned, length, byte } = form;
   const field = bitsOf(words, first, length);

@@ -27,12 +27,14 @@ export class Deck {
     const lines = [];
     for (let k = from; k < to; k += 1) {
       const marks = this.marks.get(k + 1) ?? [];
-      const kind = ['card', marks.length ? 'here' : '', this.app.card === k + 1 ? 'marked' : '', this.wrong === k + 1 ? 'wrong' : ''].join(' ').trim();
+      const kind = ['card', marks.length ? 'here' : '', this.app.card === k + 1 ? 'marked' : '', this.wrong === k + 1
+        ? 'wrong' : ''].join(' ').trim();
       const choose = () => this.app.chooseCard(k + 1);
       lines.push(h('div', {
         class: kind, role: 'listitem', style: `top:${k * CARD_LINE}px`, tabindex: '0', onclick: choose,
         onkeydown: (event) => { if (event.key === 'Enter') choose(); },
-      }, h('span', { class: 'number' }, String(k + 1)), h('span', { class: 'marks' }, marks.join('')), h('span', { class: 'text' }, this.cards[k] || ' ')));
+      }, h('span', { class: 'number' }, String(k + 1)), h('span', { class: 'marks' }, marks.join('')),
+      h('span', { class: 'text' }, this.cards[k] || ' ')));
     }
     this.list.replaceChildren(...lines);
   }

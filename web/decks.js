@@ -7,6 +7,8 @@ const OWN_BUDGET = 1000;
 const A_CARD = 10;                  // numbers on a card /DELAYS
 const END = /^ *E *N *D *(?:[(,;]|$)/i;         // a statement whose operation is END
 
+const PIECE = 4096;
+
 const encoder = new TextEncoder();
 
 export function bytesOf(text) {
@@ -60,7 +62,8 @@ export function delayCards(delays) {
 
 // The list of delays that the deck has, as text; '' where it has none.
 export function delaysOf(lines) {
-  return lines.filter((line) => controlOf(line) === 'DELAYS').map((line) => line.slice(7, READ).trim().replace(/ +/g, ' ')).join(' ');
+  return lines.filter((line) => controlOf(line) === 'DELAYS').map((line) =>
+    line.slice(7, READ).trim().replace(/ +/g, ' ')).join(' ');
 }
 
 // How many instructions a run may do.
@@ -68,4 +71,22 @@ export function budgetOf(lines) {
   const card = lines.find((line) => controlOf(line) === 'BUDGET');
   const found = card && /^\/BUDGET +(\d{1,8}) *$/.exec(card.slice(0, READ));
   return found ? Number(found[1]) : OWN_BUDGET;
+}
+
+// How many characters are the same at the beginnings of two texts, and behind those at their ends.
+export function sameEnds(before, after) {
+  const most = Math.min(before.length, after.length);
+  const same = (isSame, limit) => {
+    let count = 0;
+    let size = PIECE;
+    while (count < limit && size) {
+      size = Math.min(size, limit - count);
+      if (isSame(count, size)) count += size;
+      else size = Math.floor(size / 2);
+    }
+    return count;
+  };
+  const front = same((k, n) => before.slice(k, k + n) === after.slice(k, k + n), most);
+  const last = (text, k, n) => text.slice(text.length - k - n, text.length - k);
+  return [front, same((k, n) => last(before, k, n) === last(after, k, n), most - front)];
 }

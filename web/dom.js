@@ -25,10 +25,12 @@ export function s(tag, attributes, ...children) {
 
 function hasSame(old, node) {
   const names = old.getAttributeNames();
-  return old.nodeName === node.nodeName && names.length === node.getAttributeNames().length && names.every((name) => old.getAttribute(name) === node.getAttribute(name));
+  return old.nodeName === node.nodeName && names.length === node.getAttributeNames().length
+    && names.every((name) => old.getAttribute(name) === node.getAttribute(name));
 }
 
-// Makes a box have these children. What is equal to what stood there stays, so that it has not to be laid out anew; none of it may listen.
+// Makes a box have these children. What is equal to what stood there stays, so that it has not to be laid out anew;
+// none of it may listen.
 export function put(box, children) {
   const made = children.flat(Infinity).filter((child) => child !== null && child !== undefined && child !== false)
     .map((child) => (child instanceof Node ? child : new Text(String(child))));
@@ -37,7 +39,8 @@ export function put(box, children) {
     if (!old) box.append(node);
     else if (old.isEqualNode(node)) return;
     else if (old.nodeType === Node.TEXT_NODE && node.nodeType === Node.TEXT_NODE) old.data = node.data;
-    else if (old.nodeType === Node.ELEMENT_NODE && node.nodeType === Node.ELEMENT_NODE && hasSame(old, node)) put(old, [...node.childNodes]);
+    else if (old.nodeType === Node.ELEMENT_NODE && node.nodeType === Node.ELEMENT_NODE && hasSame(old, node)) put(old,
+      [...node.childNodes]);
     else old.replaceWith(node);
   });
   while (box.childNodes.length > made.length) box.lastChild.remove();
@@ -46,7 +49,8 @@ export function put(box, children) {
 // A table with a caption and heads, which is scrolled where it is wider than its room.
 export function wideTable(kind, caption, names, rows) {
   const head = h('thead', {}, h('tr', {}, names.map((name) => h('th', { scope: 'col' }, name))));
-  return h('div', { class: 'wide-table' }, h('table', { class: kind }, h('caption', {}, caption), names.length ? head : null, h('tbody', {}, rows)));
+  return h('div', { class: 'wide-table' }, h('table', { class: kind }, h('caption', {}, caption), names.length ? head
+    : null, h('tbody', {}, rows)));
 }
 
 export function byId(id) {

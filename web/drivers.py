@@ -1,4 +1,5 @@
-"""Firefox and WebKit, driven by the protocols that they have: WebDriver BiDi over a web socket, and WebDriver over HTTP.
+"""Firefox and WebKit, driven by the protocols that they have: WebDriver BiDi over a web socket, and WebDriver over
+HTTP.
 
 Each has `open(url)`, `ask(text)` for the value of an expression in the page, `type(text)` for keys, and `close()`.
 """
@@ -37,7 +38,8 @@ class WebSocket:
     def __init__(self, port, path):
         self.socket, self.rest = socket.create_connection(("127.0.0.1", port), 20), b""
         key = base64.b64encode(os.urandom(16)).decode()
-        lines = [f"GET {path} HTTP/1.1", f"Host: 127.0.0.1:{port}", "Upgrade: websocket", "Connection: Upgrade", f"Sec-WebSocket-Key: {key}", "Sec-WebSocket-Version: 13", "", ""]
+        lines = [f"GET {path} HTTP/1.1", f"Host: 127.0.0.1:{port}", "Upgrade: websocket", "Connection: Upgrade",
+            f"Sec-WebSocket-Key: {key}", "Sec-WebSocket-Version: 13", "", ""]
         self.socket.sendall("\r\n".join(lines).encode())
         while b"\r\n\r\n" not in self.rest:
             self.more(time.monotonic() + 20)
@@ -61,8 +63,10 @@ class WebSocket:
 
     def send(self, text):
         data, mask = text.encode(), os.urandom(4)
-        size = bytes([0x80 | len(data)]) if len(data) < 126 else b"\xfe" + struct.pack(">H", len(data)) if len(data) < 1 << 16 else b"\xff" + struct.pack(">Q", len(data))
-        masked = (int.from_bytes(data, "big") ^ int.from_bytes((mask * (len(data) // 4 + 1))[:len(data)], "big")).to_bytes(len(data), "big") if data else b""
+        size = bytes([0x80 | len(data)]) if len(data) < 126 else b"\xfe" + struct.pack(">H",
+            len(data)) if len(data) < 1 << 16 else b"\xff" + struct.pack(">Q", len(data))
+        masked = (int.from_bytes(data, "big") ^ int.from_bytes((mask * (len(data) // 4 + 1))[:len(data)],
+            "big")).to_bytes(len(data), "big") if data else b""
         self.socket.sendall(b"\x81" + size + mask + masked)
 
     def receive(self, seconds):
@@ -89,8 +93,10 @@ class Firefox:
 
     def __init__(self):
         self.folder = tempfile.mkdtemp()
-        words = [self.found(), "--headless", "--no-remote", "--profile", self.folder, "--remote-debugging-port", str(free_port()), "about:blank"]
-        self.process = subprocess.Popen(words, stdout=subprocess.DEVNULL, stderr=subprocess.PIPE, env={**os.environ, "HOME": self.folder, "MOZ_HEADLESS_WIDTH": "1400", "MOZ_HEADLESS_HEIGHT": "900"})
+        words = [self.found(), "--headless", "--no-remote", "--profile", self.folder, "--remote-debugging-port",
+            str(free_port()), "about:blank"]
+        self.process = subprocess.Popen(words, stdout=subprocess.DEVNULL, stderr=subprocess.PIPE,
+            env={**os.environ, "HOME": self.folder, "MOZ_HEADLESS_WIDTH": "1400", "MOZ_HEADLESS_HEIGHT": "900"})
         self.socket, self.number = WebSocket(self.port(), "/session"), 0
         self.call("session.new", capabilities={})
         self.context = self.call("browsingContext.getTree")["contexts"][0]["context"]
@@ -120,14 +126,17 @@ class Firefox:
         self.call("browsingContext.navigate", context=self.context, url=url, wait="complete")
 
     def ask(self, text):
-        made = self.call("script.evaluate", expression=f"(async () => JSON.stringify(await ({text})) ?? 'null')()", target={"context": self.context}, awaitPromise=True)
+        made = self.call("script.evaluate", expression=f"(async () => JSON.stringify(await ({text})) ?? 'null')()",
+            target={"context": self.context}, awaitPromise=True)
         if made["type"] != "success":
             raise Failed(made["exceptionDetails"]["text"])
         return json.loads(made["result"]["value"])
 
     def type(self, text):
-        strokes = [{"type": kind, "value": KEYS.get(letter, letter)} for letter in text for kind in ("keyDown", "keyUp")]
-        self.call("input.performActions", context=self.context, actions=[{"type": "key", "id": "keys", "actions": strokes}])
+        strokes = [{"type": kind, "value": KEYS.get(letter, letter)} for letter in text
+            for kind in ("keyDown", "keyUp")]
+        self.call("input.performActions", context=self.context, actions=[
+            {"type": "key", "id": "keys", "actions": strokes}])
 
     def picture(self, path):
         with open(path, "wb") as file:
@@ -148,7 +157,8 @@ class WebKit:
 
     @staticmethod
     def found():
-        return shutil.which("WebKitWebDriver") and (shutil.which("Xvfb") or os.environ.get("DISPLAY")) and WebKit.binary()
+        return shutil.which("WebKitWebDriver") and (shutil.which("Xvfb")
+            or os.environ.get("DISPLAY")) and WebKit.binary()
 
     @staticmethod
     def binary():
@@ -156,32 +166,38 @@ class WebKit:
 
     def __init__(self):
         self.folder = tempfile.mkdtemp()
-        env = {**os.environ, "HOME": self.folder, "XDG_RUNTIME_DIR": self.folder, "LIBGL_ALWAYS_SOFTWARE": "1", "WEBKIT_DISABLE_COMPOSITING_MODE": "1", "WEBKIT_DISABLE_DMABUF_RENDERER": "1", "GDK_BACKEND": "x11"}
+        env = {**os.environ, "HOME": self.folder, "XDG_RUNTIME_DIR": self.folder, "LIBGL_ALWAYS_SOFTWARE": "1",
+            "WEBKIT_DISABLE_COMPOSITING_MODE": "1", "WEBKIT_DISABLE_DMABUF_RENDERER": "1", "GDK_BACKEND": "x11"}
         self.screen = None
         if shutil.which("Xvfb"):
             display = f":{100 + os.getpid() % 800}"
-            self.screen = subprocess.Popen(["Xvfb", display, "-screen", "0", "1400x1000x24", "-nolisten", "tcp"], stdout=subprocess.DEVNULL, stderr=subprocess.DEVNULL)
+            self.screen = subprocess.Popen(["Xvfb", display, "-screen", "0", "1400x1000x24", "-nolisten", "tcp"],
+                stdout=subprocess.DEVNULL, stderr=subprocess.DEVNULL)
             env["DISPLAY"] = display
             time.sleep(1)
         self.port = free_port()
-        self.process = subprocess.Popen(["WebKitWebDriver", "-p", str(self.port)], env=env, stdout=subprocess.DEVNULL, stderr=subprocess.DEVNULL, start_new_session=True)
+        self.process = subprocess.Popen(["WebKitWebDriver", "-p", str(self.port)], env=env, stdout=subprocess.DEVNULL,
+            stderr=subprocess.DEVNULL, start_new_session=True)
         options = {"binary": self.binary(), "args": ["--automation"]}
         self.session = None
         end = time.monotonic() + 60
         while self.session is None:
             try:
-                made = self.call("POST", "/session", {"capabilities": {"alwaysMatch": {"webkitgtk:browserOptions": options}}})
+                made = self.call("POST", "/session", {"capabilities": {"alwaysMatch": {
+                    "webkitgtk:browserOptions": options}}})
                 self.session = made["sessionId"]
             except (OSError, Failed):
                 if time.monotonic() > end:
                     self.close()
                     raise
                 time.sleep(0.5)
-        self.call("POST", f"/session/{self.session}/timeouts", {"script": SECONDS * 1000, "pageLoad": 120000, "implicit": 0})
+        self.call("POST", f"/session/{self.session}/timeouts", {"script": SECONDS * 1000, "pageLoad": 120000,
+            "implicit": 0})
 
     def call(self, method, path, body=None):
         data = None if body is None else json.dumps(body).encode()
-        request = urllib.request.Request(f"http://127.0.0.1:{self.port}{path}", data, {"Content-Type": "application/json"}, method=method)
+        request = urllib.request.Request(f"http://127.0.0.1:{self.port}{path}", data,
+            {"Content-Type": "application/json"}, method=method)
         opener = urllib.request.build_opener(urllib.request.ProxyHandler({}))
         try:
             with opener.open(request, timeout=SECONDS) as answer:
@@ -201,8 +217,10 @@ class WebKit:
         return made[0]
 
     def type(self, text):
-        strokes = [{"type": kind, "value": KEYS.get(letter, letter)} for letter in text for kind in ("keyDown", "keyUp")]
-        self.call("POST", f"/session/{self.session}/actions", {"actions": [{"type": "key", "id": "keys", "actions": strokes}]})
+        strokes = [{"type": kind, "value": KEYS.get(letter, letter)} for letter in text
+            for kind in ("keyDown", "keyUp")]
+        self.call("POST", f"/session/{self.session}/actions", {"actions": [
+            {"type": "key", "id": "keys", "actions": strokes}]})
 
     def picture(self, path):
         with open(path, "wb") as file:

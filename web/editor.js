@@ -1,57 +1,97 @@
-// The editor: a plain text area, so that undo, marking, the clipboard, input methods and screen readers are the browser's own. Behind it lies
-// the same text in colours, of which only the lines that are seen are drawn, and beside it a gutter.
+// The editor: a plain text area, so that undo, marking, the clipboard, input methods and screen readers are the
+// browser's own. Behind it lies
+// the same text in colours, of which only the lines that are seen are drawn, and beside it a gutter. A deck of very
+// many cards is put into an
+// element that the browser edits in blocks (longtext.js).
 import { h } from './dom.js';
+import { LongText, editsPlainText } from './longtext.js';
 import { piecesOf } from './columns.js';
-import { STATEMENT, READ, endOf } from './decks.js';
+import { STATEMENT, READ, endOf, sameEnds } from './decks.js';
 
 const LINE = 20;            // pixels, as in the style sheet
 const TAB = 8;
 const SHOWN = 400;          // characters of a line that are drawn
 const BEYOND = 3;           // lines that are drawn above and below what is seen
 const HEAT = 38;            // pixels of the longest bar
+const MANY = 3000;          // from so many lines on a text that is put in stands in blocks
 
 // Puts text in the place of what is marked, so that the browser's undo knows of it.
-function type(area, text) {
-  if (document.execCommand('insertText', false, text)) return;
-  area.setRangeText(text, area.selectionStart, area.selectionEnd, 'end');
-  area.dispatchEvent(new Event('input', { bubbles: true }));
+function type(field, text) {
+  if (field instanceof LongText) {
+    field.type(text);
+    return;
+  }
+  if (document.execCommand(text ? 'insertText' : 'delete', false, text)) return;
+  field.setRangeText(text, field.selectionStart, field.selectionEnd, 'end');
+  field.dispatchEvent(new Event('input', { bubbles: true }));
 }
 
 export class Editor {
-  // `on` is told: `change(text, isTyped)`, `caret(card, column)`, `card(number)` of a click on a card's number, `run()`.
+  // `on` is told: `change(text, isTyped)`, `caret(card, column)`, `card(number)` of a click on a card's number,
+  // `run()`.
   constructor(box, on) {
-    Object.assign(this, { box, on, lines: [''], end: 1, wrong: null, card: null, marks: new Map(), heat: new Map(), hottest: 1, capitals: true, leaves: false });
-    Object.assign(this, { height: 400, letter: 8, at: 0, column: 0, asked: false });
-    this.area = h('textarea', {
-      id: 'deck', spellcheck: 'false', autocapitalize: 'off', autocomplete: 'off', autocorrect: 'off', wrap: 'off', 'aria-label': 'deck, one card a line',
-      'aria-describedby': 'fault keys-hint',
-    });
+    Object.assign(this, { box, on, lines: [''], end: 1, wrong: null, card: null, marks: new Map(), heat: new Map(),
+      hottest: 1, capitals: true, leaves: false });
+    Object.assign(this, { height: 400, letter: 8, at: 0, column: 0, asked: false, heard: new Set() });
+    this.attributes = {
+      id: 'deck', class: 'area', spellcheck: 'false', autocapitalize: 'off', autocomplete: 'off', autocorrect: 'off',
+      wrap: 'off',
+      'aria-label': 'deck, one card a line', 'aria-describedby': 'fault keys-hint',
+    };
+    // What has the text and what is marked in it, and the element that is seen.
+    this.short = h('textarea', this.attributes);
+    [this.field, this.area] = [this.short, this.short];
+    this.room = new ResizeObserver(() => this.measure());
     this.colours = h('div', { class: 'colours', 'aria-hidden': 'true' });
     this.gutter = h('div', { class: 'gutter', 'aria-hidden': 'true' });
     this.ruler = h('div', { class: 'ruler', 'aria-hidden': 'true' });
     this.probe = h('span', { class: 'probe', 'aria-hidden': 'true' }, '0'.repeat(100));
     box.replaceChildren(this.ruler, this.gutter, h('div', { class: 'paper' }, this.colours, this.area), this.probe);
     this.listen();
-    new ResizeObserver(() => this.measure()).observe(this.area);
+    this.listenTo(this.area);
   }
 
   get text() {
-    return this.area.value;
+    return this.field.value;
   }
 
-  // Puts another text in: where it is to be undone by the browser's undo it is typed, else set.
+  // Puts another text in: where it is to be undone by the browser's undo what differs is typed, else it is set.
   set(text, { undo = false } = {}) {
     if (undo && text.length < 200000) {
-      this.area.focus();
-      this.area.select();
-      type(this.area, text);
-      this.area.setSelectionRange(0, 0);
+      const before = this.text;
+      const [front, back] = sameEnds(before, text);
+      this.select(front, before.length - back);
+      type(this.field, text.slice(front, text.length - back));
     } else {
-      this.area.value = text;
-      this.area.setSelectionRange(0, 0);
+      this.take(text.split('\n', MANY).length < MANY || !editsPlainText() ? this.short : this.many);
+      this.field.value = text;
     }
+    this.field.setSelectionRange(0, 0);
     this.area.scrollTo(0, 0);
     this.changed();
+  }
+
+  get many() {
+    this.long ??= new LongText(this.attributes);
+    return this.long;
+  }
+
+  // Another of the two has the text from now on.
+  take(field) {
+    if (field === this.field) return;
+    const area = field.box ?? field;
+    const isFocused = document.activeElement === this.area;
+    this.room.disconnect();
+    this.area.replaceWith(area);
+    Object.assign(this, { field, area });
+    this.listenTo(area);
+    if (isFocused) area.focus();
+  }
+
+  // Marks a part of the text, and takes the keyboard.
+  select(start, end) {
+    this.field.focus();
+    this.field.setSelectionRange(start, end);
   }
 
   changed(isTyped = false) {
@@ -65,7 +105,18 @@ export class Editor {
   }
 
   listen() {
-    const { area } = this;
+    document.addEventListener('selectionchange', () => { if (document.activeElement === this.area) this.where(); });
+    this.gutter.addEventListener('click', (event) => {
+      const card = Math.floor((event.clientY - this.gutter.getBoundingClientRect().top + this.area.scrollTop) / LINE)
+        + 1;
+      if (card <= this.lines.length) this.on.card(card);
+    });
+  }
+
+  listenTo(area) {
+    this.room.observe(area);
+    if (this.heard.has(area)) return;
+    this.heard.add(area);
     area.addEventListener('input', () => this.changed(true));
     area.addEventListener('scroll', () => this.draw());
     area.addEventListener('keydown', (event) => this.press(event));
@@ -75,11 +126,6 @@ export class Editor {
       this.leaves = false;
       this.box.classList.remove('focused');
     });
-    document.addEventListener('selectionchange', () => { if (document.activeElement === area) this.where(); });
-    this.gutter.addEventListener('click', (event) => {
-      const card = Math.floor((event.clientY - this.gutter.getBoundingClientRect().top + area.scrollTop) / LINE) + 1;
-      if (card <= this.lines.length) this.on.card(card);
-    });
   }
 
   // ---- the caret
@@ -87,7 +133,7 @@ export class Editor {
   // Its line and column, from 0 on.
   caret() {
     const { text } = this;
-    const at = this.area.selectionStart;
+    const at = this.field.selectionStart;
     const begin = text.lastIndexOf('\n', at - 1) + 1;
     let line = 0;
     for (let k = text.indexOf('\n'); k >= 0 && k < at; k = text.indexOf('\n', k + 1)) line += 1;
@@ -103,13 +149,13 @@ export class Editor {
   }
 
   press(event) {
-    const { area } = this;
-    const isPlain = area.selectionStart === area.selectionEnd && !event.shiftKey;
+    const isPlain = !event.shiftKey && this.field.selectionStart === this.field.selectionEnd;
     const { key } = event;
     if (key === 'Enter' && (event.ctrlKey || event.metaKey)) {
       event.preventDefault();
       this.on.run();
-    } else if (key === 'Tab' && !event.shiftKey && !event.ctrlKey && !event.altKey && !event.metaKey && !this.leaves) this.tabulate(event);
+    } else if (key === 'Tab' && !event.shiftKey && !event.ctrlKey && !event.altKey && !event.metaKey
+      && !this.leaves) this.tabulate(event);
     else if (key === 'Enter' && isPlain) this.enter(event);
     else if (key === 'Backspace' && isPlain) this.backspace(event);
     if (key === 'Escape') this.leaves = true;
@@ -118,11 +164,12 @@ export class Editor {
 
   // To column 10, and behind an operation to every eighth from there.
   tabulate(event) {
-    event.preventDefault();
     const { column, text } = this.caret();
+    if (/^[*/]/.test(text) && column === 0) return;
+    event.preventDefault();
     if (column >= STATEMENT && !text.slice(0, column).trim()) return;
     const stop = column < STATEMENT ? STATEMENT : STATEMENT + TAB * (Math.floor((column - STATEMENT) / TAB) + 1);
-    type(this.area, ' '.repeat(stop - column));
+    type(this.field, ' '.repeat(stop - column));
   }
 
   // Behind a statement the next card begins in column 10.
@@ -130,7 +177,7 @@ export class Editor {
     const { line, text, column } = this.caret();
     if (line >= this.end || text[0] === '*' || text[0] === '/' || column < STATEMENT) return;
     event.preventDefault();
-    type(this.area, `\n${' '.repeat(STATEMENT)}`);
+    type(this.field, `\n${' '.repeat(STATEMENT)}`);
     const below = (line + 3) * LINE - this.area.scrollTop - this.height;
     if (below > 0) this.area.scrollTop += below;
     this.area.scrollLeft = 0;
@@ -141,20 +188,23 @@ export class Editor {
     const { column, text } = this.caret();
     if (column !== STATEMENT || text.slice(0, STATEMENT).trim() !== '') return;
     event.preventDefault();
-    const at = this.area.selectionStart;
-    this.area.setSelectionRange(at - STATEMENT + 1, at);
+    const at = this.field.selectionStart;
+    this.field.setSelectionRange(at - STATEMENT + 1, at);
     document.execCommand('delete');
   }
 
   // The machine has no small letters: in statements and control cards they become capitals as they are typed.
   typed(event) {
-    if (!this.capitals || event.inputType !== 'insertText' || event.isComposing || !/^[a-z]$/.test(event.data ?? '')) return;
+    if (!this.capitals || event.inputType !== 'insertText' || event.isComposing
+      || !/^[a-z]$/.test(event.data ?? '')) return;
     const { line, column, text } = this.caret();
     const before = text.slice(0, column);
-    const isText = text[0] === '*' || (text[0] !== '/' && (/^[^;']*('[^']*'[^;']*)*;/.test(before) || (before.match(/'/g) ?? []).length % 2));
-    if (isText || (line > this.end && text[0] !== '/') || /0x[0-9a-f]*$/i.test(before) || (/(^|[,+-])0$/.test(before) && event.data === 'x')) return;
+    const isText = text[0] === '*' || (text[0] !== '/' && (/^[^;']*('[^']*'[^;']*)*;/.test(before)
+      || (before.match(/'/g) ?? []).length % 2));
+    if (isText || (line > this.end && text[0] !== '/') || /0x[0-9a-f]*$/i.test(before)
+      || (/(^|[,+-])0$/.test(before) && event.data === 'x')) return;
     event.preventDefault();
-    type(this.area, event.data.toUpperCase());
+    type(this.field, event.data.toUpperCase());
   }
 
   // ---- what is shown beside the text
@@ -170,11 +220,16 @@ export class Editor {
   // Puts the caret at a card, and scrolls to it.
   goTo(card) {
     const begin = this.lines.slice(0, card - 1).reduce((sum, line) => sum + line.length + 1, 0);
-    this.area.focus();
-    this.area.setSelectionRange(begin, begin + (this.lines[card - 1] ?? '').length);
-    const y = (card - 1) * LINE;
-    if (y < this.area.scrollTop || y + LINE > this.area.scrollTop + this.height) this.area.scrollTop = Math.max(0, y - this.height / 3);
+    this.select(begin, begin + (this.lines[card - 1] ?? '').length);
+    this.show(card);
     this.where();
+  }
+
+  // Scrolls to a card.
+  show(card) {
+    const y = (card - 1) * LINE;
+    if (y < this.area.scrollTop || y + LINE > this.area.scrollTop + this.height) this.area.scrollTop = Math.max(0,
+      y - this.height / 3);
   }
 
   // Marks the cards of the levels and of what is prepared next (as Deck does).
@@ -218,18 +273,21 @@ export class Editor {
     for (let k = from; k < to; k += 1) {
       const kind = this.kindOf(k + 1);
       const style = `transform:translateY(${k * LINE - scrollTop}px)`;
-      texts.push(h('div', { class: kind, style }, h('span', { class: 'text', style: `margin-left:${-scrollLeft}px` }, this.piecesOf(k))));
+      texts.push(h('div', { class: kind, style }, h('span', { class: 'text', style: `margin-left:${-scrollLeft}px` },
+        this.piecesOf(k))));
       numbers.push(h('div', { class: kind, style }, this.numberOf(k + 1)));
     }
     this.colours.replaceChildren(
-      h('div', { class: 'names', style: `left:${x(2)}px;width:${STATEMENT * this.letter - this.letter}px` }), h('div', { class: 'edge', style: `left:${x(STATEMENT + 1)}px` }),
+      h('div', { class: 'names', style: `left:${x(2)}px;width:${STATEMENT * this.letter - this.letter}px` }),
+      h('div', { class: 'edge', style: `left:${x(STATEMENT + 1)}px` }),
       h('div', { class: 'past', style: `left:${x(READ + 1)}px` }), ...texts);
     this.gutter.replaceChildren(...numbers);
     this.ruler.replaceChildren(h('div', { class: 'scale' }, this.columnsOf(x)));
   }
 
   kindOf(card) {
-    const kinds = { wrong: this.wrong === card, here: this.marks.has(card), marked: this.card === card, caret: card === this.at + 1 };
+    const kinds = { wrong: this.wrong === card, here: this.marks.has(card), marked: this.card === card,
+      caret: card === this.at + 1 };
     return ['line', ...Object.keys(kinds).filter((kind) => kinds[kind])].join(' ');
   }
 
@@ -244,14 +302,18 @@ export class Editor {
     const heat = h('span', { class: 'heat' });
     if (ticks !== undefined) {
       heat.title = `${ticks} ticks`;
-      heat.append(h('i', { style: `width:${Math.max(2, (HEAT * ticks) / this.hottest)}px` }), h('b', {}, ticks > 9999 ? `${Math.round(ticks / 1000)}k` : String(ticks)));
+      heat.append(h('i', { style: `width:${Math.max(2, (HEAT * ticks) / this.hottest)}px` }),
+        h('b', {}, ticks > 9999 ? `${Math.round(ticks / 1000)}k` : String(ticks)));
     }
-    return [h('span', { class: 'marks' }, (this.marks.get(card) ?? []).join('')), h('span', { class: 'number' }, String(card)), heat];
+    return [h('span', { class: 'marks' }, (this.marks.get(card) ?? []).join('')),
+      h('span', { class: 'number' }, String(card)), heat];
   }
 
   columnsOf(x) {
     const word = (column, text) => h('span', { class: 'part', style: `left:${x(column)}px` }, text);
-    const tens = [10, 20, 30, 40, 50, 60, 70, 80].map((k) => h('span', { class: 'ten', style: `left:${x(k)}px;width:${this.letter}px` }, String(k)));
-    return [word(2, 'name'), word(11, 'statement'), word(READ + 1, 'unread'), ...tens, h('i', { class: 'now', style: `left:${x(this.column + 1)}px;width:${this.letter}px` })];
+    const tens = [10, 20, 30, 40, 50, 60, 70, 80].map((k) => h('span',
+      { class: 'ten', style: `left:${x(k)}px;width:${this.letter}px` }, String(k)));
+    return [word(2, 'name'), word(11, 'statement'), word(READ + 1, 'unread'), ...tens,
+      h('i', { class: 'now', style: `left:${x(this.column + 1)}px;width:${this.letter}px` })];
   }
 }

@@ -1,4 +1,5 @@
-// The experiment: the same deck on machines of one to eight levels and under other delays, as plots; and that nothing but ticks changes.
+// The experiment: the same deck on machines of one to eight levels and under other delays, as plots; and that nothing
+// but ticks changes.
 import { h } from './dom.js';
 import { plural } from './words.js';
 import { budgetOf, bytesOf, delayCards, delaysOf, hasReaderCards, linesOf, withCards } from './decks.js';
@@ -12,8 +13,10 @@ const LONG = 100000;            // a deck that may do more is run only where tha
 const MOST_DELAY = 255;
 const MOST_DELAYS = 4096;
 const LATIN = new TextDecoder('latin1');
-const CALM = 'The program says that the run is calm under all of these delays; then it is proved that more levels are never slower.';
-const NOT_CALM = 'The run is not calm under all of these delays: more levels may be slower at times.';
+const CALM = 'The program says that the run is calm under all of these delays; then it is proved that more levels '
+  + 'are never slower.';
+const NOT_CALM = 'Under these delays it is not proved that more levels are never slower: the run is not what the '
+  + 'glossary calls calm.';
 // The lines of a report that delays may change, and the cards that ask for such lines.
 const OF_TICKS = /^(ROW|DROP|TIME|TICKS) .*\n/gm;
 const ASK_TICKS = ['DELAYS', 'TIME', 'CHART', 'SNAP', 'LIST'];
@@ -38,23 +41,29 @@ export class Experiment {
   async ticks(text, hasReader) {
     if (!hasReader) {
       const report = await this.written('stretch', ['sweep'], text);
-      return { ticks: [...report.matchAll(/^LEVELS \d TICKS (\d+)$/gm)].map((found) => Number(found[1])), calm: /^CALM 1$/m.test(report) };
+      return { ticks: [...report.matchAll(/^LEVELS \d TICKS (\d+)$/gm)].map((found) => Number(found[1])),
+        calm: /^CALM 1$/m.test(report) };
     }
     const ticks = [];
-    for (const levels of LEVELS) ticks.push(Number(/^TICKS (\d+)$/m.exec(await this.written('ledger', [String(levels)], text))[1]));
+    for (const levels of LEVELS) ticks.push(Number(/^TICKS (\d+)$/m.exec(
+      await this.written('ledger', [String(levels)], text))[1]));
     return { ticks, calm: false };
   }
 
   // Shows the experiment with a deck, where it is not shown yet.
   async show(text, isSure = false) {
     if (this.shown === text) return;
+    if (this.text !== text) this.lists = [...DELAYS];       // lists that were added are for the deck of then
+    this.text = text;
     this.runner.stop();
     this.shown = text;
     const lines = linesOf(text);
     if (budgetOf(lines) > LONG && !isSure) {
       this.shown = null;
       const sure = h('button', { onclick: () => this.show(text, true) }, 'Run the experiment');
-      this.box.replaceChildren(h('p', {}, `This deck may do more than ${LONG.toLocaleString('en')} instructions, and an experiment runs it some fifty times. `, sure));
+      this.box.replaceChildren(h('p', {},
+        `This deck may do more than ${LONG.toLocaleString('en')} instructions, and an experiment runs it some fifty `
+          + `times. `, sure));
       return;
     }
     try {
@@ -94,28 +103,33 @@ export class Experiment {
     const name = (list) => `delay ${list.length > 9 ? `${list.slice(0, 8)}…` : list}`;
     this.box.replaceChildren(
       h('p', { class: isSame ? 'claim' : 'claim bad', role: 'status' }, isSame
-        ? `✓ All other lines of the reports are the same, byte for byte, under ${lists.length} lists of delays: only ticks change. They were compared now.`
+        ? `✓ All other lines of the reports are the same, byte for byte, under ${lists.length} lists of delays: `
+          + 'only ticks change. They were compared now.'
         : '✗ Other lines of the reports differ as well. That must not be: please report this deck.'),
+      this.ask(text),
       h('div', { class: 'plots' },
         plot({
-          title: 'Ticks of the run with more levels', name: 'levels', xs: LEVELS, series: lists.map((list) => ({ name: name(list), ys: found.get(list).ticks })),
+          title: 'Ticks of the run with more levels', name: 'levels', xs: LEVELS,
+          series: lists.map((list) => ({ name: name(list), ys: found.get(list).ticks })),
           note: isCalm ? CALM : NOT_CALM,
         }),
         uniform.length > 1 ? plot({
           title: 'Ticks of the run with slower storage', name: 'delay', xs: uniform.map(Number),
-          series: SHOWN_LEVELS.map((levels) => ({ name: plural(levels, 'level'), ys: uniform.map((list) => found.get(list).ticks[levels - 1]) })),
+          series: SHOWN_LEVELS.map((levels) => ({ name: plural(levels, 'level'),
+            ys: uniform.map((list) => found.get(list).ticks[levels - 1]) })),
           note: 'Each read of storage takes as many ticks as the delay.',
-        }) : null),
-      this.ask(text));
+        }) : null));
   }
 
   // Adds a list of delays.
   ask(text) {
-    const input = h('input', { size: 14, placeholder: '1 255 3 17', 'aria-label': 'list of delays', oninput: () => input.setCustomValidity('') });
+    const input = h('input', { size: 14, placeholder: '1 255 3 17', 'aria-label': 'list of delays',
+      oninput: () => input.setCustomValidity('') });
     return h('form', { class: 'ask', onsubmit: (event) => {
       event.preventDefault();
       const numbers = input.value.trim().split(/[\s,]+/);
-      if (numbers.length > MOST_DELAYS || !numbers.every((one) => /^\d{1,3}$/.test(one) && Number(one) >= 1 && Number(one) <= MOST_DELAY)) {
+      if (numbers.length > MOST_DELAYS || !numbers.every((one) => /^\d{1,3}$/.test(one) && Number(one) >= 1
+          && Number(one) <= MOST_DELAY)) {
         input.setCustomValidity(`numbers from 1 to ${MOST_DELAY}, with blanks between them`);
         input.reportValidity();
         return;
@@ -124,6 +138,14 @@ export class Experiment {
       if (!this.lists.includes(list)) this.lists.push(list);
       this.shown = null;
       this.show(text, true);
-    } }, h('label', {}, 'another list of delays ', input), h('button', {}, 'Add'));
+    } }, h('label', {}, 'another list of delays ', input), h('button', {}, 'Add'),
+    this.lists.filter((list) => !DELAYS.includes(list)).map((list) =>
+      [' ', h('button', { type: 'button', onclick: () => this.without(list, text) }, `without ${list.slice(0, 20)}`)]));
+  }
+
+  without(list, text) {
+    this.lists = this.lists.filter((one) => one !== list);
+    this.shown = null;
+    this.show(text, true);
   }
 }

@@ -7,28 +7,34 @@ const WORD = 64;
 const MOST = 4096;              // so many fields of one card DR are known
 const FORM = /\(([BD])(U?)(?:,(\d+))?(?:,(\d+))?\)/;
 
-// The fields that cards DD, XW and DR lay or reserve, with the names and forms of the deck; `place` is where a card's first field lies.
+// The fields that cards DD, XW and DR lay or reserve, with the names and forms of the deck; `place` is where a card's
+// first field lies.
 export function fieldsOf(listing) {
-  return listing.filter(({ place, card }) => place && /^(DD|XW|DR)$/.test(operationOf(card)) && !/^[*/]/.test(card)).map(({ place, card, number }) => {
+  return listing.filter(({ place, card }) => place && /^(DD|XW|DR)$/.test(operationOf(card)) && !/^[*/]/.test(card))
+      .map(({ place, card, number }) => {
     const [word, bit] = place.split('.').map(Number);
     const statement = card.slice(STATEMENT, READ).split(';')[0].trim();
     const found = FORM.exec(statement.replace(/ /g, ''));
-    const form = { decimal: found?.[1] === 'D', unsigned: found ? found[2] === 'U' : true, length: Number(found?.[3] ?? WORD) };
+    const form = { decimal: found?.[1] === 'D', unsigned: found ? found[2] === 'U' : true,
+      length: Number(found?.[3] ?? WORD) };
     form.byte = Number(found?.[4] ?? (form.decimal ? 4 : 8));
     const kind = operationOf(card);
     const count = kind === 'DR' ? Math.min(Number(/,(\d+)$/.exec(statement)?.[1] ?? 1), MOST) : 1;
-    return { number, name: card.slice(1, STATEMENT).trim().toUpperCase(), place, first: WORD * word + bit, statement, kind, form, count };
+    return { number, name: card.slice(1, STATEMENT).trim().toUpperCase(), place, first: WORD * word + bit, statement,
+      kind, form, count };
   });
 }
 
 // What a field says in these words; `words` gives a word by its number.
 export function fieldText(field, words) {
-  return field.kind === 'XW' ? registerText(16, words(field.first / WORD), []) : fieldOf(words, field.first, field.form);
+  return field.kind === 'XW' ? registerText(16, words(field.first / WORD), [])
+    : fieldOf(words, field.first, field.form);
 }
 
 function wordsOf(first, length) {
   const words = [];
-  for (let word = Math.floor(first / WORD); word <= Math.floor((first + length - 1) / WORD); word += 1) words.push(word);
+  for (let word = Math.floor(first / WORD); word <= Math.floor((first + length - 1) / WORD);
+    word += 1) words.push(word);
   return words;
 }
 
@@ -42,9 +48,11 @@ export class Fields {
 
   add(field) {
     const { length } = field.form;
-    const all = Array.from({ length: field.count }, (_, k) => ({ ...field, first: field.first + k * length, name: field.count > 1 ? `${field.name} (field ${k + 1})` : field.name }));
+    const all = Array.from({ length: field.count }, (_, k) => ({ ...field, first: field.first + k * length,
+      name: field.count > 1 ? `${field.name} (field ${k + 1})` : field.name }));
     this.byName.set(field.name, all);
-    for (const one of all) for (const word of wordsOf(one.first, length)) this.byWord.set(word, [...(this.byWord.get(word) ?? []), one]);
+    for (const one of all) for (const word of wordsOf(one.first, length)) this.byWord.set(word,
+      [...(this.byWord.get(word) ?? []), one]);
   }
 
   // The fields that lie in a word, or in a part of it.
@@ -62,7 +70,8 @@ export class Fields {
     const ticks = [];
     for (const row of rows) {
       const put = row.state.words.filter(([word]) => own.has(word));
-      const touched = [...new Set(put.flatMap(([word]) => this.in(word).filter((one) => all.some(({ first }) => first === one.first))))];
+      const touched = [...new Set(put.flatMap(([word]) => this.in(word)
+        .filter((one) => all.some(({ first }) => first === one.first))))];
       const before = touched.map(({ first, form }) => bitsOf(read, first, form.length));
       for (const [word, content] of put) known.set(word, content);
       if (touched.some(({ first, form }, k) => bitsOf(read, first, form.length) !== before[k])) ticks.push(row.c);
@@ -74,6 +83,7 @@ export class Fields {
   changes(words, before, after) {
     const [old, now] = [(word) => before.get(word) ?? ZERO, (word) => after.get(word) ?? ZERO];
     const touched = new Set(words.flatMap((word) => this.in(word)));
-    return [...touched].filter(({ first, form }) => bitsOf(old, first, form.length) !== bitsOf(now, first, form.length)).map((field) => `${field.name} is now ${fieldText(field, now)}`);
+    return [...touched].filter(({ first, form }) => bitsOf(old, first, form.length) !== bitsOf(now, first, form.length))
+      .map((field) => `${field.name} is now ${fieldText(field, now)}`);
   }
 }

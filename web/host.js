@@ -1,10 +1,12 @@
-// One run of a program: a fresh instance of its module, whose memory goes with it. A program reads its job, writes, and asks for the
+// One run of a program: a fresh instance of its module, whose memory goes with it. A program reads its job, writes,
+// and asks for the
 // words of its command; nothing else of the world is given to it (web/shim.c is the other side).
 const encoder = new TextEncoder();
 const NO_WORD = -1n;
 const TOO_LONG = -2n;
 
-// Runs a module under a name with words and a job, which is bytes. `put` is called with each piece that is written, which stands in the
+// Runs a module under a name with words and a job, which is bytes. `put` is called with each piece that is written,
+// which stands in the
 // instance's memory and goes with it. Gives the exit status; a trap is thrown.
 export function run(module, name, words, job, put) {
   const command = [name, ...words].map((word) => encoder.encode(word));

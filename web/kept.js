@@ -1,48 +1,82 @@
-// The decks of one who writes: each that was typed, or opened as a file, stays until it is dropped, whatever else is opened in its place.
+// The decks of one who writes: each that was typed, or opened as a file, stays until it is dropped, whatever else is
+// opened in its place.
 import { h } from './dom.js';
+import { sameEnds } from './decks.js';
+import { plural } from './words.js';
 
 const KEY = 'stretch.decks';
 const MOST = 8;                 // so many decks are kept; the oldest goes first, but never the newest of one's own
 const MOST_STORED = 400000;     // a longer deck is kept while the page is open
 const MOST_NAMED = 28;
 const LEAST = 20;               // fewer characters are no deck yet
+const MOST_SHOWN = 3;           // so many have a button of their own, and the others a menu
+
+function newId() {
+  return `${Date.now()} ${Math.random()}`;
+}
 
 // How a deck is named: one's own by its first card, where it is not the newest; a changed one by where it came from.
 function nameOf({ title, text }, isNewest) {
   if (title) return `${title[0].toLowerCase()}${title.slice(1)}, as I changed it`;
-  return isNewest ? 'my deck' : `my deck ${text.trim().split('\n')[0].slice(0, MOST_NAMED).trim()}`;
+  return isNewest ? 'my deck'
+    : `my deck ${text.trim().split('\n')[0].slice(0, MOST_NAMED).trim()} `
+      + `(${plural(text.trim().split('\n').length, 'card')})`;
 }
 
-// Whether a text is another deck than the one that stood there: hardly anything before and behind the change is the same.
+// Whether a text is another deck than the one that stood there: hardly anything before and behind the change is the
+// same.
 function isAnother(before, text) {
   if (before.trim().length < LEAST || Math.abs(before.length - text.length) < 2) return false;
-  const most = Math.min(before.length, text.length);
-  let front = 0;
-  while (front < most && before[front] === text[front]) front += 1;
-  let back = 0;
-  while (back < most - front && before[before.length - 1 - back] === text[text.length - 1 - back]) back += 1;
+  const [front, back] = sameEnds(before, text);
   return 3 * (front + back) < before.length;
 }
 
 export class Kept {
   // `put` is told of a deck that is to be put back: its text.
   constructor(box, store, put) {
-    Object.assign(this, { box, store, put, decks: [], now: null, title: null, text: '' });
+    Object.assign(this, { box, store, put, decks: [], now: null, title: null, text: '', written: new Map(),
+      dropped: new Set() });
   }
 
   // The decks of the last time; `text` is the deck that the editor had then.
   begin(text) {
     this.text = text ?? '';
+    const { decks, now, title } = this.stored();
+    if (!decks && text) this.typed(text);
+    if (decks) Object.assign(this, { decks, now: decks.find((deck) => deck.id === now) ?? null, title });
+    this.remember();
+  }
+
+  // What the browser keeps, or nothing.
+  stored() {
     try {
       const { decks, now, title } = JSON.parse(this.store.get(KEY));
-      const known = decks.filter((deck) => typeof deck.text === 'string' && (deck.title === null || typeof deck.title === 'string'));
-      Object.assign(this, { decks: known, now: known.find((deck) => deck.id === now) ?? null, title });
+      return { decks: decks.filter((deck) => typeof deck.text === 'string'
+        && (deck.title === null || typeof deck.title === 'string')), now, title };
     } catch {
-      if (text) this.typed(text);
+      return {};
     }
   }
 
-  // The deck in the editor was changed by hand. Where it was made empty, or another pasted over it, it stays as it was, and the other is a new one.
+  remember() {
+    this.written = new Map(this.decks.map(({ id, text }) => [id, text]));
+  }
+
+  // Another window may have kept decks meanwhile: they stay, and a deck that both have changed becomes two.
+  merge() {
+    for (const deck of this.stored().decks ?? []) {
+      const mine = this.decks.find(({ id }) => id === deck.id);
+      if (!mine && !this.dropped.has(deck.id)) this.decks.splice(1, 0, deck);
+      else if (mine && deck.text !== mine.text && deck.text !== this.written.get(deck.id)) {
+        mine.id = newId();
+        this.decks.splice(1, 0, deck);
+      }
+    }
+    this.limit();
+  }
+
+  // The deck in the editor was changed by hand. Where it was made empty, or another pasted over it, it stays as it
+  // was, and the other is a new one.
   typed(text) {
     if (!text.trim() || isAnother(this.text, text)) Object.assign(this, { now: null, title: null });
     this.text = text;
@@ -52,10 +86,17 @@ export class Kept {
   }
 
   add(title, text) {
-    this.now = { id: `${Date.now()} ${Math.random()}`, title, text };
+    this.now = { id: newId(), title, text };
     this.decks.unshift(this.now);
+    this.limit();
+  }
+
+  limit() {
     const own = this.decks.find((deck) => deck.title === null);
-    while (this.decks.length > MOST) this.decks.splice(this.decks.findLastIndex((deck) => deck !== own), 1);
+    while (this.decks.length > MOST) {
+      const [gone] = this.decks.splice(this.decks.findLastIndex((deck) => deck !== own && deck !== this.now), 1);
+      this.dropped.add(gone.id);
+    }
   }
 
   // Another deck was put into the editor. A file is one's own from the beginning on.
@@ -67,12 +108,15 @@ export class Kept {
   }
 
   save() {
+    this.merge();
     const decks = this.decks.filter(({ text }) => text.length < MOST_STORED);
     this.store.set(KEY, JSON.stringify({ decks, now: this.now?.id ?? null, title: this.title }));
+    this.remember();
     this.draw();
   }
 
   drop(deck) {
+    this.dropped.add(deck.id);
     this.decks = this.decks.filter((one) => one !== deck);
     this.save();
   }
@@ -86,10 +130,15 @@ export class Kept {
   draw() {
     const own = this.decks.find((deck) => deck.title === null);
     const others = this.decks.filter((deck) => deck !== this.now);
-    this.box.replaceChildren(...others.map((deck) => {
+    const buttons = others.map((deck) => {
       const name = nameOf(deck, deck === own);
-      return h('span', { class: 'group' }, h('button', { class: 'back', onclick: () => this.back(deck) }, deck === own ? 'Put my deck back' : `Put back ${name}`),
-        h('button', { class: 'quiet', title: `drop ${name}`, 'aria-label': `drop ${name}`, onclick: () => this.drop(deck) }, '✕'));
-    }));
+      return h('span', { class: 'group' }, h('button', { class: 'back', onclick: () => this.back(deck) }, deck === own
+        ? 'Put my deck back' : `Put back ${name}`),
+        h('button', { class: 'quiet', title: `drop ${name}`, 'aria-label': `drop ${name}`,
+          onclick: () => this.drop(deck) }, '✕'));
+    });
+    const rest = buttons.slice(MOST_SHOWN);
+    this.box.replaceChildren(...buttons.slice(0, MOST_SHOWN), rest.length
+      ? h('details', {}, h('summary', {}, `${rest.length} more`), rest) : '');
   }
 }

@@ -1,4 +1,5 @@
-// The lines of a ledger (docs/ledger.md) as the object that `./explain json` writes (docs/explain.md), read one after another: of rows that
+// The lines of a ledger (docs/ledger.md) as the object that `./explain json` writes (docs/explain.md), read one after
+// another: of rows that
 // are not shown nothing is kept but sums. tools/explaining says the same of these lines in Python.
 import { CAUSE_NAMES, Off, SEGMENT_REASONS } from './causes.js';
 import { spelling } from './spelling.js';
@@ -21,15 +22,20 @@ function numberOf(word) {
 }
 
 export class Ledger {
-  // `cards` are those of the deck, `names` those of indicators by their numbers; the rows from `first` to `last` are shown.
+  // `cards` are those of the deck, `names` those of indicators by their numbers; the rows from `first` to `last` are
+  // shown.
   constructor(levels, cards, names, first = 1, last = Infinity) {
-    Object.assign(this, { levels, cards, names, first, last, delays: [], end: { kind: '', done: 0, ticks: 0, sums: {} } });
-    Object.assign(this, { row: null, entry: null, segment: null, done: 0, counter: '0.0', enabled: false, words: new Map(), shown: null });
-    Object.assign(this, { segments: [], entries: [], interrupts: [], prints: [], sums: new Totals(levels), spelled: new Map() });
+    Object.assign(this, { levels, cards, names, first, last, delays: [],
+      end: { kind: '', done: 0, ticks: 0, sums: {} } });
+    Object.assign(this, { row: null, entry: null, segment: null, done: 0, counter: '0.0', enabled: false,
+      words: new Map(), shown: null });
+    Object.assign(this, { segments: [], entries: [], interrupts: [], prints: [], sums: new Totals(levels),
+      spelled: new Map() });
     this.fresh();
   }
 
-  // What is known of the reads of a segment: by the tick of their acceptance, by their bank the last, by their word the last fetched.
+  // What is known of the reads of a segment: by the tick of their acceptance, by their bank the last, by their word
+  // the last fetched.
   fresh() {
     Object.assign(this, { accepted: new Map(), lastIn: [], fetched: new Map() });
   }
@@ -46,7 +52,8 @@ export class Ledger {
 
   begin(words) {
     this.entry = {
-      row: Number(words[1]), address: words[2], a: Number(words[4]), p: Number(words[6]), r: Number(words[8]), serial: null, table: null,
+      row: Number(words[1]), address: words[2], a: Number(words[4]), p: Number(words[6]), r: Number(words[8]),
+      serial: null, table: null,
       suppressed: null, card: null, kept: false, code: [], uses: [], writes: [], index: null,
     };
     return this.entry;
@@ -83,24 +90,28 @@ export class Ledger {
     this.lastIn[bank] = read;
     if (kind === 'instruction' || kind === 'following') this.fetched.set(word, read);
     this.accepted.set(accept, read);
-    if (this.accepted.size > 2 * REACH) for (const tick of this.accepted.keys()) if (tick <= accept - REACH) this.accepted.delete(tick);
+    if (this.accepted.size > 2 * REACH) for (const tick of this.accepted.keys()) if (
+      tick <= accept - REACH) this.accepted.delete(tick);
   }
 
   wait(words) {
     const charge = this.row.charged.at(-1);
     const why = lower(words[3]);
-    const piece = { from: Number(words[1]), to: Number(words[2]), cause: `${charge.cause}_${why}`, word: Number(words[5]) };
+    const piece = { from: Number(words[1]), to: Number(words[2]), cause: `${charge.cause}_${why}`,
+      word: Number(words[5]) };
     const read = why === 'turn' ? this.accepted.get(piece.from) : why === 'bank' ? this.accepted.get(piece.to)
       : charge.cause === 'instruction' ? this.fetched.get(piece.word) : this.row;
     if (!read) throw new Off(`row ${this.row.row}: a wait for a read that is not told`);
     piece.read = { row: read.row, word: Number(words[7]), bank: Number(words[9]) };
-    if (why === 'bank') piece.busy_with = read.holder && { row: read.holder.row, word: read.holder.word, kind: read.holder.kind };
+    if (why === 'bank') piece.busy_with = read.holder && { row: read.holder.row, word: read.holder.word,
+      kind: read.holder.kind };
     charge.waits.push(piece);
   }
 
   because(words) {
     const reason = lower(words[1]);
-    if (reason !== 'prefetch') return { reason, row: numberOf(words[3]), tick: Number(words[5]), late: numberOf(words[7]) };
+    if (reason !== 'prefetch') return { reason, row: numberOf(words[3]), tick: Number(words[5]),
+      late: numberOf(words[7]) };
     const read = this.fetched.get(Number(words[3]));
     if (!read) throw new Off(`row ${this.row.row}: a word that was asked for by none`);
     return { reason, row: read.row, tick: read.want, late: numberOf(words[5]) };
@@ -118,20 +129,24 @@ export class Ledger {
     const text = this.textOf(row);
     this.sums.add(row, text);
     const changed = row.changed.map(([word, , after]) => [word, after]);
-    if (shows) this.entries.push(this.toldRow(row, text, { counter: this.counter, enabled: this.enabled, words: changed }));
+    if (shows) this.entries.push(this.toldRow(row, text, { counter: this.counter, enabled: this.enabled,
+      words: changed }));
     else if (!this.shown) for (const [word, after] of changed) this.words.set(word, after);
     if (row.ends) this.segments.push(this.toldSegment(row.segment));
     for (const printed of row.prints) this.prints.push({ after_row: row.row, tick: row.c, text: printed });
-    if (row.interrupt !== null) this.interrupts.push({ after_row: row.row, tick: row.c, indicator: row.interrupt, name: this.names[row.interrupt] ?? null });
+    if (row.interrupt !== null) this.interrupts.push({ after_row: row.row, tick: row.c, indicator: row.interrupt,
+      name: this.names[row.interrupt] ?? null });
   }
 
   // Its charges in the order of time, those of waits cut further: without a gap from the completion before to its own.
   cut(row) {
     let at = this.done;
     for (const charge of row.charged) {
-      const pieces = PARTED.has(charge.cause) ? charge.waits.sort((a, b) => a.from - b.from) : [{ from: charge.from, to: charge.to, cause: charge.cause }];
+      const pieces = PARTED.has(charge.cause) ? charge.waits.sort((a, b) => a.from - b.from)
+        : [{ from: charge.from, to: charge.to, cause: charge.cause }];
       for (const piece of pieces) {
-        if (!KNOWN.has(piece.cause) || piece.from !== at || piece.to <= at) throw new Off(`row ${row.row}: its charges leave a gap at tick ${at}`);
+        if (!KNOWN.has(piece.cause) || piece.from !== at || piece.to <= at) throw new Off(
+          `row ${row.row}: its charges leave a gap at tick ${at}`);
         at = piece.to;
         if (piece.cause === 'executing') row.cost += piece.to - piece.from;
         row.charges.push(piece);
@@ -149,7 +164,8 @@ export class Ledger {
   }
 
   textOf(entry) {
-    if (entry.card !== null && entry.kept) return this.cards[entry.card - 1].slice(1, 72).split(';')[0].replace(/^ +| +$/g, '');
+    if (entry.card !== null && entry.kept) return this.cards[entry.card - 1].slice(1, 72)
+      .split(';')[0].replace(/^ +| +$/g, '');
     if (!entry.code.length || entry.suppressed === EXECUTES_ITSELF) return '';
     const key = entry.code.join(' ');
     if (!this.spelled.has(key)) this.spelled.set(key, spelling(entry.code));
@@ -161,10 +177,14 @@ export class Ledger {
   toldRow(row, text, state) {
     const early = row.index ? row.index.number + 16 : null;
     return {
-      row: row.row, segment: row.segment.number, address: row.address, text, card: row.card, a: row.a, p: row.p, r: row.r, c: row.c, cost: row.cost,
-      serial: row.serial, table: row.table, missed: row.missed, fault: row.suppressed === null ? null : this.names[row.suppressed],
-      charges: row.charges, because: row.because, level_wait: row.levelWait, uses: row.uses, writes: row.writes, index: row.index,
-      stored_index: row.changed.filter(([word]) => word >= 16 && word < 32 && word !== early).map(([word, before, after]) => ({ number: word - 16, before, after })),
+      row: row.row, segment: row.segment.number, address: row.address, text, card: row.card, a: row.a, p: row.p,
+      r: row.r, c: row.c, cost: row.cost,
+      serial: row.serial, table: row.table, missed: row.missed, fault: row.suppressed === null ? null
+        : this.names[row.suppressed],
+      charges: row.charges, because: row.because, level_wait: row.levelWait, uses: row.uses, writes: row.writes,
+      index: row.index,
+      stored_index: row.changed.filter(([word]) => word >= 16 && word < 32 && word !== early)
+        .map(([word, before, after]) => ({ number: word - 16, before, after })),
       state,
     };
   }
@@ -176,7 +196,8 @@ export class Ledger {
 
   toldSegment(segment) {
     return {
-      segment: segment.number, reason: segment.reason, indicator: segment.indicator, after_wait: segment.afterWait, start: segment.start, end: segment.end,
+      segment: segment.number, reason: segment.reason, indicator: segment.indicator, after_wait: segment.afterWait,
+      start: segment.start, end: segment.end,
       dropped: segment.dropped.map((entry) => this.toldAhead(entry)), begun: this.toldAhead(segment.begun),
     };
   }
@@ -188,14 +209,16 @@ export class Ledger {
     const snapshots = this.cards.filter((card) => card[0] === '/').map((card) => card.slice(0, 72).trim().split(/ +/))
       .filter((words) => words[0] === '/SNAP').flatMap((words) => words.slice(1).map(Number));
     return {
-      levels: this.levels, delays: this.delays, end: this.end.kind, totals: this.sums.told(), snapshots, first: this.shown,
+      levels: this.levels, delays: this.delays, end: this.end.kind, totals: this.sums.told(), snapshots,
+      first: this.shown,
       segments: this.segments, entries: this.entries, interrupts: this.interrupts, prints: this.prints,
     };
   }
 }
 
 const LINES = {
-  LEVELS: (ledger, words) => { if (Number(words[1]) !== ledger.levels) throw new Off('it is of another number of levels'); },
+  LEVELS: (ledger, words) => { if (Number(words[1]) !== ledger.levels) throw new Off(
+    'it is of another number of levels'); },
   DELAYS: (ledger, words) => { ledger.delays.push(...words.slice(1).map(Number)); },
   IC: (ledger, words) => { ledger.counter = words[1]; },
   EN: (ledger, words) => { ledger.enabled = words[1] === '1'; },
@@ -217,21 +240,25 @@ const LINES = {
   },
   ROW: (ledger, words) => {
     ledger.row = Object.assign(ledger.begin(words), {
-      c: Number(words[10]), segment: ledger.segment, missed: false, charged: [], charges: [], cost: 0, waited: 0, levelWait: 0, because: null, ends: false,
+      c: Number(words[10]), segment: ledger.segment, missed: false, charged: [], charges: [], cost: 0, waited: 0,
+      levelWait: 0, because: null, ends: false,
       changed: [], prints: [], interrupt: null, beforeIt: { counter: ledger.counter, enabled: ledger.enabled },
     });
   },
   DROP: (ledger, words) => { ledger.segment.dropped.push(ledger.begin(words)); },
   BEGUN: (ledger, words) => { ledger.segment.begun = ledger.begin(words); },
   MISSED: (ledger) => { ledger.row.missed = true; },
-  ALONE: (ledger, words) => { Object.assign(ledger.entry, { serial: lower(words[1]), table: words[1] === 'TABLE' ? Number(words[2]) : null }); },
+  ALONE: (ledger, words) => { Object.assign(ledger.entry, { serial: lower(words[1]), table: words[1] === 'TABLE'
+    ? Number(words[2]) : null }); },
   SUPPRESSED: (ledger, words) => { ledger.entry.suppressed = Number(words[1]); },
   LAID: (ledger, words) => { Object.assign(ledger.entry, { card: Number(words[1]), kept: words[3] === '1' }); },
   CODE: (ledger, words) => { ledger.entry.code = words.slice(1); },
   USE: (ledger, words) => ledger.use(words),
-  WRITES: (ledger, words) => { for (let k = 0; k < Number(words[2]); k += 1) ledger.entry.writes.push(Number(words[1]) + k); },
+  WRITES: (ledger, words) => { for (let k = 0; k < Number(words[2]); k += 1) ledger.entry.writes.push(Number(words[1])
+    + k); },
   INDEX: (ledger, words) => { ledger.entry.index = { number: Number(words[1]), before: words[3], after: words[5] }; },
-  CHARGE: (ledger, words) => { ledger.row.charged.push({ from: Number(words[1]), to: Number(words[2]), cause: lower(words[3]), waits: [] }); },
+  CHARGE: (ledger, words) => { ledger.row.charged.push({ from: Number(words[1]), to: Number(words[2]),
+    cause: lower(words[3]), waits: [] }); },
   WAIT: (ledger, words) => ledger.wait(words),
   LEVEL: (ledger, words) => { ledger.row.levelWait = Number(words[1]); },
   BECAUSE: (ledger, words) => { ledger.row.because = ledger.because(words); },

@@ -1,17 +1,23 @@
-// The lessons and pages of the manual, which the build has made HTML of. Each deck in them opens in the editor; exercises are checked by runs.
+// The lessons and pages of the manual, which the build has made HTML of. Each deck in them opens in the editor;
+// exercises are checked by runs.
 import { h } from './dom.js';
 import { hintOf, judgeDeck, judgePrediction, predicted } from './exercises.js';
 
 export class Lessons {
-  // `book` has pages {id, title, lesson, html, decks}, exercises and pictures. `on` is asked: `open(deck, title, view)`, `close()`,
+  // `book` has pages {id, title, lesson, html, decks}, exercises and pictures. `on` is asked: `open(deck, title,
+  // view)`, `close()`,
   // `run(deck)` for a report, `text()` for the deck in the editor.
   constructor(box, { pages, exercises, pictures }, on) {
-    Object.assign(this, { exercises, pictures, on, at: null, urls: new Map(), pages: new Map(pages.map((page) => [page.id, page])) });
-    const options = (isLesson) => pages.filter((page) => page.lesson === isLesson).map((page) => h('option', { value: page.id }, page.title));
-    this.choice = h('select', { 'aria-label': 'lesson or page of the manual', onchange: () => this.show(this.choice.value) },
+    Object.assign(this, { exercises, pictures, on, at: null, urls: new Map(), left: new Map(),
+      pages: new Map(pages.map((page) => [page.id, page])) });
+    const options = (isLesson) => pages.filter((page) => page.lesson === isLesson)
+      .map((page) => h('option', { value: page.id }, page.title));
+    this.choice = h('select', { 'aria-label': 'lesson or page of the manual',
+      onchange: () => this.show(this.choice.value) },
       h('optgroup', { label: 'Lessons' }, options(true)), h('optgroup', { label: 'Manual' }, options(false)));
     this.content = h('article', { class: 'prose', tabindex: '0', 'aria-label': 'the page' });
-    const close = h('button', { class: 'quiet', 'aria-label': 'close the lessons', title: 'close', onclick: () => on.close() }, '✕');
+    const close = h('button', { class: 'quiet', 'aria-label': 'close the lessons', title: 'close',
+      onclick: () => on.close() }, '✕');
     box.replaceChildren(h('div', { class: 'lesson-head' }, this.choice, close), this.content);
     this.content.addEventListener('click', (event) => this.click(event));
   }
@@ -25,12 +31,23 @@ export class Lessons {
     return true;
   }
 
+  // A page that was left is as it was: its place, and what stands in its fields.
   put(page) {
+    if (this.at) this.left.set(this.at, { nodes: [...this.content.childNodes], top: this.content.scrollTop });
     this.at = page.id;
+    this.on.shown?.(page.id);
     this.choice.value = page.id;
     this.content.dataset.at = page.id;
-    this.content.innerHTML = page.html;         // made by the build of the repository's pages alone: no card and no link is ever in it
-    for (const image of this.content.querySelectorAll('img[data-picture]')) image.src = this.picture(image.dataset.picture);
+    const before = this.left.get(page.id);
+    if (before) {
+      this.content.replaceChildren(...before.nodes);
+      this.content.scrollTop = before.top;
+      return;
+    }
+    // made by the build of the repository's pages alone: no card and no link is ever in it
+    this.content.innerHTML = page.html;
+    for (const image of this.content.querySelectorAll('img[data-picture]')) image.src = this.picture(
+      image.dataset.picture);
     for (const table of this.content.querySelectorAll('table')) {
       const room = h('div', { class: 'wide-table' });
       table.replaceWith(room);
@@ -43,14 +60,16 @@ export class Lessons {
   }
 
   picture(name) {
-    if (!this.urls.has(name)) this.urls.set(name, URL.createObjectURL(new Blob([this.pictures[name]], { type: 'image/svg+xml' })));
+    if (!this.urls.has(name)) this.urls.set(name, URL.createObjectURL(
+      new Blob([this.pictures[name]], { type: 'image/svg+xml' })));
     return this.urls.get(name);
   }
 
   click(event) {
     const page = this.pages.get(this.at);
     const open = event.target.closest('button[data-deck]');
-    if (open) this.on.open(page.decks[Number(open.dataset.deck)], page.title, open.dataset.view);
+    if (open) this.on.open(page.decks[Number(open.dataset.deck)], page.title, open.dataset.view,
+      Number(open.dataset.levels ?? 4));
     const link = event.target.closest('a[data-page]');
     if (!link) return;
     event.preventDefault();
@@ -78,15 +97,20 @@ export class Lessons {
     const compare = async (event) => {
       event.preventDefault();
       const given = fields.map((field) => field.children[1].value);
-      const [right, wanted] = [await judgePrediction(exercise, given, this.on.run), await predicted(exercise, this.on.run)];
+      const [right, wanted] = [await judgePrediction(exercise, given, this.on.run),
+        await predicted(exercise, this.on.run)];
       fields.forEach((field, k) => { field.className = right[k] === null ? '' : right[k] ? 'good' : 'bad'; });
-      told(right.map((good, k) => (good === null ? '' : good ? '✓ so it is' : `✗ ${['not so', hintOf(given[k], wanted[k])].filter(Boolean).join(': ')}`)));
+      told(right.map((good, k) => (good === null ? '' : good ? '✓ so it is'
+        : `✗ ${['not so', hintOf(given[k], wanted[k])].filter(Boolean).join(': ')}`)));
       const count = right.filter(Boolean).length;
-      verdict.replaceChildren(count === fields.length ? 'All right: the machine says the same. ' : `${count} of ${fields.length} right. `,
-        h('button', { type: 'button', onclick: () => this.on.open(exercise.deck, this.nameOf(exercise)) }, 'Run it in the editor'), ' ',
+      verdict.replaceChildren(count === fields.length ? 'All right: the machine says the same. '
+        : `${count} of ${fields.length} right. `,
+        h('button', { type: 'button', onclick: () => this.on.open(exercise.deck, this.nameOf(exercise)) },
+          'Run it in the editor'), ' ',
         count < fields.length ? h('button', { type: 'button', onclick: show }, 'Show the answer') : '');
     };
-    return h('form', { class: 'exercise', onsubmit: compare }, h('b', {}, 'Your prediction'), fields, h('button', {}, 'Compare with the machine'), verdict);
+    return h('form', { class: 'exercise', onsubmit: compare }, h('b', {}, 'Your prediction'), fields,
+      h('button', {}, 'Compare with the machine'), verdict);
   }
 
   writing(exercise) {
@@ -95,11 +119,14 @@ export class Lessons {
       list.replaceChildren(h('li', {}, 'runs …'));
       const lines = await judgeDeck(exercise, this.on.text(), this.on.run);
       const isDone = lines.every(([good]) => good);
-      list.replaceChildren(...lines.map(([good, text]) => h('li', { class: good ? 'good' : 'bad' }, `${good ? '✓' : '✗'} ${text}`)));
+      list.replaceChildren(...lines.map(([good, text]) => h('li', { class: good ? 'good' : 'bad' },
+        `${good ? '✓' : '✗'} ${text}`)));
       if (isDone) list.append(h('li', { class: 'good' }, h('b', {}, 'Done.')));
-      else list.append(h('li', {}, h('button', { onclick: () => this.on.open(exercise.answer, `The answer to ${this.nameOf(exercise).toLowerCase()}`) }, 'Open an answer in the editor')));
+      else list.append(h('li', {}, h('button', { onclick: () => this.on.open(exercise.answer,
+        `The answer to ${this.nameOf(exercise).toLowerCase()}`) }, 'Open an answer in the editor')));
     };
-    const begin = h('button', { onclick: () => this.on.open(exercise.start, this.nameOf(exercise)) }, 'Begin in the editor');
+    const begin = h('button', { onclick: () => this.on.open(exercise.start, this.nameOf(exercise)) },
+      'Begin in the editor');
     return h('div', { class: 'exercise' }, begin, ' ', h('button', { onclick: check }, 'Check my deck'), list);
   }
 }

@@ -1,4 +1,5 @@
-// A deck in the address of a page: `#d=` and its bytes, deflated, in the base64 of addresses. A link is a stranger's text: what it unpacks to is
+// A deck in the address of a page: `#d=` and its bytes, deflated, in the base64 of addresses. A link is a stranger's
+// text: what it unpacks to is
 // bounded, and it is put into the editor and nowhere else.
 const PIECE = 4096;
 
@@ -29,7 +30,8 @@ export async function packed(text) {
 // The text of a code; throws where it is none, or of more than so many bytes.
 export async function unpacked(code, most) {
   const bytes = Uint8Array.from(atob(code.replace(/-/g, '+').replace(/_/g, '/')), (letter) => letter.charCodeAt(0));
-  return new TextDecoder('utf-8', { fatal: true, ignoreBOM: true }).decode(await through(bytes, new DecompressionStream('deflate-raw'), most));
+  return new TextDecoder('utf-8', { fatal: true, ignoreBOM: true })
+    .decode(await through(bytes, new DecompressionStream('deflate-raw'), most));
 }
 
 // The words of an address behind its #, by their names.

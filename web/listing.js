@@ -5,7 +5,8 @@ import { STATEMENT, READ, endOf } from './decks.js';
 const MOST = 3000;
 const [PLACE, BITS, CARD] = [[6, 15], [16, 32], 33];      // columns of a line of the listing
 
-// The deck whose report has the listing of these cards: of the cards behind the end none is needed for it, and one instruction does.
+// The deck whose report has the listing of these cards: of the cards behind the end none is needed for it, and one
+// instruction does.
 export function listingDeck(cards) {
   return [...cards.slice(0, endOf(cards) + 1), '/LIST', '/BUDGET 1', ''].join('\n');
 }
@@ -37,9 +38,11 @@ export function listingView(box, { listing, symbols }, choose) {
   const rows = listing.slice(0, MOST).map(({ number, place, bits, card }) => h('tr', {
     tabindex: '0', onclick: () => choose(number), onkeydown: (event) => { if (event.key === 'Enter') choose(number); },
   }, h('td', { class: 'number' }, number), code(place), code(bits), code(card.slice(0, READ))));
-  const named = symbols.map(([name, address]) => h('tr', {}, h('th', { scope: 'row', class: 'code' }, name), code(address)));
+  const named = symbols.map(([name, address]) => h('tr', {}, h('th', { scope: 'row', class: 'code' }, name),
+    code(address)));
   box.replaceChildren(
     wideTable('listing', 'Where each card lies, and its bits', ['card', 'place', 'bits', 'text'], rows),
     listing.length > MOST ? h('p', { class: 'note' }, `The first ${MOST} cards are shown.`) : '',
-    named.length ? wideTable('symbols', 'Names and their addresses', ['name', 'address'], named) : h('p', { class: 'soft' }, 'No card has a name.'));
+    named.length ? wideTable('symbols', 'Names and their addresses', ['name', 'address'], named)
+      : h('p', { class: 'soft' }, 'No card has a name.'));
 }

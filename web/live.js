@@ -39,7 +39,8 @@ export class Live {
   // A deck as the program reads it; throws Refused.
   async plain(text, runner = this.runner) {
     const plain = new Plain(text);
-    await plain.resolve(async (deck) => LATIN.decode((await runner.run('stretch', ['run'], bytesOf(deck))).bytes ?? new Uint8Array()));
+    await plain.resolve(async (deck) => LATIN.decode((await runner.run('stretch', ['run'], bytesOf(deck))).bytes
+      ?? new Uint8Array()));
     return plain;
   }
 
@@ -78,10 +79,12 @@ export class Live {
     }
     const deck = plain.text();
     const running = this.runner.run('stretch', ['run'], bytesOf(deck), tell);
-    const [answer, lines] = await Promise.all([running, this.runner.there().then(() => this.ledger(plain, deck, levels, tell))]);
+    const [answer, lines] = await Promise.all([running, this.runner.there()
+      .then(() => this.ledger(plain, deck, levels, tell))]);
     if (answer.status === 1) {
       const fault = faultOf(LATIN.decode(answer.bytes));
-      return fault ? { fault: fault.fault, line: plain.lines[fault.card - 1] ?? plain.lines.length + 1 } : wrongOf(answer);
+      return fault ? { fault: fault.fault, line: plain.lines[fault.card - 1] ?? plain.lines.length + 1 }
+        : wrongOf(answer);
     }
     if (answer.status !== 0) return wrongOf(answer);
     const report = new Report(LATIN.decode(answer.bytes));
@@ -94,7 +97,8 @@ export class Live {
       runs.push(new Run(other.object, other.label, other.isCut ?? isCut));
       runs[1].isOther = beside === 'keep';
     }
-    this.made = { text, plain, deck, cards: plain.cards, report, bytes: answer.bytes, left: answer.left, runs, isCut };
+    this.made = { text, plain, deck, cards: plain.cards, report, bytes: answer.bytes, left: answer.left, runs, isCut,
+      levels };
     this.isCurrent = true;
     return this.made;
   }
@@ -103,7 +107,8 @@ export class Live {
   async ledger(plain, deck, levels, tell) {
     const entries = [];
     const take = (part) => { for (const entry of JSON.parse(part)) entries.push(entry); };
-    const request = { ask: 'ledger', levels, job: bytesOf(shortened(deck)), cards: plain.cards, names: this.names, first: 1, last: ROWS + BEHIND };
+    const request = { ask: 'ledger', levels, job: bytesOf(shortened(deck)), cards: plain.cards, names: this.names,
+      first: 1, last: ROWS + BEHIND };
     const answer = await this.second.ask({ ...request, isParted: true }, tell, take);
     if (answer.status !== 0) return answer;
     const object = { ...JSON.parse(answer.object), entries };
@@ -115,7 +120,8 @@ export class Live {
   async beside(text, plain, deck, levels, { beside, kept }, tell) {
     const [kind, value] = beside.split(' ');
     if (kind === 'levels') {
-      return { own: plural(levels, 'level'), label: plural(Number(value), 'level'), ...await this.ledger(plain, deck, Number(value), tell) };
+      return { own: plural(levels, 'level'), label: plural(Number(value), 'level'),
+        ...await this.ledger(plain, deck, Number(value), tell) };
     }
     if (kind === 'delay') {
       const slow = withCards(deck, ['DELAYS'], delayCards([value]));
@@ -142,7 +148,8 @@ function shortened(deck) {
 // A deck with conveniences is shown as it was written: lines for cards, and their own text.
 function retold(object, plain, lines) {
   const texts = new Map();
-  for (const entry of [...object.entries, ...object.segments.flatMap((segment) => [...segment.dropped, segment.begun])]) {
+  for (const entry of [...object.entries, ...object.segments.flatMap((segment) =>
+      [...segment.dropped, segment.begun])]) {
     if (!entry?.card) continue;
     const [card, line] = [plain.cards[entry.card - 1], plain.lines[entry.card - 1]];
     // Where its half-words are still those of its card, its text is that card's.

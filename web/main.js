@@ -20,12 +20,13 @@ const A_MOMENT = 1000;          // and one more for so many characters of the de
 const SLOW = 250;               // from so many on it is said that something runs
 const MOST_KEPT = 400000;       // a longer deck is not kept for the next time
 const MOST_LINK = 30000;
-const KEYS = { deck: 'stretch.deck', theme: 'stretch.theme' };
+const KEYS = { deck: 'stretch.deck', theme: 'stretch.theme', lesson: 'stretch.lesson' };
 const LATIN = new TextDecoder('latin1');
 // A deck to begin with.
 const NEW_DECK = '* A NEW DECK\n START   BEW\n         END,START\n';
 // The machines that can stand beside.
-const COMPARED = [...[1, 2, 4, 8].map((n) => [`levels ${n}`, plural(n, 'level')]), ...[1, 4, 8, 20].map((n) => [`delay ${n}`, `delay ${n}`])];
+const COMPARED = [...[1, 2, 4, 8].map((n) => [`levels ${n}`, plural(n, 'level')]),
+  ...[1, 4, 8, 20].map((n) => [`delay ${n}`, `delay ${n}`])];
 
 // What the browser keeps for the next time; where it keeps nothing the page works all the same.
 const store = {
@@ -43,6 +44,16 @@ const store = {
   },
 };
 
+// What a deck is called: its first card, where that is a comment.
+function titleOf(lines) {
+  return (lines[0]?.[0] === '*' && lines[0].slice(1).trim()) || 'stretch';
+}
+
+// Whether a row is of a card that lays data, or of none.
+function isNoInstruction({ card, text }) {
+  return !card || /^\s*(DD|XW|DR)\b/i.test(text);
+}
+
 // The bytes of a block of the page.
 function block(id) {
   return Uint8Array.from(atob(byId(id).textContent), (letter) => letter.charCodeAt(0));
@@ -54,9 +65,11 @@ async function unzipped(bytes) {
 
 class App {
   constructor(book, source) {
-    Object.assign(this, { book, source, view: 'step', levels: 4, beside: '', keptDeck: null, turn: 0, times: {}, typedAt: 0 });
+    Object.assign(this, { book, source, view: 'step', levels: 4, beside: '', keptDeck: null, turn: 0, times: {},
+      typedAt: 0 });
     this.names = book.indicators.map((one) => one?.name ?? null);
-    this.programs = new Programs(byId('worker').textContent, { stretch: block('module-stretch'), ledger: block('module-ledger'), chart: block('module-chart') });
+    this.programs = new Programs(byId('worker').textContent, { stretch: block('module-stretch'),
+      ledger: block('module-ledger'), chart: block('module-chart') });
     [this.side, this.exam] = [new Runner(this.programs), new Runner(this.programs)];
     this.live = new Live(new Runner(this.programs), new Runner(this.programs), this.names);
     this.stepper = new Stepper(this.names, {
@@ -65,13 +78,15 @@ class App {
         this.editor.card = card;
         this.editor.later();
       },
-      wordOf: (name) => registerOf(name) ?? this.views.wordOf(name), nameOf: (word) => this.views.nameOf(word),
+      addressOf: (name) => this.views.symbols?.get(name), wordOf: (name) => registerOf(name)
+        ?? this.views.wordOf(name), nameOf: (word) => this.views.nameOf(word),
     });
     byId('view-step').append(this.stepper.view, this.stepper.machine);
     this.experiment = new Experiment(byId('view-experiment'), new Runner(this.programs));
     this.views = new Views(this);
     this.editor = new Editor(byId('editor'), {
-      change: (text, isTyped) => this.changed(text, isTyped), run: () => this.go(), card: (card) => this.chooseCard(card),
+      change: (text, isTyped) => this.changed(text, isTyped), run: () => this.go(),
+      card: (card) => this.chooseCard(card),
       caret: (card, column) => byId('caret').replaceChildren(`card ${card}, column ${column}`),
     });
     this.kept = new Kept(byId('mine'), store, (text) => {
@@ -79,7 +94,11 @@ class App {
       this.say();
     });
     this.lessons = new Lessons(byId('lesson'), book, {
-      open: (deck, title, view) => this.open(deck, title, { view }), close: () => this.lesson(null), text: () => this.editor.text,
+      open: (deck, title, view, levels) => {
+        if (levels) this.setLevels(levels);
+        this.open(deck, title, { view });
+      },
+      close: () => this.lesson(null), text: () => this.editor.text, shown: (id) => store.set(KEYS.lesson, id),
       run: (text, program, words) => this.live.reportOf(text, this.exam, program, words),
     });
     this.build();
@@ -92,9 +111,9 @@ class App {
     addEventListener('click', (event) => { if (!byId('save').contains(event.target)) byId('save').open = false; });
     addEventListener('keydown', (event) => { if (event.key === 'Escape') this.escape(); });
     const on = (id, act, what = 'click') => byId(id).addEventListener(what, act);
-    on('run-now', () => this.go());
+    on('run-now', () => this.runNow());
     on('stop', () => this.stop());
-    on('show-lessons', () => this.lesson(document.body.classList.contains('lesson') ? null : this.lessons.at ?? 'lesson-1'));
+    on('show-lessons', () => this.lesson(document.body.classList.contains('lesson') ? null : this.lastLesson()));
     on('share', () => this.share());
     on('theme', () => this.setTheme());
     on('capitals', (event) => { this.editor.capitals = event.target.checked; }, 'change');
@@ -105,7 +124,8 @@ class App {
       h('optgroup', { label: 'programs that people know' }, ...options(this.book.programs)));
     on('examples', (event) => this.openExample(event.target), 'change');
     this.tabs();
-    for (const button of document.querySelectorAll('#places button')) button.addEventListener('click', () => this.place(button.dataset.place));
+    for (const button of document.querySelectorAll('#places button')) button.addEventListener('click',
+      () => this.place(button.dataset.place));
     this.machines();
     this.foot();
     addEventListener('dragover', (event) => event.preventDefault());
@@ -130,9 +150,12 @@ class App {
       await act();
     });
     save('save-deck', () => this.save('deck.txt', this.editor.text));
-    save('save-report', () => (good() ? this.save('report.txt', good().bytes) : this.say('This deck does not run yet.')));
-    save('save-object', async () => (good() ? this.save('object.txt', await this.views.objectText()) : this.say('This deck does not run yet.')));
-    save('save-picture', async () => (good() ? this.save('picture.svg', await this.views.pictureText(), 'image/svg+xml') : this.say('This deck does not run yet.')));
+    save('save-report', () => (good() ? this.save('report.txt', good().bytes)
+      : this.say('This deck does not run yet.')));
+    save('save-object', async () => (good() ? this.save('object.txt', await this.views.objectText())
+      : this.say('This deck does not run yet.')));
+    save('save-picture', async () => (good() ? this.save('picture.svg', await this.views.pictureText(),
+      'image/svg+xml') : this.say('This deck does not run yet.')));
     save('save-page', () => this.savePage());
     save('print', () => print());
   }
@@ -153,11 +176,13 @@ class App {
 
   // How many levels, and what stands beside: another machine, or the deck as it was.
   machines() {
-    const levels = h('select', { id: 'level-count', 'aria-label': 'levels', title: 'levels of the machine; report and picture are those of 4', onchange: () => {
+    const levels = h('select', { id: 'level-count', 'aria-label': 'levels',
+        title: 'levels of the machine; report and picture are those of 4', onchange: () => {
       this.levels = Number(levels.value);
       this.go();
     } }, [1, 2, 3, 4, 5, 6, 7, 8].map((n) => h('option', { value: n, selected: n === 4 }, plural(n, 'level'))));
-    const beside = h('select', { id: 'beside', 'aria-label': 'beside it', title: 'a second run on the same axis of ticks', onchange: () => {
+    const beside = h('select', { id: 'beside', 'aria-label': 'beside it',
+        title: 'a second run on the same axis of ticks', onchange: () => {
       this.beside = beside.value;
       if (this.beside === 'keep') {
         this.keptDeck = this.editor.text;
@@ -172,17 +197,31 @@ class App {
   foot() {
     const { made } = this.book;
     const sum = (name) => h('span', {}, `${name} `, h('code', { title: made[name] }, made[name].slice(0, 16)));
-    const proved = made.proved ? 'from the programs as they were proved' : 'from programs that were not proved (an unproved build)';
-    byId('foot').append(h('span', {}, `stretch ${made.version}, ${proved}`), sum('sources'), sum('page'), h('span', {}, made.kit), h('span', {}, `lowered by ${made.lowering}`));
+    const proved = made.proved ? 'from the programs as they were proved'
+      : 'from programs that were not proved (an unproved build)';
+    byId('foot').append(h('span', {}, `stretch ${made.version}, ${proved}`), sum('sources'), sum('page'),
+      h('span', {}, made.kit), h('span', {}, `lowered by ${made.lowering}`));
   }
 
   // On a narrow screen one of lesson, deck and result is seen.
   place(place) {
     document.body.dataset.place = place;
-    for (const button of document.querySelectorAll('#places button')) button.setAttribute('aria-pressed', String(button.dataset.place === place));
-    if (place === 'lesson' && !document.body.classList.contains('lesson')) this.lesson(this.lessons.at ?? 'lesson-1');
+    for (const button of document.querySelectorAll('#places button')) button.setAttribute('aria-pressed',
+      String(button.dataset.place === place));
+    if (place === 'lesson' && !document.body.classList.contains('lesson')) this.lesson(this.lastLesson());
     this.editor.measure();
     this.stepper.fit();
+  }
+
+  // The page that was read last, also over a visit.
+  lastLesson() {
+    const last = this.lessons.at ?? store.get(KEYS.lesson);
+    return this.lessons.pages.has(last) ? last : 'lesson-1';
+  }
+
+  setLevels(levels) {
+    this.levels = levels;
+    byId('level-count').value = String(levels);
   }
 
   lesson(id, part) {
@@ -195,7 +234,8 @@ class App {
 
   setTheme(theme) {
     const root = document.documentElement;
-    const isDark = root.dataset.theme ? root.dataset.theme === 'dark' : matchMedia('(prefers-color-scheme: dark)').matches;
+    const isDark = root.dataset.theme ? root.dataset.theme === 'dark'
+      : matchMedia('(prefers-color-scheme: dark)').matches;
     const wanted = theme ?? (isDark ? 'light' : 'dark');
     // What the system has is not held fast, so that the page goes on with it.
     if (matchMedia(`(prefers-color-scheme: ${wanted})`).matches) delete root.dataset.theme;
@@ -227,8 +267,14 @@ class App {
 
   // ---- decks that come from elsewhere
 
+  // The address names the deck of a link no more, so that a reload has the deck that is there.
+  leaveLink() {
+    if (wordsOf(location.hash).has('d')) history.replaceState(null, '', location.href.split('#')[0]);
+  }
+
   // Another deck takes the place of the one that is there, which can be put back where it was typed.
-  open(deck, title, { view, isOwn = false, said = `${title} is open.` } = {}) {
+  open(deck, title, { view, isOwn = false, isLink = false, said = `${title} is open.` } = {}) {
+    if (!isLink) this.leaveLink();
     this.editor.set(deck);
     this.kept.opened(title, deck, isOwn);
     this.say(said);
@@ -260,21 +306,41 @@ class App {
       return;
     }
     const text = new TextDecoder('utf-8', { ignoreBOM: true }).decode(await file.arrayBuffer());
+    if (/[\0-\x08\x0e-\x1f\ufffd]/.test(text)) {
+      this.say(`${file.name} is no text, so it was not opened. A deck is a file of cards, one in each line.`);
+      return;
+    }
+    if (/^END [A-Z]+ .*\nPC |^CARD \d+ [A-Z ]+\n$/.test(text)) {
+      this.say(`${file.name} is what a run writes; the deck is another file.`);
+      return;
+    }
     if (/^OBJECT\b/.test(text)) {
       const { status, bytes } = await this.side.run('stretch', ['disassemble'], bytesOf(text));
-      if (status === 0) await this.open(LATIN.decode(bytes), `${file.name}, an object text, as a deck`, { isOwn: true });
+      if (status === 0) await this.open(LATIN.decode(bytes), `${file.name}, an object text, as a deck`,
+        { isOwn: true });
       else this.say(`${file.name} is no object text that the machine accepts: ${LATIN.decode(bytes)}`);
       return;
     }
     await this.open(text, file.name, { isOwn: true });
-    if (/\r(?!\n)/.test(text)) this.say(`${file.name} has carriage returns without line feeds, which the machine refuses. The editor has made line ends of them.`);
+    if (/\r(?!\n)/.test(text)) this.say(
+      `${file.name} has carriage returns without line feeds, which the machine refuses. The editor has made line `
+        + `ends of them.`);
   }
 
   // ---- runs
 
+  // On a narrow screen the result is what is seen next, where there is one.
+  async runNow() {
+    await this.go();
+    if (this.live.isCurrent && byId('places').checkVisibility()) this.place('result');
+  }
+
   changed(text, isTyped) {
     clearTimeout(this.timer);
-    if (isTyped) this.kept.typed(text);
+    if (isTyped) {
+      this.kept.typed(text);
+      this.leaveLink();
+    }
     this.typedAt = performance.now();
     if (this.openedAt && this.typedAt - this.openedAt > 8000) {
       this.openedAt = 0;
@@ -341,13 +407,15 @@ class App {
     const progress = this.progress(begun);
     this.busy(true);
     try {
-      const answer = await this.live.run(text, { levels: this.levels, beside: this.beside, kept: this.keptDeck }, progress.tell);
+      const answer = await this.live.run(text, { levels: this.levels, beside: this.beside, kept: this.keptDeck },
+        progress.tell);
       if (turn === this.turn) {
         this.busy(false);           // repairs that are tried behind a refusal are no run
         await this.shown(answer, text);
       }
     } catch (error) {
-      if (turn === this.turn && !(error instanceof Stopped)) this.failed(`something went wrong: ${error.message}`, 'Please report the deck with which it did.');
+      if (turn === this.turn && !(error instanceof Stopped)) this.failed(`something went wrong: ${error.message}`,
+        'Please report the deck with which it did.');
     } finally {
       progress.end();
       if (turn === this.turn) this.busy(false);
@@ -377,7 +445,8 @@ class App {
     this.old('This deck gave nothing.');
     this.editor.fault(null);
     this.state('bad', text);
-    byId('fault').replaceChildren(h('p', { class: 'fault-line' }, h('b', {}, text)), more ? h('p', { class: 'soft' }, more) : '');
+    byId('fault').replaceChildren(h('p', { class: 'fault-line' }, h('b', {}, text)), more
+      ? h('p', { class: 'soft' }, more) : '');
   }
 
   async refused({ fault, line, message }, text) {
@@ -385,12 +454,14 @@ class App {
     const card = Math.min(line, this.editor.lines.length);
     this.old('This deck does not run yet.');
     this.editor.fault(line);
-    this.state('bad', message ? `Card ${line} is not plain` : `Card ${line} is refused: ${fault}`);
+    this.state('bad', message ? `Card ${line} can not be read` : `Card ${line} is refused: ${fault}`);
     const refusal = { card: line, fault: message ?? fault };
-    const shown = (offers) => byId('fault').replaceChildren(...faultBox(refusal, linesOf(text), this.book.knowledge, offers, () => this.editor.goTo(card)));
+    const shown = (offers) => byId('fault').replaceChildren(...faultBox(refusal, linesOf(text), this.book.knowledge,
+      offers, () => this.editor.goTo(card)));
     shown([]);
     const offers = await repairs(text, refusal, this.book.knowledge, (deck) => this.live.refusalOf(deck, this.side));
-    if (turn === this.turn && offers.length) shown(offers.map(([what, deck, made]) => ({ what, card: made, act: () => this.editor.set(deck, { undo: true }) })));
+    if (turn === this.turn && offers.length) shown(offers.map(([what, deck, made]) =>
+      ({ what, card: made, act: () => this.editor.set(deck, { undo: true }) })));
   }
 
   done({ runs, report, isCut }) {
@@ -401,15 +472,39 @@ class App {
     const [run] = runs;
     const { totals, data } = run;
     const isWait = report.kind === 'WAIT';
-    const facts = [plural(report.done, 'instruction'), isCut ? null : plural(totals.ticks, 'tick'), this.levels === 4 ? null : `on ${plural(this.levels, 'level')}`,
-      data.interrupts.length ? plural(data.interrupts.length, 'interrupt') : null, totals.dropped ? `${grouped(totals.dropped)} dropped` : null].filter(Boolean);
-    this.state(isWait ? 'good' : 'warn', h('b', {}, isWait ? 'Ended in a wait' : 'Ended by its budget'), ` ${facts.join(', ')}`);
+    const facts = [plural(report.done, 'instruction'), isCut ? null : plural(totals.ticks, 'tick'), this.levels === 4
+      ? null : `on ${plural(this.levels, 'level')}`,
+      data.interrupts.length ? plural(data.interrupts.length, 'interrupt') : null, totals.dropped
+        ? `${grouped(totals.dropped)} dropped` : null].filter(Boolean);
+    this.state(isWait ? 'good' : 'warn', h('b', {}, isWait ? 'Ended in a wait' : 'Ended by its budget'),
+      ` ${facts.join(', ')}`);
     if (isCut) this.say('The run is longer: timetable and sums are of its first rows, the report is of all of it.');
+    this.left(run, report.kind === 'BUDGET');
     const heat = new Map();
-    for (const row of run.rows) if (row.card) heat.set(row.card, (heat.get(row.card) ?? 0) + row.c - (row.charges[0]?.from ?? row.c));
+    for (const row of run.rows) if (row.card) heat.set(row.card, (heat.get(row.card) ?? 0)
+      + row.c - (row.charges[0]?.from ?? row.c));
     this.editor.setHeat(heat);
     this.views.fresh();
     this.views.show(this.view);
+  }
+
+  // Where the counter came to what is no instruction of the deck, a deck most often lacks its BEW.
+  left(run, isBudget) {
+    if (this.isStray) this.say();
+    const strange = isBudget && run.rows.length && !isNoInstruction(run.rows[0]) ? run.rows.find(isNoInstruction)
+      : null;
+    this.isStray = Boolean(strange);
+    if (!strange) return;
+    const from = run.rows[run.rows.indexOf(strange) - 1];
+    const what = strange.card
+      ? `card ${strange.card} (${strange.text.replace(/\s+/g, ' ').trim()}), which is no instruction`
+      : 'no instruction card of the deck';
+    this.say(
+      h('span', {},
+        `Behind ${from.card ? `card ${from.card}` : from.address} the counter came to ${strange.address}, ${what}. `
+          + `Is there a BEW where the program ends? `),
+      h('button', { onclick: () => { this.choose('step'); this.stepper.go(strange.c); } }, `Tick ${strange.c}`), ' ',
+      h('button', { onclick: () => this.lesson('first-faults') }, 'My first deck failed'));
   }
 
   // ---- files, links, paper
@@ -425,7 +520,9 @@ class App {
     const mark = 'id="own-deck">';
     const at = this.source.indexOf(mark) + mark.length;
     const end = this.source.indexOf('</', at);
-    this.save('stretch-with-deck.html', `<!DOCTYPE html>\n${this.source.slice(0, at)}${await packed(this.editor.text)}${this.source.slice(end)}\n`, 'text/html');
+    this.save('stretch-with-deck.html',
+      `<!DOCTYPE html>\n${this.source.slice(0, at)}${await packed(this.editor.text)}${this.source.slice(end)}\n`,
+      'text/html');
   }
 
   async share() {
@@ -436,10 +533,12 @@ class App {
       return;
     }
     history.replaceState(null, '', link);
-    const field = h('input', { id: 'link', value: link, readonly: true, size: 40, 'aria-label': 'a link to this deck' });
+    const field = h('input', { id: 'link', value: link, readonly: true, size: 40,
+      'aria-label': 'a link to this deck' });
     let isCopied = true;
     await navigator.clipboard?.writeText(link).catch(() => { isCopied = false; });
-    this.say(isCopied && navigator.clipboard ? 'This link is copied; it carries the deck: ' : 'This link carries the deck: ', field);
+    this.say(isCopied && navigator.clipboard ? 'This link is copied; it carries the deck: '
+      : 'This link carries the deck: ', field);
     field.focus();
     field.select();
   }
@@ -448,10 +547,11 @@ class App {
     const words = wordsOf(location.hash);
     if (/^[0-9]{1,2}$/.test(words.get('lesson') ?? '')) this.lesson(`lesson-${words.get('lesson')}`);
     else if (/^[a-z0-9-]{1,40}$/.test(words.get('lesson') ?? '')) this.lesson(words.get('lesson'));
-    if (['step', 'report', 'where', 'experiment', 'picture', 'listing', 'object'].includes(words.get('v'))) this.choose(words.get('v'));
+    if (['step', 'report', 'where', 'experiment', 'picture', 'listing', 'object'].includes(words.get('v'))) this.choose(
+      words.get('v'));
     if (!words.has('d')) return false;
     try {
-      await this.open(await unpacked(words.get('d'), MOST_BYTES + 1), 'The deck of the link');
+      await this.open(await unpacked(words.get('d'), MOST_BYTES + 1), 'The deck of the link', { isLink: true });
       return true;
     } catch {
       this.say('This link has no deck in it that can be read, or one that is too long.');
@@ -462,14 +562,18 @@ class App {
   // Where to begin, for one who is here for the first time.
   welcome() {
     const first = h('button', { onclick: () => this.lesson('lesson-1') }, 'Lesson 1');
-    this.say(h('span', {}, 'The IBM 7030 Stretch of 1961 works on several instructions at once. At the left is a deck of cards, a program; at the right, what became of it in each tick. '
+    this.say(
+      h('span', {},
+        'The IBM 7030 Stretch of 1961 works on several instructions at once. At the left is a deck of '
+        + 'cards, a program; at the right, what became of it in each tick. '
       + 'Change a card, and it runs; or begin with ', first));
   }
 
   paper() {
     const made = this.live.isCurrent ? this.live.made : null;
     const runs = made ? this.stepper.runs : [];
-    fillPaper(byId('paper'), { title: 'stretch', runs, stepper: this.stepper, deck: linesOf(this.editor.text), report: made?.report.lines, notes: [byId('state').textContent] });
+    fillPaper(byId('paper'), { title: titleOf(linesOf(this.editor.text)), runs, stepper: this.stepper,
+      deck: linesOf(this.editor.text), report: made?.report.lines, notes: [byId('state').textContent] });
   }
 
   async begin() {
@@ -485,7 +589,8 @@ class App {
       await this.go();
       if (!deck) this.welcome();
     }
-    if (!deck && this.live.made) this.stepper.go(this.live.made.runs[0].fullest());        // a first look at the machine at work
+    // a first look at the machine at work
+    if (!deck && this.live.made) this.stepper.go(this.live.made.runs[0].fullest());
     document.body.classList.add('ready');
     this.times.opened = performance.now();
   }

@@ -1,8 +1,9 @@
-"""Makes the modules of WebAssembly that the page runs: of each program of crates/ one, by the kit's clang and linker and binaryen's wasm-opt.
+"""Makes the modules of WebAssembly that the page runs: of each program of crates/ one, by the kit's clang and linker
+and binaryen's wasm-opt.
 
-A module is made of what the kit compiles, with web/shim.c. Modules are kept in the user's cache, named by a checksum of the
-kit, the sources and what stands here. Where web/out/proved has what the kit compiled when it proved all three of these sources, which
-web/proved has kept there, it is taken; else it is of an unproved build.
+A module is made of what the kit compiles, with web/shim.c. Modules are kept in the user's cache, named by a checksum
+of the kit, the sources and what stands here. Where web/out/proved has what the kit compiled when it proved all three
+of these sources, which web/proved has kept there, it is taken; else it is of an unproved build.
 """
 import hashlib
 import importlib.machinery
@@ -21,8 +22,10 @@ TOP = HERE.parent
 PROGRAMS = ("stretch", "ledger", "chart")
 KEPT_PROVED = HERE / "out" / "proved"
 KEPT = 2
-FLAGS = ["--target=wasm64-unknown-unknown", "-O2", "-ffreestanding", "-fno-builtin", "-mbulk-memory", "-msign-ext", "-mnontrapping-fptoint", "-Wno-override-module"]
-LINK = ["-flavor", "wasm", "-mwasm64", "--no-entry", "--export=run", "--export-memory", "--gc-sections", "--strip-all", "-z", "stack-size=1048576"]
+FLAGS = ["--target=wasm64-unknown-unknown", "-O2", "-ffreestanding", "-fno-builtin", "-mbulk-memory", "-msign-ext",
+    "-mnontrapping-fptoint", "-Wno-override-module"]
+LINK = ["-flavor", "wasm", "-mwasm64", "--no-entry", "--export=run", "--export-memory", "--gc-sections", "--strip-all",
+    "-z", "stack-size=1048576"]
 FEATURES = ["--enable-memory64", "--enable-bulk-memory", "--enable-sign-ext", "--enable-nontrapping-float-to-int"]
 # A table without an element, of 64-bit places and of 32: nothing is called by it, and wasm-opt knows the second alone.
 TABLE, PLAIN_TABLE = b"\x04\x05\x01\x70\x05\x01\x01", b"\x04\x05\x01\x70\x01\x01\x01"
@@ -46,7 +49,8 @@ def tool(*words):
     try:
         done = subprocess.run(words, stdout=subprocess.PIPE, stderr=subprocess.STDOUT, check=False)
     except FileNotFoundError as error:
-        raise Failed(f"{words[0]} is not there (wasm-opt stands in Debian's package binaryen; the rest comes with the kit)") from error
+        raise Failed(
+            f"{words[0]} is not there (wasm-opt stands in Debian's package binaryen; the rest comes with the kit)") from error
     if done.returncode:
         raise Failed(f"{words[0]} fails:\n{done.stdout.decode(errors='replace')[-2000:]}")
     return done.stdout.decode().strip()
@@ -58,7 +62,8 @@ def kit_name(kit):
 
 def sources_sum():
     """The checksum of the sources from which programs are built, as .ci/start takes it, but of them alone."""
-    files = [TOP / "crates.txt", *(path for path in (TOP / "crates").rglob("*") if "out" not in path.parts and (path.suffix == ".rt" or path.name == "crates.txt"))]
+    files = [TOP / "crates.txt", *(path for path in (TOP / "crates").rglob("*") if "out" not in path.parts
+        and (path.suffix == ".rt" or path.name == "crates.txt"))]
     lines = sorted((str(path.relative_to(TOP)), hashlib.sha256(path.read_bytes()).hexdigest()) for path in files)
     return hashlib.sha256("".join(f"{digest}  {name}\n" for name, digest in lines).encode()).hexdigest()
 
@@ -89,7 +94,8 @@ def one(name, kit, proved, sums, folder):
     """The file of one module, made where it does not stand yet."""
     code = proved / f"{name}.bc" if proved else None
     what = hashlib.sha256(code.read_bytes() if code else sums.encode()).hexdigest()
-    more = "".join([kit_name(kit), what, (HERE / "shim.c").read_text(), (HERE / "module.py").read_text(), tool("wasm-opt", "--version")])
+    more = "".join([kit_name(kit), what, (HERE / "shim.c").read_text(), (HERE / "module.py").read_text(),
+        tool("wasm-opt", "--version")])
     kept = folder / f"{name}-{hashlib.sha256(more.encode()).hexdigest()[:32]}.wasm"
     if kept.exists():
         os.utime(kept)
@@ -121,13 +127,17 @@ def proved_of(sums, kit):
 
 
 def modules():
-    """Each program's module as bytes, and what is known of them: whether they are proved, of which sources, by which tools."""
+    """Each program's module as bytes, and what is known of them: whether they are proved, of which sources, by which
+    tools."""
     kit = unproved().kit()
     if not (kit / "KIT-ID").exists():
         raise Failed("the kit is not on the path (README.md, \"What it needs\")")
     sums = sources_sum()
     proved = proved_of(sums, kit)
     if proved is None:
-        print("web: no modules of programs as they were proved, of these sources, stand in web/out/proved: the page is of an unproved build", file=sys.stderr)
+        print("web: no modules of programs as they were proved, of these sources, stand in web/out/proved: the page "
+            "is of an unproved build", file=sys.stderr)
     found = {name: one(name, kit, proved, sums, cache()).read_bytes() for name in PROGRAMS}
-    return found, {"proved": bool(proved), "sources": sums, "kit": kit_name(kit), "lowering": re.sub(r" *\(.*", "", tool("wasm-opt", "--version")), "version": (TOP / "VERSION").read_text().strip()}
+    return found, {"proved": bool(proved), "sources": sums, "kit": kit_name(kit),
+        "lowering": re.sub(r" *\(.*", "", tool("wasm-opt", "--version")),
+        "version": (TOP / "VERSION").read_text().strip()}

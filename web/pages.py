@@ -1,4 +1,5 @@
-"""Lessons and pages of the manual as HTML, by cmark-gfm, with a button for each deck in them, for the page that has them beside the editor."""
+"""Lessons and pages of the manual as HTML, by cmark-gfm, with a button for each deck in them, for the page that has
+them beside the editor."""
 import difflib
 import html
 import os
@@ -10,12 +11,14 @@ import tempfile
 
 TOP = pathlib.Path(__file__).resolve().parent.parent
 DOCS = TOP / "docs"
-MANUAL = ("web", "page", "quick", "operations", "first-faults", "glossary", "worked-cards", "conveniences", "machine", "instructions", "index-words", "variable-fields", "connectives",
+MANUAL = ("web", "page", "quick", "operations", "first-faults", "glossary", "worked-cards", "conveniences", "machine",
+    "instructions", "index-words", "variable-fields", "connectives",
           "interrupts", "strap", "report", "timetable", "explain", "object-text", "chart")
 # A command that only makes a deck, and what a command does with one.
 MAKES = re.compile(r"\(?(cat|sed|printf|echo|tools/deck) ")
 USES = re.compile(r" *\| *(?:\\\n)? *(?:\./(?:stretch|explain|ledger)|tools/\w+)")
-READS = re.compile(r"(?:\./(?:stretch \w+|explain[^<|]*|ledger[^<|]*) < |tools/(?:delays|page|picture|why|indicators) )(\S+)")
+READS = re.compile(r"(?:\./(?:stretch \w+|explain[^<|]*|ledger[^<|]*) < "
+    r"|tools/(?:delays|page|picture|why|indicators) )(\S+)")
 
 
 # The file of a deck in a command.
@@ -52,7 +55,8 @@ class Decks:
         head = USES.split(command)[0]
         if head == command or not MAKES.match(head) or re.search(r"[>`&]", head):
             return None
-        done = subprocess.run(["sh", "-c", head], cwd=self.room, stdout=subprocess.PIPE, stderr=subprocess.DEVNULL, check=False)
+        done = subprocess.run(["sh", "-c", head], cwd=self.room, stdout=subprocess.PIPE, stderr=subprocess.DEVNULL,
+            check=False)
         text = done.stdout.decode("latin-1")
         return self.add(text) if done.returncode == 0 and re.search(r"(?m)^.{9} *END *(,|$)", text) else None
 
@@ -64,6 +68,9 @@ class Decks:
         if path is None or not path.is_file():
             return "This deck gives:"
         name = f"`{found[2]}`" if found[2] else f"`{found[1]}`"
+        levels = levels_of(command)
+        if levels:
+            name += f" on {levels} level{'s' if levels != '1' else ''}"
         changes = changed(path.read_text(encoding="latin-1").splitlines(), self.all[number].splitlines())
         return f"The deck {name}{changes} gives:" if changes is not None else "This deck gives:"
 
@@ -72,7 +79,8 @@ def changed(before, after):
     """The cards in which a deck differs from another, as words; none where there are many."""
     said = []
     for kind, a, b, c, d in difflib.SequenceMatcher(None, before, after, autojunk=False).get_opcodes():
-        old, new = (" and ".join(f"`{card.strip()}`" for card in cards if card.strip()) for cards in (before[a:b], after[c:d]))
+        old, new = (" and ".join(f"`{card.strip()}`" for card in cards if card.strip())
+            for cards in (before[a:b], after[c:d]))
         if kind != "equal" and (old or new):
             said.append(f"with {new} in place of {old}" if old and new else f"with {new}" if new else f"without {old}")
     if len(said) > MOST_CHANGED or any(len(one) > 300 for one in said):
@@ -101,28 +109,40 @@ def answers_of(lines):
     return [(command, written) for command, written, _ in found]
 
 
+def levels_of(command):
+    """The number of levels that a command names, or ''."""
+    found = re.search(r"--levels (\d)", command)
+    return found[1] if found else ""
+
+
 def view_of(command):
-    return "experiment" if re.search(r"stretch sweep|tools/delays", command) else "where" if "./explain" in command else ""
+    return levels_of(command) + ("experiment" if re.search(r"stretch sweep|tools/delays", command) else "where"
+        if "./explain" in command else "")
 
 
 def folded(indent, lines):
     """Commands are for a shell: the page has them folded away."""
-    return ["", f"{indent}@@SHELL@@", "", f"{indent}```", *(indent + line for line in lines), f"{indent}```", "", f"{indent}@@UNFOLD@@", ""]
+    return ["", f"{indent}@@SHELL@@", "", f"{indent}```", *(indent + line for line in lines), f"{indent}```", "",
+        f"{indent}@@UNFOLD@@", ""]
 
 
 def shell(fence, body, decks, mark):
-    """The lines for a fence of commands: where each has a deck, what it makes of the deck; the commands are folded away."""
+    """The lines for a fence of commands: where each has a deck, what it makes of the deck; the commands are folded
+    away."""
     indent = fence["indent"]
     given = answers_of(body) if fence["kind"] == "console" else [(one.split(" #")[0].strip(), []) for one in body]
     numbers = [decks.of(command) for command, _ in given]
     if not numbers or None in numbers:
-        return [*folded(indent, body), *(one for (command, _), number in zip(given, numbers) for one in mark(indent, number, view_of(command)))]
+        return [*folded(indent, body), *(one for (command, _), number in zip(given, numbers)
+            for one in mark(indent, number, view_of(command)))]
     made = []
     for (command, written), number in zip(given, numbers):
         if written:
-            made += ["", f"{indent}{decks.told(command, number)}", "", f"{indent}```", *(indent + line for line in written), f"{indent}```"]
+            made += ["", f"{indent}{decks.told(command, number)}", "", f"{indent}```",
+                *(indent + line for line in written), f"{indent}```"]
         made += mark(indent, number, view_of(command))
-    return made + (folded(indent, [line for line in body if not any(line in written for _, written in given)]) if fence["kind"] == "console" else [])
+    return made + (folded(indent, [line for line in body if not any(line in written for _, written in given)])
+        if fence["kind"] == "console" else [])
 
 
 def marked(text, decks):
@@ -166,7 +186,8 @@ def joined(text):
     for line in text.split("\n"):
         cells = re.split(r"(?<!\\)\|", line)[1:-1]
         before = re.split(r"(?<!\\)\|", out[-1])[1:-1] if out else []
-        goes_on = cells and not cells[0].strip() and len(cells) == len(before) and before[0].strip() and not re.match(r"\|[-| ]+$", out[-1])
+        goes_on = cells and not cells[0].strip() and len(cells) == len(before) and before[0].strip() and not re.match(
+            r"\|[-| ]+$", out[-1])
         if goes_on:
             out[-1] = "|" + "|".join(f" {a.strip()} {b.strip()} " for a, b in zip(before, cells)) + "|"
         else:
@@ -183,8 +204,9 @@ def anchor(text):
     return re.sub(r"[^a-z0-9 -]", "", html.unescape(re.sub("<.*?>", "", text)).lower()).replace(" ", "-")
 
 
-def button(number, view):
-    return f'<button class="open" data-deck="{number}"' + (f' data-view="{view}"' if view else "") + ">Open in the editor</button>"
+def button(number, levels, view):
+    more = "".join(f' data-{name}="{value}"' for name, value in (("levels", levels), ("view", view)) if value)
+    return f'<button class="open" data-deck="{number}"{more}>Open in the editor</button>'
 
 
 def linked(made, name, known, pictures):
@@ -224,13 +246,18 @@ def answers(lesson):
 
 def page(name, known, pictures):
     text, decks = with_decks(name)
-    done = subprocess.run(["cmark-gfm", "-e", "table", "--to", "html"], input=joined(text).encode(), stdout=subprocess.PIPE, check=True)
-    made = re.sub(r"(<p>)?@@DECK (\d+) (\w*)@@(</p>)?", lambda found: (found[1] or "") + button(found[2], found[3]) + (found[4] or ""), done.stdout.decode())
-    made = made.replace("<p>@@SHELL@@</p>", '<details class="shell"><summary>in a shell</summary>').replace("<p>@@UNFOLD@@</p>", "</details>")
-    made = re.sub(r"<p>The answers stand <a [^>]*>on a page apart</a>\.</p>", "<p>At each exercise you find its answer, once you have tried it.</p>", made)
+    done = subprocess.run(["cmark-gfm", "-e", "table", "--to", "html"], input=joined(text).encode(),
+        stdout=subprocess.PIPE, check=True)
+    made = re.sub(r"(<p>)?@@DECK (\d+) (\d?)(\w*)@@(</p>)?", lambda found: (found[1] or "")
+        + button(*found.groups()[1:4]) + (found[5] or ""), done.stdout.decode())
+    made = made.replace("<p>@@SHELL@@</p>", '<details class="shell"><summary>in a shell</summary>').replace(
+        "<p>@@UNFOLD@@</p>", "</details>")
+    made = re.sub(r"<p>The answers stand <a [^>]*>on a page apart</a>\.</p>",
+        "<p>At each exercise you find its answer, once you have tried it.</p>", made)
     made = made.replace("<td><code>*", '<td><code class="wraps">*')          # a comment card may be long
     made = linked(made, name, known, pictures)
-    made = re.sub(r"<(h[23])>(.*?)</\1>", lambda found: f'<{found[1]} id="{anchor(found[2])}">{found[2]}</{found[1]}>', made)
+    made = re.sub(r"<(h[23])>(.*?)</\1>", lambda found: f'<{found[1]} id="{anchor(found[2])}">{found[2]}</{found[1]}>',
+        made)
     title = html.unescape(re.sub("<.*?>", "", re.search(r"<h1>(.*?)</h1>", made)[1]))
     return {"id": ident(name), "title": title, "lesson": name.startswith("lessons/"), "html": made, "decks": decks.all}
 
@@ -239,7 +266,8 @@ def pages():
     """All pages, and the pictures in them by their names."""
     if not shutil.which("cmark-gfm"):
         raise Failed("cmark-gfm is not there (Debian's package cmark-gfm)")
-    lessons = sorted((f"lessons/{path.stem}" for path in (DOCS / "lessons").glob("*.md")), key=lambda name: int(re.search(r"\d+", name)[0]))
+    lessons = sorted((f"lessons/{path.stem}" for path in (DOCS / "lessons").glob("*.md")),
+        key=lambda name: int(re.search(r"\d+", name)[0]))
     names = [*lessons, *(name for name in MANUAL if (DOCS / f"{name}.md").is_file())]
     pictures = {}
     return [page(name, set(names), pictures) for name in names], pictures

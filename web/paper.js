@@ -1,4 +1,5 @@
-// What is printed: the figures of each run, its timetable in pieces that pages can be cut between, the deck, and what else the page has.
+// What is printed: the figures of each run, its timetable in pieces that pages can be cut between, the deck, and what
+// else the page has.
 import { h } from './dom.js';
 import { sheets } from './rows.js';
 import { bar, figures, legend } from './strip.js';
@@ -23,8 +24,10 @@ export function fillPaper(box, { title, runs, stepper, deck, report, notes = [] 
     ...notes.map((note) => h('p', {}, note)),
     ...runs.flatMap((run) => [figures(run), bar(run, most, () => {})]),
     ...(runs.length ? [legend(runs, () => {})] : []),
-    ...runs.flatMap((run) => [h('h2', {}, run.label ? `Timetable, ${run.label}` : 'Timetable'), ...sheetsOf(run, stepper)]),
+    ...runs.flatMap((run) => [h('h2', {}, run.label ? `Timetable, ${run.label}` : 'Timetable'),
+      ...sheetsOf(run, stepper)]),
     h('h2', {}, 'Deck'), h('pre', { class: 'cards-printed' }, cards.join('\n')),
-    ...(report ? [h('h2', {}, 'Report'), h('pre', { class: 'cards-printed' }, listOf(report, MOST_LINES).join('\n'))] : []),
+    ...(report ? [h('h2', {}, 'Report'), h('pre', { class: 'cards-printed' }, listOf(report, MOST_LINES).join('\n'))]
+      : []),
   );
 }

@@ -1,7 +1,8 @@
-"""Puts the parts of a page into one file: modules of JavaScript into one script, style sheets, and a policy that names their checksums.
+"""Puts the parts of a page into one file: modules of JavaScript into one script, style sheets, and a policy that names
+their checksums.
 
-A module becomes a function that gives what it exports, and takes what it imports from those before it. The page of the whole machine
-(web/build) and that of one run (tools/page) are made of the same modules.
+A module becomes a function that gives what it exports, and takes what it imports from those before it. The page of the
+whole machine (web/build) and that of one run (tools/page) are made of the same modules.
 """
 import base64
 import hashlib
@@ -72,7 +73,8 @@ def formats():
         import formats as model
     finally:
         sys.path.pop(0)
-    tables = {"index": model.INDEX, "branch": model.BRANCH, "field": model.FIELD, "others": model.OTHERS, "connective": model.CONNECTIVE, "progressive": model.FORMS}
+    tables = {"index": model.INDEX, "branch": model.BRANCH, "field": model.FIELD, "others": model.OTHERS,
+        "connective": model.CONNECTIVE, "progressive": model.FORMS}
     return constant("FORMATS", {**tables, "writing": sorted(model.WRITING)})
 
 
@@ -84,12 +86,15 @@ def style(names):
     """Style sheets as one, with a rule by which each cause that is chosen fades the others."""
     text = "\n" + "".join(map(read, names))
     causes = re.findall(r"^  \['(\w+)', ", read("words.js"), re.M)
-    return text.replace("@FADED@", ",\n".join(f'body[data-cause="{cause}"] [data-cause]:not([data-cause="{cause}"])' for cause in causes))
+    return text.replace("@FADED@", ",\n".join(f'body[data-cause="{cause}"] [data-cause]:not([data-cause="{cause}"])'
+        for cause in causes))
 
 
 def page(template, script, styles, more, made=()):
-    """A template with a script, which begins with a module, style sheets, and more parts. They are put in at once, so that no mark in a part is replaced."""
+    """A template with a script, which begins with a module, style sheets, and more parts. They are put in at once, so
+    that no mark in a part is replaced."""
     code, css = bundle(script, dict(made)), style(styles)
-    parts = {"HASH": digest(code), "STYLEHASH": digest(css), "STYLE": css, "SCRIPT": code, "PATTERNS": read("patterns.svg"), **more}
+    parts = {"HASH": digest(code), "STYLEHASH": digest(css), "STYLE": css, "SCRIPT": code,
+        "PATTERNS": read("patterns.svg"), **more}
     pieces = re.split("@(" + "|".join(parts) + ")@", read(template))
     return "".join(parts[piece] if k % 2 else piece for k, piece in enumerate(pieces))

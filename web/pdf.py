@@ -1,4 +1,5 @@
-"""The text of a PDF that a browser has made: what its fonts say that each glyph is, page after page, in the order in which it is drawn."""
+"""The text of a PDF that a browser has made: what its fonts say that each glyph is, page after page, in the order in
+which it is drawn."""
 import re
 import zlib
 
@@ -43,7 +44,8 @@ def text_of(data):
     lines = []
     for head, content in objects.values():
         font = {}
-        for name, drawn in re.findall(r"/(F\d+) [-\d.]+ Tf|((?:<[0-9A-Fa-f]*>|\[[^\]]*\]) *T[jJ])", content.decode("latin-1")):
+        for name, drawn in re.findall(r"/(F\d+) [-\d.]+ Tf|((?:<[0-9A-Fa-f]*>|\[[^\]]*\]) *T[jJ])",
+            content.decode("latin-1")):
             if name:
                 font = names.get(name, {})
                 continue

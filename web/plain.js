@@ -1,4 +1,5 @@
-// A deck with conveniences (docs/conveniences.md) as a plain one, and for each card of it the line that it comes from. tools/deck does the
+// A deck with conveniences (docs/conveniences.md) as a plain one, and for each card of it the line that it comes from.
+// tools/deck does the
 // same in Python, rule for rule, under the same names.
 import { READ, STATEMENT, operationOf } from './decks.js';
 
@@ -95,7 +96,8 @@ function itemsOf(fields) {
 function numbersOfText(item, length, number) {
   const text = item.slice(1, -1).replace(/''/g, "'");
   const size = Math.floor(length / BITS);
-  if (length % BITS || !size) throw new Refused(number, `a text has eight bits a character, so the field has 8, 16 .. or 64 bits, not ${length}`);
+  if (length % BITS || !size) throw new Refused(number,
+    `a text has eight bits a character, so the field has 8, 16 .. or 64 bits, not ${length}`);
   if (!/^[ -~]+$/.test(text)) throw new Refused(number, 'a text has one character or more, all of them printable');
   const numbers = [];
   for (let k = 0; k < text.length; k += size) {
@@ -119,12 +121,14 @@ function laid(statement, number) {
       if (!length) throw new Refused(number, `a text stands in a form (BU,length), not in ${plainForm}`);
       return numbersOfText(item, Number(length[1] || 64), number).map((value) => `${front},${value}`);
     }
-    if (!/^[+-]?[0-9]+$/.test(item.replace(/ /g, ''))) throw new Refused(number, `'${item}' is neither a number nor a text`);
+    if (!/^[+-]?[0-9]+$/.test(item.replace(/ /g, ''))) throw new Refused(number,
+      `'${item}' is neither a number nor a text`);
     return [`${front},${item}`];
   });
 }
 
-// A statement that no rule changes, as nearly all are: neither small letters nor a tabulator, a text, a comment, a hexadecimal number or data.
+// A statement that no rule changes, as nearly all are: neither small letters nor a tabulator, a text, a comment, a
+// hexadecimal number or data.
 const AS_IT_IS = /^ (?![^]{8}\s*D\s*D)[^a-z\t';]{8,71}$/;
 
 // The plain cards of a statement card.
@@ -134,17 +138,20 @@ function statementCards(line, number) {
   const [card, tail] = isCut ? [line.slice(0, READ), line.slice(READ)] : [line, ''];
   const whole = card.includes('\t') ? columns(card, number) : card;
   const name = upper(whole.slice(0, STATEMENT));
-  if (name[0] >= 'A' && name[0] <= 'Z') throw new Refused(number, 'column 1 is blank: a name begins in column 2, or stands before a tabulator');
+  if (name[0] >= 'A' && name[0] <= 'Z') throw new Refused(number,
+    'column 1 is blank: a name begins in column 2, or stands before a tabulator');
   const [body, comment] = partsOf(whole.slice(STATEMENT));
   if (operationOf(whole) === 'DD' && body.replace(/'(?:[^']|'')*'/g, '').includes("'")) {
-    throw new Refused(number, tail.trim() ? 'the text goes past column 72: part it into two' : "the text has no ' at its end");
+    throw new Refused(number, tail.trim() ? 'the text goes past column 72: part it into two'
+      : "the text has no ' at its end");
   }
   const bodies = laid(decimal(body), number);
   if (comment) bodies[0] = bodies[0].padEnd(body.length);
   const cards = [name + bodies[0] + comment, ...bodies.slice(1).map((one) => ' '.repeat(STATEMENT) + one)];
   if (cards.length === 1 && cards[0] === card) return [card + tail];
   const isLong = (one) => (one.slice(0, STATEMENT) + partsOf(one.slice(STATEMENT))[0]).trimEnd().length > READ;
-  if ((tail.trim() && !card.endsWith(' ') && !comment) || cards.some(isLong)) throw new Refused(number, 'the statement goes past column 72');
+  if ((tail.trim() && !card.endsWith(' ') && !comment) || cards.some(isLong)) throw new Refused(number,
+    'the statement goes past column 72');
   const made = cards.map((one) => one.slice(0, READ));
   if (tail.trim()) made[0] = made[0].padEnd(READ) + tail;
   return made;
@@ -158,7 +165,8 @@ function linesWithEnds(text) {
   return lines;
 }
 
-// The plain deck of a text: `cards` without line ends, `lines` by their cards, from 1 on. `changed` says whether any card is another.
+// The plain deck of a text: `cards` without line ends, `lines` by their cards, from 1 on. `changed` says whether any
+// card is another.
 export class Plain {
   constructor(text) {
     const hasMark = text.startsWith('\ufeff');
@@ -190,17 +198,21 @@ export class Plain {
     const known = upper(line.slice(0, READ).replace(/\t/g, ' ')) + line.slice(READ);
     const [, ...places] = words;
     const isPlain = places.length === 2 && places.every((word) => /^[0-9]+$/.test(word));
-    if (words[0] !== '/DUMP' || places.length < 1 || places.length > 2 || isPlain || places.some((word) => !/^[A-Z0-9$.+-]+$/.test(word))) return known;
+    if (words[0] !== '/DUMP' || places.length < 1 || places.length > 2 || isPlain
+      || places.some((word) => !/^[A-Z0-9$.+-]+$/.test(word))) return known;
     this.dumps.push([this.cards.length, [places[0], places.at(-1)]]);
     return known;
   }
 
-  // Puts words for the addresses of dumps by name: the program tells what they are worth. `ask` gives the report of a deck.
+  // Puts words for the addresses of dumps by name: the program tells what they are worth. `ask` gives the report of a
+  // deck.
   async resolve(ask) {
     if (!this.dumps.length || this.end === null) return;
     this.changed = true;
-    const probes = this.dumps.flatMap(([, places]) => places).map((address, k) => ` Z${String(k).padStart(7, '0')}SYN,${address}`);
-    const report = await ask([...this.cards.slice(0, this.end), ...probes, '         END,32.0', '/BUDGET 1', '/LIST', ''].join('\n'));
+    const probes = this.dumps.flatMap(([, places]) => places).map((address, k) =>
+      ` Z${String(k).padStart(7, '0')}SYN,${address}`);
+    const report = await ask([...this.cards.slice(0, this.end), ...probes, '         END,32.0', '/BUDGET 1', '/LIST',
+      ''].join('\n'));
     const words = [...report.matchAll(/^SYM Z\d{7} (\d+)\./gm)].map((found) => found[1]);
     const refused = /^CARD (\d+) /.exec(report);
     this.dumps.forEach(([place], k) => {

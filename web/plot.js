@@ -37,44 +37,56 @@ class Scale {
 
 function grid(scale, name) {
   const parts = [];
-  for (let y = 0; y <= scale.high; y += scale.step) parts.push(s('path', { class: 'grid', d: `M${EDGE.left} ${scale.y(y)}H${INNER_RIGHT}` }), s('text', { x: EDGE.left - 8, y: scale.y(y) + 4, 'text-anchor': 'end', class: 'soft' }, grouped(y)));
+  for (let y = 0; y <= scale.high; y += scale.step) parts.push(s('path',
+    { class: 'grid', d: `M${EDGE.left} ${scale.y(y)}H${INNER_RIGHT}` }),
+    s('text', { x: EDGE.left - 8, y: scale.y(y) + 4, 'text-anchor': 'end', class: 'soft' }, grouped(y)));
   let free = -Infinity;
   scale.xs.forEach((x, k) => {
     if (scale.x(k) - free < 22) return;
     free = scale.x(k);
     parts.push(s('text', { x: free, y: INNER_BOTTOM + 18, 'text-anchor': 'middle', class: 'soft' }, String(x)));
   });
-  return [...parts, s('text', { x: (EDGE.left + INNER_RIGHT) / 2, y: SIZE.height - 6, 'text-anchor': 'middle', class: 'soft' }, name), s('text', { x: 2, y: 12, class: 'soft' }, 'ticks')];
+  return [...parts, s('text', { x: (EDGE.left + INNER_RIGHT) / 2, y: SIZE.height - 6, 'text-anchor': 'middle',
+    class: 'soft' }, name), s('text', { x: EDGE.left + 4, y: 12, class: 'soft' }, 'ticks')];
 }
 
 // The names at the ends of their lines, moved apart where they would meet.
 function names(series, scale) {
-  const places = series.map((one, n) => ({ n, y: scale.y(one.ys.at(-1)) + 4, text: one.name })).sort((a, b) => a.y - b.y);
+  const places = series.map((one, n) => ({ n, y: scale.y(one.ys.at(-1)) + 4, text: one.name }))
+    .sort((a, b) => a.y - b.y);
   places.forEach((place, k) => { if (k) place.y = Math.max(place.y, places[k - 1].y + APART); });
   const over = Math.max(0, (places.at(-1)?.y ?? 0) - INNER_BOTTOM - 6);
-  return places.map(({ n, y, text }) => s('text', { x: INNER_RIGHT + 8, y: y - over, class: `series-name s-${n % 8}` }, text));
+  return places.map(({ n, y, text }) => s('text', { x: INNER_RIGHT + 8, y: y - over, class: `series-name s-${n % 8}` },
+    text));
 }
 
 function tableOf(name, xs, series) {
-  return h('details', {}, h('summary', {}, 'as a table'), h('div', { class: 'wide-table' }, h('table', { class: 'numbers' },
-    h('thead', {}, h('tr', {}, h('th', { scope: 'col' }, name), xs.map((x) => h('th', { scope: 'col', class: 'number' }, x)))),
-    h('tbody', {}, series.map((one) => h('tr', {}, h('th', { scope: 'row' }, one.name), one.ys.map((y) => h('td', { class: 'number' }, grouped(y)))))))));
+  return h('details', {}, h('summary', {}, 'as a table'), h('div', { class: 'wide-table' },
+    h('table', { class: 'numbers' },
+    h('thead', {}, h('tr', {}, h('th', { scope: 'col' }, name), xs.map((x) =>
+      h('th', { scope: 'col', class: 'number' }, x)))),
+    h('tbody', {}, series.map((one) => h('tr', {}, h('th', { scope: 'row' }, one.name),
+      one.ys.map((y) => h('td', { class: 'number' }, grouped(y)))))))));
 }
 
 // `series` are {name, ys}, with a number for each of `xs`.
 export function plot({ title, name, xs, series, note }) {
   const scale = new Scale(xs, Math.max(1, ...series.flatMap((one) => one.ys)));
-  const lines = series.map((one, n) => s('g', { class: `series s-${n % 8}` }, s('path', { d: one.ys.map((y, k) => `${k ? 'L' : 'M'}${scale.x(k)} ${scale.y(y)}`).join('') }),
+  const lines = series.map((one, n) => s('g', { class: `series s-${n % 8}` },
+    s('path', { d: one.ys.map((y, k) => `${k ? 'L' : 'M'}${scale.x(k)} ${scale.y(y)}`).join('') }),
     one.ys.map((y, k) => s('circle', { cx: scale.x(k), cy: scale.y(y), r: 3 }))));
   const cursor = s('path', { class: 'cursor-line' });
   const tip = h('div', { class: 'plot-tip', hidden: true, 'aria-live': 'polite' });
-  const svg = s('svg', { viewBox: `0 0 ${SIZE.width} ${SIZE.height}`, class: 'plot', role: 'img', 'aria-label': `${title}; arrow keys go through the numbers`, tabindex: '0' }, grid(scale, name), cursor, lines, names(series, scale));
+  const svg = s('svg', { viewBox: `0 0 ${SIZE.width} ${SIZE.height}`, class: 'plot', role: 'img',
+    'aria-label': `${title}; arrow keys go through the numbers`, tabindex: '0' }, grid(scale, name), cursor, lines,
+    names(series, scale));
   let at = -1;
   const point = (k) => {
     at = Math.min(Math.max(k, 0), xs.length - 1);
     cursor.setAttribute('d', `M${scale.x(at)} ${EDGE.top}V${INNER_BOTTOM}`);
     tip.hidden = false;
-    tip.replaceChildren(h('b', {}, `${name} ${xs[at]}`), ...series.map((one, n) => h('div', { class: `s-${n % 8}` }, h('i', {}), `${one.name}: ${grouped(one.ys[at])}`)));
+    tip.replaceChildren(h('b', {}, `${name} ${xs[at]}`), ...series.map((one, n) =>
+      h('div', { class: `s-${n % 8}` }, h('i', {}), `${one.name}: ${grouped(one.ys[at])}`)));
     const share = (100 * scale.x(at)) / SIZE.width;
     tip.style.cssText = share > 50 ? `right:${101 - share}%` : `left:${share + 1}%`;
   };
@@ -95,5 +107,6 @@ export function plot({ title, name, xs, series, note }) {
     event.stopPropagation();
     point(at + by);
   });
-  return h('figure', { class: 'plot-box' }, h('figcaption', {}, title), svg, tip, note ? h('p', { class: 'note' }, note) : null, tableOf(name, xs, series));
+  return h('figure', { class: 'plot-box' }, h('figcaption', {}, title), svg, tip, note
+    ? h('p', { class: 'note' }, note) : null, tableOf(name, xs, series));
 }

@@ -1,4 +1,5 @@
-// The programs from the page's side: workers that answer one request after another, and are ended and begun anew where one has to stop.
+// The programs from the page's side: workers that answer one request after another, and are ended and begun anew where
+// one has to stop.
 
 // A run was stopped before it answered.
 export class Stopped extends Error {}
@@ -61,7 +62,8 @@ export class Runner {
     return this.ready;
   }
 
-  // The answer to a request; fails with Stopped where `stop` comes before it. `take` gets the parts that come before the answer.
+  // The answer to a request; fails with Stopped where `stop` comes before it. `take` gets the parts that come before
+  // the answer.
   async ask(request, tell, take) {
     const ready = this.there();
     const { worker } = this;

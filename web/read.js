@@ -1,4 +1,5 @@
-// What the lists of a run say of a tick. Nothing of the machine is computed here: a tick's facts are found and put beside each
+// What the lists of a run say of a tick. Nothing of the machine is computed here: a tick's facts are found and put
+// beside each
 // other. "At tick t" is behind tick t, which is the time from t - 1 to t.
 
 // The number of leading items that `holds` is true of; it is true of a front of the list.
@@ -46,7 +47,8 @@ const EVERY = 1024;
 const LONGEST = 255;
 
 export class Run {
-  // `data` is what `explain json` writes; `label` names the machine where two are compared. A run that was cut goes on behind its last row.
+  // `data` is what `explain json` writes; `label` names the machine where two are compared. A run that was cut goes on
+  // behind its last row.
   constructor(data, label, isCut = false) {
     this.data = data;
     this.label = label;
@@ -226,7 +228,8 @@ export class Run {
 
   // The index words ahead: those of a state, as the levels have changed them.
   ahead(state, levels) {
-    return new Words(state.words, new Map(levels.filter(({ index }) => index).map(({ index }) => [16 + index.number, index.after])));
+    return new Words(state.words, new Map(levels.filter(({ index }) => index)
+      .map(({ index }) => [16 + index.number, index.after])));
   }
 
   // The first tick at which most levels are in use.
@@ -256,7 +259,8 @@ export class Run {
     if (segment === undefined || t < segment.start || t >= segment.end) return [];
     const reads = this.bySegment[segment.place].reads;
     const waiting = [];
-    for (let k = countWhile(reads, (read) => read.accept <= t); k < reads.length && reads[k].want <= t; k += 1) waiting.push(reads[k]);
+    for (let k = countWhile(reads, (read) => read.accept <= t); k < reads.length && reads[k].want <= t;
+      k += 1) waiting.push(reads[k]);
     return waiting;
   }
 
@@ -278,9 +282,11 @@ export class Run {
     const events = [];
     this.segments.forEach((segment, k) => {
       const last = this.rows[this.bySegment[k].to - 1];
-      if (last === undefined || this.bySegment[k].to === 0 || segment.end > this.last || segment.end <= this.first) return;
+      if (last === undefined || this.bySegment[k].to === 0 || segment.end > this.last
+        || segment.end <= this.first) return;
       const interrupt = this.interrupt(segment.end);
-      if (interrupt || segment.dropped.length || last.missed) events.push({ tick: segment.end, segment, interrupt, missed: last.missed });
+      if (interrupt || segment.dropped.length || last.missed) events.push(
+        { tick: segment.end, segment, interrupt, missed: last.missed });
     });
     return events;
   }

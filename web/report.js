@@ -1,4 +1,5 @@
-// The report as people read it: what it says in the end, the printer's paper, storage by the names of the deck, and the lines themselves.
+// The report as people read it: what it says in the end, the printer's paper, storage by the names of the deck, and
+// the lines themselves.
 import { h, wideTable } from './dom.js';
 import { ZERO, grouped, plural } from './words.js';
 import { bitsOf, charactersOf, formsOf, onIn, registerName, registerText } from './contents.js';
@@ -20,7 +21,8 @@ export class Report {
     this.enabled = false;
     const end = this.lines.findLastIndex((line) => line.startsWith('END '));
     this.kind = end < 0 ? '' : this.lines[end].slice(4);
-    for (let k = end + 1; end >= 0 && k < this.lines.length && !EVENT.test(this.lines[k]); k += 1) this.take(this.lines[k].split(' '));
+    for (let k = end + 1; end >= 0 && k < this.lines.length && !EVENT.test(this.lines[k]);
+      k += 1) this.take(this.lines[k].split(' '));
   }
 
   take([name, one, two]) {
@@ -37,7 +39,8 @@ export class Report {
 function indicatorsOn(hex, indicators) {
   const on = onIn(hex);
   if (!on.length) return 'none is on';
-  return h('ul', { class: 'indicators' }, on.map((k) => h('li', {}, h('b', {}, indicators[k]?.name ?? String(k)), ` ${k}`, indicators[k] ? h('span', { class: 'soft' }, ` ${indicators[k].says}`) : null)));
+  return h('ul', { class: 'indicators' }, on.map((k) => h('li', {}, h('b', {}, indicators[k]?.name ?? String(k)),
+    ` ${k}`, indicators[k] ? h('span', { class: 'soft' }, ` ${indicators[k].says}`) : null)));
 }
 
 function accumulator(registers) {
@@ -45,16 +48,20 @@ function accumulator(registers) {
   const isMinus = onIn(registers.get(10) ?? ZERO).includes(4);
   const sign = isMinus && number ? '-' : '';
   const hex = number.toString(16);
-  return { number: `${sign}${number}`, digits: /^[0-9]+$/.test(hex) && hex !== String(number) ? sign + hex : null, isZero: number === 0n };
+  return { number: `${sign}${number}`, digits: /^[0-9]+$/.test(hex) && hex !== String(number) ? sign + hex : null,
+    isZero: number === 0n };
 }
 
 function registersView({ registers, counter, enabled }, indicators, nameOf) {
   const total = accumulator(registers);
-  const rows = [...registers].map(([number, hex]) => h('tr', {}, h('th', { scope: 'row', class: 'code' }, registerName(number)), h('td', { class: 'code' }, hex),
+  const rows = [...registers].map(([number, hex]) => h('tr', {}, h('th', { scope: 'row', class: 'code' },
+    registerName(number)), h('td', { class: 'code' }, hex),
     h('td', {}, number === 11 ? indicatorsOn(hex, indicators) : registerText(number, hex, indicators))));
   return [
-    h('p', {}, 'The counter stands at ', h('span', { class: 'code' }, counter), nameOf(counter), `; interrupts are ${enabled ? 'enabled' : 'disabled'}.`,
-      total.isZero ? null : [' The accumulator is ', h('b', {}, total.number), ' as a binary number', total.digits ? [', and ', h('b', {}, total.digits), ' in digits'] : null, '.']),
+    h('p', {}, 'The counter stands at ', h('span', { class: 'code' }, counter), nameOf(counter),
+      `, which would be next; interrupts are ${enabled ? 'enabled' : 'disabled'}.`,
+      total.isZero ? null : [' The accumulator is ', h('b', {}, total.number), ' as a binary number', total.digits
+        ? [', and ', h('b', {}, total.digits), ' in digits'] : null, '.']),
     wideTable('registers-named', 'Registers that are not zero', ['name', 'word', 'what it says'], rows),
   ];
 }
@@ -68,7 +75,9 @@ function fieldRow(field, words, before) {
   const changed = bits !== bitsOf((k) => before.get(k) ?? ZERO, field.first, length);
   const hex = bits.toString(16).toUpperCase().padStart(Math.ceil(length / 4), '0');
   const text = length % 8 ? '' : charactersOf(hex);
-  return h('tr', { class: changed ? 'changed' : null }, h('th', { scope: 'row', class: 'code' }, field.name || '–'), h('td', { class: 'code' }, field.place), h('td', { class: 'code' }, field.statement), h('td', {}, h('b', {}, fieldText(field, word))),
+  return h('tr', { class: changed ? 'changed' : null }, h('th', { scope: 'row', class: 'code' }, field.name || '–'),
+    h('td', { class: 'code' }, field.place), h('td', { class: 'code' }, field.statement),
+    h('td', {}, h('b', {}, fieldText(field, word))),
     h('td', { class: 'code' }, hex), h('td', { class: 'code' }, /[A-Za-z0-9 ]{2}/.test(text) ? text : ''));
 }
 
@@ -76,14 +85,17 @@ function fieldRow(field, words, before) {
 function namedStorage(fields, words, before) {
   if (!fields.length) return [];
   const rows = fields.slice(0, MOST_FIELDS).map((field) => fieldRow(field, words, before));
-  return [wideTable('fields', 'Fields of the deck at the end; changed ones are marked', ['name', 'address', 'card', 'is now', 'its bits', 'as text'], rows)];
+  return [wideTable('fields', 'Fields of the deck at the end; changed ones are marked',
+    ['name', 'address', 'card', 'is now', 'its bits', 'as text'], rows)];
 }
 
 function dumped(storage, nameOf) {
   if (!storage.size) return [];
-  const rows = [...storage].map(([word, hex]) => h('tr', {}, h('th', { scope: 'row', class: 'code' }, word), h('td', {}, nameOf(`${word}.0`).replace(/^ \((.*)\)$/, '$1')), h('td', { class: 'code' }, hex),
+  const rows = [...storage].map(([word, hex]) => h('tr', {}, h('th', { scope: 'row', class: 'code' }, word),
+    h('td', {}, nameOf(`${word}.0`).replace(/^ \((.*)\)$/, '$1')), h('td', { class: 'code' }, hex),
     h('td', {}, formsOf(hex).map(([form, text]) => h('span', { class: 'form-of' }, h('i', {}, form), ' ', text)))));
-  return [wideTable('dumped', 'Words that /DUMP asks for and that are not zero', ['word', 'name', 'content', 'what it may say'], rows)];
+  return [wideTable('dumped', 'Words that /DUMP asks for and that are not zero',
+    ['word', 'name', 'content', 'what it may say'], rows)];
 }
 
 // ---- the printer
@@ -92,25 +104,36 @@ function paper(prints) {
   if (!prints.length) return [];
   const shown = prints.slice(0, MOST_LINES);
   return [h('figure', { class: 'printer' }, h('figcaption', {}, `The printer: ${plural(prints.length, 'line')}`),
-    h('div', { class: 'printed', tabindex: '0' }, shown.map((line) => h('div', { class: 'print-line' }, line || ' '))))];
+    h('div', { class: 'printed', tabindex: '0' }, shown.map((line) =>
+      h('div', { class: 'print-line' }, line || ' '))))];
 }
 
 // ---- the lines
 
 const SAYS = {
-  IC: () => 'the counter: the next instruction', EN: (w) => (w[1] === '1' ? 'interrupts are enabled' : 'interrupts are disabled'), DONE: (w) => `${plural(Number(w[1]), 'instruction')} ${w[1] === '1' ? 'was' : 'were'} done`,
-  END: (w) => (w[1] === 'WAIT' ? 'the machine waits, and nothing is left that could wake it' : 'the budget of instructions is used up'), TICKS: (w) => `the last completion was at tick ${w[1]}`,
-  TIME: (w) => `at tick ${w[1]}`, PRT: () => 'the printer prints', BACK: (w) => `the state ${w[1]} instructions before the end`, DUMP: () => 'words that were asked for; those that are zero are not shown',
-  SNAP: (w) => `the clock stands at ${w[1]}: ${w[3]} done, ${w[5]} entries ahead`, TRC: (w) => `instruction ${w[1]} is done, at ${w[2]}`, SYM: () => 'a name and its address',
-  ROW: (w) => `${w[2]}: prepared at ${w[4]}, operands there by ${w[6]}, done at ${w[8]}`, DROP: (w) => `dropped: ${w[1]}, which had been prepared at ${w[3]}`,
-  LEV: (w) => (w[3] === '-' ? `ahead: ${w[1]}; it changed no index word` : `ahead: ${w[1]}; it changed $X${w[3]}, which was ${registerText(16, w[5], [])}`),
+  IC: () => 'the counter: the next instruction', EN: (w) => (w[1] === '1' ? 'interrupts are enabled'
+    : 'interrupts are disabled'),
+    DONE: (w) => `${plural(Number(w[1]), 'instruction')} ${w[1] === '1' ? 'was' : 'were'} done`,
+  END: (w) => (w[1] === 'WAIT' ? 'the machine waits, and nothing is left that could wake it'
+    : 'the budget of instructions is used up'), TICKS: (w) => `the last completion was at tick ${w[1]}`,
+  TIME: (w) => `at tick ${w[1]}`, PRT: () => 'the printer prints',
+  BACK: (w) => `the state ${w[1]} instructions before the end`, DUMP: () =>
+    'words that were asked for; those that are zero are not shown',
+  SNAP: (w) => `the clock stands at ${w[1]}: ${w[3]} done, ${w[5]} entries ahead`,
+  TRC: (w) => `instruction ${w[1]} is done, at ${w[2]}`, SYM: () => 'a name and its address',
+  ROW: (w) => `${w[2]}: prepared at ${w[4]}, operands there by ${w[6]}, done at ${w[8]}`,
+  DROP: (w) => `dropped: ${w[1]}, which had been prepared at ${w[3]}`,
+  LEV: (w) => (w[3] === '-' ? `ahead: ${w[1]}; it changed no index word`
+    : `ahead: ${w[1]}; it changed $X${w[3]}, which was ${registerText(16, w[5], [])}`),
   CARD: () => 'the deck is refused', MEM: (w) => formsOf(w[2]).map(([form, text]) => `${form} ${text}`).join(', '),
 };
 
 function says(line, indicators) {
   const words = line.split(' ');
-  if (words[0] === 'REG') return `${registerName(Number(words[1]))}: ${registerText(Number(words[1]), words[2], indicators)}`;
-  if (words[0] === 'INT') return `interrupt by ${indicators[words[1]]?.name ?? 'an indicator'} (${words[1]}), with ${words[3]} instructions done`;
+  if (words[0] === 'REG') return `${registerName(Number(words[1]))}: `
+    + `${registerText(Number(words[1]), words[2], indicators)}`;
+  if (words[0] === 'INT') return `interrupt by ${indicators[words[1]]?.name ?? 'an indicator'} (${words[1]}), with `
+    + `${words[3]} instructions done`;
   return Object.hasOwn(SAYS, words[0]) ? SAYS[words[0]](words) : '';
 }
 
@@ -120,17 +143,23 @@ function linesView(report, left, indicators) {
   const isLong = lines.length > MOST_LINES;
   const shown = isLong ? [...lines.slice(0, half), '…', ...lines.slice(-half)] : lines;
   const notes = [];
-  if (left) notes.push(h('p', { class: 'note' }, `The report is longer: ${grouped(left)} bytes of its middle are not kept here.`));
-  if (isLong) notes.push(h('p', { class: 'note' }, `${grouped(lines.length)} lines; the first and the last ${grouped(half)} are shown. The file that is saved has more.`));
-  const rows = shown.map((line) => h('tr', { class: EVENT.test(line) ? 'event' : null }, h('td', { class: 'code' }, line), h('td', {}, says(line, indicators))));
+  if (left) notes.push(h('p', { class: 'note' },
+    `The report is longer: ${grouped(left)} bytes of its middle are not kept here.`));
+  if (isLong) notes.push(h('p', { class: 'note' },
+    `${grouped(lines.length)} lines; the first and the last ${grouped(half)} are shown. The file that is saved has `
+      + `more.`));
+  const rows = shown.map((line) => h('tr', { class: EVENT.test(line) ? 'event' : null },
+    h('td', { class: 'code' }, line), h('td', {}, says(line, indicators))));
   return [...notes, wideTable('report', 'The report, line by line', ['line', 'what it says'], rows)];
 }
 
-// The whole view. `end` has the words at the beginning and the end of the run, where all of its rows are known; `listing` the cards with their places.
+// The whole view. `end` has the words at the beginning and the end of the run, where all of its rows are known;
+// `listing` the cards with their places.
 export function reportView(box, { report, left, indicators, listing, end }) {
   const names = new Map(listing.filter(({ place, name }) => place && name).map(({ place, name }) => [place, name]));
   const nameOf = (address) => (names.has(address) ? ` (${names.get(address)})` : '');
   const known = new Map(end ? end.words : report.storage);
-  box.replaceChildren(...paper(report.prints), ...registersView(report, indicators, nameOf), ...(end ? namedStorage(fieldsOf(listing), known, end.before) : []),
+  box.replaceChildren(...paper(report.prints), ...registersView(report, indicators, nameOf),
+    ...(end ? namedStorage(fieldsOf(listing), known, end.before) : []),
     ...dumped(report.storage, nameOf), ...linesView(report, left, indicators));
 }

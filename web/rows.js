@@ -1,4 +1,5 @@
-// The timetable: a line a row, with the entry's life in its level above and its charges below. Only what is seen is drawn.
+// The timetable: a line a row, with the entry's life in its level above and its charges below. Only what is seen is
+// drawn.
 import { h, s } from './dom.js';
 import { countWhile } from './read.js';
 import { causeName, plural } from './words.js';
@@ -41,7 +42,8 @@ export class Timetable {
     this.size = h('div', { class: 'size' });
     // What the drawing shows, in words: the rows in view.
     this.heard = h('ul', { class: 'heard', 'aria-label': 'rows in view' });
-    const name = `timetable${run.label ? ` of ${run.label}` : ''}: ${plural(run.rows.length, 'row')}, of which those in view are listed`;
+    const name = `timetable${run.label ? ` of ${run.label}` : ''}: ${plural(run.rows.length, 'row')}, of which `
+      + `those in view are listed`;
     this.box = h('div', { class: 'timetable', tabindex: '0', role: 'group', 'aria-label': name },
       h('div', { class: 'stick' }, this.svg, this.heard), this.size);
     Object.assign(this, { asked: false, told: '', telling: null });
@@ -86,7 +88,8 @@ export class Timetable {
     const x = event.clientX - box.left - this.box.clientLeft;
     const y = event.clientY - box.top - this.box.clientTop;
     const line = y < AXIS ? null : this.lines[Math.floor((y - AXIS + this.box.scrollTop) / LINE)] ?? null;
-    const tick = x < this.app.left ? null : Math.round(this.first + (x - this.app.left + this.box.scrollLeft) / this.scale);
+    const tick = x < this.app.left ? null : Math.round(this.first + (x - this.app.left
+      + this.box.scrollLeft) / this.scale);
     return { line, tick };
   }
 
@@ -145,8 +148,10 @@ export class Timetable {
     const from = Math.floor(scrollTop / LINE);
     const to = Math.min(this.lines.length, Math.ceil((scrollTop + height - AXIS) / LINE));
     const cursor = this.x(this.app.tickOf(this.run));
-    const mark = cursor >= this.app.left - 1 ? s('path', { class: 'cursor', d: `M${cursor - 1} ${AXIS - 4}h2V${height}h-2z M${cursor - 5} ${AXIS - 9}h10l-5 6z` }) : null;
-    for (const [name, value] of [['width', width], ['height', height], ['viewBox', `0 0 ${width} ${height}`]]) this.svg.setAttribute(name, value);
+    const mark = cursor >= this.app.left - 1 ? s('path', { class: 'cursor',
+      d: `M${cursor - 1} ${AXIS - 4}h2V${height}h-2z M${cursor - 5} ${AXIS - 9}h10l-5 6z` }) : null;
+    for (const [name, value] of [['width', width], ['height', height],
+      ['viewBox', `0 0 ${width} ${height}`]]) this.svg.setAttribute(name, value);
     this.svg.replaceChildren(...[...this.drawn(from, to), mark].filter(Boolean));
     this.tell(from, to);
   }
@@ -157,7 +162,8 @@ export class Timetable {
     if (told === this.told) return;
     this.told = told;
     clearTimeout(this.telling);
-    this.telling = setTimeout(() => this.heard.replaceChildren(...this.lines.slice(from, to).map((line) => h('li', {}, spoken(this.run, line)))), TELL);
+    this.telling = setTimeout(() => this.heard.replaceChildren(...this.lines.slice(from, to)
+      .map((line) => h('li', {}, spoken(this.run, line)))), TELL);
   }
 
   // The lines from one up to another as they stand in a box of this size, with grid and axis.
@@ -225,23 +231,28 @@ export class Timetable {
       for (const charge of entry.charges) {
         bars.push(this.piece(charge.from, charge.to, y + 16, 4, `f-${charge.cause}`, { 'data-cause': charge.cause }));
       }
-      if (entry.missed && this.x(entry.c) >= this.app.left) bars.push(s('text', { class: 'event', x: this.x(entry.c) + 6, y: y + 14 }, 'guessed wrongly'));
+      if (entry.missed && this.x(entry.c) >= this.app.left) bars.push(
+        s('text', { class: 'event', x: this.x(entry.c) + 6, y: y + 14 }, 'guessed wrongly'));
     }
     const { left } = this.app;
     const here = this.app.isLevel(this.run, entry);
     const marked = this.app.card !== null && entry.card === this.app.card;
-    if (here || marked) labels.push(s('rect', { class: here ? 'here' : 'marked', x: 0, y, width: left - 4, height: LINE }));
+    if (here || marked) labels.push(s('rect', { class: here ? 'here' : 'marked', x: 0, y, width: left - 4,
+      height: LINE }));
     const x = left > 200 ? 96 : 52;
     const text = (entry.text || '').replace(/\s+/g, ' ').slice(0, Math.floor((left - x - 12) / LETTER));
-    if (left > 200) labels.push(s('text', { x: 40, y: y + 15, 'text-anchor': 'end' }, entry.dropped ? 'drop' : String(entry.row)));
-    labels.push(s('text', { x, y: y + 15, 'text-anchor': 'end' }, entry.address), s('text', { x: x + 8, y: y + 15 }, text));
+    if (left > 200) labels.push(s('text', { x: 40, y: y + 15, 'text-anchor': 'end' }, entry.dropped ? 'drop'
+      : String(entry.row)));
+    labels.push(s('text', { x, y: y + 15, 'text-anchor': 'end' }, entry.address),
+      s('text', { x: x + 8, y: y + 15 }, text));
   }
 
   interrupt(interrupt, y, bars, labels) {
     const x = this.x(interrupt.tick);
     bars.push(s('path', { class: 'event line', d: `M${this.app.left} ${y + 10}H${x}m-5 -4l5 4l-5 4` }));
     const name = interrupt.name ? ` (${interrupt.name})` : '';
-    labels.push(s('text', { class: 'event', x: 8, y: y + 15 }, `interrupt ${interrupt.indicator}${this.app.left > 200 ? `${name} at ${interrupt.tick}` : name}`));
+    labels.push(s('text', { class: 'event', x: 8, y: y + 15 },
+      `interrupt ${interrupt.indicator}${this.app.left > 200 ? `${name} at ${interrupt.tick}` : name}`));
   }
 }
 
@@ -252,20 +263,27 @@ function ticksOf({ entry, interrupt }) {
   return [entry.charges?.[0]?.from ?? entry.a, entry.dropped ? entry.end : entry.c];
 }
 
-// The timetable of a run for paper: pictures of some lines each, on the ticks of these lines. Of a long one the lines around a tick.
+// The timetable of a run for paper: pictures of some lines each, on the ticks of these lines. Of a long one the lines
+// around a tick.
 export function sheets(run, app, tick) {
   const lines = linesOf(run);
   const near = Math.max(0, countWhile(lines, (line) => ticksOf(line)[1] <= tick) - SHEET.most / 2);
   const from = lines.length > SHEET.most ? near : 0;
   const pictures = [];
+  let widest = SHEET.widest;
   for (let k = from; k < Math.min(lines.length, from + SHEET.most); k += SHEET.lines) {
     const shown = lines.slice(k, k + SHEET.lines);
     const first = Math.min(...shown.map((line) => ticksOf(line)[0]));
     const last = Math.max(...shown.map((line) => ticksOf(line)[1]), first + 1);
-    const scale = Math.min(SHEET.widest, (SHEET.width - SHEET.left - 20) / (last - first));
+    // A shorter last piece has the scale of the one before it.
+    const scale = Math.min(shown.length < SHEET.lines ? widest : SHEET.widest,
+      (SHEET.width - SHEET.left - 20) / (last - first));
+    widest = scale;
     const table = new Timetable(run, { ...PLAIN, snaps: app.snaps, left: SHEET.left }, last);
-    Object.assign(table, { first, scale, width: SHEET.width, height: AXIS + shown.length * LINE + 4, scrollLeft: 0, scrollTop: k * LINE });
-    pictures.push(s('svg', { class: 'rows', viewBox: `0 0 ${table.width} ${table.height}`, role: 'img', 'aria-label': 'timetable' }, table.drawn(k, k + shown.length)));
+    Object.assign(table, { first, scale, width: SHEET.width, height: AXIS + shown.length * LINE + 4, scrollLeft: 0,
+      scrollTop: k * LINE });
+    pictures.push(s('svg', { class: 'rows', viewBox: `0 0 ${table.width} ${table.height}`, role: 'img',
+      'aria-label': 'timetable' }, table.drawn(k, k + shown.length)));
   }
   return pictures;
 }
@@ -282,14 +300,20 @@ function spoken(run, line) {
 // A row's numbers, charges and reads, for the pointer.
 export function about(run, { line, tick }) {
   const { entry, interrupt } = line;
-  if (interrupt) return [`Interrupt ${interrupt.indicator}${interrupt.name ? ` (${interrupt.name})` : ''} behind row ${interrupt.after_row}, tick ${interrupt.tick}`];
+  if (interrupt) return [`Interrupt ${interrupt.indicator}${interrupt.name ? ` (${interrupt.name})` : ''} behind `
+    + `row ${interrupt.after_row}, tick ${interrupt.tick}`];
   const what = entry.dropped ? `dropped at ${entry.end}` : `done at ${entry.c}, cost ${entry.cost}`;
   const texts = [`${entry.dropped ? 'Dropped' : `Row ${entry.row}`}: ${entry.address} ${(entry.text || '').trim()}`,
     `address ${entry.a}, prepared ${entry.p}, operands ${entry.r}, ${what}`];
-  for (const charge of entry.charges ?? []) texts.push(`${charge.from + 1}-${charge.to} ${causeName.get(charge.cause)}${charge.word === undefined ? '' : `, word ${charge.word}`}`);
+  for (const charge of entry.charges ?? []) texts.push(
+    `${charge.from + 1}-${charge.to} `
+      + `${causeName.get(charge.cause)}${charge.word === undefined ? '' : `, word ${charge.word}`}`);
   for (const use of entry.uses) {
-    if (use.how === 'read') texts.push(`${use.kind} word ${use.word}: bank ${use.bank}, wanted ${use.want}, accepted ${use.accept}, there ${use.answer}${use.made ? '' : ' (not made)'}`);
-    else if (use.kind !== 'following') texts.push(`${use.kind} word ${use.word}: ${use.how}${use.row ? ` from row ${use.row}` : ''}`);
+    if (use.how === 'read') texts.push(
+      `${use.kind} word ${use.word}: bank ${use.bank}, wanted ${use.want}, accepted ${use.accept}, there `
+        + `${use.answer}${use.made ? '' : ' (not made)'}`);
+    else if (use.kind !== 'following') texts.push(
+      `${use.kind} word ${use.word}: ${use.how}${use.row ? ` from row ${use.row}` : ''}`);
   }
   if (tick !== null) texts.push(`here: tick ${tick}`);
   return texts;

@@ -36,7 +36,8 @@ function show(data) {
   const names = namesOf(data.symbols);
   const words = new Map(data.symbols.map(([name, address]) => [name, Number(address.split('.')[0])]));
   const places = new Map(data.symbols);
-  const fields = new Fields(data.deck.map((card) => card.toUpperCase()).map((card) => ({ card, place: places.get(card.slice(1, STATEMENT).trim()) })));
+  const fields = new Fields(data.deck.map((card) => card.toUpperCase())
+    .map((card) => ({ card, place: places.get(card.slice(1, STATEMENT).trim()) })));
   for (const run of runs) run.fields = fields;
   let deck = null;
   let written = null;
@@ -53,7 +54,8 @@ function show(data) {
   deck = new Deck(data.deck, stepper);
   const most = Math.max(...runs.map((run) => run.totals.ticks));
   const choose = (cause) => stepper.chooseCause(cause);
-  byId('figures').replaceChildren(...runs.flatMap((run) => [figures(run), bar(run, most, choose)]), legend(runs, choose));
+  byId('figures').replaceChildren(...runs.flatMap((run) => [figures(run), bar(run, most, choose)]),
+    legend(runs, choose));
   byId('room').replaceChildren(stepper.view);
   byId('deck').replaceChildren(h('h2', {}, 'Deck'), deck.box);
   byId('columns').after(stepper.machine);

@@ -1,4 +1,5 @@
-// The text of an instruction from its half-words, by the tables of model/formats.py, which the build puts into the module `formats`.
+// The text of an instruction from its half-words, by the tables of model/formats.py, which the build puts into the
+// module `formats`.
 import { FORMATS } from './formats.js';
 
 const FULL = 15;
@@ -35,7 +36,8 @@ function ofHalf(half) {
 
 // What the second half-word says of a field.
 function fieldOf(two) {
-  return { form: bits(two, 0, 2), length: bits(two, 3, 8) || 64, byte: bits(two, 9, 11) || 8, offset: bits(two, 12, 18) };
+  return { form: bits(two, 0, 2), length: bits(two, 3, 8) || 64, byte: bits(two, 9, 11) || 8,
+    offset: bits(two, 12, 18) };
 }
 
 function isOperand(name, { form, length }, i) {
@@ -57,7 +59,8 @@ function ofConnective(two, i, target) {
 function ofField(name, two, i, target) {
   const more = fieldOf(two);
   const [decimal, unsigned, negated] = [20, 21, 22].map((bit) => bits(two, bit, bit));
-  const fits = !(decimal && (more.byte < LEAST_DIGIT || more.length % more.byte)) && (unsigned || more.length >= more.byte);
+  const fits = !(decimal && (more.byte < LEAST_DIGIT || more.length % more.byte))
+    && (unsigned || more.length >= more.byte);
   if (bits(two, 28, 31) || !fits || !isOperand(name, more, i)) return '';
   return onField(name + (negated ? 'N' : ''), 'BD'[decimal] + (unsigned ? 'U' : ''), more, target);
 }

@@ -1,11 +1,13 @@
-// Stepping through the ticks of one run, or of two on one axis: the tick, its steps and keys, and where each view stands. The runs may be
+// Stepping through the ticks of one run, or of two on one axis: the tick, its steps and keys, and where each view
+// stands. The runs may be
 // set anew at any time; what is drawn stays.
 import { h, put } from './dom.js';
 import { countWhile } from './read.js';
 import { ZERO, grouped, plural, sentences } from './words.js';
 import { Strip } from './strip.js';
 import { Timetable, about } from './rows.js';
-import { bankTable, committed, indexTable, interruptLine, levelTable, nextLine, printerPaper, registerTable, storageTable, waitingLine } from './tables.js';
+import { bankTable, committed, indexTable, interruptLine, levelTable, nextLine, printerPaper, registerTable,
+  storageTable, waitingLine } from './tables.js';
 
 // How wide the labels of rows are, by how wide the view is.
 const LABELS = [[620, 300], [440, 190], [0, 132]];
@@ -17,7 +19,8 @@ const RATES = [1, 2, 5, 10, 25];
 // What the bars of a row are called, as the timetable and the picture have them.
 export function phases() {
   const mark = (kind, text) => h('span', {}, h('i', { class: `mark m-${kind}` }), text);
-  return [mark('operand', 'waits for operands'), mark('turn', 'waits for its turn'), mark('executing', 'executes'), mark('dropped', 'dropped')];
+  return [mark('operand', 'waits for operands'), mark('turn', 'waits for its turn'), mark('executing', 'executes'),
+    mark('dropped', 'dropped')];
 }
 
 // A button of a step.
@@ -26,11 +29,14 @@ function step(id, text, title, label, act) {
 }
 
 export class Stepper {
-  // `names` are those of indicators. `on` is told of what is chosen: `levels(levels, next)`, `card(card)`, `tick(t)`; `wordOf(text)` gives the
+  // `names` are those of indicators. `on` is told of what is chosen: `levels(levels, next)`, `card(card)`, `tick(t)`;
+  // `wordOf(text)` gives the
   // word that a name stands for, and `nameOf(word)` the name of a word.
   constructor(names, on) {
-    Object.assign(this, { names, on, runs: [], tables: [], snaps: [], levels: new Map(), chosen: null, cause: null, card: null, isAnother: false });
-    Object.assign(this, { t: 0, first: 0, last: 0, timer: null, rate: RATES[1], zoomed: false, left: LABELS[0][1], scale: OWN_SCALE });
+    Object.assign(this, { names, on, runs: [], tables: [], snaps: [], levels: new Map(), chosen: null, cause: null,
+      card: null, isAnother: false });
+    Object.assign(this, { t: 0, first: 0, last: 0, timer: null, rate: RATES[1], zoomed: false, left: LABELS[0][1],
+      scale: OWN_SCALE });
     this.build();
     new ResizeObserver(() => this.fit()).observe(this.stripBox);
   }
@@ -46,66 +52,83 @@ export class Stepper {
     this.tablesBox = box('timetables');
     this.tip = box('tip', { hidden: true });
     this.committedLine = h('p', { id: 'committed' });
-    [this.levelsBox, this.wordsBox, this.banksBox, this.storageBox] = [box('levels'), box('words'), box('banks'), box('storage')];
+    [this.levelsBox, this.wordsBox, this.banksBox, this.storageBox] = [box('levels'), box('words'), box('banks'),
+      box('storage')];
     this.machine = h('section', { id: 'machine-view', 'aria-label': 'the machine at the tick' }, this.committedLine,
       h('div', { id: 'machine' }, this.levelsBox, this.wordsBox, this.banksBox, this.storageBox));
-    this.controls = h('div', { id: 'controls', role: 'group', 'aria-label': 'steps' }, this.stepButtons(), this.until(), this.scaleButtons());
-    this.view = h('div', { class: 'stepper' }, this.controls, this.sentence, this.stripBox, this.causesBox, this.notesBox, this.tablesBox, this.key(), this.tip);
+    this.controls = h('div', { id: 'controls', role: 'group', 'aria-label': 'steps' }, this.stepButtons(),
+      this.until(), this.scaleButtons());
+    this.view = h('div', { class: 'stepper' }, this.controls, this.sentence, this.stripBox, this.causesBox,
+      this.notesBox, this.tablesBox, this.key(), this.tip);
     addEventListener('keydown', (event) => this.press(event));
   }
 
   stepButtons() {
-    this.tickInput = h('input', { id: 'tick', type: 'number', inputmode: 'numeric', onchange: (event) => this.go(Number(event.target.value)) });
-    this.playButton = h('button', { id: 'play', title: 'go on by itself (space)', 'aria-pressed': 'false', onclick: () => this.play() }, '▶ play');
-    const rate = h('select', { id: 'rate', 'aria-label': 'ticks a second', onchange: (event) => this.setRate(Number(event.target.value)) },
+    this.tickInput = h('input', { id: 'tick', type: 'number', inputmode: 'numeric',
+      onchange: (event) => this.go(Number(event.target.value)) });
+    this.playButton = h('button', { id: 'play', title: 'go on by itself (space)', 'aria-pressed': 'false',
+      onclick: () => this.play() }, '▶ play');
+    const rate = h('select', { id: 'rate', 'aria-label': 'ticks a second',
+      onchange: (event) => this.setRate(Number(event.target.value)) },
       RATES.map((one) => h('option', { selected: one === this.rate }, one)));
     return [
       h('span', { class: 'group' },
         step('first', '|◀', 'first tick (Home)', 'first tick', () => this.go(this.first)),
-        step('event-back', '◀◀!', 'interrupt, drop or wrong guess before (p, or control and left)', 'event before', () => this.event(false)),
+        step('event-back', '◀◀!', 'interrupt, drop or wrong guess before (p, or control and left)', 'event before',
+          () => this.event(false)),
         step('row-back', '◀◀', 'completion before (shift and left)', 'completion before', () => this.completion(false)),
         step('back', '◀', 'tick before (left)', 'tick before', () => this.go(this.t - 1))),
       h('label', {}, 'tick ', this.tickInput),
       h('span', { class: 'group' },
         step('forth', '▶', 'next tick (right)', 'next tick', () => this.go(this.t + 1)),
         step('row-forth', '▶▶', 'next completion (shift and right)', 'next completion', () => this.completion(true)),
-        step('event-forth', '!▶▶', 'next interrupt, drop or wrong guess (n, or control and right)', 'next event', () => this.event(true)),
+        step('event-forth', '!▶▶', 'next interrupt, drop or wrong guess (n, or control and right)', 'next event',
+          () => this.event(true)),
         step('last', '▶|', 'last tick (End)', 'last tick', () => this.go(this.last))),
       h('span', { class: 'group' }, this.playButton, h('label', {}, rate, ' /s')),
     ];
   }
 
   scaleButtons() {
-    this.runSelect = h('select', { id: 'run', onchange: (event) => this.chooseRun(this.runs[Number(event.target.value)]) });
+    this.runSelect = h('select', { id: 'run', onchange: (event) => this.chooseRun(
+      this.runs[Number(event.target.value)]) });
     this.runLabel = h('label', { id: 'machine-of' }, 'machine of ', this.runSelect);
     this.more = h('span', { class: 'group' });           // of the page around it
     return h('span', { class: 'right' }, this.more, this.runLabel, h('span', { class: 'group' },
-      step('out', '−', 'narrower ticks (-)', 'narrower ticks', () => this.zoom(0.8)), step('in', '+', 'wider ticks (+)', 'wider ticks', () => this.zoom(1.25))));
+      step('out', '−', 'narrower ticks (-)', 'narrower ticks', () => this.zoom(0.8)),
+      step('in', '+', 'wider ticks (+)', 'wider ticks', () => this.zoom(1.25))));
   }
 
   // A break point: where the run goes next to a card, changes a word, or is interrupted.
   until() {
     this.untilKind = h('select', { id: 'until-kind', 'aria-label': 'go to', onchange: () => this.untilChosen() },
-      h('option', { value: 'card' }, 'card'), h('option', { value: 'word' }, 'change of'), h('option', { value: 'interrupt' }, 'interrupt'));
-    this.untilWhat = h('input', { id: 'until-what', size: 6, autocomplete: 'off', spellcheck: 'false', 'aria-label': 'the card, word or register to go to', oninput: () => this.untilWhat.setCustomValidity('') });
+      h('option', { value: 'card' }, 'card'), h('option', { value: 'word' }, 'change of'),
+      h('option', { value: 'interrupt' }, 'interrupt'));
+    this.untilWhat = h('input', { id: 'until-what', size: 6, autocomplete: 'off', spellcheck: 'false',
+      'aria-label': 'the card, word or register to go to', oninput: () => this.untilWhat.setCustomValidity('') });
     this.untilChosen();
-    return h('form', { class: 'group', id: 'until', onsubmit: (event) => { event.preventDefault(); this.goUntil(true); } }, h('label', {}, 'go to ', this.untilKind), this.untilWhat,
-      h('button', { type: 'button', id: 'until-back', title: 'the one before', 'aria-label': 'go back to where it was before this tick', onclick: () => this.goUntil(false) }, '◀'),
-      h('button', { id: 'until-forth', title: 'the next one (Enter)', 'aria-label': 'go on to where it is next' }, '▶'));
+    return h('form', { class: 'group', id: 'until', onsubmit: (event) => { event.preventDefault(); this.goUntil(true);
+      } }, h('label', {}, 'go to ', this.untilKind), this.untilWhat,
+      h('button', { type: 'button', id: 'until-back', title: 'the one before',
+        'aria-label': 'go back to where it was before this tick', onclick: () => this.goUntil(false) }, '◀'),
+      h('button', { id: 'until-forth', title: 'the next one (Enter)', 'aria-label': 'go on to where it is next' },
+        '▶'));
   }
 
   untilChosen() {
     const kind = this.untilKind.value;
     this.untilWhat.hidden = kind === 'interrupt';
-    this.untilWhat.placeholder = kind === 'card' ? 'number' : '50, $X1';
-    this.untilWhat.title = kind === 'card' ? 'the number of a card' : 'a word by number or name, or a register: 50, TOTAL, $X1, $IND';
+    this.untilWhat.placeholder = kind === 'card' ? '5, LOOP' : '50, $X1';
+    this.untilWhat.title = kind === 'card' ? 'the number of a card, its name or its address: 5, LOOP, 34.32'
+      : 'a word by number or name, or a register: 50, TOTAL, $X1, $IND';
     this.untilWhat.setCustomValidity('');
   }
 
   key() {
     this.snapKey = h('span', {}, 'dotted line: a snapshot (/SNAP)');
     return h('p', { class: 'key', 'aria-hidden': 'true' }, phases(),
-      h('span', {}, 'thin line: it is prepared next'), h('span', {}, 'strip below a row: the ticks charged to it'), this.snapKey);
+      h('span', {}, 'thin line: it is prepared next'), h('span', {}, 'strip below a row: the ticks charged to it'),
+      this.snapKey);
   }
 
   // ---- the runs
@@ -124,7 +147,8 @@ export class Stepper {
     this.strip = new Strip(runs, this.first, this.last, (t) => this.go(t));
     this.stripBox.replaceChildren(this.strip.box);
     this.tables = runs.map((run) => new Timetable(run, this, this.last));
-    this.tablesBox.replaceChildren(...this.tables.flatMap((table) => [table.run.label ? h('h2', {}, table.run.label) : null, table.box].filter(Boolean)));
+    this.tablesBox.replaceChildren(...this.tables.flatMap((table) =>
+      [table.run.label ? h('h2', {}, table.run.label) : null, table.box].filter(Boolean)));
     Object.assign(this.tickInput, { min: this.first, max: this.last });
     this.snapKey.hidden = !snaps.length;
     this.runLabel.hidden = runs.length < 2;
@@ -135,8 +159,11 @@ export class Stepper {
 
   // What has to be said beside the numbers.
   notes() {
-    const notes = this.runs.filter((run) => !run.whole).map((run) => `${run.label ? `${run.label}: r` : 'R'}ows ${grouped(run.rows[0].row)} to ${grouped(run.rows.at(-1).row)} are shown`
-      + `${run.isCut ? '; the run goes on behind them' : ''}${run.rows[0].row > 1 ? '; reads of rows before these are not here' : ''}. ${this.on.cut ?? ''}`);
+    const notes = this.runs.filter((run) => !run.whole).map((run) =>
+      `${run.label ? `${run.label}: r` : 'R'}ows ${grouped(run.rows[0].row)} to ${grouped(run.rows.at(-1).row)} `
+      + 'are shown'
+      + `${run.isCut ? '; the run goes on behind them' : ''}${run.rows[0].row > 1 ? '; reads of rows before these '
+        + 'are not here' : ''}. ${this.on.cut ?? ''}`);
     if (this.runs.length === 2) notes.push(compared(...this.runs));
     return notes;
   }
@@ -163,7 +190,8 @@ export class Stepper {
 
   // Timetables of two runs are scrolled together along their ticks.
   scrolled(table) {
-    for (const other of this.tables) if (other !== table && other.scrollLeft !== table.scrollLeft) other.box.scrollLeft = table.scrollLeft;
+    for (const other of this.tables) if (other !== table
+      && other.scrollLeft !== table.scrollLeft) other.box.scrollLeft = table.scrollLeft;
   }
 
   point(table, at, event) {
@@ -173,7 +201,8 @@ export class Stepper {
     tip.replaceChildren(...about(table.run, at).slice(0, 24).map((text) => h('div', {}, text)));
     const { innerWidth, innerHeight } = window;
     tip.style.left = `${Math.max(4, Math.min(event.clientX + 14, innerWidth - tip.offsetWidth - 8))}px`;
-    tip.style.top = `${event.clientY + 18 + tip.offsetHeight > innerHeight ? Math.max(4, event.clientY - tip.offsetHeight - 12) : event.clientY + 18}px`;
+    const isLow = event.clientY + 18 + tip.offsetHeight > innerHeight;
+    tip.style.top = `${isLow ? Math.max(4, event.clientY - tip.offsetHeight - 12) : event.clientY + 18}px`;
   }
 
   // ---- what is chosen
@@ -194,14 +223,16 @@ export class Stepper {
 
   markCauses() {
     document.body.dataset.cause = this.cause ?? '';
-    for (const button of document.querySelectorAll('.legend button')) button.setAttribute('aria-pressed', String(button.dataset.cause === this.cause));
+    for (const button of document.querySelectorAll('.legend button')) button.setAttribute('aria-pressed',
+      String(button.dataset.cause === this.cause));
   }
 
   chooseCard(card) {
     this.card = this.card === card ? null : card;
     this.on.card?.(this.card);
     if (!this.chosen) return;
-    const row = this.chosen.rows.find((one) => one.card === this.card && one.c >= this.t) ?? this.chosen.rows.find((one) => one.card === this.card);
+    const row = this.chosen.rows.find((one) => one.card === this.card && one.c >= this.t)
+      ?? this.chosen.rows.find((one) => one.card === this.card);
     for (const table of this.tables) {
       if (row && table.run === this.chosen) table.show(this.t, row);
       else table.later();
@@ -231,7 +262,8 @@ export class Stepper {
 
   // The nearest of some ticks in order, behind the present one or before it.
   nearest(ticks, forth) {
-    const t = forth ? ticks[countWhile(ticks, (one) => one <= this.t)] : ticks[countWhile(ticks, (one) => one < this.t) - 1];
+    const t = forth ? ticks[countWhile(ticks, (one) => one <= this.t)]
+      : ticks[countWhile(ticks, (one) => one < this.t) - 1];
     this.go(t ?? (forth ? this.last : this.first));
   }
 
@@ -246,23 +278,31 @@ export class Stepper {
   // The ticks at which a break point holds, or what is wrong with it.
   ticksUntil(kind, what) {
     const { rows, data } = this.chosen;
-    if (kind === 'interrupt') return { ticks: data.interrupts.map((one) => one.tick), none: 'the run has no interrupt' };
+    if (kind === 'interrupt') return { ticks: data.interrupts.map((one) => one.tick),
+      none: 'the run has no interrupt' };
     if (kind === 'card') {
-      if (!/^\d{1,7}$/.test(what)) return { none: 'the number of a card' };
-      return { ticks: rows.filter((row) => row.card === Number(what)).map((row) => row.c), none: `no instruction of card ${what} is done` };
+      const address = /^\d{1,6}\.(0|32)$/.test(what) ? what : this.on.addressOf?.(what);
+      if (address) return { ticks: rows.filter((row) => row.address === address).map((row) => row.c),
+        none: `no instruction at ${address} is done` };
+      if (!/^\d{1,7}$/.test(what)) return { none: 'the number of a card, its name or its address: 5, LOOP, 34.32' };
+      return { ticks: rows.filter((row) => row.card === Number(what)).map((row) => row.c),
+        none: `no instruction of card ${what} is done` };
     }
     const ticks = this.chosen.fields?.ticks(what, this.chosen);
     if (ticks) return { ticks, none: `the field ${what} does not change` };
-    const word = /^\d{1,7}$/.test(what) ? Number(what) : this.on.wordOf?.(what) ?? null;
+    const word = /^\d{1,7}(\.0)?$/.test(what) ? Number(what) : this.on.wordOf?.(what) ?? this.on.wordOf?.(`$${what}`)
+      ?? null;
     if (word === null) return { none: 'a word by number or name, or a register: 50, TOTAL, $X1' };
-    return { ticks: rows.filter((row) => row.state.words.some(([one]) => one === word)).map((row) => row.c), none: `word ${word} does not change` };
+    return { ticks: rows.filter((row) => row.state.words.some(([one]) => one === word)).map((row) => row.c),
+      none: `word ${word} does not change` };
   }
 
   // Goes to where the break point holds next, and says where it does nowhere.
   goUntil(forth) {
     if (!this.chosen) return;
     const { ticks = [], none } = this.ticksUntil(this.untilKind.value, this.untilWhat.value.trim().toUpperCase());
-    const t = forth ? ticks[countWhile(ticks, (one) => one <= this.t)] : ticks[countWhile(ticks, (one) => one < this.t) - 1];
+    const t = forth ? ticks[countWhile(ticks, (one) => one <= this.t)]
+      : ticks[countWhile(ticks, (one) => one < this.t) - 1];
     if (t !== undefined) {
       this.go(t);
       return;
@@ -303,7 +343,9 @@ export class Stepper {
     const { target, key, ctrlKey, shiftKey } = event;
     if (key === 'Escape' && this.cause) this.chooseCause(this.cause);
     const room = this.view.closest('[role=tabpanel]') ?? document.body;
-    if (!this.runs.length || event.altKey || event.metaKey || !this.view.clientWidth || !(target === document.body || room.contains(target)) || target.matches('input, select, textarea')) return;
+    if (!this.runs.length || event.altKey || event.metaKey || !this.view.clientWidth
+      || !(target === document.body || room.contains(target)) || target.matches(
+        'input, select, textarea, [contenteditable]')) return;
     if (key === ' ' && target.matches('button, summary')) return;
     const steps = {
       ArrowLeft: () => (ctrlKey ? this.event(false) : shiftKey ? this.completion(false) : this.go(this.t - 1)),
@@ -330,12 +372,14 @@ export class Stepper {
     const state = run.state(t);
     const levels = this.levels.get(run);
     const text = `${sentences(run, t).join('. ')}.`;
-    this.sentence.replaceChildren(h('b', { class: 'now' }, `Tick ${t}${run.label ? `, ${run.label}` : ''}`), ` ${text}`);
+    this.sentence.replaceChildren(h('b', { class: 'now' }, `Tick ${t}${run.label ? `, ${run.label}` : ''}`),
+      ` ${text}`);
     this.tickInput.value = this.t;
     this.strip.set(this.t, `tick ${this.t}. ${text}`);
     put(this.committedLine, committed(run, t, state));
     put(this.levelsBox, [levelTable(run, t, levels), h('p', {}, nextLine(run, t))]);
-    put(this.wordsBox, [indexTable(run, state, run.ahead(state, levels)), h('p', {}, interruptLine(state, this.names)), registerTable(state, this.names)]);
+    put(this.wordsBox, [indexTable(run, state, run.ahead(state, levels)), h('p', {}, interruptLine(state, this.names)),
+      registerTable(state, this.names)]);
     put(this.banksBox, [bankTable(run, t), h('p', {}, waitingLine(run, t))]);
     put(this.storageBox, [printerPaper(run, t), storageTable(run, t, state, (word) => this.on.nameOf?.(word))]);
     this.on.levels?.(levels, run.next(t));
@@ -347,18 +391,26 @@ export class Stepper {
 function compared(one, two) {
   const same = countWhile(one.rows, (row) => {
     const other = two.rows[row.row - one.rows[0].row];
-    return other !== undefined && other.row === row.row && other.address === row.address && JSON.stringify(other.state) === JSON.stringify(row.state);
+    return other !== undefined && other.row === row.row && other.address === row.address
+      && JSON.stringify(other.state) === JSON.stringify(row.state);
   });
   const all = Math.max(one.rows.length, two.rows.length);
   const states = [one, two].map((run) => run.state(Infinity));
   const words = new Set([...states[0].words.keys(), ...states[1].words.keys()]);
-  const differ = [...words].filter((word) => (states[0].words.get(word) ?? ZERO) !== (states[1].words.get(word) ?? ZERO)).length;
+  const differ = [...words].filter((word) => (states[0].words.get(word) ?? ZERO) !== (states[1].words.get(word)
+    ?? ZERO)).length;
   const counters = states[0].counter === states[1].counter && states[0].enabled === states[1].enabled;
   const [a, b] = [one.totals, two.totals];
   const by = b.ticks - a.ticks;
   const other = one.rows[same] ?? two.rows[same];
-  const differing = other ? ` The first that differs is ${other.row}, ${other.address} ${(other.text || '').replace(/\s+/g, ' ').trim()}.` : '';
-  return `${grouped(same)} of ${plural(all, 'instruction')} ${same === 1 ? 'is' : 'are'} the same, in the same order, and each leaves the same; at the end `
-    + `${differ === 0 && counters ? 'all registers and all storage are the same' : `${plural(differ, 'word')} of registers and storage differ`}.${differing} `
-    + `The timetable is ${by === 0 && a.dropped === b.dropped ? 'as long' : 'not'}: ${grouped(a.ticks)} and ${grouped(b.ticks)} ticks (${by > 0 ? '+' : ''}${by}); dropped ${a.dropped} and ${b.dropped}.`;
+  const differing = other
+    ? ` The first that differs is ${other.row}, ${other.address} ${(other.text || '').replace(/\s+/g, ' ').trim()}.`
+    : '';
+  return `${grouped(same)} of ${plural(all, 'instruction')} ${same === 1 ? 'is' : 'are'} the same, in the same order, `
+    + `and each leaves the same; at the end `
+    + (differ === 0 && counters ? 'all registers and all storage are the same'
+      : `${plural(differ, 'word')} of registers and storage differ`) + `.${differing} `
+    + `It takes ${plural(a.ticks, 'tick')} with ${one.label}, and ${plural(b.ticks, 'tick')} with `
+      + `${two.label}${by ? `, ${grouped(Math.abs(by))} ${by > 0 ? 'more' : 'fewer'}` : ''}; dropped are `
+        + `${a.dropped} and ${b.dropped}.`;
 }

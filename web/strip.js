@@ -1,7 +1,9 @@
-// The stack of causes as a bar with its names, and the strip below it: which cause each tick went to. The strip is the slider.
+// The stack of causes as a bar with its names, and the strip below it: which cause each tick went to. The strip is the
+// slider.
 import { h, s } from './dom.js';
-import { CAUSES, grouped } from './words.js';
+import { CAUSES, grouped, plural } from './words.js';
 
+const A_HAIR = 0.02;            // of a tick
 const HEIGHT = 20;
 const ABOVE = 10;
 // Marks are drawn as triangles only where they stand so far apart.
@@ -32,7 +34,7 @@ export function bar(run, most, choose) {
       class: `piece b-${cause}`,
       'data-cause': cause,
       style: `flex:${shares[cause]} 0 0`,
-      title: `${name}: ${grouped(shares[cause])} ticks`,
+      title: `${name}: ${plural(shares[cause], 'tick')}`,
       'aria-label': `${name}: ${shares[cause]} ticks; marks them below`,
       onclick: () => choose(cause),
     }, shares[cause] / run.totals.ticks > 0.05 ? grouped(shares[cause]) : '')));
@@ -50,11 +52,14 @@ export function legend(runs, choose) {
   h('b', {}, runs.map((run) => grouped(run.totals.by_cause[cause])).join(' / ')))));
 }
 
-// Which causes the ticks of each column went to: by causes the paths of their pieces. A column stands for one tick or for many.
+// Which causes the ticks of each column went to: by causes the paths of their pieces. A column stands for one tick or
+// for many.
 function columns(run, first, last, width) {
   const paths = new Map();
   const put = (cause, x, y, w, height) => {
-    paths.set(cause, `${paths.get(cause) ?? ''}M${x.toFixed(2)} ${y.toFixed(2)}h${w.toFixed(2)}v${height.toFixed(2)}h${(-w).toFixed(2)}z`);
+    paths.set(cause,
+      `${paths.get(cause) ?? ''}M${x.toFixed(2)} `
+        + `${y.toFixed(2)}h${w.toFixed(2)}v${height.toFixed(2)}h${(-w).toFixed(2)}z`);
   };
   const scale = width / Math.max(last - first, 1);
   if (scale >= 1) {
@@ -92,11 +97,13 @@ export class Strip {
     Object.assign(this, { runs, first, last });
     this.svg = s('svg', { class: 'strip', 'aria-hidden': 'true' });
     this.box = h('div', {
-      class: 'slider', role: 'slider', tabindex: '0', id: 'slider', 'aria-label': 'tick', 'aria-valuemin': first, 'aria-valuemax': last,
+      class: 'slider', role: 'slider', tabindex: '0', id: 'slider', 'aria-label': 'tick', 'aria-valuemin': first,
+      'aria-valuemax': last,
     }, this.svg);
     const point = (event) => {
       const x = event.clientX - this.box.getBoundingClientRect().left - this.left;
-      go(Math.round(first + (x / this.width) * (last - first)));
+      // a tick is drawn up to its place on the axis
+      go(Math.ceil(first + (x / this.width) * (last - first) - A_HAIR));
     };
     this.box.addEventListener('pointerdown', (event) => {
       this.box.setPointerCapture(event.pointerId);
@@ -113,13 +120,15 @@ export class Strip {
     const all = [];
     let y = ABOVE;
     for (const run of this.runs) {
-      const pieces = [...columns(run, this.first, this.last, width)].map(([cause, d]) => s('path', { class: `f-${cause}`, 'data-cause': cause, d }));
+      const pieces = [...columns(run, this.first, this.last, width)].map(([cause, d]) =>
+        s('path', { class: `f-${cause}`, 'data-cause': cause, d }));
       all.push(s('g', { transform: `translate(${left} ${y})` }, pieces));
       all.push(s('g', { transform: `translate(${left} ${y})`, class: 'events' }, this.marks(run)));
       y += HEIGHT + ABOVE;
     }
     this.cursor = s('rect', { class: 'cursor', y: 0, width: 3, height: y, rx: 1.5 });
-    all.push(s('text', { class: 'soft', x: left - 8, y: ABOVE + 15, 'text-anchor': 'end' }, left > 200 ? 'each tick went to' : ''));
+    all.push(s('text', { class: 'soft', x: left - 8, y: ABOVE + 15, 'text-anchor': 'end' }, left > 200
+      ? 'each tick went to' : ''));
     this.svg.setAttribute('height', y);
     this.svg.setAttribute('width', left + width + 8);
     this.svg.replaceChildren(...all, this.cursor);

@@ -18,7 +18,8 @@ function table(name, heads, rows) {
 }
 
 function row(first, cells, kind) {
-  return h('tr', { class: kind }, h('th', { scope: 'row' }, first), cells.map((cell) => (cell instanceof Node ? cell : h('td', {}, cell))));
+  return h('tr', { class: kind }, h('th', { scope: 'row' }, first),
+    cells.map((cell) => (cell instanceof Node ? cell : h('td', {}, cell))));
 }
 
 function cardText(entry) {
@@ -30,7 +31,8 @@ export function committed(run, t, state) {
   const charge = run.charge(t);
   const whole = run.totals.instructions;
   return [
-    h('b', {}, 'Committed: '), 'counter ', h('span', { class: 'code' }, state.counter ?? '-'), `, ${run.numberDone(t)} of ${whole} done`,
+    h('b', {}, 'Committed: '), 'counter ', h('span', { class: 'code' }, state.counter ?? '-'),
+    `, ${run.numberDone(t)} of ${whole} done`,
     charge ? h('span', { class: 'gap' }, h('i', { class: `mark b-${charge.cause}`, 'aria-hidden': 'true' }),
       `this tick is charged to row ${charge.row.row}: ${causeName.get(charge.cause)}`) : null,
   ];
@@ -46,7 +48,8 @@ export function levelTable(run, t, levels) {
       h('td', { class: 'code' }, entry.address),
       h('td', { class: 'code card', title: cardText(entry) }, cardText(entry)),
       h('td', {}, h('i', { class: `mark m-${kind}`, 'aria-hidden': 'true' }), does),
-      index ? h('td', { class: 'code', title: `${index.before} → ${index.after}` }, `X${index.number}: ${indexText(index.before)} → ${indexText(index.after)}`) : h('td', { class: 'none' }, '–'),
+      index ? h('td', { class: 'code', title: `${index.before} → ${index.after}` },
+        `X${index.number}: ${indexText(index.before)} → ${indexText(index.after)}`) : h('td', { class: 'none' }, '–'),
     ]);
   });
   return table('levels', ['Levels, oldest first', '', 'address', 'card', 'does', 'index word, early'], rows);
@@ -59,7 +62,8 @@ export function nextLine(run, t) {
     const why = segment && t < segment.start ? `nothing: the machine starts anew at ${segment.start}` : 'nothing';
     return [h('b', {}, 'Prepared next: '), why];
   }
-  return [h('b', {}, 'Prepared next: '), h('span', { class: 'code' }, `${next.address} ${cardText(next)}`), ` ${nextWaits(run, next, t)}`,
+  return [h('b', {}, 'Prepared next: '), h('span', { class: 'code' }, `${next.address} ${cardText(next)}`),
+    ` ${nextWaits(run, next, t)}`,
     next.serial && !nextWaits(run, next, t).includes('done alone') ? `; it is ${aloneText(next.serial)}` : ''];
 }
 
@@ -79,7 +83,8 @@ export function indexTable(run, state, ahead) {
 
 export function interruptLine(state, names) {
   const numbers = pending(state.words);
-  const on = numbers.map((number) => (names[number] && names[number] !== '-' ? `${number} (${names[number]})` : number));
+  const on = numbers.map((number) => (names[number] && names[number] !== '-' ? `${number} (${names[number]})`
+    : number));
   return [h('b', {}, 'Interrupts '), `${state.enabled ? 'enabled' : 'disabled'}; pending: ${on.join(', ') || 'none'}`];
 }
 
@@ -88,25 +93,31 @@ export function registerTable(state, names) {
   const indicators = names.map((name) => name && { name });
   const first = Array.from({ length: 16 }, (_, word) => [word, state.words.get(word) ?? ZERO]);
   const rows = first.filter(([, content]) => content !== ZERO)
-    .map(([word, content]) => row(registerName(word), [h('td', { class: 'code' }, content), h('td', {}, registerText(word, content, indicators))]));
+    .map(([word, content]) => row(registerName(word), [h('td', { class: 'code' }, content),
+      h('td', {}, registerText(word, content, indicators))]));
   if (!rows.length) rows.push(h('tr', {}, h('td', { colspan: 3, class: 'soft' }, 'all are zero')));
   return table('registers', ['Registers, committed', '', 'word', 'what it says'], rows);
 }
 
-// Words of storage that the run has changed by a tick, youngest change last; at most some of them. `nameOf` gives the deck's name of a word that
+// Words of storage that the run has changed by a tick, youngest change last; at most some of them. `nameOf` gives the
+// deck's name of a word that
 // no field of the deck lies in.
 export function storageTable(run, t, state, nameOf) {
   const changed = new Map();
   for (let k = run.done(t) - 1; k >= 0 && k >= run.done(t) - 64 && changed.size < 8; k -= 1) {
-    for (const [word] of run.rows[k].state.words) if (word >= 32 && !changed.has(word)) changed.set(word, run.rows[k].row);
+    for (const [word] of run.rows[k].state.words) if (word >= 32 && !changed.has(word)) changed.set(word,
+      run.rows[k].row);
   }
   if (!changed.size) return null;
   const rows = [...changed].sort(([a], [b]) => a - b).map(([word, by]) => {
     const content = state.words.get(word) ?? ZERO;
     const fields = run.fields?.in(word) ?? [];
-    const says = fields.map((field) => h('b', {}, `${field.name} is ${fieldText(field, (one) => state.words.get(one) ?? ZERO)}; `));
-    return row(word, [h('td', { class: 'code' }, fields.map(({ name }) => name).join(' ') || (nameOf(word) ?? '')), h('td', { class: 'code' }, content),
-      h('td', {}, says, formsOf(content).map(([form, text]) => `${form} ${text}`).join(', ')), h('td', {}, `row ${by}`)]);
+    const says = fields.map((field) =>
+      h('b', {}, `${field.name} is ${fieldText(field, (one) => state.words.get(one) ?? ZERO)}; `));
+    return row(word, [h('td', { class: 'code' }, fields.map(({ name }) => name).join(' ') || (nameOf(word) ?? '')),
+      h('td', { class: 'code' }, content),
+      h('td', {}, says, formsOf(content).map(([form, text]) => `${form} ${text}`).join(', ')),
+      h('td', {}, `row ${by}`)]);
   });
   return table('storage', ['Storage changed last', '', 'name', 'word', 'what it may say', 'by'], rows);
 }
@@ -119,7 +130,8 @@ export function printerPaper(run, t) {
   if (!prints.length) return null;
   const done = prints.filter((one) => one.tick <= t);
   const lines = done.slice(-MOST_PRINTED).map(({ text }) => h('div', { class: 'print-line' }, text || ' '));
-  return h('figure', { class: 'printer' }, h('figcaption', {}, `Printed: ${done.length} of ${prints.length} ${prints.length === 1 ? 'line' : 'lines'}`),
+  return h('figure', { class: 'printer' }, h('figcaption', {},
+    `Printed: ${done.length} of ${prints.length} ${prints.length === 1 ? 'line' : 'lines'}`),
     h('div', { class: 'printed', tabindex: '0' }, lines.length ? lines : h('div', { class: 'print-line soft' }, ' ')));
 }
 

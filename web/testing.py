@@ -1,4 +1,5 @@
-"""What the checks of the pages share: counting, decks, what the model and the programs say of them, and the vectors in the page's own worker."""
+"""What the checks of the pages share: counting, decks, what the model and the programs say of them, and the vectors in
+the page's own worker."""
 import base64
 import importlib.machinery
 import importlib.util
@@ -23,13 +24,15 @@ AT_ONCE = 150           # vectors that are sent to the page in one go
 RUN_MANY = """async (program, jobs) => {
   const bytes = (text) => Uint8Array.from(atob(text), (letter) => letter.charCodeAt(0));
   window.many ??= new (app.side.constructor)(app.programs);
-  const { answers, message } = await window.many.ask({ ask: 'many', program, jobs: jobs.map((job) => ({ words: job.words, job: bytes(job.job) })) });
+  const { answers, message } = await window.many.ask({ ask: 'many', program,
+    jobs: jobs.map((job) => ({ words: job.words, job: bytes(job.job) })) });
   if (!answers) return [message];
   const wrong = [];
   answers.forEach(({ status, bytes: got, left }, k) => {
     const wanted = bytes(jobs[k].written);
     if (status !== jobs[k].status) wrong.push(`${jobs[k].name} ends with status ${status}, not ${jobs[k].status}`);
-    else if (left || got.length !== wanted.length || got.some((byte, n) => byte !== wanted[n])) wrong.push(`${jobs[k].name} writes something else`);
+    else if (left || got.length !== wanted.length || got.some((byte, n) => byte !== wanted[n])) wrong.push(
+      `${jobs[k].name} writes something else`);
   });
   return wrong;
 }"""
@@ -71,7 +74,8 @@ def examples():
 
 def vectors(program, every=1):
     """The vectors of a program, or each so-manieth of them; of `stretch` with the examples."""
-    all_ = [one for path in model_vectors.families() for one in model_vectors.read_family(path) if one.program == program]
+    all_ = [one for path in model_vectors.families() for one in model_vectors.read_family(path)
+        if one.program == program]
     if program == "stretch":
         all_ += model_vectors.examples()
     return all_[::every]
@@ -85,7 +89,8 @@ def run_vectors(count, ask, program, chosen):
     """Runs vectors in the worker of a page; `ask` evaluates an expression in it."""
     begun = time.monotonic()
     for k in range(0, len(chosen), AT_ONCE):
-        jobs = [{"name": one.name, "words": one.words, "job": encoded(one.job), "status": one.status, "written": encoded(one.written)} for one in chosen[k:k + AT_ONCE]]
+        jobs = [{"name": one.name, "words": one.words, "job": encoded(one.job), "status": one.status,
+            "written": encoded(one.written)} for one in chosen[k:k + AT_ONCE]]
         wrong = ask(f"({RUN_MANY})({json.dumps(program)}, {json.dumps(jobs)})", 300)
         count.passed += len(jobs) - len(wrong)
         for one in wrong:
@@ -101,12 +106,14 @@ def model(program, words, job=b""):
 def random_decks(seed, number):
     """Made decks, as (number, cards, text)."""
     rng = random.Random(seed)
-    return [(n, cards, made_deck(n, cards).decode("latin-1")) for n, cards in ((rng.randrange(1 << 32), rng.randrange(1, 60)) for _ in range(number))]
+    return [(n, cards, made_deck(n, cards).decode("latin-1")) for n,
+        cards in ((rng.randrange(1 << 32), rng.randrange(1, 60)) for _ in range(number))]
 
 
 def output(program, words, deck):
     """What a program on disk writes of a deck."""
-    return subprocess.run([program, *words], input=deck.encode("latin-1"), stdout=subprocess.PIPE, stderr=subprocess.DEVNULL, check=False, env={**os.environ, "STRETCH_UNPROVED": "silent"}).stdout
+    return subprocess.run([program, *words], input=deck.encode("latin-1"), stdout=subprocess.PIPE,
+        stderr=subprocess.DEVNULL, check=False, env={**os.environ, "STRETCH_UNPROVED": "silent"}).stdout
 
 
 def explained(lines, deck, levels):
@@ -143,6 +150,8 @@ def explained(lines, deck, levels):
 
 def loop(turns, words=5):
     """A loop that stores, multiplies now and then, and changes its index words; behind the last turn it waits."""
-    body = ["         L(BU,64),TABLE($X3)", "         +(BU,64),TABLE+1", "         ST(BU,64),TABLE+2($X3)", "         V+I,$X2,1.0", "         *(BU,64),TABLE+1"][:words]
-    return "\n".join([" START   LX,$X1,CTL", " LOOP    V+I,$X3,1.0", *body, "         CB,$X1,LOOP", "         BEW", f" CTL     XW,0.0,{turns},0",
+    body = ["         L(BU,64),TABLE($X3)", "         +(BU,64),TABLE+1", "         ST(BU,64),TABLE+2($X3)",
+        "         V+I,$X2,1.0", "         *(BU,64),TABLE+1"][:words]
+    return "\n".join([" START   LX,$X1,CTL", " LOOP    V+I,$X3,1.0", *body, "         CB,$X1,LOOP", "         BEW",
+        f" CTL     XW,0.0,{turns},0",
                       " TABLE   DD(BU,64),7", "         DD(BU,64),3", "         END,START", "/BUDGET 100000"]) + "\n"

@@ -37,7 +37,8 @@ class Standing {
     this.leaveBefore(tick);
     this.go(tick);
     this.leaving.push(leaves);
-    if (this.leaving.length >= this.ticks.length) throw new Off(`more levels are in use at tick ${tick} than there are`);
+    if (this.leaving.length >= this.ticks.length) throw new Off(
+      `more levels are in use at tick ${tick} than there are`);
   }
 
   end(tick) {
@@ -49,9 +50,11 @@ class Standing {
 
 export class Totals {
   constructor(levels) {
-    Object.assign(this, { rows: 0, ticks: 0, dropped: 0, wrongGuesses: 0, levelRows: 0, levelTicks: 0, places: new Map(), answers: [] });
+    Object.assign(this, { rows: 0, ticks: 0, dropped: 0, wrongGuesses: 0, levelRows: 0, levelTicks: 0,
+      places: new Map(), answers: [] });
     this.byCause = Object.fromEntries(CAUSE_NAMES.map((cause) => [cause, 0]));
-    this.byReason = Object.fromEntries([...Object.values(SEGMENT_REASONS), ...REASONS.slice(1)].map((reason) => [reason, { rows: 0, ticks: 0, late: 0 }]));
+    this.byReason = Object.fromEntries([...Object.values(SEGMENT_REASONS),
+      ...REASONS.slice(1)].map((reason) => [reason, { rows: 0, ticks: 0, late: 0 }]));
     this.banks = Array.from({ length: BANKS }, (_, bank) => ({ bank, reads: 0, busy: 0, waited: 0 }));
     this.words = { instruction_reads: 0, index_reads: 0, operand_reads: 0, following_reads: 0, held: 0, forwarded: 0 };
     this.standing = new Standing(levels);
@@ -121,7 +124,8 @@ export class Totals {
     this.addReads(begun);
   }
 
-  // All is added: what reads take behind the last tick does not count. The sums have to be those of the lines at the end.
+  // All is added: what reads take behind the last tick does not count. The sums have to be those of the lines at the
+  // end.
   close(end) {
     for (const [bank, tick] of this.answers) this.banks[bank].busy -= tick - this.ticks;
     this.byLevels = this.standing.end(this.ticks);
@@ -131,13 +135,15 @@ export class Totals {
       stages[stage] = (stages[stage] ?? 0) + ticks;
       if (stage !== cause) stages[cause] = ticks;
     }
-    const same = Object.keys(stages).length === Object.keys(end.sums).length && Object.entries(stages).every(([name, ticks]) => end.sums[name] === ticks);
+    const same = Object.keys(stages).length === Object.keys(end.sums).length
+      && Object.entries(stages).every(([name, ticks]) => end.sums[name] === ticks);
     const reasons = Object.values(this.byReason);
     for (const [good, what] of [
       [this.ticks === end.ticks && this.rows === end.done, 'the last row is not the end of the run'],
       [sum(Object.values(this.byCause)) === end.ticks, 'the charges do not add up to the ticks of the run'],
       [same, 'the charges do not add up to the lines SUM'],
-      [sum(reasons.map((one) => one.ticks)) + this.byCause.executing === end.ticks, 'the reasons do not add up to the ticks of the run'],
+      [sum(reasons.map((one) => one.ticks)) + this.byCause.executing === end.ticks,
+        'the reasons do not add up to the ticks of the run'],
       [reasons.every((one) => one.late >= 0 && one.late <= one.ticks), 'a reason is late by more than its ticks'],
       [sum(this.byLevels) === end.ticks, 'the levels in use do not add up to the ticks of the run'],
     ]) if (!good) throw new Off(what);
@@ -147,9 +153,11 @@ export class Totals {
   told() {
     const spent = ({ by_cause }) => sum(Object.values(by_cause));
     return {
-      ticks: this.ticks, instructions: this.rows, dropped: this.dropped, wrong_guesses: this.wrongGuesses, by_cause: this.byCause,
+      ticks: this.ticks, instructions: this.rows, dropped: this.dropped, wrong_guesses: this.wrongGuesses,
+      by_cause: this.byCause,
       by_reason: this.byReason, by_levels: this.byLevels,
-      by_address: [...this.places.values()].sort((a, b) => spent(b) - spent(a) || halfWord(a.address) - halfWord(b.address)),
+      by_address: [...this.places.values()].sort((a, b) => spent(b) - spent(a)
+        || halfWord(a.address) - halfWord(b.address)),
       waited_for_level: { rows: this.levelRows, ticks: this.levelTicks }, banks: this.banks, words: this.words,
     };
   }

@@ -5,18 +5,21 @@ import { Fields } from './fields.js';
 import { listingDeck, listingOf, listingView, namesOf } from './listing.js';
 import { Stopped } from './programs.js';
 import { reportView } from './report.js';
-import { phases } from './step.js';
 import { legend } from './strip.js';
+import { plural } from './words.js';
 import { whereView } from './where.js';
 
 const PICTURE_ROWS = 200;
 const LONG = 20000;
 const LATIN = new TextDecoder('latin1');
 
-// What of the picture of ./chart has which colour of the timetable: a part, what is coloured, and the colour's name in the style sheet.
+// What of the picture of ./chart has which colour of the timetable: a part, what is coloured, and the colour's name in
+// the style sheet.
 const PAINT = [
-  ['text', 'fill', 'text'], ['.m', 'fill', 'soft'], ['.p', 'fill', 'ground'], ['.g', 'stroke', 'grid'], ['.w', 'fill', 'operand'],
-  ['.t', 'fill', 'turn'], ['.t', 'stroke', 'soft'], ['.e', 'fill', 'executing'], ['.d', 'stroke', 'drop'], ['.i', 'stroke', 'restart'],
+  ['text', 'fill', 'text'], ['.m', 'fill', 'soft'], ['.p', 'fill', 'ground'], ['.g', 'stroke', 'grid'],
+  ['.w', 'fill', 'operand'],
+  ['.t', 'fill', 'turn'], ['.t', 'stroke', 'soft'], ['.e', 'fill', 'executing'], ['.d', 'stroke', 'drop'],
+  ['.i', 'stroke', 'restart'],
   ['.s', 'stroke', 'soft'], ['#h rect', 'fill', 'ground'], ['#h rect+rect', 'fill', 'drop'],
 ];
 
@@ -79,12 +82,21 @@ export class Views {
     const [run] = made.runs;
     const end = made.isCut ? null : { words: run.state(Infinity).words, before: new Map(run.data.first.words) };
     reportView(box, { report: made.report, left: made.left, indicators: this.app.book.indicators, listing, end });
+    box.prepend(...this.ofFour('report', made));
+  }
+
+  // The program has four levels; where the timetable is of another number, that is said.
+  ofFour(what, { levels }) {
+    return levels === 4 ? [] : [h('p', { class: 'note' },
+      `This ${what} is that of a machine of 4 levels; the timetable shows ${plural(levels, 'level')}. `
+      + 'Only lines about ticks, and about what is ahead, may differ.')];
   }
 
   async where(box, { runs: [run] }) {
     const cards = new Map();
     for (const row of run.rows) if (row.card && !cards.has(row.address)) cards.set(row.address, row.card);
-    whereView(box, run, cards, { cause: (cause) => this.app.stepper.chooseCause(cause), card: (card) => this.toCard(card) });
+    whereView(box, run, cards, { cause: (cause) => this.app.stepper.chooseCause(cause),
+      card: (card) => this.toCard(card) });
   }
 
   experiment(box, { deck }) {
@@ -95,8 +107,9 @@ export class Views {
     this.svg = await this.pictureText();
     this.image = h('img', { alt: 'the timetable of the run, as the program chart draws it' });
     this.paint();
-    box.replaceChildren(h('p', { class: 'soft' }, `The picture that ./chart draws of the report: at most ${PICTURE_ROWS} rows. `
-      + 'Here it has the colours of the timetable. Save it as a file for a text or a slide.'), h('p', { class: 'key' }, phases()),
+    box.replaceChildren(...this.ofFour('picture', this.made), h('p', { class: 'soft' },
+      `The picture that ./chart draws of the report: at most ${PICTURE_ROWS} rows. `
+      + 'Here it has the colours of the timetable. Save it as a file for a text or a slide.'),
     h('div', { class: 'picture-room', tabindex: '0' }, this.image));
   }
 
@@ -111,7 +124,8 @@ export class Views {
 
   async listing(box = null) {
     const { plain, cards } = this.made;
-    this.listed ??= this.app.side.run('stretch', ['run'], bytesOf(listingDeck(cards))).then(({ bytes }) => listingOf(LATIN.decode(bytes), cards, (card) => plain.lines[card - 1]));
+    this.listed ??= this.app.side.run('stretch', ['run'], bytesOf(listingDeck(cards)))
+      .then(({ bytes }) => listingOf(LATIN.decode(bytes), cards, (card) => plain.lines[card - 1]));
     const listed = await this.listed;
     this.symbols = new Map(listed.symbols);
     this.names = namesOf(listed.symbols);
@@ -121,7 +135,9 @@ export class Views {
 
   async object(box) {
     const text = await this.objectText();
-    box.replaceChildren(h('p', { class: 'soft' }, 'What the assembler lays, as text: ', h('code', {}, './stretch load'), ' runs it, and this page opens it.'), h('pre', { class: 'output', tabindex: '0' }, text.slice(0, 200000)));
+    box.replaceChildren(h('p', { class: 'soft' }, 'What the assembler lays, as text: ',
+      h('code', {}, './stretch load'), ' runs it, and this page opens it.'),
+      h('pre', { class: 'output', tabindex: '0' }, text.slice(0, 200000)));
   }
 
   // ---- texts
@@ -150,9 +166,9 @@ export class Views {
     return address === undefined ? null : Number(address.split('.')[0]);
   }
 
-  // Marks a card in the editor and its rows in the timetable.
+  // Marks a card in the editor and its rows in the timetable; the keyboard stays where it is.
   toCard(card) {
-    this.app.editor.goTo(card);
+    this.app.editor.show(card);
     if (this.app.stepper.card !== card) this.app.stepper.chooseCard(card);
   }
 }

@@ -24,7 +24,8 @@ const HELPS = {
   restart: ['the machine starts anew', 'fewer interrupts, drops and wrong guesses'],
   instruction_turn: ['another read was accepted before that of its instruction word', 'fewer reads at a time'],
   instruction_bank: ['the bank of its instruction word was busy', 'code and data in other banks'],
-  instruction_storage: ['its instruction word was on its way', 'faster storage; straight code, whose next words are asked for ahead'],
+  instruction_storage: ['its instruction word was on its way',
+    'faster storage; straight code, whose next words are asked for ahead'],
   address: ['its address was formed', 'what helps against its reason below, so that it runs ahead of the row before'],
   index_bank: ['the bank of its index-side word was busy', 'load index words early'],
   index_storage: ['its index-side word was on its way', 'load index words early'],
@@ -36,9 +37,13 @@ const HELPS = {
 };
 
 function causesTable(byCause) {
-  const rows = CAUSES.filter(([cause]) => byCause[cause]).sort(([a], [b]) => byCause[b] - byCause[a]).map(([cause, name]) => h('tr', {},
-    h('th', { scope: 'row' }, h('i', { class: `mark b-${cause}`, 'aria-hidden': 'true' }), name), h('td', { class: 'number' }, h('b', {}, grouped(byCause[cause]))), h('td', {}, HELPS[cause][0]), h('td', { class: 'soft' }, HELPS[cause][1])));
-  return wideTable('helps', 'What the ticks were spent on, and what may help', ['cause', 'ticks', 'meanwhile', 'may help'], rows);
+  const rows = CAUSES.filter(([cause]) => byCause[cause]).sort(([a], [b]) => byCause[b] - byCause[a])
+    .map(([cause, name]) => h('tr', {},
+    h('th', { scope: 'row' }, h('i', { class: `mark b-${cause}`, 'aria-hidden': 'true' }), name),
+    h('td', { class: 'number' }, h('b', {}, grouped(byCause[cause]))), h('td', {}, HELPS[cause][0]),
+    h('td', { class: 'soft' }, HELPS[cause][1])));
+  return wideTable('helps', 'What the ticks were spent on, and what may help',
+    ['cause', 'ticks', 'meanwhile', 'may help'], rows);
 }
 
 // The instructions whose field lies across two words, with the words that they read: each takes two reads for one.
@@ -47,15 +52,21 @@ function acrossTable(rows) {
   for (const row of rows) {
     const words = row.uses.filter((use) => use.kind === 'operand' && use.how === 'read').map((use) => use.word);
     if (words.length !== 2 || words[1] !== words[0] + 1 || /^\s*(T|SWAP)\b/i.test(row.text)) continue;
-    const waited = row.charges.filter(({ cause }) => cause.startsWith('operand')).reduce((all, { from, to }) => all + to - from, 0);
+    const waited = row.charges.filter(({ cause }) => cause.startsWith('operand'))
+      .reduce((all, { from, to }) => all + to - from, 0);
     const one = found.get(row.address) ?? { row, words, times: 0, ticks: 0 };
     found.set(row.address, { ...one, times: one.times + 1, ticks: one.ticks + waited });
   }
   if (!found.size) return null;
-  const lines = [...found.values()].sort((a, b) => b.ticks - a.ticks).slice(0, MOST_PLACES).map(({ row, words, times, ticks }) => h('tr', {},
-    h('th', { scope: 'row', class: 'code' }, row.address), h('td', { class: 'code' }, row.text.replace(/\s+/g, ' ')), h('td', {}, words.join(' and ')), h('td', { class: 'number' }, grouped(times)), h('td', { class: 'number' }, h('b', {}, grouped(ticks)))));
-  return [wideTable('across', 'Fields that lie across two words: each takes two reads', ['address', 'text', 'words', 'times', 'ticks it waited for operands'], lines),
-    h('p', { class: 'soft' }, 'A card DR,0 or SLC before the data puts a field at the beginning of a word; then one read is enough.')];
+  const lines = [...found.values()].sort((a, b) => b.ticks - a.ticks).slice(0, MOST_PLACES)
+    .map(({ row, words, times, ticks }) => h('tr', {},
+    h('th', { scope: 'row', class: 'code' }, row.address), h('td', { class: 'code' }, row.text.replace(/\s+/g, ' ')),
+    h('td', {}, words.join(' and ')), h('td', { class: 'number' }, grouped(times)),
+    h('td', { class: 'number' }, h('b', {}, grouped(ticks)))));
+  return [wideTable('across', 'Fields that lie across two words: each takes two reads',
+    ['address', 'text', 'words', 'times', 'ticks it waited for operands'], lines),
+    h('p', { class: 'soft' },
+      'A card DR,0 or SLC before the data puts a field at the beginning of a word; then one read is enough.')];
 }
 
 function sum(byCause) {
@@ -64,37 +75,52 @@ function sum(byCause) {
 
 // A bar of causes, on a scale on which `most` ticks fill it.
 function stack(byCause, most) {
-  return h('div', { class: 'stack', style: `width:${(100 * sum(byCause)) / most}%` }, CAUSES.filter(([cause]) => byCause[cause]).map(([cause, name]) => h('i', {
-    class: `b-${cause}`, 'data-cause': cause, title: `${name}: ${plural(byCause[cause], 'tick')}`, style: `flex:${byCause[cause]} 0 0`,
+  return h('div', { class: 'stack', style: `width:${(100 * sum(byCause)) / most}%` },
+      CAUSES.filter(([cause]) => byCause[cause]).map(([cause, name]) => h('i', {
+    class: `b-${cause}`, 'data-cause': cause, title: `${name}: ${plural(byCause[cause], 'tick')}`,
+    style: `flex:${byCause[cause]} 0 0`,
   })));
 }
 
 function placesTable(places, most, cardOf, choose) {
   const rows = places.slice(0, MOST_PLACES).map((place) => {
     const card = cardOf.get(place.address);
-    return h('tr', card ? { class: 'choose', tabindex: '0', title: `marks card ${card} and its rows`, onclick: () => choose(card), onkeydown: (event) => { if (event.key === 'Enter') choose(card); } } : {},
-      h('td', { class: 'number' }, card ?? ''), h('th', { scope: 'row', class: 'code' }, place.address), h('td', { class: 'code' }, place.text.replace(/\s+/g, ' ')),
-      h('td', { class: 'number' }, grouped(place.times)), h('td', { class: 'number' }, h('b', {}, grouped(sum(place.by_cause)))), h('td', { class: 'wide' }, stack(place.by_cause, most)));
+    return h('tr', card ? { class: 'choose', tabindex: '0', title: `marks card ${card} and its rows`,
+      onclick: () => choose(card), onkeydown: (event) => { if (event.key === 'Enter') choose(card); } } : {},
+      h('td', { class: 'number' }, card ?? ''), h('th', { scope: 'row', class: 'code' }, place.address),
+      h('td', { class: 'code' }, place.text.replace(/\s+/g, ' ')),
+      h('td', { class: 'number' }, grouped(place.times)), h('td', { class: 'number' },
+        h('b', {}, grouped(sum(place.by_cause)))), h('td', { class: 'wide' }, stack(place.by_cause, most)));
   });
-  return wideTable('places', 'Ticks of each instruction, most first', ['card', 'address', 'text', 'times', 'ticks', 'spent on'], rows);
+  return wideTable('places', 'Ticks of each instruction, most first',
+    ['card', 'address', 'text', 'times', 'ticks', 'spent on'], rows);
 }
 
 function reasonsTable(byReason) {
-  const rows = Object.entries(byReason).filter(([, one]) => one.rows).sort(([, a], [, b]) => b.ticks - a.ticks).map(([reason, one]) => h('tr', {},
-    h('th', { scope: 'row' }, REASONS[reason][0]), h('td', { class: 'number' }, grouped(one.rows)), h('td', { class: 'number' }, h('b', {}, grouped(one.ticks))), h('td', { class: 'number' }, one.late ? grouped(one.late) : '–'), h('td', { class: 'soft' }, REASONS[reason][1])));
-  return wideTable('reasons', 'What kept rows back, and what may help', ['because', 'rows', 'ticks', 'at most for it', 'may help'], rows);
+  const rows = Object.entries(byReason).filter(([, one]) => one.rows).sort(([, a], [, b]) => b.ticks - a.ticks)
+    .map(([reason, one]) => h('tr', {},
+    h('th', { scope: 'row' }, REASONS[reason][0]), h('td', { class: 'number' }, grouped(one.rows)),
+    h('td', { class: 'number' }, h('b', {}, grouped(one.ticks))), h('td', { class: 'number' }, one.late
+      ? grouped(one.late) : '–'), h('td', { class: 'soft' }, REASONS[reason][1])));
+  return wideTable('reasons', 'What kept rows back, and what may help',
+    ['because', 'rows', 'ticks', 'of them at most for this', 'may help'], rows);
 }
 
 function meters(caption, names, numbers, whole) {
-  return h('table', { class: 'meters' }, h('caption', {}, caption), h('tbody', {}, numbers.map((number, k) => h('tr', {}, h('th', { scope: 'row' }, names(k)), h('td', { class: 'number' }, grouped(number)),
+  return h('table', { class: 'meters' }, h('caption', {}, caption),
+    h('tbody', {}, numbers.map((number, k) => h('tr', {}, h('th', { scope: 'row' }, names(k)),
+      h('td', { class: 'number' }, grouped(number)),
     h('td', { class: 'wide' }, h('i', { class: 'meter', style: `width:${(100 * number) / Math.max(whole, 1)}%` }))))));
 }
 
 export function whereView(box, run, cardOf, { cause, card }) {
   const { totals } = run;
   const most = Math.max(1, ...totals.by_address.map((place) => sum(place.by_cause)));
-  box.replaceChildren(figures(run), bar(run, totals.ticks, cause), legend([run], cause), placesTable(totals.by_address, most, cardOf, card), ...[acrossTable(run.rows)].flat().filter(Boolean), causesTable(totals.by_cause), reasonsTable(totals.by_reason),
+  box.replaceChildren(figures(run), bar(run, totals.ticks, cause), legend([run], cause),
+    placesTable(totals.by_address, most, cardOf, card), ...[acrossTable(run.rows)].flat().filter(Boolean),
+    causesTable(totals.by_cause), reasonsTable(totals.by_reason),
     h('div', { class: 'side-by-side' },
       meters('Ticks with so many levels in use', (k) => k, totals.by_levels, totals.ticks),
-      meters('Ticks that each bank was busy', (k) => `bank ${k}`, totals.banks.map((bank) => bank.busy), totals.ticks)));
+      meters('Ticks that each bank was busy', (k) => `bank ${k}`, totals.banks.map((bank) => bank.busy),
+        totals.ticks)));
 }

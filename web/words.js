@@ -67,13 +67,16 @@ export function aloneText(serial) {
 
 // What a level does at a tick: [a word for its mark, the text].
 export function levelDoes(entry, t) {
-  const awaited = entry.uses.find((use) => use.kind === 'operand' && use.how !== 'register' && (use.answer ?? use.done) > t);
+  const awaited = entry.uses.find((use) => use.kind === 'operand' && use.how !== 'register'
+    && (use.answer ?? use.done) > t);
   if (entry.dropped) {
     const end = entry.end;
-    return ['dropped', t < entry.r && awaited ? `waits for word ${awaited.word}; dropped at ${end}` : `waits; dropped at ${end}`];
+    return ['dropped', t < entry.r && awaited ? `waits for word ${awaited.word}; dropped at ${end}`
+      : `waits; dropped at ${end}`];
   }
   if (t < entry.r) {
-    return ['operand', awaited ? `waits for word ${awaited.word} until ${awaited.answer ?? awaited.done}` : `waits for its operands until ${entry.r}`];
+    return ['operand', awaited ? `waits for word ${awaited.word} until ${awaited.answer ?? awaited.done}`
+      : `waits for its operands until ${entry.r}`];
   }
   const begins = entry.c - entry.cost;
   if (t < begins) return ['turn', `waits for its turn until ${begins}`];
@@ -84,7 +87,8 @@ export function levelDoes(entry, t) {
 export function nextWaits(run, entry, t) {
   const word = entry.uses.find((use) => use.kind === 'instruction' && (use.answer ?? use.done ?? 0) > t);
   if (word) {
-    if (word.how === 'read' && t < word.accept) return `waits for instruction word ${word.word}, which storage has not begun to read`;
+    if (word.how === 'read'
+      && t < word.accept) return `waits for instruction word ${word.word}, which storage has not begun to read`;
     return `waits for instruction word ${word.word}${word.answer === undefined ? '' : ` until ${word.answer}`}`;
   }
   if (t < entry.a - 1) {
@@ -93,7 +97,8 @@ export function nextWaits(run, entry, t) {
     if (writer) return `waits until ${writer.address} has stored into its words`;
     if (entry.serial) return `waits for all before it: it is ${aloneText(entry.serial)}`;
     const before = run.before(entry);
-    if (before?.serial && (before.c === undefined || before.c > t)) return `waits for ${before.address}, which is ${aloneText(before.serial)}`;
+    if (before?.serial && (before.c === undefined
+      || before.c > t)) return `waits for ${before.address}, which is ${aloneText(before.serial)}`;
     return 'waits for reads that came before its own';
   }
   if (t === entry.a - 1) return 'has its address formed in the next tick';
@@ -122,16 +127,19 @@ function endText(run, segment, t) {
   const range = run.bySegment[segment.place];
   const last = run.rows[range.to - 1];
   const following = run.segments[segment.place + 1];
-  if (interrupt) parts.push(`An interrupt by indicator ${interrupt.indicator}${interrupt.name ? ` (${interrupt.name})` : ''} is taken`);
+  if (interrupt) parts.push(
+    `An interrupt by indicator ${interrupt.indicator}${interrupt.name ? ` (${interrupt.name})` : ''} is taken`);
   else if (last?.missed) parts.push(`The branch at ${last.address} was guessed wrongly`);
   else if (following?.reason === 'card') parts.push('A card came from the reader');
-  if (!following && run.ended) parts.push(run.data.end === 'wait' ? 'The run ends: the machine waits' : 'The run ends: its budget of instructions is used up');
+  if (!following && run.ended) parts.push(run.data.end === 'wait' ? 'The run ends: the machine waits'
+    : 'The run ends: its budget of instructions is used up');
   const { dropped } = segment;
   if (dropped.length) {
     const names = [...dropped].reverse().map((entry) => entry.address);
     const order = names.length > 1 ? ', youngest first' : '';
     const back = goneBack(dropped);
-    parts.push(`${listed(names)} ${names.length > 1 ? 'are' : 'is'} dropped${order}${back.length ? `: ${listed(back)}` : ''}`);
+    parts.push(
+      `${listed(names)} ${names.length > 1 ? 'are' : 'is'} dropped${order}${back.length ? `: ${listed(back)}` : ''}`);
   }
   return parts;
 }
@@ -145,7 +153,9 @@ function restartText(run, t) {
   const k = t - earlier.end;
   const whole = segment.start - earlier.end;
   const what = k <= dropped.length ? `the price of ${dropped[k - 1].address}, which was dropped` : 'to start anew';
-  return [`Tick ${k} of ${whole} before the next segment: ${what}`];
+  const why = run.rows[run.bySegment[earlier.place].to - 1]?.missed
+    ? `; the branch at ${run.rows[run.bySegment[earlier.place].to - 1].address} was guessed wrongly` : '';
+  return [`Tick ${k} of ${whole} before the next segment: ${what}${why}`];
 }
 
 // What a row that is done at this tick leaves.
@@ -154,7 +164,8 @@ function doneText(run, row) {
     .map(([word, content]) => `index word ${word - 16} is now committed as ${indexText(content)}`);
   const own = row.state.words.map(([word]) => word);
   if (run.fields) changed.push(...run.fields.changes(own, run.state(row.c - 1).words, run.state(row.c).words));
-  if (own.includes(8) || own.includes(9) || own.includes(10)) changed.push(`the accumulator is now ${accumulatorText(run.state(row.c).words, /\(D/i.test(row.text))}`);
+  if (own.includes(8) || own.includes(9) || own.includes(10)) changed.push(
+    `the accumulator is now ${accumulatorText(run.state(row.c).words, /\(D/i.test(row.text))}`);
   return `${row.address} is done${changed.length ? `: ${listed(changed)}` : ''}`;
 }
 
@@ -180,7 +191,8 @@ export function sentences(run, t) {
   const levels = run.levels(t);
   levels.forEach((entry, k) => {
     const index = entry.index;
-    const early = index ? `, and index word ${index.number} changed early, ${indexText(index.before)} → ${indexText(index.after)}` : '';
+    const early = index
+      ? `, and index word ${index.number} changed early, ${indexText(index.before)} → ${indexText(index.after)}` : '';
     if (entry.p === t) parts.push(`${entry.address} is prepared in level ${k + 1}${early}`);
     if (entry.r === t && entry.r > entry.p) parts.push(`The operands of ${entry.address} are there`);
   });
@@ -193,7 +205,9 @@ export function sentences(run, t) {
   const oldest = levels[0];
   if (oldest) {
     const [what, text] = levelDoes(oldest, t);
-    parts.push(what === 'executing' ? `${oldest.address} executes: tick ${t - (oldest.c - oldest.cost)} of ${oldest.cost}` : `${oldest.address} ${text}`);
+    parts.push(what === 'executing'
+      ? `${oldest.address} executes: tick ${t - (oldest.c - oldest.cost)} of ${oldest.cost}`
+      : `${oldest.address} ${text}`);
   }
   if (next) parts.push(`${next.address} ${nextWaits(run, next, t)}`);
   return parts;

@@ -1,4 +1,5 @@
-// The worker: it has the modules of the programs, and answers one request after another. What has to stop is ended with the worker.
+// The worker: it has the modules of the programs, and answers one request after another. What has to stop is ended
+// with the worker.
 import { run } from './host.js';
 import { Ledger } from './ledger.js';
 
@@ -96,7 +97,8 @@ class Lines {
   }
 }
 
-// A ledger, read as it is written: the object of its rows, as text, which is quicker to pass on than what it says. Where parts are wanted
+// A ledger, read as it is written: the object of its rows, as text, which is quicker to pass on than what it says.
+// Where parts are wanted
 // its entries go so many at a time before the answer, which is then without them.
 function answerLedger({ levels, job, cards, names, first, last, isParted }, tell, part) {
   const ledger = new Ledger(levels, cards, names, first, last);
@@ -126,7 +128,8 @@ onmessage = async ({ data: { id, ask, ...request } }) => {
       for (const [name, source] of Object.entries(request.sources)) modules[name] = await moduleOf(source);
       postMessage({ id, modules });
     } else {
-      const answer = ANSWERS[ask](request, (progress) => postMessage({ id, progress }), (part) => postMessage({ id, part }));
+      const answer = ANSWERS[ask](request, (progress) => postMessage({ id, progress }),
+        (part) => postMessage({ id, part }));
       postMessage({ id, ...answer, ms: performance.now() - begun });
     }
   } catch (error) {
