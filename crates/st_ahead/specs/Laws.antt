@@ -60,7 +60,7 @@ pub record InstructionWordsAreThoseOfTheRun : Type 0 where
       (v : LookaheadView) →
       count v ≤ 8 → IsLookahead ds n now now t s f v → is_open v ≡ true →
       v.next.words.awaited ≤ now →
-      let words = words_of_run v.next.own ++ words_of_run v.next.target in
+      let words = words_of_run v.next.entry.own ++ words_of_run v.next.entry.target in
       map (word s) words ≡ map (word (guesses (count v) t s)) words
   pub fetched : (ds : List ℕ) (n tick now : ℕ) (t : Option ℕ) (s : Machine) (f : Front)
       (v : LookaheadView) →

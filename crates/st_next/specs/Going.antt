@@ -55,7 +55,7 @@ pub record IsEarly (f : Front) (words : Fetching) : Type 0 where
 
 -- an entry as the timetable sees it, by what is fetched, what it needs and what it is prepared to
 abbrev pub as_entry : Next → Entry
-as_entry next = entry_with next.own next.target next.needs next.prepared next.place.table
+as_entry next = entry_with next.entry.own next.entry.target next.needs next.prepared next.place.table
     next.fetched.fault
 
 -- an entry of which this is fetched, prepared as far as it goes without its index-side word
@@ -68,7 +68,7 @@ prepared_as fd x s next =
 -- how far it is fetched by the words so far, as they stand in a state
 abbrev pub given_so_far : List ℕ → Machine → Next → Given
 given_so_far x s next = fetching_of (left_after (reading_by x s next.place)
-    (map (word s) (words_of_run next.own ++ words_of_run next.target)))
+    (map (word s) (words_of_run next.entry.own ++ words_of_run next.entry.target)))
 
 -- its words tell all of it, and their writers are done by the tick `now`: it is prepared as far as
 -- it goes without its index-side word
