@@ -66,7 +66,7 @@ pub record InstructionWordsAreThoseOfTheRun : Type 0 where
       (v : LookaheadView) →
       IsLookahead ds n tick now t s f v → v.next.planned ≡ true →
       let u = guesses (count v) t s in
-      v.next.fetched ≡ fetched_at u (place_of u (table_behind (count v) t))
+      v.next.fetched.value ≡ fetched_at u (place_of u (table_behind (count v) t))
 
 -- What is opened at the start of a segment runs ahead of nothing, at each tick up to the start.
 abbrev pub OpeningsLookAhead : Type 0

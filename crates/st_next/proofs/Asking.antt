@@ -144,13 +144,13 @@ module _ (ds : List ℕ) (n now : ℕ) (f : Front) (x : List ℕ) (s : Machine) 
         })
 
     -- the plan
-    module _ (e : what ds n now f x s before un due cs contents ≡ GivenAll before.fetched) (prepared : before ≡ prepared_as before.fetched x s before) where
+    module _ (e : what ds n now f x s before un due cs contents ≡ GivenAll before.fetched.value) (prepared : before ≡ prepared_as before.fetched.value x s before) where
       pub known-seen : IsEntryInTime before.entry
       known-seen =
-          let it = comes-all ds n now f x s before un due cs contents k.table k.state k.indicator k.before k.is_next.read_on before.fetched e in
+          let it = comes-all ds n now f x s before un due cs contents k.table k.state k.indicator k.before k.is_next.read_on before.fetched.value e in
           rw (ap (λ (m : Next). m.entry) prepared
-          ∙ entry-same k.table k.state before.entry.own before.entry.target (sight_of before.place before.fetched x s) it.0.own_all it.0.target_all
-          (sight-same now f x s k.state k.table before.place before.fetched k.before k.is_next.read_on.place it.1)) known-entry
+          ∙ entry-same k.table k.state before.entry.own before.entry.target (sight_of before.place before.fetched.value x s) it.0.own_all it.0.target_all
+          (sight-same now f x s k.state k.table before.place before.fetched.value k.before k.is_next.read_on.place it.1)) known-entry
 
       pub plan-words : before.words ≡ words_tick ds f before.entry
       unfolding words_tick fetch_words

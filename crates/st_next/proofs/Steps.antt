@@ -6,6 +6,8 @@ use Rattle.st_prep.specs.declared.entries.Fetched.{Fetched}
 use Rattle.st_prep.specs.declared.entries.Fetching.{Fetching as Giving}
 use Rattle.st_prep.specs.declared.entries.Fetching.TheVariants.{Next as GivenWord, Found as GivenAll}
 use Rattle.st_prep.specs.declared.entries.Place.{Place}
+use Rattle.st_prep.specs.declared.entries.Needs.{Needs}
+use Rattle.st_prep.specs.declared.entries.Prepared.{Prepared}
 use Rattle.st_prep.specs.Fetch.{index_words, place_of, words_fetched as fetched_at}
 use Rattle.st_prep.specs.Plan.{Sight, sight_of, sight, needs}
 use Rattle.st_prep.specs.Reading.{reading_at_place, left_after, fetching_of}
@@ -21,7 +23,7 @@ use Rattle.st_segment.proofs.KnownEarly.{entry-seen}
 use Rattle.st_next.specs.Words.{run_with_word}
 use Rattle.st_next.specs.Known.{IsStateBefore}
 use Rattle.st_next.specs.Progress.{IsReadOn, IsPlanned, preparation_without_side, Rests}
-use Rattle.st_next.specs.Going.{GoesOnTo, prepared_as}
+use Rattle.st_next.specs.Going.{GoesOnTo, as_entry, prepared_as}
 use Rattle.st_next.specs.declared.next.Next.{Next}
 use Rattle.st_next.proofs.Starts.{IsNextOwn, own-more, IsNextTarget, target-more, word-behind, IsAll}
 use Rattle.st_next.proofs.Given.{contents_of, gives-own, gives-target, gives-all}
@@ -49,6 +51,17 @@ sight-same now f x s u t p fd is place found =
 pub entry-same : (t : Option ℕ) (u : Machine) (own target : WordRun) (v : Sight) → own ≡ (entry t u).own → target ≡ (entry t u).target
     → v ≡ sight u (place_of u t) → entry_with own target (needs v) (preparation_without_side v) v.place.table v.fetched.fault ≡ entry t u
 entry-same t u own target v o g e = rw (o, g, e) (sym (entry-seen t u _))
+
+-- what is fetched for an entry, what it needs and what it is prepared to, kept in it
+abbrev pub shown : Next → Fetched → Needs → Prepared → Next
+shown next fd needed prepared =
+    let m = record next { fetched = record { marker = record {}; value = fd }; needs = needed; prepared = prepared } in
+    record m { entry = as_entry m }
+
+pub shown-as : (next : Next) (x : List ℕ) (s : Machine) (fd given : Fetched) (needed : Needs) (prepared : Prepared) → given ≡ fd
+    → needed ≡ needs (sight_of next.place fd x s) → prepared ≡ preparation_without_side (sight_of next.place fd x s)
+    → shown next given needed prepared ≡ prepared_as fd x s next
+shown-as next x s fd given needed prepared f n p = rw (f, n, p) refl
 
 -- an entry that is prepared so far is planned
 pub record IsPlannedAs (ds : List ℕ) (n : ℕ) (f : Front) (before after : Next) : Type 0 where
@@ -155,13 +168,13 @@ module _ (ds : List ℕ) (n now : ℕ) (f : Front) (x : List ℕ) (s : Machine) 
 
   -- ---- the plan
 
-  pub plan-goes : (after : Next) (later : ℕ) → what ≡ GivenAll before.fetched → before ≡ prepared_as before.fetched x s before → IsPlannedAs ds n f before after
+  pub plan-goes : (after : Next) (later : ℕ) → what ≡ GivenAll before.fetched.value → before ≡ prepared_as before.fetched.value x s before → IsPlannedAs ds n f before after
       → GoesOnTo ds n now f x s before after later
   plan-goes after later e prepared made = subst (λ a. GoesOnTo ds n now f x s before a later) (sym made.rest) (record {
     each = λ t u table is next.
-        let it = comes-all t u table is next.read_on before.fetched e in
-        let same = sight-same now f x s u t before.place before.fetched is next.read_on.place it.1 in
-        let whole = ap (λ (m : Next). m.entry) prepared ∙ entry-same t u before.entry.own before.entry.target (sight_of before.place before.fetched x s) it.0.own_all it.0.target_all same in (
+        let it = comes-all t u table is next.read_on before.fetched.value e in
+        let same = sight-same now f x s u t before.place before.fetched.value is next.read_on.place it.1 in
+        let whole = ap (λ (m : Next). m.entry) prepared ∙ entry-same t u before.entry.own before.entry.target (sight_of before.place before.fetched.value x s) it.0.own_all it.0.target_all same in (
           record {
             read_on = record {
               place = next.read_on.place;

@@ -40,7 +40,7 @@ preparation_without_side v = prepared_of v (option_map (λ w. 0) (needs_of v).in
 module _ (ds : List ℕ) (n : ℕ) (t : Option ℕ) (u : Machine) (f : Front) (next : Next) where
   -- its words are all asked for, and all of it is known but its index-side word
   pub record IsPlanned : Type 0 where
-    pub found : next.fetched ≡ fetched_at u (place_of u t)
+    pub found : next.fetched.value ≡ fetched_at u (place_of u t)
     pub needs : next.needs ≡ needs_of (sight u (place_of u t))
     pub prepared : next.prepared ≡ preparation_without_side (sight u (place_of u t))
     pub entry : next.entry ≡ entry_of t u

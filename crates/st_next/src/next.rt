@@ -1,5 +1,5 @@
 //! The entry that is prepared next, as far as it is known.
-ghost use Rattle.std.specs.Prelude.{◌≡◌, ℕ, ◌+◌, ◌-◌, ◌<◌, ◌≤◌, true, false, max, take, map, List, ◌++◌, Option, IfSome, get_or, if◌then◌else◌};
+ghost use Rattle.std.specs.Prelude.{◌≡◌, ℕ, ◌+◌, ◌-◌, ◌<◌, ◌≤◌, true, false, max, take, map, List, ◌++◌, Option, IfSome, is_none, is_some, get_or, if◌then◌else◌};
 ghost use Rattle.st_bits.specs.Storage.{words_of_storage};
 ghost use Rattle.st_fetch.specs.Planned.{tick_of};
 ghost use Rattle.st_state.specs.Machine.{word};
@@ -20,15 +20,16 @@ ghost use Rattle.st_next.specs.Going.{given_so_far, IsFrontInTime, IsEarly, Goes
 use st_banks::Delays;
 use st_format::{Decoded, Format, FullOp, decode_as, format_of};
 use st_prep::{
-    Fetched, Fetching as Given, Needs, Place, Prepared, fetch_on, halves_known, is_execute_format,
-    prepare_in, prepare_without_side, side_word,
+    Fetched, Fetching as Given, Needs, Place, Prepared, change_by_side, fetch_on, halves_known,
+    is_execute_format, prepare_without_side, side_word,
 };
 use st_rows::{Bus, Entry, Fetching, Formed, Front, Log, Timing, Wanted, WordRun};
 use st_segment::{side_to_read, words_to_read, words_to_write};
 use st_state::State;
+use std::snapshot::Snapshot;
 
 /// The entry that is prepared next, as far as it is known.
-#[derive(Clone, Copy, Debug, Default, PartialEq, Eq)]
+#[derive(Drop)]
 pub struct Next {
     /// Where it stands.
     pub place: Place,
@@ -38,8 +39,8 @@ pub struct Next {
     /// Whether all of it is known but its index-side word; what follows is said of such an entry
     /// alone, but for the instruction words in `entry`.
     pub planned: bool,
-    /// What is fetched.
-    pub fetched: Fetched,
+    /// What is fetched, which clauses alone read.
+    pub fetched: Snapshot<Fetched>,
     /// What it needs.
     pub needs: Needs,
     /// What it is, with 0 in place of its index-side word.
@@ -78,7 +79,12 @@ impl Next {
         Next {
             place,
             words: Fetching::new(bus),
-            ..Next::default()
+            planned: false,
+            fetched: Snapshot::of(&Fetched::default()),
+            needs: Needs::default(),
+            prepared: Prepared::default(),
+            entry: Entry::default(),
+            formed: Formed::default(),
         }
     }
 
@@ -370,9 +376,10 @@ impl Next {
         self.prepare_with_side(x, state);
     }
 
-    // The same, by what stands in its index-side word now.
+    // The same, by what stands in its index-side word now. There is one.
     #[inline(never)]
     fn prepare_with_side(&mut self, x: &[u64; 16], state: &State)
+        requires asked { is_some self.old.needs.index_read ≡ true }
         requires planned { self.old.planned ≡ true }
         requires ready { IsNextReady x.now state.now self.old }
         ensures value { IsPlanAtItsTick x.now state.now self.old self.new.prepared }
@@ -380,9 +387,7 @@ impl Next {
         ensures rest { self.new ≡ record self.old { prepared = self.new.prepared } }
     {
         let read = side_word(state, self.place.table, self.needs.index_read);
-        self.prepared.place = self.place;
-        let mut after = *x;
-        prepare_in(&mut self.prepared, &self.fetched, &mut after, read, state);
+        change_by_side(&mut self.prepared, x, read);
     }
 
     // The instruction with its format, where its words tell all of it and it is not EX. Its words
@@ -430,10 +435,10 @@ impl Next {
         requires fetched { IsFetched fetched }
         ensures value { self.new ≡ prepared_as fetched x.now state.now self.old }
     {
-        self.fetched = fetched;
+        self.fetched = Snapshot::of(&fetched);
         self.prepared.place = self.place;
-        self.needs = prepare_without_side(&mut self.prepared, &self.fetched, x, state);
-        self.show();
+        self.needs = prepare_without_side(&mut self.prepared, &fetched, x, state);
+        self.show(fetched.fault.is_none());
     }
 
     // Prepares the entry, which is this instruction, as far as it goes without its index-side word.
@@ -477,8 +482,7 @@ impl Next {
         self.prepare_own(own, x, state);
     }
 
-    // The same of any instruction. What is fetched is kept field by field, before it is read, so
-    // that no copy of it is made with tests.
+    // The same of any instruction.
     #[inline(always)]
     fn prepare_own(&mut self, own: Decoded, x: &[u64; 16], state: &State)
         requires place { IsPlace self.old.place }
@@ -490,17 +494,17 @@ impl Next {
             target: None,
             fault: None,
         };
-        self.fetched.instr = own;
-        self.fetched.target = None;
-        self.fetched.fault = None;
+        self.fetched = Snapshot::of(&fetched);
         self.prepared.place = self.place;
         self.needs = prepare_without_side(&mut self.prepared, &fetched, x, state);
-        self.show();
+        self.show(true);
     }
 
-    // The entry becomes what it is prepared to, as the timetable sees it.
+    // The entry becomes what it is prepared to, as the timetable sees it; `allowed` says whether its
+    // words could be fetched.
     #[inline(always)]
-    fn show(&mut self)
+    fn show(&mut self, allowed: bool)
+        requires { allowed ≡ is_none self.old.fetched.value.fault }
         ensures { self.new ≡ record self.old { entry = as_entry self.old } }
     {
         let entry = &mut self.entry;
@@ -510,7 +514,7 @@ impl Next {
         entry.writes = words_to_write(prepared.writes);
         entry.cost = prepared.cost;
         entry.serial = prepared.serial;
-        entry.follows = self.place.table.is_none() && self.fetched.fault.is_none();
+        entry.follows = self.place.table.is_none() && allowed;
     }
 }
 

@@ -1,11 +1,11 @@
 //! What an entry is aimed at, and the entry prepared.
-ghost use Rattle.std.specs.Prelude.{◌≡◌, ℕ, ◌<◌, ◌^◌, IfSome, is_some, option_map};
+ghost use Rattle.std.specs.Prelude.{◌≡◌, ℕ, ◌<◌, ◌^◌, true, Option, IfSome, is_some, option_map};
 ghost use Rattle.st_bits.specs.Indicators.{indicator as indicator_of, IsIndicatorIfAny};
 ghost use Rattle.st_bits.specs.Storage.{words_of_storage};
 ghost use Rattle.st_state.specs.Machine.{Machine, IsMachine, word};
 ghost use Rattle.st_state.specs.Interrupts.{indicator_word};
 ghost use Rattle.st_prep.specs.EarlyChange.{words_after};
-ghost use Rattle.st_prep.specs.Plan.{sight_of, is_alone as is_alone_of, aim_at as aimed_of, aim as aim_of, is_serial as is_serial_of, needs_by, needs as needs_of, asks, suppressed_entry as suppressed_of, entry_at as entry_of, prepared_by, prepared_entry as prepared_of, plan as plan_of, state_at_entry, side_word as side_word_of, side_of, IsSeen, entry_by, sight};
+ghost use Rattle.st_prep.specs.Plan.{Sight, sight_of, is_alone as is_alone_of, aim_at as aimed_of, aim as aim_of, is_serial as is_serial_of, needs_by, needs as needs_of, asks, suppressed_entry as suppressed_of, entry_at as entry_of, prepared_by, prepared_entry as prepared_of, plan as plan_of, state_at_entry, side_word as side_word_of, side_of, IsSeen, entry_by, sight};
 ghost use Rattle.st_prep.specs.Fetch.{place_of as place_by};
 ghost use Rattle.st_format.specs.Formats.{spelled_as};
 ghost use Rattle.st_prep.specs.Reading.{is_execute as is_execute_of};
@@ -231,6 +231,21 @@ pub fn prepare_without_side(
     let needs = needs(&aim);
     fill(&aim, x, zero_for(needs.index_read), needs.serial, p);
     needs
+}
+
+/// Makes the early change of an entry once more, by its index-side word, once that is read. It was
+/// prepared by whatever stood in its place.
+pub fn change_by_side(p: &mut Prepared, x: &[u64; 16], read: Option<u64>)
+    requires { IsPrepared p.old }
+    ensures value { (v : Sight) (other : Option ℕ) → v.x ≡ x.now → asks v ≡ true →
+        p.old ≡ prepared_of v other → p.new ≡ prepared_of v read }
+    ensures ranges { (v : Sight) (other : Option ℕ) → v.x ≡ x.now → asks v ≡ true →
+        p.old ≡ prepared_of v other → IsPrepared p.new }
+{
+    read_shape(read);
+    let early = change(&p.instr, x, p.e, read);
+    p.index = early.index;
+    p.ind = early.ind;
 }
 
 // A word of zeros in the place of an index-side word, where one is asked for.
