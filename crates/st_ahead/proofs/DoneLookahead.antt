@@ -46,7 +46,7 @@ or-second false b e = refl
 abbrev NextAt : Bool → List ℕ → ℕ → ℕ → Option ℕ → Machine → Front → Next → Type 0
 NextAt true ds n now t u f next = IsNext ds n t u f next × Rests now t u f next
 NextAt false ds n now t u f next =
-    (next.planned ≡ false) × (next.own ≡ record { first = 0; len = 0 }) × (next.target ≡ record { first = 0; len = 0 })
+    (next.planned ≡ false) × (next.entry.own ≡ record { first = 0; len = 0 }) × (next.entry.target ≡ record { first = 0; len = 0 })
     × (next.words ≡ record { bus = f.bus; answered = 0; awaited = 0 })
 
 next-at : (b : Bool) (ds : List ℕ) (n now : ℕ) (t : Option ℕ) (s : Machine) (v : LookaheadView) → IsNextIf b ds n now t s v
@@ -148,9 +148,9 @@ opened-at ds n now u f next closed alone late place = (
   record {
     read_on = record {
       place = place;
-      first = first-none next.own next.target (entry None u) closed.1 closed.2;
-      words = λ unread. closed.3 ∙ sym (so-far ds f next.own next.target closed.1 closed.2);
-      awaited = ap (λ (s : Fetching). s.awaited) (closed.3 ∙ sym (so-far ds f next.own next.target closed.1 closed.2));
+      first = first-none next.entry.own next.entry.target (entry None u) closed.1 closed.2;
+      words = λ unread. closed.3 ∙ sym (so-far ds f next.entry.own next.entry.target closed.1 closed.2);
+      awaited = ap (λ (s : Fetching). s.awaited) (closed.3 ∙ sym (so-far ds f next.entry.own next.entry.target closed.1 closed.2));
     };
     planned = λ planned. absurd (cc (planned, closed.0));
   },

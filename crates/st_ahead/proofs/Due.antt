@@ -10,7 +10,6 @@ use Rattle.st_rows.specs.Entries.{no_runs}
 use Rattle.st_rows.specs.Ranges.{AreDelaysUpTo, IsEntryInTime}
 use Rattle.st_rows.specs.Rows.{row_of_entry, front_after_entry, preparation_tick, address_tick, done_before, tick_a, tick_p, tick_c}
 use Rattle.st_rows.specs.declared.entry.Entry.{Entry}
-use Rattle.st_rows.specs.declared.entry.WordRun.{WordRun}
 use Rattle.st_rows.specs.declared.front.Front.{Front}
 use Rattle.st_rows.specs.declared.past.Past.{Past}
 use Rattle.st_rows.proofs.MadeLemmas.{before-cases}
@@ -101,8 +100,8 @@ pub reads-formed : (ds : List ℕ) (n : ℕ) (k : Option ℕ) (u : Machine) (f :
     → next.planned ≡ true → reads_so_far ds f next ≡ formed_asked ds f (entry k u)
 reads-formed ds n k u f next is planned =
     let e = entry k u in
-    let fetches : asked_so_far ds f next.own next.target ≡ fetches_asked ds f e =
-    ap₂ (λ (a b : WordRun). asked_so_far ds f a b) is.own is.target ∙ formed-fetches ds f e in
+    let fetches : asked_so_far ds f next.entry.own next.entry.target ≡ fetches_asked ds f e =
+    ap (λ (x : Entry). asked_so_far ds f x.own x.target) is.entry ∙ formed-fetches ds f e in
     let sides : (if next.planned then side_asked f.past next.entry.side next.formed.a else []) ≡ side_asked f.past e.side (tick_a ds f e) =
     ap (λ b. if b then side_asked f.past next.entry.side next.formed.a else []) planned
     ∙ ap₂ (λ (x : Entry) (a : ℕ). side_asked f.past x.side a) is.entry is.address in

@@ -70,8 +70,8 @@ module _ (ds : List ℕ) (n now : ℕ) (ordered : AreOrdered ds n) where
   planned-later t u f next is planned late =
       let e : Entry = entry t u in
       let p : next.formed.p ≡ tick_p ds n f e = is.tick in
-      let fetches : asked_so_far ds f next.own next.target ≡ fetches_asked ds f e =
-      ap₂ (λ (a b : WordRun). asked_so_far ds f a b) is.own is.target ∙ all-fetched f e in
+      let fetches : asked_so_far ds f next.entry.own next.entry.target ≡ fetches_asked ds f e =
+      ap (λ (x : Entry). asked_so_far ds f x.own x.target) is.entry ∙ all-fetched f e in
       let sides : (if next.planned then side_asked f.past next.entry.side next.formed.a else []) ≡ side_asked f.past e.side (tick_a ds f e) =
       ap (λ b. if b then side_asked f.past next.entry.side next.formed.a else []) planned
       ∙ ap₂ (λ (x : Entry) (a : ℕ). side_asked f.past x.side a) is.entry is.address in
@@ -87,12 +87,12 @@ module _ (ds : List ℕ) (n now : ℕ) (ordered : AreOrdered ds n) where
   -- ---- it is not
 
   behind-fetches : (f : Front) (e : Entry) (next : Next) (rest : List Read) → next.planned ≡ false
-      → fetches_asked ds f e ≡ asked_so_far ds f next.own next.target ++ rest → All (λ (r : Read). now ≤ r.want) rest
+      → fetches_asked ds f e ≡ asked_so_far ds f next.entry.own next.entry.target ++ rest → All (λ (r : Read). now ≤ r.want) rest
       → now ≤ tick_a ds f e → IsLater ds n now f e next
   unfolding row_of_entry
   behind-fetches f e next rest unplanned reads late before =
       let others = data_of ds n f e in
-      let so_far = asked_so_far ds f next.own next.target in
+      let so_far = asked_so_far ds f next.entry.own next.entry.target in
       let p : (row_of_entry ds n f e).a < (row_of_entry ds n f e).p = ordered.prepared f e in
       let none : reads_so_far ds f next ≡ so_far =
       ap (λ b. so_far ++ (if b then side_asked f.past next.entry.side next.formed.a else [])) unplanned ∙ append-nil so_far in
@@ -125,7 +125,7 @@ module _ (ds : List ℕ) (n now : ℕ) (ordered : AreOrdered ds n) where
 
   -- ---- behind a level that is done alone
 
-  alone-later : (e : Entry) (f : Front) (next : Next) → next.planned ≡ false → next.own ≡ none → next.target ≡ none
+  alone-later : (e : Entry) (f : Front) (next : Next) → next.planned ≡ false → next.entry.own ≡ none → next.entry.target ≡ none
       → f.serial ≡ true → now ≤ f.c → IsLater ds n now f e next
   unfolding row_of_entry fetches_asked words_asked fetch_words reads_of uses wishes fetch_word
   alone-later e f next unplanned no_own no_target serial late =
@@ -236,16 +236,16 @@ few-prepared ds n f e range =
       range.two_few,
     ))
 
-few-so-far : (ds : List ℕ) (f : Front) (next : Next) → length (reads_so_far ds f next) ≤ next.own.len + next.target.len + 1
+few-so-far : (ds : List ℕ) (f : Front) (next : Next) → length (reads_so_far ds f next) ≤ next.entry.own.len + next.entry.target.len + 1
 unfolding fetches_asked words_asked fetch_words
 few-so-far ds f next =
     let start : Fetching = record { bus = f.bus; answered = 0; awaited = 0 } in
-    let behind = fetch_words ds f.past start (wanted_from f) next.own.first next.own.len in
+    let behind = fetch_words ds f.past start (wanted_from f) next.entry.own.first next.entry.own.len in
     simp length-append
     (omega (
       arith,
-      few-words ds f.past (wanted_from f) start next.own.first next.own.len,
-      few-words ds f.past (max (wanted_from f) f.c) behind next.target.first next.target.len,
+      few-words ds f.past (wanted_from f) start next.entry.own.first next.entry.own.len,
+      few-words ds f.past (max (wanted_from f) f.c) behind next.entry.target.first next.entry.target.len,
       few-if next.planned,
     ))
   where

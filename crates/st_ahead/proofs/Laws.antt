@@ -59,9 +59,9 @@ instruction_words_are_those_of_the_run = record {
       let next = (next-known ds n now now t s f v is opened).0 in
       let k = table_behind (count v) t in
       let u = guesses (count v) t s in
-      let words = words-entry v.next.own v.next.target (entry k u) next.read_on.first
+      let words = words-entry v.next.entry.own v.next.entry.target (entry k u) next.read_on.first
       (entry-ranges k u before.machine (behind-indicator (count v) t is.indicator)) in
-      contents-same ds now v.front v.levels.x s u v.next.own v.next.target before words
+      contents-same ds now v.front v.levels.x s u v.next.entry.own v.next.entry.target before words
       (subst (λ (a : ℕ). a ≤ now) next.read_on.awaited done);
   fetched = λ ds n tick now t s f v lookahead planned.
       let opened = planned-open (is_open v) ds n now t s v lookahead.outlook.next planned in

@@ -102,21 +102,21 @@ pub so-far : (ds : List ℕ) (f : Front) (own target : WordRun) → own ≡ none
     → words_so_far ds f own target ≡ record { bus = f.bus; answered = 0; awaited = 0 }
 so-far ds f own target no_own no_target = rw (no_own, no_target) (no-words ds f)
 
-reads-none : (ds : List ℕ) (f : Front) (next : Next) → next.own ≡ none → next.target ≡ none → next.planned ≡ false
+reads-none : (ds : List ℕ) (f : Front) (next : Next) → next.entry.own ≡ none → next.entry.target ≡ none → next.planned ≡ false
     → reads_so_far ds f next ≡ []
 reads-none ds f next no_own no_target unplanned = rw (no_own, no_target, unplanned) (append-nil _ ∙ no-reads ds f)
 
 next-none : (ds : List ℕ) (n now : ℕ) (t : Option ℕ) (s : Machine) (f : Front) (next : Next) → next.place ≡ place_of s t
-    → next.own ≡ none → next.target ≡ none → next.planned ≡ false
+    → next.entry.own ≡ none → next.entry.target ≡ none → next.planned ≡ false
     → next.words ≡ record { bus = f.bus; answered = 0; awaited = 0 } → now ≤ f.p → f.serial ≡ false
     → IsNext ds n t s f next × Rests now t s f next
 next-none ds n now t s f next place no_own no_target unplanned words late alone = (
   record {
     read_on = record {
       place = place;
-      first = first-none next.own next.target (entry t s) no_own no_target;
-      words = λ unread. words ∙ sym (so-far ds f next.own next.target no_own no_target);
-      awaited = ap (λ (s : Fetching). s.awaited) (words ∙ sym (so-far ds f next.own next.target no_own no_target));
+      first = first-none next.entry.own next.entry.target (entry t s) no_own no_target;
+      words = λ unread. words ∙ sym (so-far ds f next.entry.own next.entry.target no_own no_target);
+      awaited = ap (λ (s : Fetching). s.awaited) (words ∙ sym (so-far ds f next.entry.own next.entry.target no_own no_target));
     };
     planned = λ planned. absurd (cc (planned, unplanned));
   },

@@ -55,7 +55,7 @@ module _ (ds : List ℕ) (n now : ℕ) (t : Option ℕ) (s : Machine) (f : Front
 
   next-pushed : (p : Prepared) → p ≡ plan u k → count w ≡ suc (count v) → w.front.serial ≡ p.serial → w.front.p ≡ now
       → w.next.place ≡ record { counter = p.following; address = p.following; table = None }
-      → w.next.planned ≡ false → w.next.own ≡ record { first = 0; len = 0 } → w.next.target ≡ record { first = 0; len = 0 }
+      → w.next.planned ≡ false → w.next.entry.own ≡ record { first = 0; len = 0 } → w.next.entry.target ≡ record { first = 0; len = 0 }
       → w.next.words ≡ record { bus = w.front.bus; answered = 0; awaited = 0 }
       → ((plan u k).serial ≡ false → (guesses (suc (count v)) t s).ic ≡ (plan u k).following)
       → IsNextIf (is_open w) ds n now t s w
@@ -106,7 +106,7 @@ module _ (ds : List ℕ) (n now : ℕ) (t : Option ℕ) (s : Machine) (f : Front
       → AreAhead ds n now t s f w.front w.levels → w.front ≡ front_after_entry ds n v.front v.next.entry → IsTight 255 w.front → w.front.c ≤ v.front.c + 16576
       → p ≡ plan u k
       → w.next.place ≡ record { counter = p.following; address = p.following; table = None }
-      → w.next.planned ≡ false → w.next.own ≡ record { first = 0; len = 0 } → w.next.target ≡ record { first = 0; len = 0 }
+      → w.next.planned ≡ false → w.next.entry.own ≡ record { first = 0; len = 0 } → w.next.entry.target ≡ record { first = 0; len = 0 }
       → w.next.words ≡ record { bus = w.front.bus; answered = 0; awaited = 0 }
       → w.log ≡ log_after_reads ds (prepared_asked ds n v.front v.next.entry) v.next.words.bus v.log
       → ((plan u k).serial ≡ false → (guesses (suc (count v)) t s).ic ≡ (plan u k).following)

@@ -56,8 +56,6 @@ module _ (ds : List ℕ) (n : ℕ) where
       let same : entry t s ≡ entry t u = sym (entry-same t s u beside) in
       let seen : sight s (place_of s t) ≡ sight u (place_of u t) = sym (same-sight s u t beside) in
       record {
-        own = is.own ∙ ap (λ (e : Entry). e.own) same;
-        target = is.target ∙ ap (λ (e : Entry). e.target) same;
         found = is.found ∙ ap (λ v. v.fetched) seen;
         needs = is.needs ∙ ap needs seen;
         prepared = is.prepared ∙ ap preparation_without_side seen;
@@ -72,7 +70,7 @@ module _ (ds : List ℕ) (n : ℕ) where
   next-same t s u f next beside is = record {
     read_on = record {
       place = is.read_on.place ∙ sym (same-place s u t beside);
-      first = subst (AreFirstWords next.own next.target) (sym (entry-same t s u beside)) is.read_on.first;
+      first = subst (AreFirstWords next.entry.own next.entry.target) (sym (entry-same t s u beside)) is.read_on.first;
       words = is.read_on.words;
       awaited = is.read_on.awaited;
     };
@@ -83,7 +81,7 @@ module _ (ds : List ℕ) (n : ℕ) where
       → Rests now t s f next → Rests now t u f next
   rests-same now t s u f next beside rests =
       subst (λ (e : Entry). next.planned ≡ false → (now ≤ wanted_next f next)
-      ⊎ ((next.own ≡ e.own) × (next.target.len ≡ 0) × (1 ≤ e.target.len) × (now ≤ f.c)))
+      ⊎ ((next.entry.own ≡ e.own) × (next.entry.target.len ≡ 0) × (1 ≤ e.target.len) × (now ≤ f.c)))
       (sym (entry-same t s u beside)) rests
 
   pub next-if_same : (b : Bool) (now : ℕ) (s u : Machine) (v : LookaheadView) → AreAlikeBesideOrders (guesses (count v) None s) (guesses (count v) None u)

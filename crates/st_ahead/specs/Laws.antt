@@ -60,13 +60,13 @@ pub record InstructionWordsAreThoseOfTheRun : Type 0 where
       (v : LookaheadView) →
       count v ≤ 8 → IsLookahead ds n now now t s f v → is_open v ≡ true →
       v.next.words.awaited ≤ now →
-      let words = words_of_run v.next.own ++ words_of_run v.next.target in
+      let words = words_of_run v.next.entry.own ++ words_of_run v.next.entry.target in
       map (word s) words ≡ map (word (guesses (count v) t s)) words
   pub fetched : (ds : List ℕ) (n tick now : ℕ) (t : Option ℕ) (s : Machine) (f : Front)
       (v : LookaheadView) →
       IsLookahead ds n tick now t s f v → v.next.planned ≡ true →
       let u = guesses (count v) t s in
-      v.next.fetched ≡ fetched_at u (place_of u (table_behind (count v) t))
+      v.next.fetched.value ≡ fetched_at u (place_of u (table_behind (count v) t))
 
 -- What is opened at the start of a segment runs ahead of nothing, at each tick up to the start.
 abbrev pub OpeningsLookAhead : Type 0

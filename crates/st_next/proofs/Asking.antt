@@ -56,15 +56,15 @@ served-read ds past from s w = sym (served-word ds (tick_of s.bus.held.words w) 
 
 -- ---- the reads so far
 
-pub reads-none : (ds : List ℕ) (f : Front) (next : Next) → next.planned ≡ false → reads_so_far ds f next ≡ asked_so_far ds f next.own next.target
+pub reads-none : (ds : List ℕ) (f : Front) (next : Next) → next.planned ≡ false → reads_so_far ds f next ≡ asked_so_far ds f next.entry.own next.entry.target
 reads-none ds f next un =
-    ap (λ b. asked_so_far ds f next.own next.target ++ (if b then side_asked f.past next.entry.side next.formed.a else [])) un
-    ∙ append-nil (asked_so_far ds f next.own next.target)
+    ap (λ b. asked_so_far ds f next.entry.own next.entry.target ++ (if b then side_asked f.past next.entry.side next.formed.a else [])) un
+    ∙ append-nil (asked_so_far ds f next.entry.own next.entry.target)
 
 pub reads-planned : (ds : List ℕ) (f : Front) (next : Next) → next.planned ≡ true
-    → reads_so_far ds f next ≡ asked_so_far ds f next.own next.target ++ side_asked f.past next.entry.side next.formed.a
+    → reads_so_far ds f next ≡ asked_so_far ds f next.entry.own next.entry.target ++ side_asked f.past next.entry.side next.formed.a
 reads-planned ds f next is =
-    ap (λ b. asked_so_far ds f next.own next.target ++ (if b then side_asked f.past next.entry.side next.formed.a else [])) is
+    ap (λ b. asked_so_far ds f next.entry.own next.entry.target ++ (if b then side_asked f.past next.entry.side next.formed.a else [])) is
 
 -- ---- the front is early enough
 
@@ -82,19 +82,19 @@ module _ (ds : List ℕ) (n now : ℕ) (f : Front) (x : List ℕ) (s : Machine) 
   pub known-entry : IsEntryInTime (entry k.table k.state)
   known-entry = entry-ranges k.table k.state k.before.machine k.indicator
 
-  pub known-words : IsEntryInTime (words_alone before.own before.target)
-  known-words = words-entry before.own before.target (entry k.table k.state) k.is_next.read_on.first known-entry
+  pub known-words : IsEntryInTime (words_alone before.entry.own before.entry.target)
+  known-words = words-entry before.entry.own before.entry.target (entry k.table k.state) k.is_next.read_on.first known-entry
 
   pub known-early : AreDelaysUpTo 255 ds → IsFrontInTime f → IsEarly f before.words
-  known-early are is = words-early ds f before.own before.target before.words are is known-words (k.is_next.read_on.words un)
+  known-early are is = words-early ds f before.entry.own before.entry.target before.words are is known-words (k.is_next.read_on.words un)
 
   pub known-place : IsPlace before.place
   unfolding sight
   known-place = rw k.is_next.read_on.place (sight-fits k.state k.table k.before.machine k.indicator).place
 
-  module _ (due : before.words.awaited ≤ now) (cs : List ℕ) (contents : cs ≡ map (word s) (words_of_run before.own ++ words_of_run before.target)) where
+  module _ (due : before.words.awaited ≤ now) (cs : List ℕ) (contents : cs ≡ map (word s) (words_of_run before.entry.own ++ words_of_run before.entry.target)) where
     -- an own word
-    pub known-own : (w : ℕ) → what ds n now f x s before un due cs contents ≡ GivenWord w false → IsNextOwn before.own before.target (entry k.table k.state) w
+    pub known-own : (w : ℕ) → what ds n now f x s before un due cs contents ≡ GivenWord w false → IsNextOwn before.entry.own before.entry.target (entry k.table k.state) w
     known-own w e = comes-own ds n now f x s before un due cs contents k.table k.state k.indicator k.before k.is_next.read_on w e
 
     -- it lies in storage
@@ -106,20 +106,20 @@ module _ (ds : List ℕ) (n now : ℕ) (f : Front) (x : List ℕ) (s : Machine) 
         → IsReadFurther ds f before after log new
     own-asks w after log new e same kept =
         let it = known-own w e in
-        let place = word-behind before.own (entry k.table k.state).own w k.is_next.read_on.first.own_start it.place in
+        let place = word-behind before.entry.own (entry k.table k.state).own w k.is_next.read_on.first.own_start it.place in
         let there = with_own ds n now f x s before un due cs contents w in
         rw same (record {
           added = read_of ds f.past (wanted_from f) before.words w;
           so_far =
-              reads-none ds f there un ∙ own-asked ds f before.own before.target w it.none place
-              ∙ ap (λ s. asked_so_far ds f before.own before.target ++ read_of ds f.past (wanted_from f) s w) (sym (k.is_next.read_on.words un))
+              reads-none ds f there un ∙ own-asked ds f before.entry.own before.entry.target w it.none place
+              ∙ ap (λ s. asked_so_far ds f before.entry.own before.entry.target ++ read_of ds f.past (wanted_from f) s w) (sym (k.is_next.read_on.words un))
               ∙ ap (λ reads. reads ++ read_of ds f.past (wanted_from f) before.words w) (sym (reads-none ds f before un));
           bus = served-read ds f.past (wanted_from f) before.words w;
           kept = kept;
         })
 
     -- a word of the target
-    pub known-target : (w : ℕ) → what ds n now f x s before un due cs contents ≡ GivenWord w true → IsNextTarget before.own before.target (entry k.table k.state) w
+    pub known-target : (w : ℕ) → what ds n now f x s before un due cs contents ≡ GivenWord w true → IsNextTarget before.entry.own before.entry.target (entry k.table k.state) w
     known-target w e = comes-target ds n now f x s before un due cs contents k.table k.state k.indicator k.before k.is_next.read_on w e
 
     pub target-above : (w : ℕ) → what ds n now f x s before un due cs contents ≡ GivenWord w true → 32 ≤ w
@@ -130,27 +130,27 @@ module _ (ds : List ℕ) (n now : ℕ) (f : Front) (x : List ℕ) (s : Machine) 
         → new ≡ log_after_reads ds (read_of ds f.past (max (wanted_from f) f.c) before.words w) before.words.bus log → IsReadFurther ds f before after log new
     target-asks w after log new e same kept =
         let it = known-target w e in
-        let place = word-behind before.target (entry k.table k.state).target w k.is_next.read_on.first.target_start it.place in
+        let place = word-behind before.entry.target (entry k.table k.state).target w k.is_next.read_on.first.target_start it.place in
         let there = with_target ds n now f x s before un due cs contents w in
         let waits = max (wanted_from f) f.c in
         rw same (record {
           added = read_of ds f.past waits before.words w;
           so_far =
-              reads-none ds f there un ∙ target-asked ds f before.own before.target w place
-              ∙ ap (λ s. asked_so_far ds f before.own before.target ++ read_of ds f.past waits s w) (sym (k.is_next.read_on.words un))
+              reads-none ds f there un ∙ target-asked ds f before.entry.own before.entry.target w place
+              ∙ ap (λ s. asked_so_far ds f before.entry.own before.entry.target ++ read_of ds f.past waits s w) (sym (k.is_next.read_on.words un))
               ∙ ap (λ reads. reads ++ read_of ds f.past waits before.words w) (sym (reads-none ds f before un));
           bus = served-read ds f.past waits before.words w;
           kept = kept;
         })
 
     -- the plan
-    module _ (e : what ds n now f x s before un due cs contents ≡ GivenAll before.fetched) (prepared : before ≡ prepared_as before.fetched x s before) where
+    module _ (e : what ds n now f x s before un due cs contents ≡ GivenAll before.fetched.value) (prepared : before ≡ prepared_as before.fetched.value x s before) where
       pub known-seen : IsEntryInTime before.entry
       known-seen =
-          let it = comes-all ds n now f x s before un due cs contents k.table k.state k.indicator k.before k.is_next.read_on before.fetched e in
+          let it = comes-all ds n now f x s before un due cs contents k.table k.state k.indicator k.before k.is_next.read_on before.fetched.value e in
           rw (ap (λ (m : Next). m.entry) prepared
-          ∙ entry-same k.table k.state before.own before.target (sight_of before.place before.fetched x s) it.0.own_all it.0.target_all
-          (sight-same now f x s k.state k.table before.place before.fetched k.before k.is_next.read_on.place it.1)) known-entry
+          ∙ entry-same k.table k.state before.entry.own before.entry.target (sight_of before.place before.fetched.value x s) it.0.own_all it.0.target_all
+          (sight-same now f x s k.state k.table before.place before.fetched.value k.before k.is_next.read_on.place it.1)) known-entry
 
       pub plan-words : before.words ≡ words_tick ds f before.entry
       unfolding words_tick fetch_words
@@ -167,8 +167,8 @@ module _ (ds : List ℕ) (n now : ℕ) (f : Front) (x : List ℕ) (s : Machine) 
             added = side;
             so_far =
                 reads-planned ds f after (ap (λ (m : Next). m.planned) made.rest)
-                ∙ ap (λ r. asked_so_far ds f r after.target ++ side) (ap (λ (m : Next). m.own) made.rest)
-                ∙ ap (λ r. asked_so_far ds f before.own r ++ side) (ap (λ (m : Next). m.target) made.rest)
+                ∙ ap (λ r. asked_so_far ds f r after.entry.target ++ side) (ap (λ (m : Next). m.entry.own) made.rest)
+                ∙ ap (λ r. asked_so_far ds f before.entry.own r ++ side) (ap (λ (m : Next). m.entry.target) made.rest)
                 ∙ ap (λ reads. reads ++ side) (sym (reads-none ds f before un));
             bus = made.bus ∙ sym (served-side ds f.past g.side (tick_a ds f g) (words_tick ds f g).bus)
                 ∙ ap (bus_after_reads ds (side_asked f.past g.side (tick_a ds f g))) (ap (λ (w : Fetching). w.bus) (sym plan-words))

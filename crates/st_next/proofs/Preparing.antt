@@ -1,17 +1,18 @@
 -- The entry is prepared for good at its tick.
 use Rattle.std.specs.Prelude.{IfSome, option_map, is_some, not, nat_lt}
-use Rattle.std.proofs.Common.{◌≡◌, ℕ, ◌≤◌, ◌<◌, max, Bool, true, false, if◌then◌else◌, List, Option, None, Some, refl, sym, subst, ◌∙◌, ap, arith}
+use Rattle.std.proofs.Common.{◌≡◌, ℕ, ◌^◌, ◌≤◌, ◌<◌, max, Bool, true, false, if◌then◌else◌, List, Option, None, Some, refl, sym, subst, ◌∙◌, ap, arith}
 use Rattle.std.proofs.lemmas.Bool.{ltb-false, le-leb}
 use Rattle.st_bits.specs.Storage.{words_of_storage}
 use Rattle.st_state.specs.Machine.{Machine, word}
 use Rattle.st_prep.specs.declared.entries.Needs.{Needs}
 use Rattle.st_prep.specs.declared.entries.Place.{Place}
-use Rattle.st_prep.specs.Fetch.{place_of, words_fetched}
-use Rattle.st_prep.specs.Plan.{Sight, sight_of, sight, needs, asks, prepared_entry, plan, state_at_entry, side_word, side_of, IsSeen}
-use Rattle.st_prep.specs.Ranges.{IsPlace, IsFetched, IsPrepared}
-use Rattle.st_prep.proofs.PreparedLemmas.{is_needs, alone-serial, same_serial}
+use Rattle.st_prep.specs.declared.entries.Prepared.{Prepared}
+use Rattle.st_prep.specs.Fetch.{place_of}
+use Rattle.st_prep.specs.Plan.{Sight, sight, needs, asks, prepared_entry, plan, state_at_entry, side_word}
+use Rattle.st_prep.specs.Ranges.{IsPrepared}
+use Rattle.st_prep.proofs.PreparedLemmas.{is_prepared, is_needs, alone-serial, same_serial}
 use Rattle.st_prep.proofs.PlanLemmas.{sight-fits, plan-prepared}
-use Rattle.st_rows.specs.BusTimes.{answer_at, answer_if}
+use Rattle.st_rows.specs.BusTimes.{answer_if}
 use Rattle.st_rows.specs.Entries.{latest_done}
 use Rattle.st_rows.specs.Rows.{words_tick as fetched_words, preparation_tick as prepared_at, tick_a, tick_y, tick_p}
 use Rattle.st_rows.specs.Words.{side_there, is_forwarded}
@@ -24,7 +25,6 @@ use Rattle.st_segment.specs.Entries.{entry, side_to_read}
 use Rattle.st_next.specs.Known.{IsStateBefore}
 use Rattle.st_next.specs.Progress.{IsPlanned, IsNext, IsNextReady}
 use Rattle.st_next.specs.declared.next.Next.{Next}
-use Rattle.st_next.proofs.Steps.{sight-same}
 
 -- ---- the writers of the index-side word are done
 
@@ -78,46 +78,27 @@ above-of : (o : Option ℕ) (w : ℕ) → o ≡ Some w → IfSome o (λ w. 32 �
 above-of None w e h = absurd (cc)
 above-of (Some v) w e h = let same : v ≡ w = cc in omega arith
 
-is_some-map : (o : Option ℕ) (t : Option ℕ) (u : Machine) → is_some (side_word t u o) ≡ is_some o
-is_some-map None t u = refl
-is_some-map (Some w) t u = refl
+-- a word of zeros
+zero-word : (o : Option ℕ) → IfSome (option_map (λ w. 0) o) (λ w. w < 2 ^ 64)
+zero-word None = tt
+zero-word (Some w) = omega arith
 
 module _ (ds : List ℕ) (n now : ℕ) (f : Front) (x : List ℕ) (s : Machine) (next : Next) (done : next.planned ≡ true)
     (t : Option ℕ) (u : Machine) (table : IfSome t (λ i. i < 64)) (before : IsStateBefore now f.past x s u) (is : IsNext ds n t u f next) where
   abbrev v : Sight
   v = sight u (place_of u t)
 
-  abbrev now_seen : Sight
-  now_seen = sight_of next.place next.fetched x s
-
   planned : IsPlanned ds n t u f next
   planned = is.planned done
 
-  same : now_seen ≡ v
-  same = sight-same now f x s u t next.place next.fetched before is.read_on.place planned.found
-
-  needs-same : next.needs ≡ needs now_seen
-  needs-same = planned.needs ∙ ap needs (sym same)
-
   table-same : next.place.table ≡ t
   table-same = ap (λ (p : Place). p.table) is.read_on.place ∙ place-table t u
-
-  pub place-fits : IsPlace next.place
-  unfolding sight
-  place-fits = rw is.read_on.place (sight-fits u t before.machine table).place
-
-  pub fetched-fits : IsFetched next.fetched
-  unfolding sight
-  fetched-fits = rw planned.found (sight-fits u t before.machine table).fetched
 
   pub table-fits : IfSome next.place.table (λ i. i < 64)
   table-fits = rw table-same table
 
   pub side-inside : IfSome next.needs.index_read (λ w. w < words_of_storage)
-  side-inside = subst (λ (k : Needs). IfSome k.index_read (λ w. w < words_of_storage)) (sym needs-same) (is_needs now_seen).inside
-
-  pub asked-same : (o : Option ℕ) → next.needs.index_read ≡ o → is_some (side_word next.place.table s o) ≡ asks now_seen
-  asked-same o e = is_some-map o next.place.table s ∙ ap is_some (sym e) ∙ ap (λ (k : Needs). is_some k.index_read) needs-same
+  side-inside = subst (λ (k : Needs). IfSome k.index_read (λ w. w < words_of_storage)) (sym planned.needs) (is_needs v).inside
 
   -- ---- without an index-side word
 
@@ -134,14 +115,18 @@ module _ (ds : List ℕ) (n now : ℕ) (f : Front) (x : List ℕ) (s : Machine) 
 
   -- ---- with one
 
-  pub seen-is : IsSeen u now_seen
-  seen-is = record {
-    place = ap (place_of u) table-same ∙ sym is.read_on.place;
-    fetched = ap (words_fetched u) is.read_on.place ∙ sym planned.found;
-    words = before.index;
-    bounds = before.bounds;
-    enabled = before.enabled;
-  }
+  pub words-seen : v.x ≡ x
+  unfolding sight
+  words-seen = before.index
+
+  pub side-asked : is_some next.needs.index_read ≡ true → asks v ≡ true
+  side-asked some = ap (λ (k : Needs). is_some k.index_read) (sym planned.needs) ∙ some
+
+  pub without-side : next.prepared ≡ prepared_entry v (option_map (λ w. 0) (needs v).index_read)
+  without-side = planned.prepared
+
+  pub without-fits : IsPrepared next.prepared
+  without-fits = rw planned.prepared (is_prepared v _ (sight-fits u t before.machine table) (zero-word (needs v).index_read))
 
   read-ahead : (w : ℕ) → next.needs.index_read ≡ Some w → (entry t u).serial ≡ false → tick_p ds n f (entry t u) ≤ now → word s w ≡ word u w
   read-ahead w e alone late =
@@ -162,13 +147,15 @@ module _ (ds : List ℕ) (n now : ℕ) (f : Front) (x : List ℕ) (s : Machine) 
   side-by None e late alone = refl
   side-by (Some w) e late alone = ap (λ x. Some x) (read-by (entry t u).serial w refl e late alone)
 
-  pub side-same : now ≡ next.formed.p → ((entry t u).serial ≡ true → u ≡ s) → side_word next.place.table s next.needs.index_read ≡ side_of u now_seen
-  side-same at alone =
+  pub some-plan : (p : Prepared) (read : Option ℕ) → p ≡ prepared_entry v read → read ≡ side_word next.place.table s next.needs.index_read
+      → now ≡ next.formed.p → ((entry t u).serial ≡ true → u ≡ s) → p ≡ plan u t
+  unfolding plan
+  some-plan p read prepared there at alone =
       let late : tick_p ds n f (entry t u) ≤ now = omega (arith, at, planned.tick) in
-      side-by next.needs.index_read refl late alone ∙ ap (λ (k : Needs). side_word next.place.table u k.index_read) needs-same
-
-  pub some-plan : plan u next.place.table ≡ plan u t
-  some-plan = ap (plan u) table-same
+      prepared
+      ∙ ap (prepared_entry v)
+      (there ∙ side-by next.needs.index_read refl late alone ∙ ap (λ i. side_word i u next.needs.index_read) table-same
+      ∙ ap (λ (k : Needs). side_word t u k.index_read) planned.needs)
 
 -- ---- by what is ready
 
@@ -191,12 +178,14 @@ module _ (x : List ℕ) (s : Machine) (next : Next) (done : next.planned ≡ tru
   pub ready-table : IfSome next.place.table (λ i. i < 64)
   ready-table = table-fits k.delays k.levels k.tick k.front x s next done k.known.table k.known.state k.known.indicator k.known.before k.known.is_next
 
-  pub ready-place : IsPlace next.place
-  ready-place = place-fits k.delays k.levels k.tick k.front x s next done k.known.table k.known.state k.known.indicator k.known.before k.known.is_next
+  pub ready-fits : IsPrepared next.prepared
+  ready-fits = without-fits k.delays k.levels k.tick k.front x s next done k.known.table k.known.state k.known.indicator k.known.before k.known.is_next
 
-  pub ready-fetched : IsFetched next.fetched
-  ready-fetched = fetched-fits k.delays k.levels k.tick k.front x s next done k.known.table k.known.state k.known.indicator k.known.before k.known.is_next
+  pub ready-words : (sight k.known.state (place_of k.known.state k.known.table)).x ≡ x
+  ready-words = words-seen k.delays k.levels k.tick k.front x s next done k.known.table k.known.state k.known.indicator k.known.before k.known.is_next
 
-  pub ready-asked : is_some (side_word next.place.table s next.needs.index_read) ≡ asks (sight_of next.place next.fetched x s)
-  ready-asked =
-      asked-same k.delays k.levels k.tick k.front x s next done k.known.table k.known.state k.known.indicator k.known.before k.known.is_next next.needs.index_read refl
+  pub ready-asked : is_some next.needs.index_read ≡ true → asks (sight k.known.state (place_of k.known.state k.known.table)) ≡ true
+  ready-asked = side-asked k.delays k.levels k.tick k.front x s next done k.known.table k.known.state k.known.indicator k.known.before k.known.is_next
+
+  pub ready-without : next.prepared ≡ prepared_entry (sight k.known.state (place_of k.known.state k.known.table)) (option_map (λ w. 0) (needs (sight k.known.state (place_of k.known.state k.known.table))).index_read)
+  ready-without = without-side k.delays k.levels k.tick k.front x s next done k.known.table k.known.state k.known.indicator k.known.before k.known.is_next

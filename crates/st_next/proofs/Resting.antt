@@ -35,46 +35,46 @@ module _ (ds : List ℕ) (m : ℕ) (t : Option ℕ) (u : Machine) (f : Front) (n
   abbrev e : Entry
   e = entry t u
 
-  same-answered : next.words.answered ≡ (words_so_far ds f next.own next.target).answered
+  same-answered : next.words.answered ≡ (words_so_far ds f next.entry.own next.entry.target).answered
   same-answered = ap (λ (s : Fetching). s.answered) (read.words un)
 
-  same-awaited : next.words.awaited ≡ (words_so_far ds f next.own next.target).awaited
+  same-awaited : next.words.awaited ≡ (words_so_far ds f next.entry.own next.entry.target).awaited
   same-awaited = ap (λ (s : Fetching). s.awaited) (read.words un)
 
   after-words : m ≤ max (max (max (wanted_from f) (if e.serial || f.serial then f.c else 0)) next.words.answered) next.words.awaited → m < tick_a ds f e
   unfolding tick_a address_tick
   after-words late =
-      let more = words-later ds f next.own next.target e read.first in
+      let more = words-later ds f next.entry.own next.entry.target e read.first in
       omega (arith, late, same-answered, same-awaited, more.0, more.1, alone-first e.serial f.serial f.p f.c)
 
-  waits-alone : (n : ℕ) → next.target.len ≡ n → (if next.target.len == 0 then 0 else f.c) ≤ (if e.serial || f.serial then f.c else 0)
-  waits-alone zero none = omega (arith, waits-none f next.target none)
+  waits-alone : (n : ℕ) → next.entry.target.len ≡ n → (if next.entry.target.len == 0 then 0 else f.c) ≤ (if e.serial || f.serial then f.c else 0)
+  waits-alone zero none = omega (arith, waits-none f next.entry.target none)
   waits-alone (suc n) some =
       let serial : e.serial ≡ true = target-serial t u (omega (arith, some, read.first.target_start.few)) in
-      omega (arith, waits-most f next.target, alone-serial e.serial f.serial f.c serial)
+      omega (arith, waits-most f next.entry.target, alone-serial e.serial f.serial f.c serial)
 
   pub address-late : Rests m t u f next → m < tick_a ds f e
   address-late rests = elim (rests un) [
-    | inl late ↦ after-words (omega (arith, late, waits-alone next.target.len refl))
+    | inl late ↦ after-words (omega (arith, late, waits-alone next.entry.target.len refl))
     | inr is ↦ after-words (omega (arith, is.3, alone-serial e.serial f.serial f.c (target-serial t u is.2)))
   ]
 
   -- ---- and so are the words that are left
 
-  left-waits : (n : ℕ) → next.target.len ≡ n → m ≤ wanted_next f next → AreLeft ds f next.own next.target e read.first m
+  left-waits : (n : ℕ) → next.entry.target.len ≡ n → m ≤ wanted_next f next → AreLeft ds f next.entry.own next.entry.target e read.first m
   unfolding words_tick fetch_words
   left-waits zero none late =
       let start : Fetching = record { bus = f.bus; answered = 0; awaited = 0 } in
-      let own = fetch_words ds f.past start (wanted_from f) next.own.first next.own.len in
-      let words : next.words ≡ own = read.words un ∙ fetch-none ds f.past (max (wanted_from f) f.c) own next.target.first next.target.len none in
-      left_none ds f next.own next.target e read.first m none
-      (omega (arith, late, waits-none f next.target none, ap (λ (s : Fetching). s.answered) words, ap (λ (s : Fetching). s.awaited) words))
+      let own = fetch_words ds f.past start (wanted_from f) next.entry.own.first next.entry.own.len in
+      let words : next.words ≡ own = read.words un ∙ fetch-none ds f.past (max (wanted_from f) f.c) own next.entry.target.first next.entry.target.len none in
+      left_none ds f next.entry.own next.entry.target e read.first m none
+      (omega (arith, late, waits-none f next.entry.target none, ap (λ (s : Fetching). s.answered) words, ap (λ (s : Fetching). s.awaited) words))
   left-waits (suc n) some late =
-      left_target ds f next.own next.target e read.first m (read.first.all_own (omega (arith, some)))
-      (omega (arith, late, waits-most f next.target, same-answered, same-awaited))
+      left_target ds f next.entry.own next.entry.target e read.first m (read.first.all_own (omega (arith, some)))
+      (omega (arith, late, waits-most f next.entry.target, same-answered, same-awaited))
 
-  pub rest-left : Rests m t u f next → AreLeft ds f next.own next.target e read.first m
+  pub rest-left : Rests m t u f next → AreLeft ds f next.entry.own next.entry.target e read.first m
   rest-left rests = elim (rests un) [
-    | inl late ↦ left-waits next.target.len refl late
-    | inr is ↦ left_target ds f next.own next.target e read.first m is.0 (omega (arith, is.3))
+    | inl late ↦ left-waits next.entry.target.len refl late
+    | inr is ↦ left_target ds f next.entry.own next.entry.target e read.first m is.0 (omega (arith, is.3))
   ]

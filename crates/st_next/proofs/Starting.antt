@@ -31,7 +31,7 @@ unfolding fetches_asked words_asked fetch_words reads_of uses wishes fetch_word
 nothing-asked ds f = refl
 
 -- an entry with no word is read on so far
-pub new-next : (ds : List ℕ) (n : ℕ) (t : Option ℕ) (u : Machine) (f : Front) (next : Next) → next.place ≡ place_of u t → next.own ≡ nothing → next.target ≡ nothing
+pub new-next : (ds : List ℕ) (n : ℕ) (t : Option ℕ) (u : Machine) (f : Front) (next : Next) → next.place ≡ place_of u t → next.entry.own ≡ nothing → next.entry.target ≡ nothing
     → next.words ≡ record { bus = f.bus; answered = 0; awaited = 0 } → next.planned ≡ false → IsNext ds n t u f next
 new-next ds n t u f next place own target words un = record {
   read_on = record {
@@ -47,10 +47,10 @@ new-next ds n t u f next place own target words un = record {
   planned = planned-none next.planned ds n t u f next un;
 }
   where
-    begun : next.words ≡ words_so_far ds f next.own next.target
+    begun : next.words ≡ words_so_far ds f next.entry.own next.entry.target
     begun = rw (own, target) (words ∙ sym (nothing-fetched ds f))
 
-pub new-reads : (ds : List ℕ) (f : Front) (next : Next) → next.own ≡ nothing → next.target ≡ nothing → next.planned ≡ false → reads_so_far ds f next ≡ []
+pub new-reads : (ds : List ℕ) (f : Front) (next : Next) → next.entry.own ≡ nothing → next.entry.target ≡ nothing → next.planned ≡ false → reads_so_far ds f next ≡ []
 new-reads ds f next own target un = reads-none ds f next un ∙ rw (own, target) (nothing-asked ds f)
 
 -- before its first word is wanted, nothing of it can be known

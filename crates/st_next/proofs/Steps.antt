@@ -6,6 +6,8 @@ use Rattle.st_prep.specs.declared.entries.Fetched.{Fetched}
 use Rattle.st_prep.specs.declared.entries.Fetching.{Fetching as Giving}
 use Rattle.st_prep.specs.declared.entries.Fetching.TheVariants.{Next as GivenWord, Found as GivenAll}
 use Rattle.st_prep.specs.declared.entries.Place.{Place}
+use Rattle.st_prep.specs.declared.entries.Needs.{Needs}
+use Rattle.st_prep.specs.declared.entries.Prepared.{Prepared}
 use Rattle.st_prep.specs.Fetch.{index_words, place_of, words_fetched as fetched_at}
 use Rattle.st_prep.specs.Plan.{Sight, sight_of, sight, needs}
 use Rattle.st_prep.specs.Reading.{reading_at_place, left_after, fetching_of}
@@ -21,7 +23,7 @@ use Rattle.st_segment.proofs.KnownEarly.{entry-seen}
 use Rattle.st_next.specs.Words.{run_with_word}
 use Rattle.st_next.specs.Known.{IsStateBefore}
 use Rattle.st_next.specs.Progress.{IsReadOn, IsPlanned, preparation_without_side, Rests}
-use Rattle.st_next.specs.Going.{GoesOnTo, prepared_as}
+use Rattle.st_next.specs.Going.{GoesOnTo, as_entry, prepared_as}
 use Rattle.st_next.specs.declared.next.Next.{Next}
 use Rattle.st_next.proofs.Starts.{IsNextOwn, own-more, IsNextTarget, target-more, word-behind, IsAll}
 use Rattle.st_next.proofs.Given.{contents_of, gives-own, gives-target, gives-all}
@@ -50,6 +52,17 @@ pub entry-same : (t : Option ℕ) (u : Machine) (own target : WordRun) (v : Sigh
     → v ≡ sight u (place_of u t) → entry_with own target (needs v) (preparation_without_side v) v.place.table v.fetched.fault ≡ entry t u
 entry-same t u own target v o g e = rw (o, g, e) (sym (entry-seen t u _))
 
+-- what is fetched for an entry, what it needs and what it is prepared to, kept in it
+abbrev pub shown : Next → Fetched → Needs → Prepared → Next
+shown next fd needed prepared =
+    let m = record next { fetched = record { marker = record {}; value = fd }; needs = needed; prepared = prepared } in
+    record m { entry = as_entry m }
+
+pub shown-as : (next : Next) (x : List ℕ) (s : Machine) (fd given : Fetched) (needed : Needs) (prepared : Prepared) → given ≡ fd
+    → needed ≡ needs (sight_of next.place fd x s) → prepared ≡ preparation_without_side (sight_of next.place fd x s)
+    → shown next given needed prepared ≡ prepared_as fd x s next
+shown-as next x s fd given needed prepared f n p = rw (f, n, p) refl
+
 -- an entry that is prepared so far is planned
 pub record IsPlannedAs (ds : List ℕ) (n : ℕ) (f : Front) (before after : Next) : Type 0 where
   pub rest : after ≡ record before { words = after.words; formed = after.formed; planned = true }
@@ -59,39 +72,39 @@ pub record IsPlannedAs (ds : List ℕ) (n : ℕ) (f : Front) (before after : Nex
   pub tick : after.formed.p ≡ tick_p ds n f before.entry
 
 module _ (ds : List ℕ) (n now : ℕ) (f : Front) (x : List ℕ) (s : Machine) (before : Next) (un : before.planned ≡ false) (due : before.words.awaited ≤ now)
-    (cs : List ℕ) (contents : cs ≡ map (word s) (words_of_run before.own ++ words_of_run before.target)) where
+    (cs : List ℕ) (contents : cs ≡ map (word s) (words_of_run before.entry.own ++ words_of_run before.entry.target)) where
   abbrev pub what : Giving
   what = fetching_of (left_after (reading_at_place x (word s 3) s.enabled before.place) cs)
 
   module _ (t : Option ℕ) (u : Machine) (table : IfSome t (λ i. i < 64)) (is : IsStateBefore now f.past x s u) (read : IsReadOn ds t u f before) where
-    there : what ≡ fetching_of (left_after (reading_at t u) (contents_of t u before.own before.target))
+    there : what ≡ fetching_of (left_after (reading_at t u) (contents_of t u before.entry.own before.entry.target))
     there =
-        let words = words-entry before.own before.target (entry t u) read.first (entry-ranges t u is.machine table) in
-        given-same (reading_at_place x (word s 3) s.enabled before.place) (reading_at t u) cs (contents_of t u before.own before.target)
+        let words = words-entry before.entry.own before.entry.target (entry t u) read.first (entry-ranges t u is.machine table) in
+        given-same (reading_at_place x (word s 3) s.enabled before.place) (reading_at t u) cs (contents_of t u before.entry.own before.entry.target)
         (reading-same now f.past x s u t before.place is read.place)
-        (contents ∙ contents-same ds now f x s u before.own before.target is words (omega (arith, due, ap (λ (w : Fetching). w.awaited) (read.words un))))
+        (contents ∙ contents-same ds now f x s u before.entry.own before.entry.target is words (omega (arith, due, ap (λ (w : Fetching). w.awaited) (read.words un))))
 
-    pub comes-own : (w : ℕ) → what ≡ GivenWord w false → IsNextOwn before.own before.target (entry t u) w
-    comes-own w e = gives-own t u before.own before.target w read.first (sym there ∙ e)
+    pub comes-own : (w : ℕ) → what ≡ GivenWord w false → IsNextOwn before.entry.own before.entry.target (entry t u) w
+    comes-own w e = gives-own t u before.entry.own before.entry.target w read.first (sym there ∙ e)
 
-    pub comes-target : (w : ℕ) → what ≡ GivenWord w true → IsNextTarget before.own before.target (entry t u) w
-    comes-target w e = gives-target t u before.own before.target w read.first (sym there ∙ e)
+    pub comes-target : (w : ℕ) → what ≡ GivenWord w true → IsNextTarget before.entry.own before.entry.target (entry t u) w
+    comes-target w e = gives-target t u before.entry.own before.entry.target w read.first (sym there ∙ e)
 
-    pub comes-all : (fd : Fetched) → what ≡ GivenAll fd → IsAll before.own before.target (entry t u) × (fd ≡ fetched_at u (place_of u t))
-    comes-all fd e = gives-all t u before.own before.target fd read.first (sym there ∙ e)
+    pub comes-all : (fd : Fetched) → what ≡ GivenAll fd → IsAll before.entry.own before.entry.target (entry t u) × (fd ≡ fetched_at u (place_of u t))
+    comes-all fd e = gives-all t u before.entry.own before.entry.target fd read.first (sym there ∙ e)
 
   -- ---- an own word
 
   abbrev pub with_own : ℕ → Next
-  with_own w = record before { words = fetch_word ds f.past before.words w (wanted_from f); own = run_with_word before.own w }
+  with_own w = record before { words = fetch_word ds f.past before.words w (wanted_from f); entry = record before.entry { own = run_with_word before.entry.own w } }
 
-  own-read : (t : Option ℕ) (u : Machine) (w : ℕ) → IsReadOn ds t u f before → IsNextOwn before.own before.target (entry t u) w → IsReadOn ds t u f (with_own w)
+  own-read : (t : Option ℕ) (u : Machine) (w : ℕ) → IsReadOn ds t u f before → IsNextOwn before.entry.own before.entry.target (entry t u) w → IsReadOn ds t u f (with_own w)
   own-read t u w read is =
       let words = ap (λ (s : Fetching). fetch_word ds f.past s w (wanted_from f)) (read.words un)
-      ∙ sym (own-fetched ds f before.own before.target w is.none (word-behind before.own (entry t u).own w read.first.own_start is.place)) in
+      ∙ sym (own-fetched ds f before.entry.own before.entry.target w is.none (word-behind before.entry.own (entry t u).own w read.first.own_start is.place)) in
       record {
         place = read.place;
-        first = own-more before.own before.target (entry t u) w read.first is;
+        first = own-more before.entry.own before.entry.target (entry t u) w read.first is;
         words = λ none. words;
         awaited = ap (λ (s : Fetching). s.awaited) words;
       }
@@ -107,15 +120,15 @@ module _ (ds : List ℕ) (n now : ℕ) (f : Front) (x : List ℕ) (s : Machine) 
   -- ---- a word of the target
 
   abbrev pub with_target : ℕ → Next
-  with_target w = record before { words = fetch_word ds f.past before.words w (max (wanted_from f) f.c); target = run_with_word before.target w }
+  with_target w = record before { words = fetch_word ds f.past before.words w (max (wanted_from f) f.c); entry = record before.entry { target = run_with_word before.entry.target w } }
 
-  target-read : (t : Option ℕ) (u : Machine) (w : ℕ) → IsReadOn ds t u f before → IsNextTarget before.own before.target (entry t u) w → IsReadOn ds t u f (with_target w)
+  target-read : (t : Option ℕ) (u : Machine) (w : ℕ) → IsReadOn ds t u f before → IsNextTarget before.entry.own before.entry.target (entry t u) w → IsReadOn ds t u f (with_target w)
   target-read t u w read is =
       let words = ap (λ (s : Fetching). fetch_word ds f.past s w (max (wanted_from f) f.c)) (read.words un)
-      ∙ sym (target-fetched ds f before.own before.target w (word-behind before.target (entry t u).target w read.first.target_start is.place)) in
+      ∙ sym (target-fetched ds f before.entry.own before.entry.target w (word-behind before.entry.target (entry t u).target w read.first.target_start is.place)) in
       record {
         place = read.place;
-        first = target-more before.own before.target (entry t u) w read.first is;
+        first = target-more before.entry.own before.entry.target (entry t u) w read.first is;
         words = λ none. words;
         awaited = ap (λ (s : Fetching). s.awaited) words;
       }
@@ -130,14 +143,14 @@ module _ (ds : List ℕ) (n now : ℕ) (f : Front) (x : List ℕ) (s : Machine) 
 
   -- ---- the target waits for the last entry
 
-  waits-rests : (k later : ℕ) (t : Option ℕ) (u : Machine) (w : ℕ) → before.target.len ≡ k → later ≤ f.c → IsNextTarget before.own before.target (entry t u) w
+  waits-rests : (k later : ℕ) (t : Option ℕ) (u : Machine) (w : ℕ) → before.entry.target.len ≡ k → later ≤ f.c → IsNextTarget before.entry.own before.entry.target (entry t u) w
       → Rests later t u f before
   waits-rests zero later t u w none early is = λ un. inr (is.all, none, (let more = is.more in omega arith), early)
-  waits-rests (suc k) later t u w some early is = λ un. inl (omega (arith, early, waits-some f before.target (omega arith)))
+  waits-rests (suc k) later t u w some early is = λ un. inl (omega (arith, early, waits-some f before.entry.target (omega arith)))
 
   pub target-waits : (later w : ℕ) → what ≡ GivenWord w true → later ≤ f.c → GoesOnTo ds n now f x s before before later
   target-waits later w e early = record {
-    each = λ t u table is next. let it = comes-target t u table is next.read_on w e in (next, waits-rests before.target.len later t u w refl early it);
+    each = λ t u table is next. let it = comes-target t u table is next.read_on w e in (next, waits-rests before.entry.target.len later t u w refl early it);
   }
 
   -- ---- it is prepared
@@ -155,13 +168,13 @@ module _ (ds : List ℕ) (n now : ℕ) (f : Front) (x : List ℕ) (s : Machine) 
 
   -- ---- the plan
 
-  pub plan-goes : (after : Next) (later : ℕ) → what ≡ GivenAll before.fetched → before ≡ prepared_as before.fetched x s before → IsPlannedAs ds n f before after
+  pub plan-goes : (after : Next) (later : ℕ) → what ≡ GivenAll before.fetched.value → before ≡ prepared_as before.fetched.value x s before → IsPlannedAs ds n f before after
       → GoesOnTo ds n now f x s before after later
   plan-goes after later e prepared made = subst (λ a. GoesOnTo ds n now f x s before a later) (sym made.rest) (record {
     each = λ t u table is next.
-        let it = comes-all t u table is next.read_on before.fetched e in
-        let same = sight-same now f x s u t before.place before.fetched is next.read_on.place it.1 in
-        let whole = ap (λ (m : Next). m.entry) prepared ∙ entry-same t u before.own before.target (sight_of before.place before.fetched x s) it.0.own_all it.0.target_all same in (
+        let it = comes-all t u table is next.read_on before.fetched.value e in
+        let same = sight-same now f x s u t before.place before.fetched.value is next.read_on.place it.1 in
+        let whole = ap (λ (m : Next). m.entry) prepared ∙ entry-same t u before.entry.own before.entry.target (sight_of before.place before.fetched.value x s) it.0.own_all it.0.target_all same in (
           record {
             read_on = record {
               place = next.read_on.place;
@@ -170,8 +183,6 @@ module _ (ds : List ℕ) (n now : ℕ) (f : Front) (x : List ℕ) (s : Machine) 
               awaited = made.awaited ∙ next.read_on.awaited;
             };
             planned = λ done. record {
-              own = it.0.own_all;
-              target = it.0.target_all;
               found = it.1;
               needs = ap (λ (m : Next). m.needs) prepared ∙ ap needs same;
               prepared = ap (λ (m : Next). m.prepared) prepared ∙ ap preparation_without_side same;

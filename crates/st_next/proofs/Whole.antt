@@ -6,7 +6,6 @@ use Rattle.st_state.specs.Machine.{Machine}
 use Rattle.st_rows.specs.Asked.{bus_after_reads, side_asked, runs_asked, following_asked, fetches_asked, prepared_asked, data_of, words_asked}
 use Rattle.st_rows.specs.BusTimes.{Read}
 use Rattle.st_rows.specs.Rows.{words_tick, tick_a, bus_a, tick_p, operands, reads_of_entry}
-use Rattle.st_rows.specs.declared.entry.WordRun.{WordRun}
 use Rattle.st_rows.specs.declared.entry.Entry.{Entry}
 use Rattle.st_rows.specs.declared.fetching.Fetching.{Fetching}
 use Rattle.st_rows.specs.declared.front.Front.{Front}
@@ -32,9 +31,9 @@ data-late ds n m f e late =
     (each-following (IsLate m) ds (operands ds n f e).bus e (tick_p ds n f e) (λ follows v least most. p))
 
 -- the words of the entry, with whatever else
-fetches-same : (ds : List ℕ) (f : Front) (own target : WordRun) (e : Entry) → own ≡ e.own → target ≡ e.target → asked_so_far ds f own target ≡ fetches_asked ds f e
+fetches-same : (ds : List ℕ) (f : Front) (seen e : Entry) → seen ≡ e → asked_so_far ds f seen.own seen.target ≡ fetches_asked ds f e
 unfolding fetches_asked words_asked fetch_words
-fetches-same ds f own target e o g = rw (o, g) refl
+fetches-same ds f seen e same = rw same refl
 
 -- ---- of an entry that is not planned
 
@@ -48,7 +47,7 @@ left-resting ds n now t u f next is un rests =
       rest = left.rest ++ data_of ds n f e;
       reads =
           asked-parts ds n f e ∙ ap (λ reads. reads ++ data_of ds n f e) left.reads
-          ∙ append_assoc (asked_so_far ds f next.own next.target) left.rest (data_of ds n f e)
+          ∙ append_assoc (asked_so_far ds f next.entry.own next.entry.target) left.rest (data_of ds n f e)
           ∙ ap (λ reads. reads ++ (left.rest ++ data_of ds n f e)) (sym (reads-none ds f next un));
       late = All-append (IsLate now) left.rest (data_of ds n f e) left.late (data-late ds n now f e (omega arith));
     }
@@ -65,7 +64,7 @@ module _ (ds : List ℕ) (n : ℕ) (t : Option ℕ) (u : Machine) (f : Front) (n
   planned-reads : reads_so_far ds f next ≡ fetches_asked ds f e ++ side_asked f.past e.side (tick_a ds f e)
   planned-reads =
       reads-planned ds f next done
-      ∙ ap (λ reads. reads ++ side_asked f.past next.entry.side next.formed.a) (fetches-same ds f next.own next.target e planned.own planned.target)
+      ∙ ap (λ reads. reads ++ side_asked f.past next.entry.side next.formed.a) (fetches-same ds f next.entry e planned.entry)
       ∙ ap (λ (g : Entry). fetches_asked ds f e ++ side_asked f.past g.side next.formed.a) planned.entry
       ∙ ap (λ a. fetches_asked ds f e ++ side_asked f.past e.side a) planned.address
 
@@ -104,7 +103,7 @@ module _ (ds : List ℕ) (n : ℕ) (t : Option ℕ) (u : Machine) (f : Front) (n
 served-resting : (ds : List ℕ) (n : ℕ) (t : Option ℕ) (u : Machine) (f : Front) (next : Next) → IsNext ds n t u f next → next.planned ≡ false
     → bus_after_reads ds (reads_so_far ds f next) f.bus ≡ next.words.bus
 served-resting ds n t u f next is un =
-    ap (λ reads. bus_after_reads ds reads f.bus) (reads-none ds f next un) ∙ served-fetches ds f (words_alone next.own next.target)
+    ap (λ reads. bus_after_reads ds reads f.bus) (reads-none ds f next un) ∙ served-fetches ds f (words_alone next.entry.own next.entry.target)
     ∙ ap (λ (s : Fetching). s.bus) (sym (is.read_on.words un))
 
 served-by : (b : Bool) (ds : List ℕ) (n : ℕ) (t : Option ℕ) (u : Machine) (f : Front) (next : Next) → next.planned ≡ b → IsNext ds n t u f next

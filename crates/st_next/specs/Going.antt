@@ -55,27 +55,27 @@ pub record IsEarly (f : Front) (words : Fetching) : Type 0 where
 
 -- an entry as the timetable sees it, by what is fetched, what it needs and what it is prepared to
 abbrev pub as_entry : Next → Entry
-as_entry next = entry_with next.own next.target next.needs next.prepared next.place.table
-    next.fetched.fault
+as_entry next = entry_with next.entry.own next.entry.target next.needs next.prepared next.place.table
+    next.fetched.value.fault
 
 -- an entry of which this is fetched, prepared as far as it goes without its index-side word
 abbrev pub prepared_as : Fetched → List ℕ → Machine → Next → Next
 prepared_as fd x s next =
     let v = sight_of next.place fd x s in
-    let m = record next { fetched = fd; needs = needs v; prepared = preparation_without_side v } in
+    let m = record next { fetched = record { marker = record {}; value = fd }; needs = needs v; prepared = preparation_without_side v } in
     record m { entry = as_entry m }
 
 -- how far it is fetched by the words so far, as they stand in a state
 abbrev pub given_so_far : List ℕ → Machine → Next → Given
 given_so_far x s next = fetching_of (left_after (reading_by x s next.place)
-    (map (word s) (words_of_run next.own ++ words_of_run next.target)))
+    (map (word s) (words_of_run next.entry.own ++ words_of_run next.entry.target)))
 
 -- its words tell all of it, and their writers are done by the tick `now`: it is prepared as far as
 -- it goes without its index-side word
 pub record IsPreparedBy (now : ℕ) (x : List ℕ) (s : Machine) (next : Next) : Type 0 where
-  pub found : given_so_far x s next ≡ Found next.fetched
+  pub found : given_so_far x s next ≡ Found next.fetched.value
   pub done : next.words.awaited ≤ now
-  pub prepared : next ≡ prepared_as next.fetched x s next
+  pub prepared : next ≡ prepared_as next.fetched.value x s next
 
 -- what an entry that is planned is prepared to at its tick: the next entry of whatever state stands
 -- before it then

@@ -46,12 +46,12 @@ EntriesArePlannedInTime = (ds : List ℕ) (n now : ℕ) (t : Option ℕ) (u : Ma
 -- stands.
 pub record EntriesBeginAnywhere : Type 0 where
   pub next : (ds : List ℕ) (n : ℕ) (t : Option ℕ) (u : Machine) (f : Front) (next : Next) →
-      next.place ≡ place_of u t → next.own ≡ record { first = 0; len = 0 } →
-      next.target ≡ record { first = 0; len = 0 } →
+      next.place ≡ place_of u t → next.entry.own ≡ record { first = 0; len = 0 } →
+      next.entry.target ≡ record { first = 0; len = 0 } →
       next.words ≡ record { bus = f.bus; answered = 0; awaited = 0 } →
       next.planned ≡ false → IsNext ds n t u f next
   pub rests : (now : ℕ) (t : Option ℕ) (u : Machine) (f : Front) (next : Next) →
       next.planned ≡ false → now ≤ wanted_from f → Rests now t u f next
-  pub reads : (ds : List ℕ) (f : Front) (next : Next) → next.own ≡ record { first = 0; len = 0 } →
-      next.target ≡ record { first = 0; len = 0 } → next.planned ≡ false →
+  pub reads : (ds : List ℕ) (f : Front) (next : Next) → next.entry.own ≡ record { first = 0; len = 0 } →
+      next.entry.target ≡ record { first = 0; len = 0 } → next.planned ≡ false →
       reads_so_far ds f next ≡ []

@@ -1,5 +1,5 @@
 //! The entry that is prepared next, as far as it is known.
-ghost use Rattle.std.specs.Prelude.{◌≡◌, ℕ, ◌+◌, ◌-◌, ◌<◌, ◌≤◌, true, false, max, take, map, List, ◌++◌, Option, IfSome, get_or, if◌then◌else◌};
+ghost use Rattle.std.specs.Prelude.{◌≡◌, ℕ, ◌+◌, ◌-◌, ◌<◌, ◌≤◌, true, false, max, take, map, List, ◌++◌, Option, IfSome, is_none, is_some, get_or, if◌then◌else◌};
 ghost use Rattle.st_bits.specs.Storage.{words_of_storage};
 ghost use Rattle.st_fetch.specs.Planned.{tick_of};
 ghost use Rattle.st_state.specs.Machine.{word};
@@ -20,35 +20,33 @@ ghost use Rattle.st_next.specs.Going.{given_so_far, IsFrontInTime, IsEarly, Goes
 use st_banks::Delays;
 use st_format::{Decoded, Format, FullOp, decode_as, format_of};
 use st_prep::{
-    Fetched, Fetching as Given, Needs, Place, Prepared, fetch_on, halves_known, is_execute_format,
-    prepare_in, prepare_without_side, side_word,
+    Fetched, Fetching as Given, Needs, Place, Prepared, change_by_side, fetch_on, halves_known,
+    is_execute_format, prepare_without_side, side_word,
 };
 use st_rows::{Bus, Entry, Fetching, Formed, Front, Log, Timing, Wanted, WordRun};
 use st_segment::{side_to_read, words_to_read, words_to_write};
 use st_state::State;
+use std::snapshot::Snapshot;
 
 /// The entry that is prepared next, as far as it is known.
-#[derive(Clone, Copy, Debug, Default, PartialEq, Eq)]
+#[derive(Drop)]
 pub struct Next {
     /// Where it stands.
     pub place: Place,
-    /// Its own instruction words that are asked for.
-    pub own: WordRun,
-    /// Those of the target of EX.
-    pub target: WordRun,
-    /// The bus behind them, their answers, and which writers of them are awaited. The bus of an
-    /// entry that is planned is behind its index-side word.
+    /// The bus behind its instruction words that are asked for, their answers, and which writers of
+    /// them are awaited. The bus of an entry that is planned is behind its index-side word.
     pub words: Fetching,
     /// Whether all of it is known but its index-side word; what follows is said of such an entry
-    /// alone.
+    /// alone, but for the instruction words in `entry`.
     pub planned: bool,
-    /// What is fetched.
-    pub fetched: Fetched,
+    /// What is fetched, which clauses alone read.
+    pub fetched: Snapshot<Fetched>,
     /// What it needs.
     pub needs: Needs,
     /// What it is, with 0 in place of its index-side word.
     pub prepared: Prepared,
-    /// The same as the timetable sees it.
+    /// The same as the timetable sees it. Its own instruction words and those of the target of EX
+    /// stand there as soon as they are asked for.
     pub entry: Entry,
     /// When its address is formed and when it is prepared.
     pub formed: Formed,
@@ -81,7 +79,12 @@ impl Next {
         Next {
             place,
             words: Fetching::new(bus),
-            ..Next::default()
+            planned: false,
+            fetched: Snapshot::of(&Fetched::default()),
+            needs: Needs::default(),
+            prepared: Prepared::default(),
+            entry: Entry::default(),
+            formed: Formed::default(),
         }
     }
 
@@ -91,34 +94,34 @@ impl Next {
         ensures unread { IsUnread self.old.words.bus self.new }
     {
         self.place = place;
-        self.own = WordRun::default();
-        self.target = WordRun::default();
+        self.entry.own = WordRun::default();
+        self.entry.target = WordRun::default();
         self.words.restart();
         self.planned = false;
     }
 
     // The address of one of the words so far, 0 behind them.
     fn word_at(&self, k: u8) -> u32
-        requires words { IsEntryInTime (words_alone self.now.own self.now.target) }
-        ensures value { k < self.now.own.len + self.now.target.len → result
-            ≡ get_or (words_of_run self.now.own ++ words_of_run self.now.target) k 0 }
+        requires words { IsEntryInTime (words_alone self.now.entry.own self.now.entry.target) }
+        ensures value { k < self.now.entry.own.len + self.now.entry.target.len → result
+            ≡ get_or (words_of_run self.now.entry.own ++ words_of_run self.now.entry.target) k 0 }
         ensures inside { result < words_of_storage }
     {
-        if k < self.own.len {
-            return self.own.first + u32::from(k);
+        if k < self.entry.own.len {
+            return self.entry.own.first + u32::from(k);
         }
-        let behind = k - self.own.len;
-        if behind < self.target.len {
-            return self.target.first + u32::from(behind);
+        let behind = k - self.entry.own.len;
+        if behind < self.entry.target.len {
+            return self.entry.target.first + u32::from(behind);
         }
         0
     }
 
     // The contents of the words so far.
     fn contents(&self, state: &State) -> [u64; 4]
-        requires words { IsEntryInTime (words_alone self.now.own self.now.target) }
-        ensures { take (self.now.own.len + self.now.target.len) result
-            ≡ map (word state.now) (words_of_run self.now.own ++ words_of_run self.now.target) }
+        requires words { IsEntryInTime (words_alone self.now.entry.own self.now.entry.target) }
+        ensures { take (self.now.entry.own.len + self.now.entry.target.len) result
+            ≡ map (word state.now) (words_of_run self.now.entry.own ++ words_of_run self.now.entry.target) }
     {
         [
             state.word(self.word_at(0)),
@@ -132,11 +135,11 @@ impl Next {
     #[inline(always)]
     fn given(&self, x: &[u64; 16], state: &State) -> Given
         requires place { IsPlace self.now.place }
-        requires words { IsEntryInTime (words_alone self.now.own self.now.target) }
+        requires words { IsEntryInTime (words_alone self.now.entry.own self.now.entry.target) }
         ensures value { result ≡ given_so_far x.now state.now self.now }
         ensures shape { IsFetching result }
     {
-        let so_far = self.own.len + self.target.len;
+        let so_far = self.entry.own.len + self.entry.target.len;
         if so_far == 0 {
             return fetch_on(&self.place, x, &[], state);
         }
@@ -150,25 +153,25 @@ impl Next {
     #[inline(never)]
     fn given_more(&self, x: &[u64; 16], state: &State) -> Given
         requires place { IsPlace self.now.place }
-        requires words { IsEntryInTime (words_alone self.now.own self.now.target) }
+        requires words { IsEntryInTime (words_alone self.now.entry.own self.now.entry.target) }
         ensures value { result ≡ given_so_far x.now state.now self.now }
         ensures shape { IsFetching result }
     {
         let contents = self.contents(state);
-        let so_far = usize::from(self.own.len + self.target.len);
+        let so_far = usize::from(self.entry.own.len + self.entry.target.len);
         fetch_on(&self.place, x, &contents[..so_far], state)
     }
 
     // Asks for a word of its own.
     #[inline(always)]
     fn ask_own(&mut self, w: u32, front: &Front, delays: &Delays, log: &mut Log)
-        requires words { self.old.own.len ≤ 16 }
+        requires words { self.old.entry.own.len ≤ 16 }
         requires room { IsEarly front.now self.old.words }
         requires storage { 32 ≤ w }
         ensures next { self.new ≡ record self.old {
           words = fetch_word delays.now.list front.now.past self.old.words w
               (wanted_from front.now);
-          own = with_word_of self.old.own w;
+          entry = record self.old.entry { own = with_word_of self.old.entry.own w };
         } }
         ensures log { log.new ≡ log_after_reads delays.now.list (word_asked
             (tick_of self.old.words.bus.held.words w) w
@@ -181,19 +184,19 @@ impl Next {
             past: &front.past,
         };
         self.words.word(log, &wanted, w);
-        self.own = with_word(self.own, w);
+        self.entry.own = with_word(self.entry.own, w);
     }
 
     // Asks for a word of the target of EX, which waits for the entry before.
     #[inline(never)]
     fn ask_target(&mut self, w: u32, front: &Front, delays: &Delays, log: &mut Log)
-        requires words { self.old.target.len ≤ 16 }
+        requires words { self.old.entry.target.len ≤ 16 }
         requires room { IsEarly front.now self.old.words }
         requires storage { 32 ≤ w }
         ensures next { self.new ≡ record self.old {
           words = fetch_word delays.now.list front.now.past self.old.words w
               (max (wanted_from front.now) front.now.c);
-          target = with_word_of self.old.target w;
+          entry = record self.old.entry { target = with_word_of self.old.entry.target w };
         } }
         ensures log { log.new ≡ log_after_reads delays.now.list (word_asked
             (tick_of self.old.words.bus.held.words w) w
@@ -206,7 +209,7 @@ impl Next {
             past: &front.past,
         };
         self.words.word(log, &wanted, w);
-        self.target = with_word(self.target, w);
+        self.entry.target = with_word(self.entry.target, w);
     }
 
     // The last completion that it waits for, as far as its words so far tell: that of an entry that
@@ -294,7 +297,7 @@ impl Next {
         ensures unplanned { self.new.planned ≡ false }
     {
         let _ = due;
-        if self.own.len != 0 || self.target.len != 0 {
+        if self.entry.own.len != 0 || self.entry.target.len != 0 {
             return;
         }
         match self.given(basis.index, basis.state) {
@@ -373,9 +376,10 @@ impl Next {
         self.prepare_with_side(x, state);
     }
 
-    // The same, by what stands in its index-side word now.
+    // The same, by what stands in its index-side word now. There is one.
     #[inline(never)]
     fn prepare_with_side(&mut self, x: &[u64; 16], state: &State)
+        requires asked { is_some self.old.needs.index_read ≡ true }
         requires planned { self.old.planned ≡ true }
         requires ready { IsNextReady x.now state.now self.old }
         ensures value { IsPlanAtItsTick x.now state.now self.old self.new.prepared }
@@ -383,9 +387,7 @@ impl Next {
         ensures rest { self.new ≡ record self.old { prepared = self.new.prepared } }
     {
         let read = side_word(state, self.place.table, self.needs.index_read);
-        self.prepared.place = self.place;
-        let mut after = *x;
-        prepare_in(&mut self.prepared, &self.fetched, &mut after, read, state);
+        change_by_side(&mut self.prepared, x, read);
     }
 
     // The instruction with its format, where its words tell all of it and it is not EX. Its words
@@ -393,7 +395,7 @@ impl Next {
     // instruction takes 400 more in tight, 280 in mixed and 250 in various.
     fn spelled(&self, state: &State) -> Option<Spelled>
         requires place { IsPlace self.now.place }
-        requires words { IsEntryInTime (words_alone self.now.own self.now.target) }
+        requires words { IsEntryInTime (words_alone self.now.entry.own self.now.entry.target) }
         ensures found { IfSome result (λ r. (x : List ℕ) → given_so_far x state.now self.now
             ≡ Found (fetched_plain (decoded_entry r.first r.second))) }
         ensures format { IfSome result (λ r. spelled_as r.format r.first r.second
@@ -407,19 +409,19 @@ impl Next {
     #[inline(always)]
     fn halves(&self, state: &State) -> Option<(u32, u32)>
         requires place { IsPlace self.now.place }
-        requires words { IsEntryInTime (words_alone self.now.own self.now.target) }
+        requires words { IsEntryInTime (words_alone self.now.entry.own self.now.entry.target) }
         ensures { IfSome result (λ r. (x : List ℕ) → is_execute (instruction_of r.0 r.1) ≡ false →
             given_so_far x state.now self.now
             ≡ Found (fetched_plain (decoded_entry r.0 r.1))) }
     {
-        if self.target.len != 0 {
+        if self.entry.target.len != 0 {
             return None;
         }
-        let first = self.own.first;
-        if self.own.len == 1 {
+        let first = self.entry.own.first;
+        if self.entry.own.len == 1 {
             return halves_known(self.place.address, &[state.word(first)], state);
         }
-        if self.own.len == 2 {
+        if self.entry.own.len == 2 {
             let contents = [state.word(first), state.word(first + 1)];
             return halves_known(self.place.address, &contents, state);
         }
@@ -433,10 +435,10 @@ impl Next {
         requires fetched { IsFetched fetched }
         ensures value { self.new ≡ prepared_as fetched x.now state.now self.old }
     {
-        self.fetched = fetched;
+        self.fetched = Snapshot::of(&fetched);
         self.prepared.place = self.place;
-        self.needs = prepare_without_side(&mut self.prepared, &self.fetched, x, state);
-        self.show();
+        self.needs = prepare_without_side(&mut self.prepared, &fetched, x, state);
+        self.show(fetched.fault.is_none());
     }
 
     // Prepares the entry, which is this instruction, as far as it goes without its index-side word.
@@ -480,8 +482,7 @@ impl Next {
         self.prepare_own(own, x, state);
     }
 
-    // The same of any instruction. What is fetched is kept field by field, before it is read, so
-    // that no copy of it is made with tests.
+    // The same of any instruction.
     #[inline(always)]
     fn prepare_own(&mut self, own: Decoded, x: &[u64; 16], state: &State)
         requires place { IsPlace self.old.place }
@@ -493,29 +494,27 @@ impl Next {
             target: None,
             fault: None,
         };
-        self.fetched.instr = own;
-        self.fetched.target = None;
-        self.fetched.fault = None;
+        self.fetched = Snapshot::of(&fetched);
         self.prepared.place = self.place;
         self.needs = prepare_without_side(&mut self.prepared, &fetched, x, state);
-        self.show();
+        self.show(true);
     }
 
-    // The entry becomes what it is prepared to, as the timetable sees it.
+    // The entry becomes what it is prepared to, as the timetable sees it; `allowed` says whether its
+    // words could be fetched.
     #[inline(always)]
-    fn show(&mut self)
+    fn show(&mut self, allowed: bool)
+        requires { allowed ≡ is_none self.old.fetched.value.fault }
         ensures { self.new ≡ record self.old { entry = as_entry self.old } }
     {
         let entry = &mut self.entry;
         let prepared = &self.prepared;
-        entry.own = self.own;
-        entry.target = self.target;
         entry.side = side_to_read(self.needs.index_read);
         entry.reads = words_to_read(prepared.reads);
         entry.writes = words_to_write(prepared.writes);
         entry.cost = prepared.cost;
         entry.serial = prepared.serial;
-        entry.follows = self.place.table.is_none() && self.fetched.fault.is_none();
+        entry.follows = self.place.table.is_none() && allowed;
     }
 }
 

@@ -12,11 +12,11 @@ use Rattle.st_prep.specs.declared.entries.Fetched.{Fetched}
 use Rattle.st_prep.specs.declared.entries.Aim.{Aim}
 use Rattle.st_prep.specs.declared.entries.Needs.{Needs}
 use Rattle.st_prep.specs.declared.entries.Prepared.{Prepared}
-use Rattle.st_prep.specs.EarlyChange.{effective}
+use Rattle.st_prep.specs.EarlyChange.{effective, change}
 use Rattle.st_prep.specs.Entry.{reads, words_written, counter_behind, acts_alone, has_register, is_register}
 use Rattle.st_prep.specs.Reading.{is_execute}
 use Rattle.st_prep.specs.Checks.{effective_instr, forbidden_side, forbidden_words, forbidden_area, operation_invalid, execute_exception, fault}
-use Rattle.st_prep.specs.Plan.{Sight, is_alone, aim_at, aim, is_serial, needs_by, needs, suppressed_entry, entry_at, prepared_by, prepared_entry}
+use Rattle.st_prep.specs.Plan.{Sight, is_alone, aim_at, aim, is_serial, needs_by, needs, asks, suppressed_entry, entry_at, prepared_by, prepared_entry}
 use Rattle.st_prep.specs.Ranges.{HasFields, IsPlace, IsFetched, IsPrepared, IsNeeds}
 use Rattle.st_format.proofs.Spelled.{or-left, or-right}
 use Rattle.st_prep.proofs.Choices.{none-left, none-right}
@@ -231,6 +231,50 @@ pub prepared-read : (s : Sight) (r q : Option ℕ)
     → prepared_entry s r ≡ record (prepared_entry s q) { index = (prepared_entry s r).index; ind = (prepared_entry s r).ind }
 unfolding prepared_entry
 prepared-read s r q = read-by_fault _ s.place (aim s) s.x r q
+
+changed_by_fault : (f : Option ℕ) (p : Place) (a : Aim) (x : List ℕ) (r q : Option ℕ) → is_some (needs_by f a).index_read ≡ true
+    → let e = prepared_by f p a x q in record e { index = (change x e.instr e.e r).index; ind = (change x e.instr e.e r).ind } ≡ prepared_by f p a x r
+unfolding entry_at
+changed_by_fault None p a x r q some = refl
+changed_by_fault (Some i) p a x r q some = absurd (cc)
+
+-- where one is read, an entry becomes what another word makes of it by its early change alone
+pub changed-read : (s : Sight) (r q : Option ℕ) (p : Prepared) → asks s ≡ true → p ≡ prepared_entry s q
+    → record p { index = (change s.x p.instr p.e r).index; ind = (change s.x p.instr p.e r).ind } ≡ prepared_entry s r
+unfolding needs prepared_entry
+changed-read s r q p some is = rw is (changed_by_fault _ s.place (aim s) s.x r q some)
+
+entered_by_fault : (f : Option ℕ) (p : Place) (a : Aim) (x : List ℕ) (q : Option ℕ) → is_some (needs_by f a).index_read ≡ true
+    → (prepared_by f p a x q).suppressed ≡ false
+unfolding entry_at
+entered_by_fault None p a x q some = refl
+entered_by_fault (Some i) p a x q some = absurd (cc)
+
+pub asks-entered : (s : Sight) (q : Option ℕ) (p : Prepared) → asks s ≡ true → p ≡ prepared_entry s q → p.suppressed ≡ false
+unfolding needs prepared_entry
+asks-entered s q p some is = rw is (entered_by_fault _ s.place (aim s) s.x q some)
+
+-- it stays in its ranges
+pub changed-fits : (p : Prepared) (x : List ℕ) (r : Option ℕ) → IsPrepared p → p.suppressed ≡ false
+    → ((j : ℕ) → get_or x j 0 < 2 ^ 64) → IfSome r (λ w. w < 2 ^ 64)
+    → IsPrepared (record p { index = (change x p.instr p.e r).index; ind = (change x p.instr p.e r).ind })
+changed-fits p x r is entered words some = record {
+  place = is.place;
+  shape = is.shape;
+  address = is.address;
+  following = is.following;
+  change = change-fits x p.instr p.e r words is.shape is.address some;
+  reads = is.reads;
+  reads_inside = is.reads_inside;
+  writes = is.writes;
+  writes_inside = is.writes_inside;
+  stored = is.stored;
+  some_cost = is.some_cost;
+  cost = is.cost;
+  entry = λ h. let e = is.entry h in record { valid = e.valid; reads = e.reads; writes = e.writes; area = e.area };
+  suppressed = λ h. absurd (cc);
+  ahead = λ h. let e = is.ahead h in record { table = e.table; operation = e.operation; reads = e.reads; writes = e.writes };
+}
 
 -- ---- EX
 

@@ -1,11 +1,11 @@
 //! What an entry is aimed at, and the entry prepared.
-ghost use Rattle.std.specs.Prelude.{◌≡◌, ℕ, ◌<◌, ◌^◌, IfSome, is_some, option_map};
+ghost use Rattle.std.specs.Prelude.{◌≡◌, ℕ, ◌<◌, ◌^◌, true, Option, IfSome, is_some, option_map};
 ghost use Rattle.st_bits.specs.Indicators.{indicator as indicator_of, IsIndicatorIfAny};
 ghost use Rattle.st_bits.specs.Storage.{words_of_storage};
 ghost use Rattle.st_state.specs.Machine.{Machine, IsMachine, word};
 ghost use Rattle.st_state.specs.Interrupts.{indicator_word};
 ghost use Rattle.st_prep.specs.EarlyChange.{words_after};
-ghost use Rattle.st_prep.specs.Plan.{sight_of, is_alone as is_alone_of, aim_at as aimed_of, aim as aim_of, is_serial as is_serial_of, needs_by, needs as needs_of, asks, suppressed_entry as suppressed_of, entry_at as entry_of, prepared_by, prepared_entry as prepared_of, plan as plan_of, state_at_entry, side_word as side_word_of, side_of, IsSeen, entry_by, sight};
+ghost use Rattle.st_prep.specs.Plan.{Sight, sight_of, is_alone as is_alone_of, aim_at as aimed_of, aim as aim_of, is_serial as is_serial_of, needs_by, needs as needs_of, asks, suppressed_entry as suppressed_of, entry_at as entry_of, prepared_by, prepared_entry as prepared_of, plan as plan_of, state_at_entry, side_word as side_word_of, side_of, IsSeen, entry_by, sight};
 ghost use Rattle.st_prep.specs.Fetch.{place_of as place_by};
 ghost use Rattle.st_format.specs.Formats.{spelled_as};
 ghost use Rattle.st_prep.specs.Reading.{is_execute as is_execute_of};
@@ -132,7 +132,8 @@ fn suppress(aim: &Aim, i: u8, p: &mut Prepared)
 
 // Fills in an entry that is not suppressed; `read` is its index-side word.
 #[inline(always)]
-fn enter(aim: &Aim, x: &[u64; 16], read: Option<u64>, p: &mut Prepared)
+fn enter(aim: &Aim, x: &[u64; 16], read: Option<u64>, serial: bool, p: &mut Prepared)
+    requires serial { serial ≡ is_serial_of aim.now }
     requires place { p.old.place.counter < 2 ^ 19 }
     requires aim { IsAim aim.now }
     ensures { p.new ≡ entry_of p.old.place aim.now x.now read }
@@ -149,12 +150,13 @@ fn enter(aim: &Aim, x: &[u64; 16], read: Option<u64>, p: &mut Prepared)
     p.writes = aim.writes;
     p.value = value(&aim.instr, x, following);
     p.cost = cost(&aim.instr);
-    p.serial = is_serial(aim);
+    p.serial = serial;
 }
 
 // Fills in the entry that stands at `p.place`, before the index words are changed by it.
 #[inline(always)]
-fn fill(aim: &Aim, x: &[u64; 16], read: Option<u64>, p: &mut Prepared)
+fn fill(aim: &Aim, x: &[u64; 16], read: Option<u64>, serial: bool, p: &mut Prepared)
+    requires serial { serial ≡ (needs_by aim.now.fault aim.now).serial }
     requires place { p.old.place.counter < 2 ^ 19 }
     requires aim { IsAim aim.now }
     ensures { p.new ≡ prepared_by aim.now.fault p.old.place aim.now x.now read }
@@ -165,7 +167,7 @@ fn fill(aim: &Aim, x: &[u64; 16], read: Option<u64>, p: &mut Prepared)
             let aim = *aim;
             suppress(&aim, i, p)
         }
-        None => enter(aim, x, read, p),
+        None => enter(aim, x, read, serial, p),
     }
 }
 
@@ -199,7 +201,9 @@ pub fn prepare_in(
         (s : Machine) → IsSeen s v → read ≡ side_of s v → p.new ≡ plan_of s p.old.place.table }
 {
     read_shape(read);
-    fill(&aim(&p.place, fetched, x, state), x, read, p);
+    let aim = aim(&p.place, fetched, x, state);
+    let serial = needs(&aim).serial;
+    fill(&aim, x, read, serial, p);
     change_index(p.index, x);
 }
 
@@ -225,8 +229,23 @@ pub fn prepare_without_side(
 {
     let aim = aim(&p.place, fetched, x, state);
     let needs = needs(&aim);
-    fill(&aim, x, zero_for(needs.index_read), p);
+    fill(&aim, x, zero_for(needs.index_read), needs.serial, p);
     needs
+}
+
+/// Makes the early change of an entry once more, by its index-side word, once that is read. It was
+/// prepared by whatever stood in its place.
+pub fn change_by_side(p: &mut Prepared, x: &[u64; 16], read: Option<u64>)
+    requires { IsPrepared p.old }
+    ensures value { (v : Sight) (other : Option ℕ) → v.x ≡ x.now → asks v ≡ true →
+        p.old ≡ prepared_of v other → p.new ≡ prepared_of v read }
+    ensures ranges { (v : Sight) (other : Option ℕ) → v.x ≡ x.now → asks v ≡ true →
+        p.old ≡ prepared_of v other → IsPrepared p.new }
+{
+    read_shape(read);
+    let early = change(&p.instr, x, p.e, read);
+    p.index = early.index;
+    p.ind = early.ind;
 }
 
 // A word of zeros in the place of an index-side word, where one is asked for.
@@ -334,10 +353,10 @@ fn fill_fetched(fetched: &Fetched, x: &[u64; 16], state: &State, p: &mut Prepare
         result ≡ (needs_of v).index_read }
 {
     let aim = aim(&p.place, fetched, x, state);
-    let side = needs(&aim).index_read;
-    let read = side_word(state, p.place.table, side);
-    fill(&aim, x, read, p);
-    side
+    let needs = needs(&aim);
+    let read = side_word(state, p.place.table, needs.index_read);
+    fill(&aim, x, read, needs.serial, p);
+    needs.index_read
 }
 
 /// Prepares the next entry of a state, or the table instruction of an interrupt by the indicator in

@@ -5,8 +5,8 @@ use Rattle.st_next.proofs.next.Next.contents.Goals as goal
 
 pub returns : goal.returns
 returns c =
-    let own = c.args.self.now.own in
-    let target = c.args.self.now.target in
+    let own = c.args.self.now.entry.own in
+    let target = c.args.self.now.entry.target in
     let s = c.args.state.now in
     take-map_four (word s) _ (own.len + target.len) _ _ _ _ (length-first own target) (omega (arith, c.requires.words.own_few, c.requires.words.target_few))
     (λ h. c.word.ensures.value ∙ ap (word s) (c.word_at.ensures.value h))

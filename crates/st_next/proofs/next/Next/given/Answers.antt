@@ -6,8 +6,8 @@ use Rattle.st_next.proofs.next.Next.given.Goals as goal
 
 pub returns-then-so_far-eq0-clause-value : goal.returns-then-so_far-eq0-clause-value
 returns-then-so_far-eq0-clause-value c =
-    let own = c.args.self.now.own in
-    let target = c.args.self.now.target in
+    let own = c.args.self.now.entry.own in
+    let target = c.args.self.now.entry.target in
     let s = c.args.state.now in
     c.fetch_on.ensures.value
     ∙ ap {A = List ℕ} (λ xs. given_of (left_after (reading_at_place c.args.x.now (word s 3) s.enabled c.args.self.now.place) xs))
@@ -15,8 +15,8 @@ returns-then-so_far-eq0-clause-value c =
 
 pub returns-then-so_far-eq1-clause-value : goal.returns-then-so_far-eq1-clause-value
 returns-then-so_far-eq1-clause-value c =
-    let own = c.args.self.now.own in
-    let target = c.args.self.now.target in
+    let own = c.args.self.now.entry.own in
+    let target = c.args.self.now.entry.target in
     let s = c.args.state.now in
     c.fetch_on-then-so_far-eq1.ensures.value
     ∙ ap {A = List ℕ} (λ xs. given_of (left_after (reading_at_place c.args.x.now (word s 3) s.enabled c.args.self.now.place) xs))

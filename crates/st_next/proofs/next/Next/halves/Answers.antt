@@ -6,8 +6,8 @@ use Rattle.st_next.proofs.next.Next.halves.Goals as goal
 
 pub returns-then-self-eq1 : goal.returns-then-self-eq1
 returns-then-self-eq1 c =
-    let own = c.args.self.now.own in
-    let target = c.args.self.now.target in
+    let own = c.args.self.now.entry.own in
+    let target = c.args.self.now.entry.target in
     let s = c.args.state.now in
     let first : own.first ≡ own.first + 0 = omega arith in
     halves-found _ s c.args.self.now.place _ _
@@ -17,8 +17,8 @@ returns-then-self-eq1 c =
 
 pub returns-then-self-eq2 : goal.returns-then-self-eq2
 returns-then-self-eq2 c =
-    let own = c.args.self.now.own in
-    let target = c.args.self.now.target in
+    let own = c.args.self.now.entry.own in
+    let target = c.args.self.now.entry.target in
     let s = c.args.state.now in
     let first : own.first ≡ own.first + 0 = omega arith in
     halves-found _ s c.args.self.now.place _ _

@@ -80,15 +80,15 @@ words-preserved-in-Next-default-true c = record {
 
 pub words-smaller : goal.words-smaller
 words-smaller c =
-    let own : c.ask_own.new.self.own.len ≡ c.words.self.own.len + 1 = ap (λ (x : Entry). x.own.len) c.ask_own.ensures.next in
-    let target : c.ask_own.new.self.target.len ≡ c.words.self.target.len = ap (λ (x : Entry). x.target.len) c.ask_own.ensures.next in
-    omega (arith, own, target, count-most c.words.self.own c.words.self.target (known-words _ _ _ _ _ _ _ c.words.invariant.unplanned (known-then _ _ _ _ _ _ _ _ _ c.requires.known c.words.invariant.goes)))
+    let own : c.ask_own.new.self.entry.own.len ≡ c.words.self.entry.own.len + 1 = ap (λ (x : Entry). x.entry.own.len) c.ask_own.ensures.next in
+    let target : c.ask_own.new.self.entry.target.len ≡ c.words.self.entry.target.len = ap (λ (x : Entry). x.entry.target.len) c.ask_own.ensures.next in
+    omega (arith, own, target, count-most c.words.self.entry.own c.words.self.entry.target (known-words _ _ _ _ _ _ _ c.words.invariant.unplanned (known-then _ _ _ _ _ _ _ _ _ c.requires.known c.words.invariant.goes)))
 
 pub words-smaller-in-Next-default-true : goal.words-smaller-in-Next-default-true
 words-smaller-in-Next-default-true c =
-    let own : c.ask_target.new.self.own.len ≡ c.words.self.own.len = ap (λ (x : Entry). x.own.len) c.ask_target.ensures.next in
-    let target : c.ask_target.new.self.target.len ≡ c.words.self.target.len + 1 = ap (λ (x : Entry). x.target.len) c.ask_target.ensures.next in
-    omega (arith, own, target, count-most c.words.self.own c.words.self.target (known-words _ _ _ _ _ _ _ c.words.invariant.unplanned (known-then _ _ _ _ _ _ _ _ _ c.requires.known c.words.invariant.goes)))
+    let own : c.ask_target.new.self.entry.own.len ≡ c.words.self.entry.own.len = ap (λ (x : Entry). x.entry.own.len) c.ask_target.ensures.next in
+    let target : c.ask_target.new.self.entry.target.len ≡ c.words.self.entry.target.len + 1 = ap (λ (x : Entry). x.entry.target.len) c.ask_target.ensures.next in
+    omega (arith, own, target, count-most c.words.self.entry.own c.words.self.entry.target (known-words _ _ _ _ _ _ _ c.words.invariant.unplanned (known-then _ _ _ _ _ _ _ _ _ c.requires.known c.words.invariant.goes)))
 
 pub prepare_found-requires-clause-place : goal.prepare_found-requires-clause-place
 prepare_found-requires-clause-place c = known-place _ _ _ _ _ _ _ c.words.invariant.unplanned (known-then _ _ _ _ _ _ _ _ _ c.requires.known c.words.invariant.goes)

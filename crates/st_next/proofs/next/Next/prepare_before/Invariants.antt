@@ -11,4 +11,4 @@ invariant-words l = record {
 }
 
 abbrev pub decreases-words : goal.decreases-words
-decreases-words l = 5 - (l.self.own.len + l.self.target.len)
+decreases-words l = 5 - (l.self.entry.own.len + l.self.entry.target.len)
