@@ -68,7 +68,8 @@ module _ {X : Type 0} (key : X → ℕ) where
   rise_from_sort [] up = tt
   rise_from_sort (x ∷ xs) up = (zero-le, rise_behind x xs up)
 
-  -- in a list with nondecreasing keys the items with the key of z are consecutive
+  -- if the keys of a list do not fall and begin at n or later, and an item has the key of z, then
+  -- that key is at least n
   found : (n : ℕ) (z : X) (xs : List X) (y : X) (ys : List X) → KeysRise key n xs → filter (are_tied z) xs ≡ y ∷ ys → n ≤ key z
   found n z [] y ys up is = cc
   found n z (x ∷ xs) y ys up is = elim (cases_Bool (are_tied z x)) [
