@@ -25,7 +25,8 @@ reach-end : (t cost : ℕ) (f : Front) (r : EntryTicks) → IsOrdered f r cost �
 unfolding reach
 reach-end t cost f r is early = omega (arith, is.a, is.p, is.c)
 
--- the stages before executing end when the row is ready and the previous entry has completed
+-- the stages of a row before executing; they end when the row is ready and the previous entry has
+-- completed
 front_parts : ℕ → EntryTicks → List StagePart
 front_parts start row =
     record { stage = Restart; end = start }
@@ -51,7 +52,7 @@ executing t cost f r is early =
     ∙ ap (λ k. r.c - k) (reach-ready t cost f r is early)
     ∙ omega (arith, is.c)
 
--- the restart ends at the start of the segment
+-- the stages of a row after the restart, which ends at the start of the segment
 later_parts : EntryTicks → List StagePart
 later_parts r =
     record { stage = Instruction; end = r.a - 1 }
