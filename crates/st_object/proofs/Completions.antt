@@ -74,7 +74,7 @@ goes_on d (kind ∷ kinds) orders = go (is_met (has_line d) kind) refl (λ later
     go true met on later_orders = let later = on later_orders in (later.0, rw (met_kept d kind met, later.1, append_assoc))
     go false lacking on none = (flat_map (λ k. kind_lines (completion d) k) (kind ∷ kinds), rw (no_lines_of d (kind ∷ kinds) none))
 
--- the completed draft is complete and within its limits
+-- the budget and the delays of the completed draft are within their limits
 some_limits : (n : ℕ) (ds : List ℕ) → n ≤ 10000000 → AreDelays ds →
     ((if n == 0 then 1 else n) ≤ 10000000) × AreDelays (if is_empty ds then 1 ∷ [] else ds)
 some_limits n ds few are = (
