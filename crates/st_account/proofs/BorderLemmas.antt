@@ -1,4 +1,4 @@
--- The lines where a segment ends and the next one begins, and the front behind.
+-- Lemmas on the lines between two segments, and on the front after them.
 use Rattle.std.specs.Prelude.{Bool, if◌then◌else◌, nat_eq, ◌||◌, is_some, map}
 use Rattle.std.proofs.Common.{◌≡◌, ◌≢◌, ℕ, zero, suc, ◌+◌, true, false, List, [], ◌∷◌, ◌++◌, length, Option, None, Some, refl, sym, ◌∙◌, ap, arith}
 use Rattle.std.proofs.lemmas.List.{length-map}
@@ -37,7 +37,7 @@ choice-lines false xs ys same = refl
 same-done : (m : Moment) (s : Machine) → next_state m ≡ s → s.done ≡ m.scene.machine.done
 same-done m s is = ap (λ (t : Machine). t.done) (sym is) ∙ settled-done m.scene
 
--- the words before count but for the first state
+-- the words before matter only after the first state
 words-same : (k : ℕ) (xs ys : List ℕ) (s : Machine) → (k ≢ 0 → xs ≡ ys) → words_lines k xs s ≡ words_lines k ys s
 unfolding words_lines
 words-same zero xs ys s same = refl
@@ -53,7 +53,7 @@ state-words : (ws : List (List ℕ)) (k : ℕ) (was : Bool) (xs ys : List ℕ) (
 unfolding state_lines
 state-words ws k was xs ys s taken done same = ap (λ (ls : List (List ℕ)). ls ++ taken_by (nat_eq k 0) taken done) (marks-words ws k was xs ys s same)
 
--- what is at hand where a segment ends or goes on
+-- the facts after a border, where a segment ends or continues
 pub record IsBorder (ds : List ℕ) (levels : ℕ) (m : Moment) (s : Machine) (l : Last) (found : List Ahead) (held : LastAnswers) (came rested : Bool) : Type 0 where
   pub tick : m.tick ≡ l.tick
   pub front : m.front ≡ l.front
@@ -158,7 +158,7 @@ module _ (ds : List ℕ) (levels : ℕ) (m : Moment) (s : Machine) (l : Last) (f
 
 -- ---- the border of an account
 
--- the lines of a border, behind an entry of the segment k that was done at a tick
+-- the lines of a border after an entry of segment k that completed at a tick
 abbrev border_text : Origins → Border → ℕ → ℕ → ℕ → List (List ℕ) → Bool → List ℕ → Machine → List Ahead → List Ahead → List (List ℕ)
 border_text table x k tick i printed was old s found begun =
     ((if x.ends then segment_end_lines (origin_at table s) k tick i found begun else []) ++ state_lines printed k was old s x.taken x.done)
@@ -209,7 +209,7 @@ module _ (ds : List ℕ) (n left : ℕ) (b : Machine) (m : Moment) (a : Account)
           ap (λ (l : Last). kept_lines a.k l end) last
           ∙ ap (kept_lines a.k a.last) until-same
 
-    -- those of the border
+    -- the lines of the border
     pub crossed : (i : ℕ) (found : List Ahead) (printed : List (List ℕ)) → i ≡ o.state.done + 1 → found ≡ o.behind.ahead.found.items → printed ≡ o.behind.printed.items
         → o.last.front ≡ next_front m
         → border_text o.origins x a.k o.last.tick i printed o.last.enabled o.words.items o.state found (o.behind.ahead.late ∷ []) ≡ segment_lines (origin_at a.origins) ds n a.k b m
@@ -258,7 +258,7 @@ totals-is s resting done tick is_rest is_done =
     ap (λ b. run_end_line b ∷ done_line done ∷ ticks_line tick ∷ []) is_rest
     ∙ ap (λ d. run_end_line (rests s) ∷ done_line d ∷ ticks_line tick ∷ []) is_done
 
--- where the run ends, of an account
+-- the account at the end of the run
 module _ (ds : List ℕ) (n left : ℕ) (b : Machine) (m : Moment) (a : Account) (xs : List Signal) (cards : List (List ℕ))
     (is : IsBehindMoment ds n left b m a xs cards) (over : run_ends left m ≡ true) where
   ends-there : segment_ends left m ≡ true
@@ -276,7 +276,7 @@ module _ (ds : List ℕ) (n left : ℕ) (b : Machine) (m : Moment) (a : Account)
       last-is (origin_at a.origins) ds n b a.last.enabled is.was m printed (is_printed ∙ is.printed) a.state a.k a.last.tick i found (a.behind.ahead.late ∷ []) is.tick
       (ap (λ (c : Scene). c.machine) is.scene) (is_found ∙ is.dropped ends-there) (is.begun ends-there) number a.words.items is.words
 
--- the words of the last entry, of which none count where a segment ends
+-- the words of the last entry; none if a segment ends
 pub words-left : (ds : List ℕ) (n left : ℕ) (b : Machine) (m : Moment) (a : Account) (xs : List Signal) (cards : List (List ℕ)) → IsBehindMoment ds n left b m a xs cards
     → (ends : Bool) (old us new : List Use) → ends ≡ (a.last.missed || a.behind.card || a.behind.waited || is_some (interrupt a.state)) → us ≡ old
     → new ≡ (if ends then [] else us) → new ≡ words_before m old
@@ -286,7 +286,7 @@ words-left ds n left b m a xs cards is ends old us new is_ends same is_new =
     ∙ ap (λ y. if y then [] else old)
     (ends-is ds n m a.state a.last a.behind.ahead.found.items a.behind.banks a.behind.card a.behind.waited (border-of ds n left b m a xs cards is) (interrupt a.state) ends refl is_ends)
 
--- the sums of waits do not count
+-- the totals of waits do not matter
 pub behind-same : (ds : List ℕ) (n left : ℕ) (b : Machine) (m : Moment) (a : Account) (xs : List Signal) (cards : List (List ℕ)) (w : RowTelling)
     → IsBehindMoment ds n left b m a xs cards → IsBehindMoment ds n left b m (record a { waiting = w }) xs cards
 behind-same ds n left b m a xs cards w is = record {

@@ -1,4 +1,4 @@
--- An entry that is done, and its lines.
+-- Lemmas on a completed entry and its lines.
 use Rattle.std.specs.Prelude.{Bool, nat_eq}
 use Rattle.std.proofs.lemmas.Bool.Decides.{nat_tests}
 use Rattle.std.proofs.Common.{◌≡◌, ◌≢◌, ℕ, zero, suc, false, refl, arith, ◌+◌, ◌<◌, ◌≤◌, ◌^◌, List, [], Option, sym, ◌∙◌, ap, subst}
@@ -45,7 +45,7 @@ pub kept-none : (k : ℕ) (l : Last) (end : Option ℕ) → k ≡ 0 → kept_lin
 unfolding kept_lines
 kept-none k l end none = rw none refl
 
--- those of an entry that is done, part by part
+-- the lines of a completed entry, part by part
 abbrev pub told_lines : ℕ → ℕ → Option Origin → EntryTicks → ℕ → Bool → Prepared → Known → ℕ → ℕ → Option ℕ → Because → List Use → List Use → List (List ℕ)
 told_lines i a origin ticks wait missed q known before start end why uses earlier =
     done_entry_lines (record { n = i; address = a; origin = origin; row = record { ticks = ticks; level_wait = wait }; missed = missed; before = before; start = start; end = end; because = why })
@@ -61,7 +61,7 @@ kept-some (suc k) l end some = rw (not-zero k) refl
     not-zero : (k : ℕ) → nat_eq (suc k) 0 ≡ false
     not-zero k = grind (arith, nat_tests)
 
--- by the row as it stands
+-- the lines of the last entry, by its row
 pub kept-row : (k : ℕ) (l : Last) (end : Option ℕ) (us bs : List Use) → k ≢ 0 → us ≡ l.uses.items → bs ≡ l.before.items
     → done_entry_lines (record {
       n = l.done.n;
@@ -115,7 +115,7 @@ formed-is ds p s l taken us is is_taken is_uses =
     ∙ ap (λ m. formed_uses ds l.front (entry (interrupt m) m) (side_at (interrupt m) m)) (sym is.machine)
     ∙ ap (λ f. formed_uses ds f (entry (interrupt p.scene.machine) p.scene.machine) (side_at (interrupt p.scene.machine) p.scene.machine)) (sym is.front)
 
--- what kept it back
+-- the cause that delayed an entry
 abbrev why_of : Front → Entry → EntryTicks → ℕ → List Use → List Use → Because
 why_of f e ticks wait words earlier = because f e ticks.a ticks.p wait words earlier
 

@@ -1,4 +1,4 @@
--- The first cards whose bits begin in half-words, row by row.
+-- Lemmas on the first cards whose bits begin in half-words, row by row.
 use Rattle.std.specs.Prelude.{nat_eq, Option, None, Some, IfSome, All, slice_index, slice_set}
 use Rattle.std.specs.Option.{option_or}
 use Rattle.std.proofs.Common.{◌≡◌, ◌≢◌, ℕ, zero, suc, ◌<◌, ◌≤◌, inl, inr, true, false, List, ◌∷◌, length, drop, get_or, get_or-set_other, refl, sym, ◌∙◌, ap, subst, arith}
@@ -22,17 +22,17 @@ same-half h = grind (arith, nat_tests)
 other-half : (b h : ℕ) → b ≢ h → nat_eq b h ≡ false
 other-half b h other = grind (arith, nat_tests)
 
--- where its bits begin
+-- the half-word in which the bits of a row begin
 first-here : (row : Listed) (rows : List Listed) (h : ℕ) → beginning row ≡ Some h → first_card (row ∷ rows) h ≡ Some row.card
 unfolding first_card
 first-here row rows h is = rw (is, same-half h) refl
 
--- and elsewhere
+-- the half-words in which the bits of a row do not begin
 first-other : (row : Listed) (rows : List Listed) (b h : ℕ) → beginning row ≡ Some b → b ≢ h → first_card (row ∷ rows) h ≡ first_card rows h
 unfolding first_card
 first-other row rows b h is other = rw (is, other-half b h other) refl
 
--- one that lays nothing
+-- a row that assembles to no bits
 first-none : (row : Listed) (rows : List Listed) (h : ℕ) → beginning row ≡ None → first_card (row ∷ rows) h ≡ first_card rows h
 unfolding first_card
 first-none row rows h is = rw is refl
@@ -73,7 +73,7 @@ row-taken xs ys row rows b h is taken made = elim (cases_eq b h) [
       ∙ ap (option_or (card_by (slice_index xs h))) (sym (first-other row rows b h is other))
 ]
 
--- one that lays nothing is not
+-- a row that assembles to no bits is not entered
 pub first-skipped : (xs : List ℕ) (row : Listed) (rows : List Listed) (h : ℕ) → beginning row ≡ None
     → option_or (card_by (slice_index xs h)) (first_card rows h) ≡ option_or (card_by (slice_index xs h)) (first_card (row ∷ rows) h)
 first-skipped xs row rows h is = ap (option_or (card_by (slice_index xs h))) (sym (first-none row rows h is))
@@ -88,7 +88,8 @@ row-entered xs ys row rows b h is within some free taken = elim (cases_eq (slice
 
 -- ---- all rows
 
--- The table has the cards of the rows before the i-th, so with the others all are told.
+-- The table has the cards of the rows before the i-th, so together with the remaining rows it has
+-- all.
 pub record IsFilling (rows : List Listed) (cards : List ℕ) (i : ℕ) : Type 0 where
   pub within : All (λ row. IfSome (beginning row) (λ h. h < length cards)) rows
   pub told : (h : ℕ) → option_or (card_by (slice_index cards h)) (first_card (drop i rows) h) ≡ first_card rows h
@@ -105,9 +106,9 @@ filling-ends rows cards i is past h =
     ∙ ap (λ xs. option_or (card_by (slice_index cards h)) (first_card xs h)) (sym (drop_of_length-le rows past))
     ∙ is.told h
 
--- ---- how far they reach
+-- ---- the length of the table
 
--- the rows before the i-th begin below n
+-- the bits of the rows before the i-th begin below half-word n
 abbrev pub AreWithin : List Listed → ℕ → ℕ → Type 0
 AreWithin rows i n = (k : ℕ) (d : Listed) → k < i → IfSome (beginning (get_or rows k d)) (λ h. h < n)
 

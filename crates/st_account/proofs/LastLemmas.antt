@@ -1,4 +1,4 @@
--- What is at hand of an entry that was done, and what follows from it.
+-- Lemmas on the facts about a completed entry.
 use Rattle.std.specs.Prelude.{Bool, if◌then◌else◌, nat_lt, map}
 use Rattle.std.proofs.Common.{◌≡◌, ℕ, zero, suc, ◌^◌, ◌≤◌, ◌<◌, true, false, List, [], ◌∷◌, ◌++◌, length, take, get_or, Option, None, refl, sym, ◌∙◌, ap, subst, arith}
 use Rattle.st_state.specs.Machine.{Machine}
@@ -39,7 +39,7 @@ use Rattle.st_account.specs.declared.last.Last.{Last}
 use Rattle.st_account.specs.Standing.{guessing, HasReads, IsLast, IsStanding}
 use Rattle.st_account.proofs.ReadLemmas.{few-prepared}
 
--- a list of eight entries is what putting them makes of any list
+-- putting the items of a list of eight entries into any list gives the list of eight
 pub eight-put : (xs ys : List Past) (d : Past) → length xs ≡ 8
     → get_or xs 0 d ∷ take 7 (get_or xs 1 d ∷ take 7 (get_or xs 2 d ∷ take 7 (get_or xs 3 d ∷ take 7 (get_or xs 4 d
     ∷ take 7 (get_or xs 5 d ∷ take 7 (get_or xs 6 d ∷ take 7 (get_or xs 7 d ∷ take 7 ys))))))) ≡ xs
@@ -100,7 +100,7 @@ start-last ds n c l log tick front past missed ic counter none tight = record {
 
 -- ---- the next entry
 
--- the guess leaves the completed state but for the counter
+-- the predicted state is the completed state except for the instruction counter
 guess-counter : (t : Option ℕ) (s : Machine) (ic : ℕ)
     → ic ≡ (if (plan s t).serial then (state_after_execution t s).ic else (plan s t).following) → guessing ic (state_after_execution t s) ≡ guess t s
 unfolding guessed_state
@@ -116,7 +116,7 @@ pub guess-is : (t : Option ℕ) (s u : Machine) (ic : ℕ) → u ≡ state_after
 guess-is t s u ic made is =
     ap (guessing ic) made ∙ guess-counter t s ic (is ∙ ap (λ v. if (plan s t).serial then v.ic else (plan s t).following) made)
 
--- the reads of the entry that was done last
+-- the reads of the last completed entry
 pub has-reads : (ds : List ℕ) → AreDelaysUpTo 255 ds → (n : ℕ) (f g : Front) (e : Entry) (log : List Made) (t : ℕ) → IsEntryInTime e → IsTight 255 f → t ≡ (row_of_entry ds n f e).c
     → g ≡ front_after_entry ds n f e → log ≡ log_after_reads ds (reads_of_entry ds n f e) f.bus [] → HasReads ds t (reads_of_entry ds n f e) f.bus g.bus log
 unfolding row_of_entry
@@ -159,7 +159,7 @@ next-last ds are n p s u l k log is tight fits made guess_is counter tick front 
       counter = counter;
     }
 
--- ---- what ran ahead
+-- ---- entries that ran ahead
 
 ahead-few : (ds : List ℕ) (n k : ℕ) (t : Option ℕ) (s : Machine) (f : Front) → length (ahead ds n k t s f) ≤ k
 unfolding ahead
@@ -181,13 +181,13 @@ few-found ds n t k s f old new none few is =
     let found = prepared_before t (ahead ds n k None s f) in
     omega (arith, ap length is ∙ length-append old (map (seen_ahead ds n) found), length-map found (seen_ahead ds n), none, few, prepared-few t (ahead ds n k None s f), ahead-few ds n k None s f)
 
--- the last entries behind one more
+-- the last entries after one more entry
 pub past-kept : (ds : List ℕ) (n : ℕ) (f : Front) (e : Entry) (r : EntryTicks) (old new : List Past) (g : Front) → old ≡ f.past → r ≡ row_of_entry ds n f e
     → new ≡ record { c = r.c; writes = e.writes } ∷ take 7 old → g ≡ front_after_entry ds n f e → new ≡ g.past
 unfolding row_of_entry front_after_entry
 past-kept ds n f e r old new g same is kept behind = rw (behind, kept, is, same) refl
 
--- what kept it back, by its row
+-- the cause that delayed the entry, by its row
 pub because-made : (ds : List ℕ) (n : ℕ) (f : Front) (e x : Entry) (side s : Option ℕ) (row : EntryTicks) (a p wait : ℕ) (none begun us bs cs : List Use)
     (why : Because) → none ≡ [] → begun ≡ none ++ formed_uses ds f e side → us ≡ begun → bs ≡ cs → e ≡ x → side ≡ s → row ≡ row_of_entry ds n f e
     → a ≡ tick_a ds f e → p ≡ tick_p ds n f e → why ≡ because f e a p wait us bs → why ≡ because f x row.a row.p wait (formed_uses ds f x s) cs

@@ -1,4 +1,4 @@
--- A whole ledger, part by part.
+-- Lemmas on a whole ledger, part by part.
 use Rattle.std.specs.Prelude.{Option, Result, Ok, Err, IsErr}
 use Rattle.std.proofs.Common.{◌≡◌, ℕ, true, List, [], ◌++◌, refl, subst}
 use Rattle.st_state.specs.Machine.{Machine}
@@ -54,7 +54,7 @@ module _ (origin : Machine → ℕ → Option Origin) (ds : List ℕ) (n left : 
   machine : (v : OutputState) (r : Result (Unit {0}) Failed) → WritesLines s v (machine_lines list n) r → WritesLines s v (machine_lines ds n) r
   machine v r h = subst (λ xs. WritesLines s v (machine_lines xs n) r) same h
 
-  -- the run is not whole
+  -- the run is not written completely
   before-sums : (e : Failed) (r : Result (Unit {0}) Failed) → IsErr r → WritesLines s u (machine_lines ds n ++ run_lines) (Err e) → WritesLines s u (ledger origin ds n left c) r
   before-sums e r f h =
       whole r (lines_cut s u ((machine_lines ds n ++ run_lines) ++ sums) waits e r f (lines_cut s u (machine_lines ds n ++ run_lines) sums e (Err e) refl h))
@@ -67,7 +67,7 @@ module _ (origin : Machine → ℕ → Option Origin) (ds : List ℕ) (n left : 
   unfolding run_lines
   run-fails v x e r f h later = before-sums e r f (lines_then s v u (machine_lines ds n) run_lines x (Err e) (machine v (Ok x) h) later)
 
-  -- it is
+  -- the run is written completely
   module _ (v w : OutputState) (x y : Unit {0}) (h : WritesLines s v (machine_lines list n) (Ok x))
       (later : WritesLines v w (lines_from origin ds n left 0 c.machine [] (moment_at_start c)) (Ok y)) (totals : Totals)
       (each : (stage : Stage) → sum_at stage totals ≡ ticks_for stage (all_charges ds n (entries_of ds n left c))) where

@@ -1,4 +1,5 @@
--- What comes between two entries leaves the words from 32 up but for the area of the reader's card, and an entry those that it does not write.
+-- The events between two entries change the words from 32 on only in the area of the reader's card,
+-- and an entry changes only the words that it writes.
 use Rattle.std.specs.Prelude.{Bool, if◌then◌else◌, nat_le, option_map}
 use Rattle.std.specs.Prelude.{All}
 use Rattle.std.proofs.Common.{◌≡◌, ℕ, suc, ◌+◌, ◌<◌, ◌≤◌, ◌≢◌, ◌⊎◌, inl, inr, true, false, List, [], ◌∷◌, length, Option, None, Some, get_or-set_other, refl, sym, ◌∙◌, ap, subst, arith}
@@ -39,7 +40,7 @@ entry-left s u taken q m prepared planned made w above among =
 abbrev pub area : Option Order → Option ℕ
 area o = option_map (λ (order : Order). order.word) o
 
--- a state is left so by another, and the reader keeps its order or has none
+-- a state differs from another only in these words, and the reader keeps its order or has none
 record IsLeftBy (s t : Machine) : Type 0 where
   words : (w : ℕ) → 32 ≤ w → IsOutsideArea w (area s.reader) → word t w ≡ word s w
   reader : (t.reader ≡ s.reader) ⊎ (t.reader ≡ None)

@@ -1,4 +1,4 @@
--- One turn of the run.
+-- Lemmas on one round of the run's loop.
 use Rattle.std.specs.Prelude.{Bool, ◌||◌, nat_eq, if◌then◌else◌, Option, Result, Ok, Err, IsErr}
 use Rattle.std.proofs.lemmas.Bool.Decides.{nat_tests}
 use Rattle.std.proofs.Common.{◌≡◌, ◌≢◌, ℕ, zero, suc, ◌+◌, ◌-◌, ◌≤◌, ◌⊎◌, inl, inr, true, false, List, ◌++◌, refl, sym, ◌∙◌, ap, subst, append_assoc, arith}
@@ -42,16 +42,16 @@ module _ (o : Machine → ℕ → Option Origin) (ds : List ℕ) (n left k : ℕ
         (ap (λ ls. row ++ ls) (lines-on ds n o left k b us m some going ∙ append_assoc (segment_lines o ds n k b m) entry rest)
         ∙ sym (append_assoc row (segment_lines o ds n k b m) (entry ++ rest))) so_far
 
-    -- a write fails, of the lines of a row or of a border
+    -- a write of the lines of a row or of a border fails
     pub border-fails : (u : OutputState) (e : Failed) (r : Result (Unit {0}) Failed) → IsErr r → WritesLines t u (row ++ segment_lines o ds n k b m) (Err e)
         → WritesLines s u all r
     border-fails u e r f h = lines_failed s t u all (row ++ segment_lines o ds n k b m) (entry ++ rest) r f both h.err
 
-    -- none fails
+    -- no write fails
     pub turn-made : (u : OutputState) (x : Unit {0}) → WritesLines t u (row ++ segment_lines o ds n k b m) (Ok x) → LinesSoFar s u all (entry ++ rest)
     turn-made u x h = lines_more s t u all (row ++ segment_lines o ds n k b m) (entry ++ rest) both h.ok
 
--- ---- numbers of a turn
+-- ---- numbers of a round
 
 pub sums-none : (sums : Totals) (s : Stage) (n : ℕ) → AreWithin 0 sums → sum_at s sums + n ≡ n
 sums-none sums Restart n is = omega (arith, is.restart)
@@ -69,7 +69,7 @@ after-most false k = omega arith
 pub number-next : (k next : ℕ) (m : Moment) (d e : ℕ) → next ≡ segment_after k m → k ≤ d → e ≡ d + 1 → next ≤ e
 number-next k next m d e is few one = omega (arith, is, few, one, after-most (begins_segment k m) k)
 
--- behind the first entry there is a segment
+-- after the first entry there is a segment
 pub number-some : (k next : ℕ) (m : Moment) → next ≡ segment_after k m → next ≢ 0
 number-some zero next m is = λ none. omega (arith, is, none)
 number-some (suc k) next m is = λ none. omega (arith, is, none, least (begins_segment (suc k) m))
@@ -78,7 +78,7 @@ number-some (suc k) next m is = λ none. omega (arith, is, none, least (begins_s
     least true = omega arith
     least false = omega arith
 
--- a run that does not end
+-- a run that does not end has a remaining budget
 pub left-some : (left : ℕ) (resting : Bool) → (nat_eq left 0 || resting) ≡ false → left ≢ 0
 left-some zero resting going = absurd (cc)
 left-some (suc left) resting going = λ none. omega (arith, none)
@@ -87,7 +87,7 @@ pub rests-not : (left resting : Bool) → (left || resting) ≡ false → restin
 rests-not true resting going = absurd (cc)
 rests-not false resting going = going
 
--- one that does
+-- a run that ends has no remaining budget, or rests
 pub ends-one : (left : ℕ) (resting : Bool) → (nat_eq left 0 || resting) ≡ true → (left ≡ 0) ⊎ (resting ≡ true)
 ends-one zero resting end = inl refl
 ends-one (suc left) true end = inr refl

@@ -1,4 +1,4 @@
--- What comes behind a moment, and what is then at hand.
+-- Lemmas on the events after a moment, and on the account after them.
 use Rattle.std.specs.Prelude.{slice_index, nat_lt, nat_eq, ◌||◌, not, Bool, map, All}
 use Rattle.std.proofs.Common.{◌≡◌, ◌≢◌, ℕ, suc, ◌<◌, true, None, List, ◌++◌, length, sym, ◌∙◌, ap, subst}
 use Rattle.st_bits.specs.declared.limits.TheConstants.{WORDS}
@@ -29,7 +29,7 @@ pub may-is : (may : Changeable) (l k : Last) (s : Machine) → may ≡ record { 
 may-is may l k s is same = subst (λ (l : Last). may ≡ record { writes = l.plan.writes; card = area s.reader }) same is
 
 module _ (ds : List ℕ) (n : ℕ) (b : Machine) (m : Moment) (a : Account) (xs : List Signal) (cards : List (List ℕ)) (h : IsAt ds n b m a xs cards) where
-  -- what comes is over; before that it was looked at what ran ahead
+  -- the events have been applied; before them the entries that ran ahead were determined
 
   module _ (mid state : Machine) (ys : List Signal) (cards' : List (List ℕ)) (same : mid ≡ a.state)
       (after : (interlude (at_hand mid xs cards)).scene ≡ at_hand state ys cards') where
@@ -57,7 +57,7 @@ module _ (ds : List ℕ) (n : ℕ) (b : Machine) (m : Moment) (a : Account) (xs 
         ∙ ap (λ u. rests (with_due_orders (with_due_signals (at_hand u xs cards))).scene.machine) same
         ∙ ap (λ (c : Scene). rests (with_due_orders (with_due_signals c)).scene.machine) (sym h.scene)
 
-    -- a word that nothing may have changed
+    -- a word that no event may have changed
     pub left-is : (may : Changeable) → may ≡ record { writes = a.last.plan.writes; card = area mid.reader } → a.k ≢ 0 → (v : ℕ) → v < WORDS → IsUntouched v may
         → slice_index a.words.items v ≡ word state v
     left-is may is some v inside left =
@@ -69,7 +69,7 @@ module _ (ds : List ℕ) (n : ℕ) (b : Machine) (m : Moment) (a : Account) (xs 
         ∙ sym (between-left (at_hand mid xs cards) each v l.above l.beside)
         ∙ ap (λ (c : Scene). word c.machine v) after
 
-  -- where its segment ends, it was looked at what ran ahead
+  -- if a segment ends, the entries that ran ahead were determined
   module _ (left : ℕ) (still looks : Bool) (is_still : still ≡ still_by a.state a.last.missed xs) (is_looks : looks ≡ (nat_eq left 0 || not still))
       (ends : segment_ends left m ≡ true) where
     asked : looks ≡ true
@@ -92,7 +92,7 @@ module _ (ds : List ℕ) (n : ℕ) (b : Machine) (m : Moment) (a : Account) (xs 
         (h.hand.reads ++ reads_before ds n a.last.tick (ahead ds n (suc n) None (guessing a.last.ic c.machine) a.last.front)) h.hand.bus).banks) (sym h.scene)
         ∙ sym h.hand.banks
 
-    -- the entry that was begun
+    -- the entry that had begun
     pub begun-is : (begun : List Seen)
         → (looks ≡ true → begun ≡ map (seen_ahead ds n) (first_late a.last.tick (ahead ds n (suc n) None (guessing a.last.ic a.state) a.last.front)))
         → a.k ≢ 0 → begun ≡ begun_at ds n b m

@@ -1,4 +1,4 @@
--- What is printed between two entries.
+-- Lemmas on the output that is printed between two entries.
 use Rattle.std.proofs.Common.{◌≡◌, ℕ, List, [], ◌∷◌, None, Some, sym, ap}
 use Rattle.st_run.specs.Run.{PlainEvent}
 use Rattle.st_run.specs.Outside.{ArePrinted}

@@ -1,4 +1,5 @@
--- The reads of the entry that was done last and of those that run ahead, and which of them are made.
+-- Lemmas on the reads of the last completed entry and of the entries that run ahead, and on those
+-- of the reads that are made.
 use Rattle.std.specs.Prelude.{Bool, if◌then◌else◌, nat_lt, All}
 use Rattle.std.proofs.Common.{◌≡◌, ℕ, zero, suc, ◌+◌, ◌≤◌, ◌<◌, max, true, false, List, [], ◌++◌, drop, length, length-append, Option, None, Some, refl, sym, ◌∙◌, ap, subst, append_assoc, arith}
 use Rattle.std.proofs.lemmas.Bool.Decides.{nat_tests}
@@ -31,7 +32,7 @@ use Rattle.st_plain.specs.Looking.{reads_up_to}
 use Rattle.st_plain.proofs.LookLemmas.{row-p}
 use Rattle.st_account.specs.Standing.{HasReads}
 
--- ---- how many reads an entry has in each part
+-- ---- the number of reads of an entry in each part
 
 pub few-prepared : (ds : List ℕ) (n : ℕ) (f : Front) (e : Entry) → IsEntryInTime e → length (prepared_asked ds n f e) ≤ 34
 few-prepared ds n f e range =
@@ -74,7 +75,7 @@ early-by a t is = grind (arith, nat_tests)
 late-by : (a t : ℕ) → nat_lt a t ≡ false → t ≤ a
 late-by a t is = grind (arith, nat_tests)
 
--- ---- reads that are left out are wanted too late
+-- ---- reads that are omitted are wanted too late
 
 module _ (ds : List ℕ) (n t : ℕ) where
   made-next : (f : Front) (e : Entry) (xs : List Read) (b : Bus) (rest few : List Read) (c : Bool) → nat_lt (row_of_entry ds n f e).p t ≡ c
@@ -105,9 +106,10 @@ module _ (ds : List ℕ) (n t : ℕ) where
       made-next f e xs b (reads_before ds n t list) (reads_up_to ds n t list) (nat_lt (row_of_entry ds n f e).p t) refl
       (made-looked k (guess None s) (front_after_entry ds n f e) (xs ++ reads_of_entry ds n f e) b)
 
--- ---- few of the others are accepted at the tick or later
+-- ---- few of the other reads are accepted at the tick or later
 
--- the reads in two parts: behind the first ones the bus is free by then, and the others are few
+-- the reads in two parts: the bus is free by the tick after the first part, and the second part has
+-- few reads
 record AreFew (ds : List ℕ) (t : ℕ) (reads : List Read) (b : Bus) : Type 0 where
   first : List Read
   rest : List Read
@@ -213,7 +215,7 @@ module _ (ds : List ℕ) (are : AreDelaysUpTo 255 ds) (n t : ℕ) (s : Machine) 
         (All-weaker (λ x. x ≤ (made_before ds t all_reads start).free + 255) (λ x. x ≤ t + 255) (λ x low. omega (arith, low, bounds.1))
         (made_before ds t all_reads start).banks.ticks bounds.0.banks)
 
--- the same of a state and a front that are others' equals
+-- the banks for an equal state and an equal front
 module _ (ds : List ℕ) (are : AreDelaysUpTo 255 ds) (n t : ℕ) (s u : Machine) (f g : Front) (m : IsMachine u) (tight : IsTight 255 f) (state : u ≡ s) (front : g ≡ f)
     (reads : List Read) (start : Bus) (log new : List Made) (bus : Bus) (banks : LastAnswers) (has : HasReads ds t reads start f.bus log)
     (logs : new ≡ log_after_reads ds (reads_up_to ds n t (ahead ds n (suc n) None u g)) g.bus log)

@@ -1,4 +1,4 @@
--- A run as far as it is written.
+-- Lemmas on the part of a run that is written so far.
 use Rattle.std.specs.Prelude.{Bool, nat_lt, nat_eq, not, ◌||◌, is_some, is_none, Option, Some}
 use Rattle.std.proofs.lemmas.Bool.{and_parts, not-true}
 use Rattle.std.proofs.lemmas.Bool.Decides.{nat_tests}
@@ -97,14 +97,14 @@ module _ (ds : List ℕ) (n : ℕ) where
       (ticks_for-append s (charges_at ds n (standing_at m)) (all_charges ds n (entries_from ds n left (next_moment ds n (standing_at m))))
       ∙ ap (λ j. ticks_for s (charges_at ds n (standing_at m)) + ticks_for s (all_charges ds n (entries_from ds n j (next_moment ds n (standing_at m))))) one)
 
--- ---- what came behind a moment
+-- ---- the events after a moment
 
 module _ (m : Moment) (s t : Machine) (xs ys : List Signal) (ps qs : List (List ℕ)) (scene : m.scene ≡ at_hand s xs ps)
     (came : (interlude (at_hand s xs ps)).scene ≡ at_hand t ys qs) where
   pub same-done : t.done ≡ s.done
   same-done = ap (λ c. c.machine.done) (sym came) ∙ settled-done (at_hand s xs ps)
 
--- ---- where nothing comes
+-- ---- no event comes
 
 module _ (s : Machine) (missed : Bool) (xs : List Signal) (still : still_by s missed xs ≡ true) where
   record Parts : Type 0 where
@@ -175,7 +175,7 @@ module _ (s : Machine) (missed : Bool) (xs : List Signal) (still : still_by s mi
     unfolding ends_segment
     no-end = rw (guessed, parts.right, no_card, no_wait, no_interrupt) refl
 
--- where a segment ends, it is looked at what ran ahead
+-- if a segment ends, the entries that ran ahead are determined
 pub end-looks : (left : ℕ) (s : Machine) (xs : List Signal) (cards : List (List ℕ)) (m : Moment) (missed still looks : Bool)
     → m.scene ≡ at_hand s xs cards → m.missed ≡ missed
     → still ≡ still_by s missed xs → looks ≡ (nat_eq left 0 || not still) → segment_ends left m ≡ true → looks ≡ true
@@ -195,13 +195,13 @@ end-looks left s xs cards m missed false looks scene guessed is_still is_looks e
     or-true true = refl
     or-true false = refl
 
--- the scene behind the next entry
+-- the scene after the next entry
 pub next-stepped : (ds : List ℕ) (n : ℕ) (m : Moment) (t u : Machine) (ys : List Signal) (qs : List (List ℕ)) → next_scene m ≡ at_hand t ys qs
     → u ≡ step t → (next_moment ds n (standing_at m)).scene ≡ at_hand u ys qs
 unfolding next_moment
 next-stepped ds n m t u ys qs scene made = ap scene_after_step scene ∙ ap (λ w. at_hand w ys qs) (sym made)
 
--- the front of a moment is that of the entry that was done then
+-- the front of a moment is that of the entry that completed then
 pub next-at : (ds : List ℕ) (n : ℕ) (p : Standing) → (next_moment ds n p).front.c ≡ (next_moment ds n p).tick
 unfolding next_moment next_row row_of_entry front_after_entry
 next-at ds n p = refl

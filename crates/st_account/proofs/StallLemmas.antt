@@ -1,4 +1,4 @@
--- The waits of the last entry, and their sums.
+-- Lemmas on the waits of the last entry and their totals.
 use Rattle.std.specs.Prelude.{if◌then◌else◌, nat_eq, All}
 use Rattle.std.proofs.Common.{◌≡◌, ◌≢◌, ℕ, zero, suc, ◌+◌, ◌≤◌, false, Bool, List, [], Option, refl, sym, ◌∙◌, ap, subst, arith}
 use Rattle.std.proofs.lemmas.Bool.{cond_both}
@@ -29,7 +29,7 @@ use Rattle.st_account.specs.Standing.{charges_kept, kept_stalled, IsWaiting, Add
 use Rattle.st_account.specs.Text.{uses_at}
 use Rattle.st_account.proofs.EntryLemmas.{row-is}
 
--- ---- sums
+-- ---- totals
 
 pub waits-later : (t u : ℕ) (sums : WaitTotals) → t ≤ u → AreWaitsWithin t sums → AreWaitsWithin u sums
 waits-later t u sums late is = record {
@@ -67,7 +67,7 @@ kept-stalled-some r s (suc k) l some = rw (not-zero k) refl
     not-zero : (k : ℕ) → nat_eq (suc k) 0 ≡ false
     not-zero k = grind (arith, nat_tests)
 
--- before the first entry
+-- the waits before the first entry
 pub waiting-none : (l : Last) (sums : WaitTotals) → AreWaitsWithin 0 sums → l.tick ≡ 0 → l.uses.items ≡ [] → l.before.items ≡ [] → l.done.before ≡ 0
     → l.done.start ≡ 0 → l.done.row.ticks ≡ record { a = 0; p = 0; r = 0; c = 0 } → IsWaiting l sums
 unfolding charges_behind all_ticks
@@ -78,7 +78,7 @@ waiting-none l sums none tick unused before done start ticks = record {
   within = waits-later 0 l.done.before sums (omega arith) none;
 }
 
--- the front of the next entry does not count
+-- the waits do not depend on the front of the next entry
 pub waiting-same : (l k : Last) (t u : WaitTotals) → k ≡ record l { front = k.front; past = k.past } → u ≡ t → IsWaiting l t → IsWaiting k u
 waiting-same l k t u same is h =
     subst (λ x. IsWaiting x u) (sym same) (record {
@@ -112,7 +112,7 @@ adds-some k l us bs old new some reach used earlier is = record {
       ∙ ap (λ n. waited_at r s old + n) (sym (kept-stalled-some r s k l some));
 }
 
--- the front of the next entry does not count there either
+-- the totals of waits do not depend on the front of the next entry
 pub adds-same : (k : ℕ) (l o : Last) (t u new : WaitTotals) → o ≡ record l { front = o.front; past = o.past } → t ≡ u
     → AddsKeptWaits k o t new → AddsKeptWaits k l u new
 adds-same k l o t u new same is h = record {
@@ -147,7 +147,7 @@ row-stalled ds n p s l taken r before start us bs old stage why is is_taken is_r
     ∙ ap (λ t. row_stalled stage why (uses_at ds n p) old (charges_behind t (parts_of_row start (next_row ds n p)))) (since ∙ sym is.tick)
     ∙ ap (λ t. row_stalled stage why (uses_at ds n p) old (charges_behind p.tick (parts_of_row t (next_row ds n p)))) (opened ∙ ap (λ f. f.c) (sym is.front))
 
--- the words of the last entry, of which none count where a segment ends, are in time
+-- the words of the last entry, none if a segment ends, are in time
 pub words-read : (ends : Bool) (old us new : List Use) → us ≡ old → new ≡ (if ends then [] else us) → All IsReadInTime old → All IsReadInTime new
 words-read ends old us new same is h =
     subst (All IsReadInTime) (sym (is ∙ ap (λ vs. if ends then [] else vs) same))

@@ -1,4 +1,4 @@
--- The run at the head of its loop, and what one turn makes of it.
+-- Lemmas on the run at the head of its loop, and on the effect of one round.
 use Rattle.std.specs.Prelude.{Bool, Result, Ok, Err, IsErr, nat_eq, ◌||◌, All}
 use Rattle.std.proofs.Common.{◌≡◌, ◌≢◌, ℕ, ◌+◌, ◌-◌, ◌*◌, ◌^◌, ◌≤◌, ◌<◌, true, false, Option, List, [], ◌++◌, length, refl, sym, ◌∙◌, ap, subst, arith}
 use Rattle.st_bits.specs.declared.limits.TheConstants.{MOST_INSTRUCTIONS}
@@ -42,7 +42,8 @@ use Rattle.st_account.proofs.RunLemmas.{next-stepped, next-at}
 use Rattle.st_account.proofs.LoopLemmas.{run-ends, border-fails, turn-made, sums-none, number-next, number-some, left-some, rests-not, ends-one, sums-next, sums-end, waits-next, waits-last}
 use Rattle.st_account.proofs.StallLemmas.{waited-none, kept-stalled-none}
 
--- So far lines are written, and those of the last entry and the rest of a moment are left. The sums of what is left and of what was added are the total.
+-- Loop invariant: lines are written so far, and those of the last entry and of the remaining run
+-- are to be written. The ticks still to be added and those already added are together the total.
 pub record IsRunning (s t : OutputState) (all : List (List ℕ)) (ds : List ℕ) (n : ℕ) (total : Stage → ℕ) (waited : Stage → Stall → ℕ) (a : Account) (rest : List Signal)
     (cards : List (List ℕ)) (left : ℕ) : Type 0 where
   pub m : Moment
@@ -113,7 +114,7 @@ run-starts s ds n budget state signals cards table a size are few machine each f
       size = size;
     }
 
--- the signals and the budget as they are taken up
+-- the invariant after the signals and the budget have been taken from the controls
 pub run-taken : (s t : OutputState) (all : List (List ℕ)) (ds : List ℕ) (n : ℕ) (total : Stage → ℕ) (waited : Stage → Stall → ℕ) (a : Account) (x : Coming)
     (xs ys : List Signal) (cards : List (List ℕ)) (left budget : ℕ) → x ≡ record { signals = xs; cards = cards } → xs ≡ ys → left ≡ budget
     → IsRunning s t all ds n total waited a ys cards budget → IsRunning s t all ds n total waited a x.signals x.cards left
@@ -121,14 +122,14 @@ run-taken s t all ds n total waited a x xs ys cards left budget came is same h =
     subst (λ (y : Coming). IsRunning s t all ds n total waited a y.signals y.cards left) (sym came)
     (subst (λ zs. IsRunning s t all ds n total waited a zs cards left) (sym is) (subst (λ k. IsRunning s t all ds n total waited a ys cards k) (sym same) h))
 
--- ---- what holds at the head of the loop
+-- ---- the state at the head of the loop
 
 module _ (s t : OutputState) (all : List (List ℕ)) (ds : List ℕ) (n : ℕ) (total : Stage → ℕ) (waited : Stage → Stall → ℕ) (a : Account) (xs : List Signal)
     (cards : List (List ℕ)) (left : ℕ) (h : IsRunning s t all ds n total waited a xs cards left) where
   done : h.m.scene.machine.done ≡ a.state.done
   done = ap (λ (c : Scene). c.machine.done) h.at.scene
 
-  -- ---- what comes is over
+  -- ---- the events have been applied
 
   module _ (a' : Account) (ys : List Signal) (cards' : List (List ℕ)) (same : a' ≡ record a { state = a'.state; log = a'.log; behind = a'.behind })
       (behind : IsBehindMoment ds n left h.b h.m a' ys cards') where
@@ -180,7 +181,7 @@ module _ (s t : OutputState) (all : List (List ℕ)) (ds : List ℕ) (n : ℕ) (
     waits-are r z new parted end told =
         waits-last ds n left a.last.uses.items h.m r z _ _ _ (waited r z) (ends-one left (rests (next_state h.m)) end) (waits-then r z parted) told
 
-    -- it goes on
+    -- the run continues
     module _ (going : run_ends left h.m ≡ false) where
       pub some : left ≢ 0
       some = left-some left (rests (next_state h.m)) going

@@ -23,8 +23,7 @@ pub struct LaidBits {
 }
 
 /// Assembles the statement of a card without a name, whose symbols are defined by `symbols`. The
-/// text is columns 10 to 72, at most 63 bytes. `None` if the statement has a fault of any pass, or
-/// assembles to no bits.
+/// text is columns 10 to 72, at most 63 bytes. `None` if the statement has a fault of any pass.
 pub fn laid_alone(symbols: &Symbols, text: &[u8]) -> Option<LaidBits>
     requires { length text.now ≤ 63 }
     ensures { result ≡ spec.laid_alone symbols.now text.now }

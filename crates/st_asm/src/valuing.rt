@@ -28,8 +28,8 @@ use std::alloc::{AllocError, Global};
 pub struct Listed {
     /// The card's number, from 1 on.
     pub card: u32,
-    /// The location of the bits that the card assembles to or skips, or the value of its name, as a
-    /// bit address below 2^24; `None` for comments, control cards and END.
+    /// The location of the bits that the card assembles to or skips, or for SLC and SYN the value
+    /// of the field, as a bit address below 2^24; `None` for comments, control cards and END.
     pub location: Option<u32>,
     /// The bits that the card assembles to, as a number below 2^length.
     pub bits: u64,

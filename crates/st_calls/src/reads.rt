@@ -29,7 +29,7 @@ fn a_list_is_refused_for_its_first_zero(rt: HostRuntime) {
     assert_eq!(rt; refused, Some(2));
 }
 
-// A read: the word's address, the tick of the request, and the tick of the answer.
+// A read: the word's address, the tick of the read, and the tick of the answer.
 type Read = (u32, u64, Option<u64>);
 
 // Reads over the six banks, where a read takes 3 ticks at even and 5 at odd ticks: banks 0, 1, 3,

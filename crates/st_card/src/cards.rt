@@ -38,7 +38,7 @@ pub struct Card {
     pub kind: CardKind,
     /// The offset of the card's first byte in the job, in bytes.
     pub start: u32,
-    /// The length of the card's text in bytes, without the line end; at most 80.
+    /// The length of the card's text in bytes, without the line end; 80 if the line is longer.
     pub len: u8,
     /// The fault that this card has regardless of the other cards: a byte that is not printable,
     /// too many characters, a wrong column 1, or a card number above 20,000.

@@ -1,4 +1,4 @@
--- The banks of a run are held by the reads before.
+-- In a run, a bank is held by the previous read in it.
 use Rattle.std.specs.Prelude.{zero, suc, nat_lt, All, length, reverse}
 use Rattle.std.proofs.Common.{◌≡◌, ℕ, ◌+◌, List, [], ◌∷◌, ◌++◌, inl, inr, refl, ◌∙◌, ap, subst}
 use Rattle.std.proofs.lemmas.Bool.{cases_Bool}
@@ -25,7 +25,7 @@ use Rattle.st_reasons.proofs.WaitLaws.{reads_told_are_those_of_the_bus}
 use Rattle.st_account.specs.Text.{uses_at, words_before}
 use Rattle.st_causes.specs.Runs.{ToldRow, told_from}
 
--- there are as many banks after some reads
+-- the number of banks is unchanged by reads
 made-whole : (ds : List ℕ) (t : ℕ) (reads : List Read) (b : Bus) → length b.banks.ticks ≡ BANKS → length (made_before ds t reads b).banks.ticks ≡ BANKS
 unfolding made_before
 made-whole ds t [] b whole = whole
@@ -38,7 +38,7 @@ made-whole ds t (r ∷ reads) b whole = elim (cases_Bool (nat_lt (accept_at b r.
   | inr m ↦ rw m whole
 ]
 
--- a segment begins
+-- the banks at the start of a segment
 pub opened-banked : (banks : LastAnswers) → length banks.ticks ≡ BANKS → (start : ℕ) → AreBanked banks (opening_front banks start).bus []
 unfolding AreBankedBehind busy_until
 opened-banked banks whole start = record { each = tt; until = λ w. refl; whole = whole }
@@ -60,7 +60,7 @@ module _ (ds : List ℕ) (n : ℕ) where
       let s = p.scene.machine in
       made-whole ds (next_row ds n p).c (reads_to_end ds n (next_row ds n p).c (interrupt s) s p.front (entry_of_moment p)) p.front.bus whole
 
-  -- behind a moment
+  -- the banks after a moment
   at-standing : (m : Moment) (segment : List Use) (banks : LastAnswers) → AreBanked banks m.front.bus segment → length m.banks.ticks ≡ BANKS
       → (now : LastAnswers) × AreBanked now (standing_at m).front.bus (words_before m segment)
   unfolding next_front

@@ -1,4 +1,4 @@
--- What is true of the ledger of each run, proved.
+-- Proofs of the laws of the ledger of each run.
 use Rattle.std.specs.Prelude.{true, if◌then◌else◌, All}
 use Rattle.std.proofs.Common.{◌≡◌, ℕ, ◌+◌, ◌-◌, ◌≤◌, ◌<◌, [], ◌∷◌, refl, arith}
 use Rattle.std.proofs.lemmas.List.Elements.{All-weaker}

@@ -1,4 +1,4 @@
--- The rows of a run are those of segments.
+-- The rows of a run are rows of segments.
 use Rattle.std.specs.Prelude.{zero, suc, Bool, if◌then◌else◌, All, reverse}
 use Rattle.std.proofs.Common.{◌≡◌, ℕ, ◌+◌, ◌≤◌, ◌<◌, true, false, List, [], ◌∷◌, ◌++◌, length, inl, inr, refl, sym, ◌∙◌, ap, subst, arith}
 use Rattle.std.proofs.lemmas.Bool.{cases_Bool}
@@ -37,7 +37,8 @@ use Rattle.st_ledger.proofs.Runs.{ticks_for-append}
 use Rattle.st_reasons.proofs.ReasonLaws.{reasons_are_true}
 use Rattle.st_reasons.proofs.WaitLaws.{reads_told_are_those_of_the_bus, held_words_are_brought, forwarded_words_are_written, waits_are_true, waits_cover_their_charge, waits_end_before_their_row, waits_add_up_to_their_stage}
 
--- the front comes of these entries, the last of which used some words, and the segment others
+-- the front is the one after a segment's entries so far; the words of the last entry and of the
+-- whole segment are given
 pub record ComesOf (ds : List ℕ) (n : ℕ) (f : Front) (us segment : List Use) : Type 0 where
   pub banks : LastAnswers
   pub start : ℕ
@@ -52,7 +53,7 @@ module _ (ds : List ℕ) (n : ℕ) where
   unfolding front_of last_uses all_uses
   opened banks start = record { banks = banks; start = start; older = []; front = refl; last = refl; whole = refl; told = All-nil IsTold }
 
-  -- what comes between two rows
+  -- the front and the words between two rows
   standing-if : (ends : Bool) (m : Moment) (us segment : List Use) (banks : LastAnswers) (start : ℕ) → ComesOf ds n m.front us segment
       → ComesOf ds n (if ends then opening_front banks start else m.front) (if ends then [] else us) (if ends then [] else segment)
   standing-if true m us segment banks start comes = opened banks start
@@ -63,7 +64,7 @@ module _ (ds : List ℕ) (n : ℕ) where
   unfolding next_front
   at-standing m us segment comes = standing-if (ends_segment m) m us segment m.banks (m.tick + 1 + length m.dropped) comes
 
-  -- the next row
+  -- the next row's entry
   unfoldable pub told_at : Standing → Told
   told_at p =
       let s = p.scene.machine in
@@ -109,7 +110,7 @@ module _ (ds : List ℕ) (n : ℕ) where
       let law = waits_cover_their_charge ds n p.tick comes.banks comes.start comes.older (told_at p) (All-cons IsTold (told_at p) comes.older (told-right p fits) comes.told) in
       rw (uses-are p us segment comes, comes.last, ← charges-are p us segment comes) law
 
-  -- its words
+  -- the words of the next row
   pub row-read : (p : Standing) (us segment : List Use) → IsEntryInTime (entry_of_moment p) → ComesOf ds n p.front us segment
       → reads_told (uses_at ds n p) ≡ served ds (reads_of_entry ds n p.front (entry_of_moment p)) p.front.bus
   unfolding uses_at side_at entry
@@ -150,7 +151,7 @@ module _ (ds : List ℕ) (n : ℕ) where
   fits-head : (p : Standing) (ps : List Standing) → All (λ (q : Standing). IsEntryInTime (entry_of_moment q)) (p ∷ ps) → IsEntryInTime (entry_of_moment p)
   fits-head p ps all = All-head (λ (q : Standing). IsEntryInTime (entry_of_moment q)) p ps all
 
-  -- a fact of each row holds of all
+  -- a property of each row holds of all rows
   pub each-told : (P : ToldRow → Type 0)
       → ((p : Standing) (us segment : List Use) → IsEntryInTime (entry_of_moment p) → ComesOf ds n p.front us segment
       → P (record { standing = p; uses = uses_at ds n p; before = us; segment = reverse (uses_at ds n p) ++ segment }))
@@ -172,7 +173,7 @@ module _ (ds : List ℕ) (n : ℕ) where
         (next-comes p (words_before m us) (words_before m segment) fit here) (All-tail E p (entries_from ds n left (next_moment ds n p)) all)))
   ]
 
-  -- ---- their sums
+  -- ---- the totals of all rows
 
   row-sums : (s : Stage) (p : Standing) (us segment : List Use) → is_parted s ≡ true → IsEntryInTime (entry_of_moment p) → ComesOf ds n p.front us segment
       → row_stalled s Turn (uses_at ds n p) us (charges_at ds n p) + row_stalled s Bank (uses_at ds n p) us (charges_at ds n p)
@@ -210,7 +211,7 @@ module _ (ds : List ℕ) (n : ℕ) where
 pub at-start : (ds : List ℕ) (n : ℕ) (c : Scene) → ComesOf ds n (moment_at_start c).front [] []
 at-start ds n c = opened ds n (moment_at_start c).banks 0
 
--- the entries of a run are such as a machine can have
+-- the entries of a run are entries that a machine can have
 pub entries-fit : (ds : List ℕ) (n left : ℕ) (m : Moment) → IsScene m.scene → All (λ (q : Standing). IsEntryInTime (entry_of_moment q)) (entries_from ds n left m)
 unfolding next_moment
 entries-fit ds n zero m is = rw (entries-none ds n m) (All-nil (λ (q : Standing). IsEntryInTime (entry_of_moment q)))

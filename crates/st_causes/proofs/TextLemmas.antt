@@ -1,4 +1,4 @@
--- Which lines of a ledger tell where ticks went.
+-- The lines of a ledger that account for ticks.
 use Rattle.std.specs.Prelude.{zero, suc, Bool, nat_eq, nat_lt, if◌then◌else◌, map, drop, slice_index, reverse, Option, None, Some, length}
 use Rattle.std.specs.List.{filter}
 use Rattle.std.proofs.Common.{◌≡◌, ℕ, ◌+◌, ◌/◌, ◌≤◌, true, false, List, [], ◌∷◌, ◌++◌, inl, inr, refl, sym, ◌∙◌, ap, append_assoc, arith}
@@ -44,7 +44,7 @@ use Rattle.st_account.specs.Text.{begun_at, words_behind, segment_start_lines, b
 use Rattle.st_causes.specs.Heads.{head_of, is_word, is_spent_line}
 use Rattle.st_causes.specs.Runs.{told_from, lines_of_row, lines_of_rows}
 
--- ---- lines that tell no such thing
+-- ---- lines that do not account for ticks
 
 AreOther : List (List ℕ) → Type 0
 AreOther xs = filter is_spent_line xs ≡ []
@@ -185,7 +185,7 @@ unfolding segment_lines
 segment-other o ds n k b m =
     two _ _ (two _ _ (either (ends_segment m) _ _ (segment_end-other _ k _ _ _ _) none) (state-other _ k _ _ _ _ _)) (start-other k m)
 
--- ---- lines that tell where ticks went
+-- ---- lines that account for ticks
 
 AreSpent : List (List ℕ) → Type 0
 AreSpent xs = filter is_spent_line xs ≡ xs
@@ -246,7 +246,7 @@ unfolding wait_sum_lines is_spent_line head_of is_word
 wait_sums-spent [] = spent-none
 wait_sums-spent (x ∷ xs) = spent-one _ _ refl (wait_sums-spent xs)
 
--- ---- other lines and then such
+-- ---- other lines followed by lines that account for ticks
 
 kept-behind : (xs ys : List (List ℕ)) → AreOther xs → AreSpent ys → filter is_spent_line (xs ++ ys) ≡ ys
 unfolding AreOther AreSpent

@@ -1,4 +1,4 @@
--- Where ticks are lost, and reads that are named.
+-- Lemmas on rows with lost ticks, and on the reads that waits name.
 use Rattle.std.specs.Prelude.{zero, suc, nat_eq, nat_le, nat_lt, ◌&&◌, All, reverse}
 use Rattle.std.proofs.Common.{◌≡◌, ℕ, ◌+◌, ◌≤◌, ◌<◌, ◌⊎◌, max, true, List, ◌++◌, inl, inr, refl, sym, ◌∙◌, arith}
 use Rattle.std.proofs.lemmas.Bool.{cases_Bool, and_parts, eqb-true, leb-true, lt-ltb, ltb-true, ltb-false}
@@ -40,7 +40,8 @@ pub named-early : (why : Stall) (v to t : ℕ) (u : Use) → t < to → is_cause
 named-early why v to t u early is =
     cause-early why to t (read_of u.supply) early (and_parts (is_read u.supply && nat_eq u.word v) (has_cause why to t (read_of u.supply)) is).1
 
--- ---- a row has other ticks than those of executing where its operands are there later than the last entry was done
+-- ---- a row has ticks other than those of executing if its operands are available later than the
+-- previous entry completed
 
 tests-alike : (a b c d : ℕ) → (a < b → c < d) → (c < d → a < b) → nat_lt a b ≡ nat_lt c d
 tests-alike a b c d to from = elim (cases_Bool (nat_lt a b)) [
@@ -86,7 +87,7 @@ next-at : (ds : List ℕ) (n : ℕ) (p : Standing) → (next_moment ds n p).fron
 unfolding next_moment next_row row_of_entry front_after_entry
 next-at ds n p = refl
 
--- the front behind a moment is that of the last entry, or opens a segment
+-- the front after a moment is that of the last entry, or opens a segment
 front-late : (ds : List ℕ) (n : ℕ) (m : Moment) (e : Entry) → m.front.c ≡ m.tick
     → (m.tick ≤ (standing_at m).front.c) × (((standing_at m).front.c ≤ m.tick) ⊎ ((standing_at m).front.c ≤ (row_of_entry ds n (standing_at m).front e).r))
 unfolding next_front

@@ -1,4 +1,4 @@
--- What the parser makes of one to three plain words.
+-- The result of the parser for one to three plain words.
 use Rattle.std.proofs.Common.{◌≡◌, ◌≤◌, ◌==◌, ◌&&◌, ◌^◌, ◌-◌, ◌<◌, inl, inr, if◌then◌else◌, nat_eq, nat_le, sym, subst, ℕ, List, [], ◌∷◌, Bool, true, false, not, Some, None, codes, length, Option, refl, ap, ◌∙◌, arith}
 use Rattle.std.proofs.lemmas.Bool.{and_cases, and_right, and_parts, leb-true, eqb-true, not-false, true≢false}
 use Rattle.std.specs.Prelude.{MatchOption}
@@ -12,7 +12,7 @@ use Rattle.st_command.specs.Command.{command_named, command_with, command_of, nu
 use Rattle.st_command.specs.CommandLine.{is_plain, three_words, command_by}
 use Rattle.st_command.specs.declared.command.Command.{Command}
 
--- one word is the command, and there is no number
+-- a single word is the command, without a number
 pub one_command : (c : ℕ) (cs : List ℕ) → (c == 45) ≡ false → first_of (codes "command") (matches_of three_words ((c ∷ cs) ∷ [])) ≡ Some (c ∷ cs)
 unfolding clap_on_literals
 one_command c cs h = simp (h) refl
@@ -51,7 +51,7 @@ pub three_cards : (c d e : ℕ) (cs ds es : List ℕ) → (c == 45) ≡ false �
 unfolding clap_on_literals
 three_cards c d e cs ds es h k l = simp (h, k, l) refl
 
--- such words are taken
+-- plain words are accepted
 pub one_taken : (c : ℕ) (cs : List ℕ) → (c == 45) ≡ false → takes three_words ((c ∷ cs) ∷ []) ≡ true
 unfolding clap_on_literals
 one_taken c cs h = simp (h) refl
@@ -78,7 +78,7 @@ pub commands_agree : {x y z u v w : Option (List ℕ)} → x ≡ u → y ≡ v �
 commands_agree {x} {y} {z} {u} {v} {w} p q r =
     ap (λ k. command_by k y z) p ∙ (ap (λ k. command_by u k z) q ∙ ap (λ k. command_by u v k) r)
 
--- it is the command of the words
+-- the parser finds the command of the words
 pub read_command : (ws : List (List ℕ)) → 1 ≤ length ws → length ws ≤ 3 → list_all is_plain ws ≡ true → found_command ws ≡ command_of ws
 read_command [] some few plain = absurd (omega arith)
 read_command ([] ∷ ws) some few plain = absurd (never_plain (list_all is_plain ws) plain)
@@ -101,7 +101,7 @@ read_command ((c ∷ cs) ∷ (d ∷ ds) ∷ (e ∷ es) ∷ []) some few plain =
     commands_agree (three_command c d e cs ds es p.0 q.0 r.0) (three_number c d e cs ds es p.0 q.0 r.0) (three_cards c d e cs ds es p.0 q.0 r.0)
 read_command ((c ∷ cs) ∷ (d ∷ ds) ∷ (e ∷ es) ∷ w ∷ ws) some few plain = absurd (omega arith)
 
--- words that are not taken mean nothing
+-- words that the parser does not accept have no command
 pub not_taken : (ws : List (List ℕ)) → 1 ≤ length ws → length ws ≤ 3 → list_all is_plain ws ≡ true → (takes three_words ws ≡ true → ⊥) → None ≡ command_of ws
 not_taken [] some few plain refused = absurd (omega arith)
 not_taken ([] ∷ ws) some few plain refused = absurd (never_plain (list_all is_plain ws) plain)
@@ -119,11 +119,11 @@ not_taken ((c ∷ cs) ∷ (d ∷ ds) ∷ (e ∷ es) ∷ []) some few plain refus
     absurd (refused (three_taken c d e cs ds es p.0 q.0 r.0))
 not_taken ((c ∷ cs) ∷ (d ∷ ds) ∷ (e ∷ es) ∷ w ∷ ws) some few plain refused = absurd (omega arith)
 
--- the first byte of a word that is not plain
+-- the first byte of a nonempty word that is not plain is `-`
 is_minus : (c : ℕ) → not (c == 45) ≡ false → c ≡ 45
 is_minus c h = eqb-true c 45 (not-false (c == 45) h)
 
--- such a word is no command, by itself or with numbers, and no number
+-- a word that is not plain is not a command, alone or with numbers, and not a number
 not_named : (w : List ℕ) → is_plain w ≡ false → command_named w ≡ None
 not_named [] h = refl
 not_named (c ∷ cs) h = ap (λ b. command_named (b ∷ cs)) (is_minus c h)
@@ -161,7 +161,7 @@ not_cards w number cards h =
     let seed : Option ℕ = number_between 0 (2 ^ 64 - 1) number in
     none_by (pointwise nat_eq w (codes "soak")) _ (ap (soak_of seed) (not_number 1 4000 cards h) ∙ no_cards seed)
 
--- words of which one is not plain mean nothing
+-- words, one of which is not plain, have no command
 pub means_nothing : (ws : List (List ℕ)) → list_all is_plain ws ≡ false → None ≡ command_of ws
 means_nothing [] h = absurd (true≢false h)
 means_nothing (w ∷ []) h =
@@ -185,7 +185,7 @@ means_nothing (w ∷ n ∷ k ∷ []) h =
     ]
 means_nothing (w ∷ n ∷ k ∷ v ∷ ws) h = refl
 
--- so do no words, and more than three
+-- no words, and more than three, have no command
 pub none_means_nothing : (ws : List (List ℕ)) → length ws ≡ 0 → None ≡ command_of ws
 none_means_nothing [] h = refl
 none_means_nothing (w ∷ ws) h = absurd (omega arith)
@@ -197,7 +197,7 @@ many_mean_nothing (w ∷ n ∷ []) h = absurd (omega arith)
 many_mean_nothing (w ∷ n ∷ k ∷ []) h = absurd (omega arith)
 many_mean_nothing (w ∷ n ∷ k ∷ v ∷ ws) h = refl
 
--- a command that words mean asks for at most 4000 cards
+-- a command of the words requests at most 4000 cards
 abbrev pub AllowsCards : Option Command → Type 0
 AllowsCards command = MatchOption command (Unit {0}) IsWithinCards
 

@@ -1,4 +1,4 @@
--- A deck that was disassembled assembles to its program.
+-- The deck of a program assembles to that program.
 use Rattle.std.proofs.Common.{◌≡◌, ◌≤◌, length, Ok}
 use Rattle.st_asm.specs.Assembly.{Assembly, together, assembly}
 use Rattle.st_object.specs.Object.{Program, IsProgram, AreWords}

@@ -1,4 +1,4 @@
--- The control cards of a deck, added one after the other, ask for what the program asks for.
+-- The control cards of a deck, added one by one, make the requests of the program.
 use Rattle.std.proofs.Common.{◌≡◌, ◌≤◌, ◌<◌, ◌==◌, ℕ, Bool, true, false, not, nat_lt, List, [], ◌∷◌, ◌++◌, Option, Some, None, if◌then◌else◌, length, map, filter, codes, decimal, refl, ap, sym, subst, ◌∙◌, append_assoc, append-nil, length-append, arith}
 use Rattle.std.proofs.lemmas.Bool.Decides.{nat_tests}
 use Rattle.std.proofs.lemmas.List.{take_all}
@@ -32,7 +32,7 @@ is-filled n some = grind (arith, nat_tests)
 decimal-filled : (n : ℕ) → IsShort n → is_filled (decimal n) ≡ true
 decimal-filled n short = is-filled (length (decimal n)) (decimal-digits n (omega (arith, short))).some
 
--- the words of a card of one number, and of two
+-- the words of a card with one number, or with two
 filter-two : (a b : List ℕ) → is_filled a ≡ true → is_filled b ≡ true → filter is_filled (a ∷ b ∷ []) ≡ a ∷ b ∷ []
 filter-two a b first second = rw (first, second)
 
@@ -71,7 +71,7 @@ two-numbers word a b lack filled few short_a short_b =
     ∙ (ap (λ (ps : List (List ℕ)). filter is_filled ps) cut
     ∙ filter-three word (decimal a) (decimal b) filled (decimal-filled a short_a) (decimal-filled b short_b))
 
--- numbers are read
+-- the numbers on control cards are read
 number-read : (n : ℕ) → IsShort n → card_number (decimal n) ≡ Some n
 number-read n short =
     let few = decimal-short n short in
@@ -87,12 +87,12 @@ numbers-two a b short_a short_b =
     ap (λ o. numbers_before o (card_numbers (decimal b ∷ []))) (number-read a short_a)
     ∙ ap (λ (o : Option (List ℕ)). numbers_before (Some a) o) (numbers-one b short_b)
 
--- a control card
+-- the text of a control card
 abbrev control_card : Control → List ℕ
 control_card control = control_line Card control
 
 module _ (kept : Asked) where
-  -- what each card adds
+  -- the request that each card adds
   budget-card : (n : ℕ) → IsShort n → asked_with_card kept (control_card (asks.Budget n)) ≡ with_budget kept (n ∷ [])
   unfolding control_line
   budget-card n short =
@@ -165,7 +165,7 @@ asked_for n ds ss us trace time chart ts k = record {
   back = k;
 }
 
--- a card for each item of a list
+-- one card for each item of a list
 cards_each : {X : Type 0} (at : List X → Asked) (card : X → List ℕ) (Fits : List X → Type 0) →
     ((done rest : List X) (x : X) → Fits (done ++ x ∷ rest) → asked_with_card (at done) (card x) ≡ Some (at (done ++ x ∷ []))) →
     (done rest : List X) → Fits (done ++ rest) → CardsLead (at done) (map card rest) (at (done ++ rest))
@@ -178,7 +178,7 @@ cards_each {X} at card Fits step done (x ∷ rest) fits =
       subst (λ (xs : List X). CardsLead (at (done ++ x ∷ [])) (map card rest) (at xs)) regrouped later,
     )
 
--- a card that stands there where it is asked for
+-- an optional card of a flag
 cards_marked : (at : Bool → Asked) (card : List ℕ) → asked_with_card (at false) card ≡ Some (at true) → (b : Bool) →
     CardsLead (at false) (where_asked b card) (at b)
 cards_marked at card step false = refl
@@ -250,14 +250,14 @@ module _ (n : ℕ) (ds : List ℕ) where
           let asked : Asked = asked_for n ds ss us trace time chart ts 0 in
           (asked_for n ds ss us trace time chart ts k, back-card asked k (omega (arith, few)) ∙ back-asked asked k refl some few, refl)
 
--- the budget
+-- the card of the budget
 add_budget : (n : ℕ) → 1 ≤ n → n ≤ 10000000 →
     CardsLead nothing_asked (unless_zero n (control_card (asks.Budget n))) (asked_for n [] [] [] false false false [] 0)
 add_budget n some few =
     let is : (n == 0) ≡ false = grind (arith, nat_tests) in
     rw is (asked_for n [] [] [] false false false [] 0, budget-card nothing_asked n (omega (arith, few)) ∙ budget-asked nothing_asked n refl some few, refl)
 
--- the control cards ask for what is asked for
+-- the control cards of requests make these requests
 pub controls-read : (a : Asked) → IsWithinLimits a → 1 ≤ a.budget → a.list ≡ false → CardsLead nothing_asked (control_cards a) a
 controls-read a limits some unlisted =
     let n = a.budget in

@@ -1,10 +1,10 @@
--- How many cards words have.
+-- Lemmas on the number of cards of words.
 use Rattle.std.proofs.Common.{◌≡◌, ◌≤◌, ◌+◌, ◌-◌, ◌==◌, ◌++◌, ℕ, true, false, List, [], ◌∷◌, length, map, take, drop, get_or, if◌then◌else◌, refl, ap, sym, ◌∙◌, length-append, arith}
 use Rattle.std.proofs.lemmas.List.{take_all}
 use Rattle.st_dis.specs.Deck.{statement_card, location_statement, location_cards, cards_of_word, word_cards}
 use Rattle.st_dis.specs.Spelling.{statements_of}
 
--- where a word stands does not matter
+-- the number of a word's cards does not depend on its address
 location_cards-length : (v w before : ℕ) → length (location_cards v before) ≡ length (location_cards w before)
 location_cards-length v w before =
     let one = statement_card (location_statement v) in
@@ -31,7 +31,7 @@ word_cards-length v w before (x ∷ xs) =
     let other = length-append (cards_of_word w before x) (word_cards (w + 1) x xs) in
     omega (arith, here, rest, one, other)
 
--- a word more
+-- the count with one more word
 pub counted-more : (count n total before : ℕ) (rest : List ℕ) → 1 ≤ length rest → n ≡ length (cards_of_word 0 before (get_or rest 0 0)) →
     count + length (word_cards 0 before rest) ≡ total →
     count + n + length (word_cards 0 (get_or rest 0 0) (take (length rest - 1) (drop 1 rest))) ≡ total

@@ -1,4 +1,4 @@
--- A deck is cut into its cards, each with its text and without a fault of its own.
+-- A deck is split into its cards; each has its text and no fault by itself.
 use Rattle.std.proofs.Common.{◌≡◌, ◌≤◌, ◌+◌, ◌-◌, ◌==◌, ◌++◌, ℕ, zero, suc, Bool, true, false, not, nat_lt, min, List, [], ◌∷◌, length, map, take, drop, None, if◌then◌else◌, refl, sym, ◌∙◌, ap, subst, append_assoc, length-append, arith}
 use Rattle.std.proofs.Math.Seq.{drop-append_seam}
 use Rattle.std.proofs.lemmas.List.{take_at, take_all, length-map}
@@ -30,7 +30,7 @@ plain_at (c ∷ cs) (suc k) p = plain_at cs k (and_parts (is_plain c) (list_all 
 kept : (text : List ℕ) → IsPlain text → strip_carriage_return text ≡ text
 kept text p = ap (λ b. if b then take (length text - 1) text else text) (plain_at text (length text - 1) p)
 
--- four tests that fail
+-- no fault results from four tests that are false
 no_fault : (a b c d : Bool) (w x y z : Fault) → a ≡ false → b ≡ false → c ≡ false → d ≡ false → first_fault ((a, w) ∷ (b, x) ∷ (c, y) ∷ (d, z) ∷ []) ≡ None
 no_fault true b c d w x y z p q r s = absurd (cc)
 no_fault false true c d w x y z p q r s = absurd (cc)
@@ -45,26 +45,26 @@ good_card n line few w short =
     no_fault (nat_lt 20000 n) (not (is_printable line)) (nat_lt 80 (length line)) (not (is_column_1 (first_column line)))
     TooManyCards NotAscii CardTooLong BadName room (ap not w.plain) fits (ap not w.column)
 
--- the text of a card that stands in a job
+-- the text of a card within a job
 text_there : (front line rest : List ℕ) → length line ≤ 80 → take (min (length line) 80) (drop (length front) (front ++ (line ++ rest))) ≡ line
 text_there front line rest short =
     let size : length line ≡ min (length line) 80 = omega (arith, short) in
     ap (take (min (length line) 80)) (drop-append_seam front (line ++ rest)) ∙ take_at line rest (min (length line) 80) size
 
--- the n-th card, without a fault, that is cut from a job as a line
+-- a card is the n-th of a job, has no fault, and has a line as its text
 pub record IsCardAs (job : List ℕ) (n : ℕ) (line : List ℕ) (card : Card) : Type 0 where
   pub number : card.number ≡ n
   pub kind : card.kind ≡ kind_of line
   pub fault : card.fault ≡ None
   pub text : text_in job card ≡ line
 
--- the cards from the n-th on, one a line
+-- the cards from the n-th on, one for each line
 abbrev pub AreCardsAs : List ℕ → ℕ → List (List ℕ) → List Card → Type 0
 AreCardsAs job n [] cards = cards ≡ []
 AreCardsAs job n (line ∷ lines) [] = ⊥
 AreCardsAs job n (line ∷ lines) (card ∷ cards) = IsCardAs job n line card × AreCardsAs job (n + 1) lines cards
 
--- cards that are cut from a job as lines
+-- the cards of a job with these lines
 pub record IsCutAs (job : List ℕ) (n : ℕ) (cards : List Card) (lines : List (List ℕ)) : Type 0 where
   pub texts : map (text_in job) cards ≡ lines
   pub good : All (λ card. card.fault ≡ None) cards
@@ -102,7 +102,7 @@ cut job front n (line ∷ lines) e w s few =
       each = (record { number = refl; kind = refl; fault = faultless; text = text }, more.each);
     })
 
--- all of a text of lines
+-- the cards of a whole text of lines
 pub lines_cut : (lines : List (List ℕ)) → All IsWritten lines → All IsCard lines → length lines ≤ 20000 → IsCutAs (text_of_lines lines) 1 (cards_of (text_of_lines lines)) lines
 lines_cut lines written short few =
     let job = text_of_lines lines in
@@ -114,7 +114,7 @@ lines_cut lines written short few =
     sym (take_all 20001 cards size) ∙ ap (λ (ls : List (List ℕ)). take 20001 (cards_from 1 0 ls)) (sym (pieces lines written)) in
     subst (λ (cs : List Card). IsCutAs job 1 cs lines) found all
 
--- all of the deck
+-- the cards of a whole deck
 deck_cut : (p : Program) → IsProgram p → AreWords p.words → card_count p ≤ 20000 → IsCutAs (deck_text p) 1 (cards_of (deck_text p)) (deck_cards p)
 unfolding deck_text card_count
 deck_cut p is words few = lines_cut (deck_cards p) (deck_written p) (deck_cards-short p is words) few

@@ -1,4 +1,5 @@
--- The cards of a deck are its statements and its control cards, and the form pass reads them all.
+-- The cards of a deck are its statements and its control cards, and the form pass reads all of
+-- them.
 use Rattle.std.proofs.Common.{◌≡◌, ◌<◌, ◌≤◌, ◌+◌, ◌*◌, ◌/◌, ◌%◌, ◌^◌, ◌==◌, ℕ, Bool, true, false, List, [], ◌∷◌, ◌++◌, length, map, Some, None, Result, Ok, Err, is_none, if◌then◌else◌, refl, sym, ap, subst, ◌∙◌, arith}
 use Rattle.std.specs.List.{All}
 use Rattle.std.proofs.lemmas.List.{map-append}
@@ -40,7 +41,7 @@ use Rattle.st_dis.proofs.Said.{word_statements, statements_from, deck_statements
 
 -- ---- the cards
 
--- the texts of a word, and its cards
+-- the cards of a word are the cards of its statements
 placed-texts : (w before word : ℕ) → cards_of_word w before word ≡ map statement_card (word_statements w before word)
 unfolding cards_of_word
 placed-texts w before word =
@@ -69,7 +70,7 @@ word_cards-texts w before (x ∷ xs) =
     ∙ (ap (λ (cards : List (List ℕ)). map statement_card texts ++ cards) (word_cards-texts (w + 1) x xs)
     ∙ sym (map-append statement_card texts more))
 
--- the cards of a deck are those of its statements, and its control cards
+-- the cards of a deck are those of its statements, then its control cards
 pub deck-cards : (p : Program) → deck_cards p ≡ map statement_card (deck_statements p) ++ control_cards p.controls
 deck-cards p =
     let texts = statements_from 0 0 p.words in
@@ -81,7 +82,7 @@ deck-cards p =
 
 -- ---- the statements
 
--- texts that are read, none of them as the end
+-- texts that are read as statements other than END
 pub record AreOpen (texts : List (List ℕ)) : Type 0 where
   pub statements : List Statement
   pub read : AreRead texts statements
@@ -100,7 +101,7 @@ both_texts ts us first second = record {
   open_ones = All-append IsOpen first.statements second.statements first.open_ones second.open_ones;
 }
 
--- what lays bits is not the end
+-- a statement that assembles to bits is not END
 lays_by : (known faultless : Bool) (length bits : ℕ) (wanted : LaidBits) →
     (if known then (if faultless then Some (record { length = length; bits = bits }) else None) else None) ≡ Some wanted →
     length ≡ wanted.length
@@ -134,7 +135,7 @@ open-length (SetLocation at) lays = refl
 open-length (Reserve at) lays = refl
 open-length (End at) lays = let no : ⊥ = omega arith in absurd no
 
--- a text that lays bits is read, and not as the end
+-- a text that assembles to bits is read as a statement other than END
 read_by : (t : List ℕ) (answer : Result Statement Fault) (wanted : LaidBits) → 0 < wanted.length → statement_of [] t ≡ answer →
     laid_if_read [] answer ≡ Some wanted → AreOpen (t ∷ [])
 read_by t (Ok s) wanted some is lays =
@@ -176,12 +177,12 @@ words-read w before (x ∷ xs) few words =
     (word-read w before x (omega (arith, few)) (All-head (λ y. y < 2 ^ 64) x xs words))
     (words-read (w + 1) x xs (omega (arith, few)) (All-tail (λ y. y < 2 ^ 64) x xs words))
 
--- all statements up to the end are read, and none is the end
+-- all statements of a deck before END are read as statements other than END
 pub deck-open : (p : Program) → IsProgram p → AreWords p.words → AreOpen (statements_from 0 0 p.words)
 deck-open p is words =
     let whole = is.image.size in words-read 0 0 p.words (omega (arith, whole, words_of_storage_is)) words
 
--- the end of a deck
+-- the END statement of a deck
 abbrev pub end_of : Program → Statement
 end_of p = End (number_expr (32 * p.start))
 
@@ -207,7 +208,7 @@ control_cards-kind a = controls_all IsControl (λ c. control_line Card c) a (car
 
 -- ---- the form pass
 
--- the job that a deck is: the texts and the end, and what is read
+-- the deck as a job: its statements, END, and the result of reading them
 deck-job : (p : Program) → IsProgram p → (before : List Statement) → AreRead (statements_from 0 0 p.words) before → All IsOpen before →
     IsJob (statements_from 0 0 p.words) (end_text p.start) (control_cards p.controls) before (end_of p) p.controls
 deck-job p is before read going = record {
@@ -219,7 +220,7 @@ deck-job p is before read going = record {
   leads = controls-read p.controls is.limits is.budget is.unlisted;
 }
 
--- all statements of a deck are read, and the form pass finds them and what the program asks for
+-- all statements of a deck are read, and the form pass returns them and the requests of the program
 pub record IsFormed (p : Program) : Type 0 where
   pub statements : List Statement
   pub read : AreRead (deck_statements p) statements

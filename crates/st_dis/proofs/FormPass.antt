@@ -1,4 +1,4 @@
--- The form pass over statement cards without names, with control cards behind them.
+-- The form pass over statement cards without names, followed by control cards.
 use Rattle.std.proofs.Common.{◌≡◌, ◌≤◌, ◌+◌, ◌==◌, ℕ, zero, suc, Bool, true, false, not, List, [], ◌∷◌, ◌++◌, length, map, filter, take, Option, Some, None, Result, Ok, Err, if◌then◌else◌, refl, sym, ap, subst, ◌∙◌, append_assoc, append-nil, length-append, arith}
 use Rattle.std.specs.List.{All}
 use Rattle.std.proofs.lemmas.List.{take_all, length-map, map-append}
@@ -29,11 +29,11 @@ use Rattle.st_card.specs.Written.{text_of_lines}
 
 -- ---- the cards as texts
 
--- what the n-th card does, by its text, where it has no fault by itself
+-- the form pass over the n-th card, given its text, if it has no fault by itself
 abbrev form_text : Found → ℕ → List ℕ → Result Found Fault
 form_text found n text = form_kind (kind_of text) found n None text
 
--- cards, by their texts from the n-th on, lead from what was found so far to what is found behind them
+-- the form pass leads from one result to another over cards with these texts, from the n-th on
 abbrev TextsLead : Found → ℕ → List (List ℕ) → Found → Type 0
 TextsLead found n [] to = found ≡ to
 TextsLead found n (text ∷ texts) to = (next : Found) × (form_text found n text ≡ Ok next) × TextsLead next (n + 1) texts to
@@ -73,7 +73,7 @@ leads-on a b c n k (x ∷ xs) ys place first second =
 
 -- ---- statement cards
 
--- a text of blanks says nothing
+-- a text of blanks has an empty statement
 without_blanks : (k : ℕ) (text : List ℕ) → is_blank text ≡ true → filter (λ c. not (c == 32)) (take k text) ≡ []
 without_blanks zero text blanks = refl
 without_blanks (suc k) [] blanks = refl
@@ -110,21 +110,21 @@ statement-kind text s short read =
     let filled : is_blank (take 63 text) ≡ false = ap (λ (t : List ℕ). is_blank t) whole ∙ filled_by text s read (is_blank text) refl in
     ap (λ (b : Bool). if b then Comment else StatementCard) filled
 
--- it has no name
+-- a statement card of a deck has no name
 card-name : (text : List ℕ) → name_field (statement_card text) ≡ []
 unfolding name_field
 card-name text = refl
 
--- its columns from the tenth on are its statement
+-- the columns of a statement card from the tenth on are its statement
 card-statement : (text : List ℕ) → length text ≤ 63 → statement_field (statement_card text) ≡ text
 unfolding statement_field
 card-statement text short = take_all 63 text short
 
--- what has been found, by its parts
+-- the result of the form pass with these parts
 abbrev found_as : Bool → Asked → List ReadCard → Found
 found_as ended asked lines = record { ended = ended; asked = asked; lines = lines }
 
--- what a statement card does before the end
+-- the form pass over a statement card before END
 statement-formed : (asked : Asked) (lines : List ReadCard) (n : ℕ) (text : List ℕ) (s : Statement) → length text ≤ 63 →
     statement_of [] text ≡ Ok s →
     form_text (found_as false asked lines) n (statement_card text) ≡ Ok (found_as (is_end s) asked (lines ++ saying n None s ∷ []))
@@ -139,11 +139,11 @@ statement-formed asked lines n text s short read =
     ∙ (ap (λ (t : List ℕ). reads [] t) (card-statement text short)
     ∙ ap (λ (r : Result Statement Fault). reading_map (λ x. with_statement found n [] x) r) read))
 
--- a statement that is not the end
+-- a statement other than END
 abbrev pub IsOpen : Statement → Type 0
 IsOpen s = is_end s ≡ false
 
--- statement cards without the end
+-- the form pass over statement cards other than END
 statements-lead : (asked : Asked) (lines : List ReadCard) (n : ℕ) (texts : List (List ℕ)) (ss : List Statement) → All IsShort texts →
     AreRead texts ss → All IsOpen ss →
     TextsLead (found_as false asked lines) n (map statement_card texts) (found_as false asked (lines ++ spoken_lines n ss))
@@ -163,7 +163,7 @@ statements-lead asked lines n (t ∷ ts) (s ∷ ss) short read not_end =
           (append_assoc lines (saying n None s ∷ []) (spoken_lines (n + 1) ss)) rest,
     )
 
--- the end behind them
+-- the form pass over statement cards and then END
 end-lead : (asked : Asked) (lines : List ReadCard) (n : ℕ) (text : List ℕ) (s : Statement) → length text ≤ 63 →
     statement_of [] text ≡ Ok s → is_end s ≡ true →
     TextsLead (found_as false asked lines) n (statement_card text ∷ []) (found_as true asked (lines ++ saying n None s ∷ []))
@@ -180,7 +180,7 @@ end-lead asked lines n text s short read last =
 abbrev pub IsControl : List ℕ → Type 0
 IsControl card = kind_of card ≡ Control
 
--- what a control card does behind the end
+-- the form pass over a control card after END
 control-formed : (asked next : Asked) (lines : List ReadCard) (n : ℕ) (card : List ℕ) → IsControl card → asked_with_card asked card ≡ Some next →
     form_text (found_as true asked lines) n card ≡ Ok (found_as true next (lines ++ silent_line n ∷ []))
 unfolding form_control
@@ -216,7 +216,7 @@ read-count [] ss read = ap (λ (all : List Statement). length all) (sym read)
 read-count (t ∷ ts) [] read = absurd read
 read-count (t ∷ ts) (s ∷ ss) read = let more = read-count ts ss read.1 in omega (arith, more)
 
--- a statement more
+-- the lines of statements with one more statement
 spoken-more : (n k : ℕ) (ss : List Statement) (s : Statement) → k ≡ n + length ss →
     spoken_lines n (ss ++ s ∷ []) ≡ spoken_lines n ss ++ saying k None s ∷ []
 spoken-more n k [] s place =
@@ -224,7 +224,7 @@ spoken-more n k [] s place =
 spoken-more n k (x ∷ xs) s place =
     ap (λ (ls : List ReadCard). saying n None x ∷ ls) (spoken-more (n + 1) k xs s (omega (arith, place)))
 
--- statements whose cards are short are short
+-- the statements of cards with at most 72 characters have at most 63
 shorts : (texts rest : List (List ℕ)) → All IsCard (map statement_card texts ++ rest) → All IsShort texts
 shorts [] rest cards = All-nil IsShort
 shorts (t ∷ ts) rest cards =
@@ -233,12 +233,12 @@ shorts (t ∷ ts) rest cards =
     let parts = length-append (32 ∷ 32 ∷ 32 ∷ 32 ∷ 32 ∷ 32 ∷ 32 ∷ 32 ∷ 32 ∷ []) t in
     All-cons IsShort t ts (omega (arith, here, parts)) (shorts ts rest (All-tail IsCard (statement_card t) more cards))
 
--- what holds of all holds of those behind others
+-- a property of all cards holds of the last ones
 behind_all : (xs ys : List (List ℕ)) → All IsCard (xs ++ ys) → All IsCard ys
 behind_all [] ys all = all
 behind_all (x ∷ xs) ys all = behind_all xs ys (All-tail IsCard x (xs ++ ys) all)
 
--- a job of statement cards without names, the last of which is the end, and of control cards behind it
+-- a job of statement cards without names, the last of which is END, and of control cards after it
 pub record IsJob (texts : List (List ℕ)) (final : List ℕ) (controls : List (List ℕ)) (before : List Statement) (last : Statement)
     (asked : Asked) : Type 0 where
   pub read : AreRead texts before
@@ -248,11 +248,12 @@ pub record IsJob (texts : List (List ℕ)) (final : List ℕ) (controls : List (
   pub marks : All IsControl controls
   pub leads : CardsLead nothing_asked controls asked
 
--- its cards
+-- the cards of such a job
 abbrev pub job_cards : List (List ℕ) → List ℕ → List (List ℕ) → List (List ℕ)
 job_cards texts final controls = map statement_card (texts ++ final ∷ []) ++ controls
 
--- what is found in it: the lines of its statements and of its control cards, and what it asks for
+-- the result of the form pass for such a job: the lines of its statements and control cards, and
+-- its requests
 abbrev pub found_in_job : List Statement → ℕ → Asked → Found
 found_in_job ss controls asked =
     record { ended = true; asked = asked; lines = spoken_lines 1 ss ++ silent_lines (length ss + 1) controls }
@@ -291,7 +292,7 @@ job-leads texts final controls before last asked is short =
     subst (λ (f : Found). TextsLead found_at_start 1 (job_cards texts final controls) f) found
     (subst (λ (cs : List (List ℕ)). TextsLead found_at_start 1 cs to) (sym whole_cards) whole)
 
--- the form pass over it
+-- the form pass over such a job returns that result
 pub job-formed : (texts : List (List ℕ)) (final : List ℕ) (controls : List (List ℕ)) (before : List Statement) (last : Statement)
     (asked : Asked) → IsJob texts final controls before last asked → All IsWritten (job_cards texts final controls) →
     All IsCard (job_cards texts final controls) →

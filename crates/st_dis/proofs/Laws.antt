@@ -1,4 +1,4 @@
--- What holds of the cards of a deck, and not of one call, proved.
+-- Proofs of the laws of the cards of a deck.
 use Rattle.st_dis.proofs.WordRead.{statements-lay}
 use Rattle.st_dis.proofs.PlacesRead.{location-read, start-read}
 use Rattle.st_dis.proofs.ControlsRead.{controls-read}

@@ -1,4 +1,4 @@
--- How long the cards of a deck are, and the deck.
+-- Bounds on the lengths of a deck and of its cards.
 use Rattle.std.proofs.Common.{◌≤◌, ◌<◌, ◌+◌, ◌*◌, ◌/◌, ◌%◌, ◌^◌, ◌==◌, ◌++◌, ℕ, true, false, List, [], ◌∷◌, length, map, codes, decimal, if◌then◌else◌, length-append, arith}
 use Rattle.std.specs.List.{All}
 use Rattle.std.proofs.lemmas.List.Elements.{All-nil, All-cons, All-head, All-tail, All-append}
@@ -25,7 +25,7 @@ IsShort text = length text ≤ 63
 abbrev pub IsCard : List ℕ → Type 0
 IsCard card = length card ≤ 72
 
--- cards, each with its line end
+-- the length of the text of cards, each with its line end
 pub text_of_lines-length : (cards : List (List ℕ)) → All IsCard cards → length (text_of_lines cards) ≤ 73 * length cards
 text_of_lines-length [] short = omega arith
 text_of_lines-length (card ∷ cards) short =
@@ -43,14 +43,14 @@ pub statement_card-short : (text : List ℕ) → IsShort text → IsCard (statem
 statement_card-short text short =
     let parts = length-append (32 ∷ 32 ∷ 32 ∷ 32 ∷ 32 ∷ 32 ∷ 32 ∷ 32 ∷ 32 ∷ []) text in omega (arith, short, parts)
 
--- a word before a number
+-- the length of a word followed by a number
 labelled : (word : List ℕ) (n : ℕ) → length word ≤ 43 → n < 2 ^ 64 → length (word ++ decimal n) ≤ 63
 labelled word n few small =
     let parts = length-append word (decimal n) in
     let number = digits n small in
     omega (arith, few, parts, number)
 
--- a word before two numbers
+-- the length of a word followed by two numbers
 paired : (word : List ℕ) (a b : ℕ) → length word ≤ 20 → a < 2 ^ 64 → b < 2 ^ 64 →
     length (word ++ decimal a ++ codes " " ++ decimal b) ≤ 63
 paired word a b few small_a small_b =
@@ -124,7 +124,7 @@ paired_card : (word : List ℕ) (a b : ℕ) → length word ≤ 20 → a < 2 ^ 6
     IsCard (word ++ decimal a ++ codes " " ++ decimal b)
 paired_card word a b few small_a small_b = let short = paired word a b few small_a small_b in omega (arith, short)
 
--- a control card
+-- the length of a control card
 card-short : (c : Control) → IsShortControl c → IsCard (control_line Card c)
 unfolding control_line
 card-short (asks.Budget n) short = labelled_card (codes "/BUDGET ") n (omega arith) (omega (arith, short))

@@ -1,4 +1,4 @@
--- The name pass and the value pass over statements that lead from one stand to another.
+-- The name pass and the value pass over statements that lead from one state to another.
 use Rattle.std.proofs.Common.{◌≡◌, ℕ, zero, suc, ◌+◌, Bool, true, false, not, List, [], ◌∷◌, ◌++◌, length, Option, None, Ok, if◌then◌else◌, refl, ap, sym, ◌∙◌, append_assoc, append-nil, subst, replicate}
 use Rattle.std.specs.List.{zip}
 use Rattle.st_card.specs.Cards.{first_fault}
@@ -20,14 +20,14 @@ use Rattle.st_dis.proofs.Said.{ReadCard, deck_statements, AreRead, spoken_lines,
 use Rattle.st_dis.proofs.StatementSteps.{Stand, stand, Steps, place_at}
 use Rattle.st_dis.proofs.WordsLead.{Leads, deck-leads}
 
--- what the two passes know at a stand, where no names are defined
+-- the result of the name pass at a state if no names are defined
 abbrev pub named_at : Stand → List (Option ℕ) → Named
 named_at here places = record { location = here.location; symbols = []; places = places }
 
 abbrev pub laid_at : Stand → List Listed → Laid
 laid_at here rows = record { image = here.image; start = here.start; rows = rows }
 
--- both go from a stand to another over lines
+-- both passes lead from one state to another over lines
 pub record Passed (lines : List ReadCard) (here there : Stand) : Type 0 where
   pub places : List (Option ℕ)
   pub names : (before : List (Option ℕ)) → pass (name_card (has_name [])) (λ line. line.card) (named_at here before) lines
@@ -36,7 +36,7 @@ pub record Passed (lines : List ReadCard) (here there : Stand) : Type 0 where
   pub values : (before : List Listed) → pass (value_card []) (λ p. p.0.card) (laid_at here before) (zip lines places)
       ≡ Ok (laid_at there (before ++ rows))
 
--- a card without a name that says a statement
+-- the names of a card without a name are defined earlier, as there are none
 earlier : (s : Statement) → accepts_all (is_defined []) s ≡ true → is_statement_earlier [] s ≡ true
 earlier s known = by_role (needs_earlier (placing_of s))
   where
@@ -67,7 +67,7 @@ spoken-named here there places n s steps =
     ap (λ o. unless_faulty o (Ok (name_step (named_at here places) (saying n None s)))) (no-name_fault here places n s steps.known)
     ∙ ap (λ k. Ok k) (step-named here there places n s steps)
 
--- its row
+-- the listing's row of a card
 abbrev row_at : Stand → ℕ → Statement → Listed
 row_at here n s = record {
   card = n;
@@ -85,7 +85,7 @@ spoken-laid here there rows n s steps =
     ∙ (ap (λ k. Ok (record { image = k; start = if is_end s then half_word_bits (values_of [] s).first else here.start; rows = all })) steps.image
     ∙ ap (λ k. Ok (record { image = there.image; start = k; rows = all })) steps.start)
 
--- a card that says nothing
+-- the name pass over a card without a statement
 silent-named : (here : Stand) (places : List (Option ℕ)) (n : ℕ) →
     name_card (has_name []) (named_at here places) (silent_line n) ≡ Ok (named_at here (places ++ None ∷ []))
 unfolding name_card name_fault name_step
@@ -97,7 +97,7 @@ silent-laid : (here : Stand) (rows : List Listed) (n : ℕ) →
 unfolding value_card
 silent-laid here rows n = refl
 
--- no cards, and one more
+-- the passes over no cards, and over one more
 none-passed : (here : Stand) → Passed [] here here
 none-passed here = record {
   places = [];
@@ -146,7 +146,7 @@ unfolding names_of
 nameless n [] rest none = none
 nameless n (s ∷ ss) rest none = nameless (n + 1) ss rest none
 
--- lines pass the name pass and the value pass, and give these words and this start
+-- lines that pass the name pass and the value pass, with these words and this start as the result
 pub record GivesProgram (lines : List ReadCard) (words : List ℕ) (start : ℕ) : Type 0 where
   pub named : Named
   pub names : name_pass lines ≡ Ok named
@@ -171,7 +171,8 @@ passed-gives lines words start behind none passed =
       begins = refl;
     }
 
--- statements that lead from an empty image to words and a start, and cards that say nothing behind them, give these
+-- statements that lead from an empty image to words and a start, followed by cards without
+-- statements, have these as the result
 pub leads-give : (ss : List Statement) (k : ℕ) (words : List ℕ) (start behind : ℕ) →
     Leads ss (stand 2048 (replicate words_of_storage 0) 0) (stand behind words start) →
     GivesProgram (spoken_lines 1 ss ++ silent_lines (length ss + 1) k) words start
@@ -182,7 +183,7 @@ leads-give ss k words start behind lead =
     (nameless 1 ss silents (silent-nameless (length ss + 1) k))
     (spoken-passed 1 ss silents (stand 2048 (replicate words_of_storage 0) 0) there there lead (silent-passed (length ss + 1) k there))
 
--- a deck's statements give the program
+-- the statements of a deck result in its program
 pub statements-give : (p : Program) (ss : List Statement) (k : ℕ) → IsProgram p → AreWords p.words → AreRead (deck_statements p) ss →
     GivesProgram (spoken_lines 1 ss ++ silent_lines (length ss + 1) k) p.words p.start
 statements-give p ss k is words read =

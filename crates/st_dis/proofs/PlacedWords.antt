@@ -1,4 +1,4 @@
--- A word of the image that is set, whole or by its halves.
+-- Lemmas on writing a word of the image, as a whole or by its halves.
 use Rattle.std.proofs.Common.{◌≡◌, ℕ, zero, suc, ◌≤◌, ◌<◌, ◌+◌, ◌*◌, ◌/◌, ◌%◌, ◌^◌, List, [], ◌∷◌, ◌++◌, length, get_or, ap, sym, ◌∙◌, length-append, arith}
 use Rattle.std.proofs.Math.ListN.{set}
 use Rattle.std.proofs.Math.Seq.{get_or-append_seam, set-append_seam}
@@ -12,13 +12,13 @@ use Rattle.st_asm.proofs.ImageLemmas.{image-put}
 abbrev IsWord : ℕ → Type 0
 IsWord x = x < 2 ^ 64
 
--- each place of a list of words has a word
+-- each index of a list of words has a word below 2^64
 each_word : (xs : List ℕ) (k : ℕ) → AreWords xs → get_or xs k 0 < 2 ^ 64
 each_word [] k words = omega arith
 each_word (x ∷ xs) zero words = All-head IsWord x xs words
 each_word (x ∷ xs) (suc k) words = each_word xs k (All-tail IsWord x xs words)
 
--- bits that are put into the word behind those that are done
+-- bits that are written into the word after those already written
 part-placed : (done zs : List ℕ) (y b n v z : ℕ) → AreWords done → AreWords zs → z < 2 ^ 64 → (n ≡ 0 → ⊥) → b + n ≤ 64 → v < 2 ^ n →
     with_part y b n v ≡ z → image_with (done ++ y ∷ zs) (64 * length done + b) n v ≡ done ++ z ∷ zs
 part-placed done zs y b n v z words zeros small some fits low is =
@@ -36,14 +36,14 @@ part-placed done zs y b n v z words zeros small some fits low is =
     (λ k. each_word new k (All-append IsWord done (z ∷ zs) words (All-cons IsWord z zs small zeros))) same)
 
 module _ (done zs : List ℕ) (x : ℕ) (words : AreWords done) (zeros : AreWords zs) (small : x < 2 ^ 64) where
-  -- the whole word
+  -- writing the whole word
   pub word-placed : image_with (done ++ 0 ∷ zs) (64 * length done) 64 x ≡ done ++ x ∷ zs
   word-placed =
       let place : 64 * length done ≡ 64 * length done + 0 = omega arith in
       ap (λ a. image_with (done ++ 0 ∷ zs) a 64 x) place
       ∙ part-placed done zs 0 0 64 x x words zeros small (λ h. omega arith) (omega arith) small (omega arith)
 
-  -- its first half, and then its second
+  -- writing the first half of the word, and then the second
   pub first-placed : image_with (done ++ 0 ∷ zs) (64 * length done) 32 (x / 2 ^ 32) ≡ done ++ (x / 2 ^ 32 * 2 ^ 32) ∷ zs
   first-placed =
       let place : 64 * length done ≡ 64 * length done + 0 = omega arith in

@@ -1,4 +1,4 @@
--- The cards that set the location and that end the program are read as their places.
+-- The cards that set the location counter and that end the program are read with their operands.
 use Rattle.std.proofs.Common.{◌≡◌, ◌<◌, ◌+◌, ◌*◌, ◌/◌, ◌%◌, ◌^◌, ℕ, List, [], ◌∷◌, ◌++◌, codes, decimal, Ok, refl, ap, sym, ◌∙◌, append_assoc, arith}
 use Rattle.std.proofs.lemmas.Fmt.{decimal_digit}
 use Rattle.st_strap.specs.Reading.{number_expr}

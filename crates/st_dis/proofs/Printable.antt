@@ -1,4 +1,4 @@
--- The cards of a deck have nothing but blanks and visible characters of ASCII.
+-- The cards of a deck have only blanks and visible ASCII characters.
 use Rattle.std.proofs.Common.{◌≡◌, ◌+◌, ◌*◌, ◌/◌, ◌%◌, ◌^◌, ◌==◌, ◌&&◌, ◌++◌, ℕ, zero, suc, Bool, true, false, not, nat_le, Option, Some, None, List, [], ◌∷◌, map, codes, decimal, slice_index_or, if◌then◌else◌, refl, ap, ◌∙◌, append_assoc, arith}
 use Rattle.std.specs.Fmt.{digits, digits_onto, digit_glyph}
 use Rattle.std.specs.List.{All, list_all}
@@ -40,7 +40,7 @@ use Rattle.st_dis.specs.Deck.{statement_card, location_statement, location_cards
 abbrev pub IsPlain : List ℕ → Type 0
 IsPlain text = is_printable text ≡ true
 
--- whether a byte is one of them
+-- whether a byte is a blank or a visible character
 abbrev pub is_plain : ℕ → Bool
 is_plain c = nat_le 32 c && nat_le c 126
 
@@ -300,7 +300,7 @@ text_plain (Invalid first second full) = refl
 
 -- ---- words
 
--- what is spelled, where something is
+-- a spelling, if there is one, is printable
 abbrev SpellsPlain : Option (List ℕ) → Type 0
 SpellsPlain None = Unit {0}
 SpellsPlain (Some text) = IsPlain text
@@ -351,7 +351,7 @@ statements_plain word =
 
 -- ---- cards
 
--- a card that is printable, and whose column 1 is blank or has the mark of a control card
+-- a printable card whose column 1 is blank or has the mark of a control card
 pub record IsWritten (card : List ℕ) : Type 0 where
   pub plain : IsPlain card
   pub column : is_column_1 (first_column card) ≡ true
@@ -398,7 +398,7 @@ two_numbers : (word : List ℕ) (a b : ℕ) → IsPlain word → IsPlain (word +
 two_numbers word a b p =
     join (word ++ decimal a ++ codes " ") (decimal b) (joined word (decimal a) (codes " ") p (number a) refl) (number b)
 
--- a control card
+-- each control card is printable
 card_written : (c : Control) → IsWritten (control_line Card c)
 unfolding control_line
 card_written (asks.Budget n) = control_plain (codes "BUDGET " ++ decimal n) (join (codes "BUDGET ") (decimal n) refl (number n))
@@ -417,7 +417,7 @@ cards_written a = of_any (λ c. IsWritten (control_line Card c)) card_written a
 pub controls_plain : (a : Asked) → All IsWritten (control_cards a)
 controls_plain a = controls_all IsWritten (λ c. control_line Card c) a (cards_written a)
 
--- the cards of a deck
+-- each card of a deck is printable
 pub deck_written : (p : Program) → All IsWritten (deck_cards p)
 deck_written p =
     let words = word_cards 0 0 p.words in
@@ -428,7 +428,7 @@ deck_written p =
     (only (statement_card (end_text p.start)) (card_plain (end_text p.start) (join (codes "END,") (half_address p.start) refl (half_address_plain p.start)))))
     (controls_plain a)
 
--- each of them is printable
+-- printable cards are texts of blanks and visible characters
 plain_ones : (cards : List (List ℕ)) → All IsWritten cards → All IsPlain cards
 plain_ones [] p = All-nil IsPlain
 plain_ones (card ∷ cards) p =

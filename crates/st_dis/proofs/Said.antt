@@ -1,4 +1,4 @@
--- What the cards of a deck say: the statements' texts, one after another, and the lines that they are to the passes.
+-- The statements of a deck's cards in order, and their lines in the passes.
 use Rattle.std.proofs.Common.{◌≡◌, ℕ, zero, suc, ◌+◌, ◌==◌, if◌then◌else◌}
 use Rattle.std.specs.Prelude.{List, [], ◌∷◌, ◌++◌, Ok, None}
 use Rattle.st_object.specs.Object.{Program}
@@ -12,16 +12,16 @@ use Rattle.st_dis.specs.Spelling.{statements_of}
 abbrev pub type_of : {X : Type 0} → X → Type 0
 type_of {X} x = X
 
--- what a card is to the passes behind the first one
+-- a card as the form pass hands it to the later passes
 abbrev pub ReadCard : Type 0
 ReadCard = type_of (silent_line 0)
 
--- the statements of word w, with the word before it: none where it is zero
+-- the statements of word w, given the word before it; none if word w is zero
 abbrev pub word_statements : ℕ → ℕ → ℕ → List (List ℕ)
 word_statements w before word =
     if word == 0 then [] else (if before == 0 then location_statement w ∷ [] else []) ++ statements_of word
 
--- those of the words from word w on, with the word before
+-- the statements of the words from word w on, given the word before them
 abbrev pub statements_from : ℕ → ℕ → List ℕ → List (List ℕ)
 statements_from w before [] = []
 statements_from w before (x ∷ xs) = word_statements w before x ++ statements_from (w + 1) x xs
@@ -41,7 +41,7 @@ abbrev pub spoken_lines : ℕ → List Statement → List ReadCard
 spoken_lines n [] = []
 spoken_lines n (s ∷ ss) = saying n None s ∷ spoken_lines (n + 1) ss
 
--- the lines of k cards that say nothing, from card n on
+-- the lines of k cards without statements, from card n on
 abbrev pub silent_lines : ℕ → ℕ → List ReadCard
 silent_lines n zero = []
 silent_lines n (suc k) = silent_line n ∷ silent_lines (n + 1) k

@@ -1,4 +1,4 @@
--- What the statements of a word say.
+-- Lemmas on the bits of a word's statements.
 use Rattle.std.proofs.Common.{◌≡◌, ◌≤◌, ◌+◌, ◌*◌, ◌/◌, ◌%◌, ◌^◌, ◌&&◌, ℕ, Bool, true, false, nat_le, List, [], ◌∷◌, length, Option, Some, None, if◌then◌else◌, refl, ap, sym, ◌∙◌, arith}
 use Rattle.std.proofs.lemmas.Bool.{and_parts as both}
 use Rattle.std.proofs.lemmas.Bool.Decides.{nat_tests}
@@ -10,19 +10,19 @@ use Rattle.st_asm.specs.declared.alone.LaidBits.{LaidBits}
 use Rattle.st_dis.specs.Texts.{instruction_text}
 use Rattle.st_dis.specs.Spelling.{is_laid, says, spelling_of, word_spelling, half_spelling, number_text, statements_by, statements_of}
 
--- the bits of a word, and of a half-word
+-- a word as 64 bits
 abbrev pub whole_bits : ℕ → LaidBits
 whole_bits word = record { length = 64; bits = word }
 
 abbrev pub half_bits : ℕ → LaidBits
 half_bits half = record { length = 32; bits = half }
 
--- what is given says what the test says
+-- a conditional result is present only if its test is true
 given : (b : Bool) (x y : List ℕ) → (if b then Some x else None) ≡ Some y → (b ≡ true) × (x ≡ y)
 given true x y same = (refl, cc)
 given false x y same = let no : ⊥ = cc in absurd no
 
--- a spelling says the bits that are wanted
+-- a spelling assembles to the required bits
 spelling-says : (instr : Instr) (wanted : LaidBits) (text : List ℕ) → spelling_of instr wanted ≡ Some text → says text wanted ≡ true
 unfolding spelling_of
 spelling-says instr wanted text same =
@@ -30,7 +30,7 @@ spelling-says instr wanted text same =
     let said = (both (is_valid instr) (says (instruction_text instr) wanted) parts.0).1 in
     ap (λ (t : List ℕ). says t wanted) (sym parts.1) ∙ said
 
--- what stands only where a test holds
+-- a result that is present only if a test is true
 only : (b : Bool) (o : Option (List ℕ)) (y : List ℕ) → (if b then o else None) ≡ Some y → o ≡ Some y
 only true o y same = same
 only false o y same = let no : ⊥ = cc in absurd no
@@ -51,7 +51,7 @@ half_spelling-says half text same =
     spelling-says (instruction_of half 0) (half_bits half) text
     (only_not (is_full half) (spelling_of (instruction_of half 0) (half_bits half)) text same)
 
--- the statements of a word by the spellings that there are
+-- a property of the statements of a word, by the spellings that are present
 by_cases : (P : List (List ℕ) → Type 0) (word : ℕ) (whole left right : Option (List ℕ)) →
     ((t : List ℕ) → whole ≡ Some t → P (t ∷ [])) →
     ((l r : List ℕ) → left ≡ Some l → right ≡ Some r → P (l ∷ r ∷ [])) →
@@ -61,8 +61,8 @@ by_cases P word None (Some l) (Some r) one two number = two l r refl refl
 by_cases P word None (Some l) None one two number = number
 by_cases P word None None right one two number = number
 
--- what holds of one statement that says the word, of two that say its halves, and of the number holds of the
--- statements of a word
+-- a property of the statements of a word: it suffices that it holds of one statement for the word,
+-- of two for its halves, and of the number
 pub statements-cases : (P : List (List ℕ) → Type 0) (word : ℕ) →
     ((t : List ℕ) → says t (whole_bits word) ≡ true → P (t ∷ [])) →
     ((l r : List ℕ) → says l (half_bits (word / 2 ^ 32)) ≡ true → says r (half_bits (word % 2 ^ 32)) ≡ true → P (l ∷ r ∷ [])) →
@@ -77,7 +77,7 @@ statements-cases P word one two number =
     (λ l r is_l is_r. two l r (half_spelling-says left l is_l) (half_spelling-says right r is_r))
     number
 
--- a text that says bits has at most 63 characters
+-- a text that assembles to bits has at most 63 characters
 pub says-short : (text : List ℕ) (wanted : LaidBits) → says text wanted ≡ true → length text ≤ 63
 says-short text wanted said =
     let short = (both (nat_le (length text) 63) (is_laid wanted (laid_alone [] text)) said).0 in

@@ -1,4 +1,5 @@
--- What a statement does to the location, the image and the start, where its names are known and it has no fault.
+-- The effect of a statement on the location counter, the image and the start, if its names are
+-- defined and it has no fault.
 use Rattle.std.proofs.Common.{◌≡◌, ℕ, ℤ, ◌≤◌, ◌<◌, ◌+◌, ◌*◌, ◌%◌, ◌^◌, ◌==◌, ◌&&◌, ◌||◌, Bool, true, false, nat_le, nat_lt, not, List, [], ◌∷◌, Option, Some, None, is_none, unwrap_or, Ok, if◌then◌else◌, refl, ap, sym, ◌∙◌, arith}
 use Rattle.std.proofs.lemmas.Bool.{and_from as both_true}
 use Rattle.std.proofs.lemmas.Bool.Decides.{nat_tests}
@@ -25,7 +26,7 @@ use Rattle.st_dis.proofs.Said.{type_of}
 abbrev Values : Type 0
 Values = type_of (values_of [] (Refill 0))
 
--- the location, the image and the start between two cards
+-- the state between two cards: the location counter, the image and the start
 pub record Stand : Type 0 where
   pub location : ℕ
   pub image : List ℕ
@@ -34,11 +35,11 @@ pub record Stand : Type 0 where
 abbrev pub stand : ℕ → List ℕ → ℕ → Stand
 stand location image start = record { location = location; image = image; start = start }
 
--- the place of a statement that is met there, where no names are defined
+-- the location of a statement at a state if no names are defined
 abbrev pub place_at : Stand → Statement → Option ℕ
 place_at here s = place_of_statement [] here.location s
 
--- a statement without names and without a fault leads from one to the other
+-- a statement without names and without a fault leads from one state to another
 pub record Steps (s : Statement) (here there : Stand) : Type 0 where
   pub known : accepts_all (is_defined []) s ≡ true
   pub faultless : value_fault s (values_of [] s) (unwrap_or (place_at here s) 0) ≡ None
@@ -46,7 +47,7 @@ pub record Steps (s : Statement) (here there : Stand) : Type 0 where
   pub image : image_with here.image (unwrap_or (place_at here s) 0) (length_in (placing_of s)) (bits_of s (values_of [] s)) ≡ there.image
   pub start : (if is_end s then half_word_bits (values_of [] s).first else here.start) ≡ there.start
 
--- what a statement is that lays bits by itself
+-- the properties of a statement that assembles to bits by itself
 record LaysAlone (s : Statement) (wanted : LaidBits) : Type 0 where
   known : accepts_all (is_defined []) s ≡ true
   faultless : value_fault s (values_of [] s) naming_at_start.location ≡ None
@@ -72,7 +73,7 @@ lays-alone t s wanted read lays =
     (record { length = length_in (placing_of s); bits = bits_of s (values_of [] s) }) wanted here in
     record { known = parts.0; faultless = is-none fault parts.1; laid = parts.2 }
 
--- a place where n bits may be laid
+-- a location at which n bits can be assembled
 pub record IsPlace (n a : ℕ) : Type 0 where
   pub some : n ≡ 0 → ⊥
   pub one : next_multiple 1 a ≡ a
@@ -111,7 +112,7 @@ second-place w above small = record {
   room = omega arith;
 }
 
--- what n bits at such a place do to the location
+-- the effect of n bits at such a location on the location counter
 record GoesOn (s : Statement) (n a : ℕ) (v : ℤ) : Type 0 where
   place : place_in (placing_of s) a v ≡ Some a
   behind : behind_in (placing_of s) a v ≡ a + n
@@ -156,7 +157,7 @@ goes-on (SetLocation at) n a v long is = absurd (is.some (sym long))
 goes-on (Reserve at) n a v long is = absurd (is.some (sym long))
 goes-on (End at) n a v long is = absurd (is.some (sym long))
 
--- the place counts in the last test alone
+-- only the last of four tests depends on the location
 fourth_test : (x y z p q : Bool) (f g h i : Fault) → first_fault ((x, f) ∷ (y, g) ∷ (z, h) ∷ (p, i) ∷ []) ≡ None → q ≡ false →
     first_fault ((x, f) ∷ (y, g) ∷ (z, h) ∷ (q, i) ∷ []) ≡ None
 fourth_test true y z p q f g h i none is = let no : ⊥ = cc in absurd no
@@ -183,7 +184,7 @@ in-storage a n behind room =
     let last : nat_le (a + n) 6291456 ≡ true = grind (arith, nat_tests) in
     or_true (n == 0) (nat_le 2048 a && nat_le (a + n) 6291456) (both_true (nat_le 2048 a) (nat_le (a + n) 6291456) first last)
 
--- a statement that lays bits by itself lays them at each such place
+-- a statement that assembles to bits by itself assembles to them at each such location
 pub lays-steps : (t : List ℕ) (s : Statement) (n bits a start : ℕ) (old new : List ℕ) → statement_of [] t ≡ Ok s →
     laid_alone [] t ≡ Some (record { length = n; bits = bits }) → IsPlace n a → image_with old a n bits ≡ new →
     Steps s (stand a old start) (stand (a + n) new start)
@@ -205,7 +206,7 @@ lays-steps t s n bits a start old new read lays is image =
       start = ap (λ b. if b then half_word_bits v else start) on.no_end;
     }
 
--- the location is set
+-- a statement that sets the location counter has no fault
 set-faultless : (n place : ℕ) → n < 2 ^ 24 →
     value_fault (SetLocation (number_expr n)) (values_of [] (SetLocation (number_expr n))) place ≡ None
 unfolding value_fault in_range fits on_boundary in_storage values_of
@@ -237,7 +238,7 @@ set-steps n location start image small =
       start = refl;
     }
 
--- the end gives the start
+-- a statement that ends the program has no fault
 end-faultless : (start place : ℕ) → start < 2 ^ 19 →
     value_fault (End (number_expr (32 * start))) (values_of [] (End (number_expr (32 * start)))) place ≡ None
 unfolding value_fault in_range fits on_boundary in_storage values_of

@@ -1,4 +1,4 @@
--- A job that goes through the three passes is assembled.
+-- A job that passes the three passes is assembled.
 use Rattle.std.proofs.Common.{◌≡◌, ◌≤◌, ◌==◌, ℕ, Bool, false, List, [], ◌∷◌, length, Result, Ok, if◌then◌else◌, ap, ◌∙◌, arith}
 use Rattle.std.proofs.lemmas.Bool.Decides.{nat_tests}
 use Rattle.st_card.specs.Cards.{cards_of}
@@ -10,7 +10,7 @@ use Rattle.st_asm.specs.Naming.{Named, name_pass}
 use Rattle.st_asm.specs.Valuing.{Laid, value_pass}
 use Rattle.st_asm.specs.Assembly.{Assembly, with_defaults, together, assembly}
 
--- what the passes leave, together
+-- the assembly is the combined result of the passes
 pub assembled : (job : List ℕ) (found : Found) (named : Named) (laid : Laid) → form_pass job (cards_of job) ≡ Ok found →
     name_pass found.lines ≡ Ok named → value_pass (table named.symbols) found.lines named.places ≡ Ok laid →
     assembly job ≡ Ok (together found named laid)
@@ -23,7 +23,7 @@ assembled job found named laid formed names values =
     ∙ (ap (λ (r : Result Named Refusal). middle found r) names
     ∙ ap (λ (r : Result Laid Refusal). last found named r) values)
 
--- what is asked for stands, where a budget and a delay are
+-- the defaults leave requests with a budget and a delay unchanged
 pub defaults-kept : (asked : Asked) → 1 ≤ asked.budget → 1 ≤ length asked.delays → with_defaults asked ≡ asked
 unfolding with_defaults
 defaults-kept asked some_budget some_delays =

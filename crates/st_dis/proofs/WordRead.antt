@@ -1,4 +1,4 @@
--- The statements of a word, read one after another, lay the word.
+-- The bits of a word's statements, concatenated, are the word.
 use Rattle.std.proofs.Common.{◌≡◌, ◌<◌, ◌+◌, ◌*◌, ◌/◌, ◌%◌, ◌^◌, ◌==◌, ℕ, true, false, nat_le, nat_lt, List, [], ◌∷◌, length, Option, Some, None, if◌then◌else◌, is_none, refl, ap, ◌∙◌, arith}
 use Rattle.std.proofs.lemmas.Bool.{and_parts as both}
 use Rattle.std.proofs.lemmas.Bool.Decides.{nat_tests}
@@ -16,7 +16,7 @@ use Rattle.st_dis.specs.Read.{bits_of_length, laid_behind, laid_together}
 use Rattle.st_dis.proofs.Spelled.{whole_bits, half_bits, statements-cases}
 use Rattle.st_strap.proofs.NumberCards.{word_form, data-read}
 
--- bits with the same length and the same number are the same
+-- bits with equal lengths and equal numbers are equal
 same_bits : (a b : LaidBits) → (a.length == b.length) ≡ true → (a.bits == b.bits) ≡ true → a ≡ b
 same_bits a b lengths numbers =
     let l : a.length ≡ b.length = grind (arith, nat_tests) in
@@ -29,7 +29,7 @@ laid-is wanted (Some laid) is =
     let parts = both (laid.length == wanted.length) (laid.bits == wanted.bits) is in
     ap (λ (l : LaidBits). Some l) (same_bits laid wanted parts.0 parts.1)
 
--- a text that says bits lays them
+-- a text that was checked to assemble to bits assembles to them
 pub says-lays : (text : List ℕ) (wanted : LaidBits) → says text wanted ≡ true → laid_alone [] text ≡ Some wanted
 says-lays text wanted said =
     laid-is wanted (laid_alone [] text) (both (nat_le (length text) 63) (is_laid wanted (laid_alone [] text)) said).1
@@ -55,12 +55,12 @@ number-laid n small =
     ap (λ fault. if is_none fault then Some (bits_of_length 64 (bits_of s (values_of [] s))) else None) (number-faultless n small)
     ∙ ap (λ bits. Some (bits_of_length 64 bits)) (number-bits n)
 
--- the card of a number lays that number
+-- the card of a number assembles to that number
 pub data-lays : (n : ℕ) → n < 2 ^ 64 → laid_alone [] (number_text n) ≡ Some (whole_bits n)
 unfolding laid_alone
 data-lays n small = ap (λ r. laid_if_read [] r) (data-read n small) ∙ number-laid n small
 
--- one statement that lays a word, and two that lay its halves
+-- one statement for a word, and two statements for its halves
 one-lays : (word : ℕ) (t : List ℕ) → laid_alone [] t ≡ Some (whole_bits word) → laid_together (t ∷ []) ≡ Some (whole_bits word)
 one-lays word t lays =
     let same : word * 2 ^ 0 + 0 ≡ word = omega arith in
@@ -75,7 +75,7 @@ two-lay word l r lays_l lays_r =
     ∙ (ap (λ o. laid_behind (Some (half_bits (word / 2 ^ 32))) (laid_behind o last)) lays_r
     ∙ ap (λ n. Some (whole_bits n)) same)
 
--- the statements of a word lay the word
+-- the statements of a word assemble to the word
 pub statements-lay : (word : ℕ) → word < 2 ^ 64 → laid_together (statements_of word) ≡ Some (bits_of_length 64 word)
 statements-lay word small =
     statements-cases (λ texts. laid_together texts ≡ Some (whole_bits word)) word

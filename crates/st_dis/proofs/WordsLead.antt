@@ -1,4 +1,4 @@
--- The statements of a deck, one after another, lead from an empty image to the words of the program.
+-- The statements of a deck, in order, lead from an empty image to the words of the program.
 use Rattle.std.proofs.Common.{◌≡◌, ℕ, suc, ◌≤◌, ◌<◌, ◌+◌, ◌*◌, ◌/◌, ◌%◌, ◌^◌, ◌==◌, Bool, true, false, List, [], ◌∷◌, ◌++◌, length, replicate, get_or, Some, Result, Ok, if◌then◌else◌, refl, ap, sym, subst, ◌∙◌, append_assoc, length-append, arith, zero, ◌⊎◌, inl, inr, nat_lt}
 use Rattle.std.proofs.Math.Seq.{get_or-append_seam}
 use Rattle.std.proofs.lemmas.Bool.Decides.{nat_tests}
@@ -21,27 +21,27 @@ use Rattle.st_dis.proofs.PlacesRead.{location-read, start-read}
 use Rattle.st_dis.proofs.PlacedWords.{word-placed, first-placed, second-placed}
 use Rattle.st_dis.proofs.StatementSteps.{Stand, stand, Steps, word-place, first-place, second-place, lays-steps, set-steps, end-steps}
 
--- whatever a text is read as leads from one stand to the other
+-- each statement that a text is read as leads from one state to the other
 abbrev TextLeads : List ℕ → Stand → Stand → Type 0
 TextLeads t here there = (s : Statement) → statement_of [] t ≡ Ok s → Steps s here there
 
--- so do texts, one after another
+-- texts, in order, lead from one state to another
 abbrev Lead : List (List ℕ) → Stand → Stand → Type 0
 Lead [] here there = here ≡ there
 Lead (t ∷ ts) here there = (next : Stand) × TextLeads t here next × Lead ts next there
 
--- so do statements
+-- statements, in order, lead from one state to another
 abbrev pub Leads : List Statement → Stand → Stand → Type 0
 Leads [] here there = here ≡ there
 Leads (s ∷ ss) here there = (next : Stand) × Steps s here next × Leads ss next there
 
--- texts that lead, read
+-- texts that lead from one state to another are read as statements that do
 read-lead : (ts : List (List ℕ)) (ss : List Statement) (here there : Stand) → AreRead ts ss → Lead ts here there → Leads ss here there
 read-lead [] ss here there none same = subst (λ xs. Leads xs here there) (sym none) same
 read-lead (t ∷ ts) [] here there read lead = absurd read
 read-lead (t ∷ ts) (s ∷ ss) here there read lead = (lead.0, lead.1 s read.0, read-lead ts ss lead.0 there read.1 lead.2)
 
--- texts behind texts
+-- texts followed by further texts lead to the last state
 lead-behind : (ts us : List (List ℕ)) (here next there : Stand) → Lead ts here next → Lead us next there → Lead (ts ++ us) here there
 lead-behind [] us here next there same rest = subst (λ k. Lead us k there) (sym same) rest
 lead-behind (t ∷ ts) us here next there lead rest = (lead.0, lead.1, lead-behind ts us lead.0 next there lead.2 rest)
@@ -55,7 +55,7 @@ two-lead t u here next there first second = (next, first, (there, second, refl))
 none-lead : (here : Stand) → Lead [] here here
 none-lead here = refl
 
--- a text that is read as a statement is read as no other
+-- a text is read as at most one statement
 same_read : (a b : Statement) (r : Result Statement Fault) → r ≡ Ok a → r ≡ Ok b → a ≡ b
 same_read a b r first second = cc
 
@@ -64,7 +64,7 @@ text-leads t s here there is steps other read =
     subst (λ k. Steps k here there) (same_read s other (statement_of [] t) is read) steps
 
 module _ (done zs : List ℕ) (start : ℕ) (words : AreWords done) (zeros : AreWords zs) where
-  -- the statements of a word
+  -- the statements of a word lead to the image with that word
   lays-word : (w x : ℕ) → length done ≡ w → 32 ≤ w → w < 98304 → x < 2 ^ 64 →
       Lead (statements_of x) (stand (64 * w) (done ++ 0 ∷ zs) start) (stand (64 * w + 64) (done ++ x ∷ zs) start)
   lays-word w x size above room small =
@@ -92,7 +92,7 @@ module _ (done zs : List ℕ) (start : ℕ) (words : AreWords done) (zeros : Are
 abbrev IsWord : ℕ → Type 0
 IsWord x = x < 2 ^ 64
 
--- the location is set first, where the word before is zero
+-- the location counter is set first if the word before is zero
 not_none : (n : ℕ) → (n == 0) ≡ false → n ≡ 0 → ⊥
 not_none n is none = let no : ⊥ = grind (arith, nat_tests, is, none) in no
 
@@ -110,7 +110,8 @@ place-leads w before texts here next there set same lead =
 more_than_none : (k : ℕ) → (suc k == 0) ≡ false
 more_than_none k = grind (arith, nat_tests)
 
--- word w is laid where the words before it are done, and those from it on are zero
+-- the statements of word w lead to the image with it, if the words before it are written and those
+-- from it on are zero
 record IsWordLed (w before x : ℕ) (done zs : List ℕ) (location start : ℕ) : Type 0 where
   behind : ℕ
   ready : (x ≡ 0 → ⊥) → behind ≡ 64 * (w + 1)
@@ -139,7 +140,7 @@ word-led w before (suc k) done zs location start size room above words zeros sma
           (lays-word done zs start words zeros w (suc k) size (above (λ h. omega arith)) room small));
     }
 
--- a word that is not zero stands behind the registers
+-- the address of a word is below the registers' end or not
 is-below : (w : ℕ) → (w < 32) ⊎ (32 ≤ w)
 is-below w = by_test (nat_lt w 32) refl
   where
@@ -147,7 +148,7 @@ is-below w = by_test (nat_lt w 32) refl
     by_test true is = inl (grind (arith, nat_tests, is))
     by_test false is = inr (grind (arith, nat_tests, is))
 
--- all words from word w on
+-- the statements of all words from word w on
 words-lead : (ws done xs : List ℕ) (w before location start : ℕ) → ws ≡ done ++ xs → length done ≡ w → w + length xs ≡ 98304 →
     AreWords done → AreWords xs → ((k : ℕ) → k < 32 → get_or ws k 0 ≡ 0) → ((before ≡ 0 → ⊥) → location ≡ 64 * w) →
     (behind : ℕ) × Lead (statements_from w before xs) (stand location (done ++ replicate (length xs) 0) start) (stand behind ws start)
@@ -176,7 +177,7 @@ words-lead ws done (x ∷ xs) w before location start parts size whole words res
           (subst (λ k. Lead (statements_from (w + 1) x xs) (stand led.behind k start) (stand more.0 ws start)) turned more.1),
     )
 
--- all statements of a deck
+-- the texts of all statements of a deck
 deck-lead : (p : Program) (location : ℕ) → IsProgram p → AreWords p.words →
     (behind : ℕ) × Lead (deck_statements p) (stand location (replicate words_of_storage 0) 0) (stand behind p.words p.start)
 deck-lead p location is words =
@@ -193,7 +194,7 @@ deck-lead p location is words =
           (start-read p.start is.start) (end-steps p.start all.0 0 p.words is.start))),
     )
 
--- so do the statements that they are read as
+-- the statements of a deck lead from an empty image to the words of the program
 pub deck-leads : (p : Program) (ss : List Statement) (location : ℕ) → IsProgram p → AreWords p.words → AreRead (deck_statements p) ss →
     (behind : ℕ) × Leads ss (stand location (replicate words_of_storage 0) 0) (stand behind p.words p.start)
 deck-leads p ss location is words read =

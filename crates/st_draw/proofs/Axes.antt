@@ -1,9 +1,9 @@
--- The steps and marks of an axis by the turns that are left.
+-- Lemmas on the steps and marks of an axis, by the remaining rounds.
 use Rattle.std.proofs.Common.{◌≡◌, ℕ, suc, zero, ◌+◌, ◌-◌, ◌*◌, ◌^◌, ◌≤◌, ◌<◌, [], ◌∷◌, List, refl, arith}
 use Rattle.st_draw.specs.Axis.{lowest_tick, step_from, marks_from}
 use Rattle.st_entries.specs.declared.timetable.DrawnEntry.{DrawnEntry}
 
--- no first tick is past the largest number
+-- no first tick is above the largest number
 pub lowest_bound : (es : List DrawnEntry) → lowest_tick es ≤ 2 ^ 64 - 1
 lowest_bound [] = omega arith
 lowest_bound (e ∷ es) = omega (arith, lowest_bound es)

@@ -1,4 +1,4 @@
--- The laws, each with the lemma that carries it.
+-- The laws with their proofs.
 use Rattle.st_draw.specs.Laws.{TextsStayInTheirElements, ElementsAreClosed}
 use Rattle.st_draw.proofs.WellFormedElements.{escaped_inner, element_closed}
 

@@ -1,4 +1,4 @@
--- Texts that stay in their elements, and elements that are closed.
+-- Escaped texts contain no markup, and elements are closed.
 use Rattle.std.proofs.Common.{◌≡◌, inl, inr, ℕ, ◌==◌, ◌&&◌, nat_le, Bool, true, false, List, [], ◌∷◌, ◌++◌, length, take, codes, refl, arith, append_assoc}
 use Rattle.std.proofs.lemmas.List.Folds.{list_all-append}
 use Rattle.st_draw.specs.Element.{Element, Box, Bar, Line, Text, Card, element_text, element_front, corner, size, ends, content, title_end, box_title, shown_card, card_content, ellipsis}
@@ -6,7 +6,7 @@ use Rattle.st_entries.specs.Caption.{card_limit}
 use Rattle.st_draw.specs.Escape.{escaped_text, escaped_byte}
 use Rattle.st_draw.specs.WellFormed.{is_inner, are_inner, IsClosed, IsFull}
 
--- a byte as it stands in a picture, by the tests on it
+-- an escaped byte, by its tests
 byte_inner : (c : ℕ) (less more also printable : Bool) → (c == 60) ≡ less → (c == 62) ≡ more → (c == 38) ≡ also
     → (nat_le 32 c && nat_le c 126) ≡ printable → are_inner (escaped_byte c) ≡ true
 byte_inner c true more also printable a b d e = rw a refl
@@ -15,7 +15,7 @@ byte_inner c false false true printable a b d e = rw (a, b, d) refl
 byte_inner c false false false true a b d e = grind (arith, a, b, d, e)
 byte_inner c false false false false a b d e = rw (a, b, d, e) refl
 
--- a text as it stands in a picture
+-- an escaped text contains no markup
 pub escaped_inner : (text : List ℕ) → are_inner (escaped_text text) ≡ true
 escaped_inner [] = refl
 escaped_inner (c ∷ cs) =
@@ -24,7 +24,7 @@ escaped_inner (c ∷ cs) =
     let both = list_all-append is_inner (escaped_byte c) (escaped_text cs) in
     rw (both, here, there) refl
 
--- a card is closed, by whether it is short enough to be shown whole
+-- the element of a card is closed, by whether the card is short enough to be shown whole
 card_closed : (whole : Bool) (x y : ℕ) (text : List ℕ) → nat_le (length text) card_limit ≡ whole
     → IsFull (codes "text") (element_text (Card x y text))
 unfolding element_text element_front card_content shown_card
@@ -45,7 +45,7 @@ card_closed false x y text test = record {
   known = inr refl;
 }
 
--- the pieces of a bar, grouped as attributes and the rest
+-- the pieces of a bar, grouped into attributes and the rest
 bar_parts : (front class quote place reach begin title end : List ℕ)
     → (front ++ class ++ quote) ++ place ++ reach ++ (begin ++ title ++ end)
     ≡ front ++ (class ++ quote ++ place ++ reach) ++ begin ++ title ++ end

@@ -1,4 +1,4 @@
--- That at most one row executes at a tick, line by line.
+-- At most one row executes at a tick: the proof, line by line.
 use Rattle.std.proofs.Common.{◌≡◌, ◌≤◌, ◌+◌, refl, ℕ, nat_le, if◌then◌else◌, Bool, true, false, List, [], ◌∷◌, ◌++◌, reverse, Option, None, Some, arith}
 use Rattle.std.proofs.lemmas.Bool.{leb-true}
 use Rattle.std.proofs.lemmas.List.{reverse-append}
@@ -14,12 +14,12 @@ use Rattle.st_entries.specs.declared.timetable.DrawnEntry.{DrawnEntry}
 use Rattle.st_entries.specs.declared.timetable.DrawnEntry.TheVariants.{Done, Dropped, Taken, Shown}
 use Rattle.st_entries.specs.declared.timetable.RowRange.{RowRange}
 
--- entries behind entries
+-- the executing entries of two concatenated lists
 executing_append : (tick : ℕ) (a b : List DrawnEntry) → executing_at tick (a ++ b) ≡ executing_at tick a + executing_at tick b
 executing_append tick [] b = omega arith
 executing_append tick (e ∷ es) b = let rest = executing_append tick es b in omega (arith, rest)
 
--- the last entry first
+-- the executing entries of a reversed list
 executing_reverse : (tick : ℕ) (es : List DrawnEntry) → executing_at tick (reverse es) ≡ executing_at tick es
 executing_reverse tick [] = refl
 executing_reverse tick (e ∷ es) =
@@ -28,29 +28,30 @@ executing_reverse tick (e ∷ es) =
     let both = executing_append tick (reverse es) (e ∷ []) in
     rw (turned, both) (omega (arith, rest))
 
--- an entry that is kept or not, by the test
+-- an entry that is kept or dropped by a test
 kept_by_test : (tick : ℕ) (e : DrawnEntry) (es : List DrawnEntry) (kept : Bool)
     → executing_at tick (if kept then es ++ e ∷ [] else es) ≤ executing_at tick es + executing_at tick (e ∷ [])
 kept_by_test tick e es true = let both = executing_append tick es (e ∷ []) in omega (arith, both)
 kept_by_test tick e es false = omega arith
 
--- a row executes at one of the ticks from the completion before it to its own
+-- a row executes at most at the ticks from the completion before it to its own
 row_executes : (tick before n p r c : ℕ) (a : ReportAddress) → before ≤ c
     → executing_at tick (Done n a p r (turn_of before r c) c ∷ []) ≤ (if nat_le before tick then 1 else 0)
 row_executes tick before n p r c a rise = grind (arith, rise)
 
--- a row does not execute from its completion on
+-- a row does not execute after its completion
 row_is_over : (tick before n p r c : ℕ) (a : ReportAddress) → c ≤ tick
     → executing_at tick (Done n a p r (turn_of before r c) c ∷ []) ≡ 0
 row_is_over tick before n p r c a over = grind (arith, over)
 
--- what was told so far: one entry or none executes at a tick, none from the last completion on, and none that was dropped
+-- the timetable so far: at most one entry executes at a tick, none after the last completion, and
+-- no dropped entry
 record IsOnce (tick : ℕ) (t : Timetable) : Type 0 where
   pub one : executing_at tick t.entries ≤ 1
   pub over : t.end ≤ tick → executing_at tick t.entries ≡ 0
   pub dropped : executing_at tick t.dropped ≡ 0
 
--- an entry behind all that were told
+-- one more entry after all earlier ones
 joined_at_most : (part : RowRange) (tick n : ℕ) (e : DrawnEntry) (t : Timetable) → IsOnce tick t
     → executing_at tick (timetable_with part n e t).entries ≤ executing_at tick t.entries + executing_at tick (e ∷ [])
 joined_at_most part tick n e t is =
@@ -59,7 +60,7 @@ joined_at_most part tick n e t is =
     let none = executing_reverse tick t.dropped in
     omega (arith, most, both, none, is.dropped)
 
--- an entry that does not execute, behind all that were told
+-- one more entry that does not execute, after all earlier ones
 joined_once : (part : RowRange) (tick n : ℕ) (e : DrawnEntry) (t : Timetable) → executing_at tick (e ∷ []) ≡ 0 → IsOnce tick t
     → IsOnce tick (timetable_with part n e t)
 joined_once part tick n e t rests is =
@@ -70,13 +71,13 @@ joined_once part tick n e t rests is =
       dropped = refl;
     }
 
--- one entry or none executes where a row is told, by whether the last completion is past
+-- at most one entry executes after one more row, by whether the last completion is past
 one_by : (past : Bool) (tick before all so_far here : ℕ) → nat_le before tick ≡ past → so_far ≤ 1
     → (before ≤ tick → so_far ≡ 0) → here ≤ (if past then 1 else 0) → all ≤ so_far + here → all ≤ 1
 one_by true tick before all so_far here test one over most sum = omega (arith, over (leb-true _ _ test), most, sum)
 one_by false tick before all so_far here test one over most sum = omega (arith, one, most, sum)
 
--- what one line says
+-- the timetable after one line
 said_once : (part : RowRange) (tick : ℕ) (t : Timetable) (said : Option TimetableLine) → t.end ≤ completion_after t.end said
     → IsOnce tick t → IsOnce tick (after_said part t said)
 said_once part tick t None rise is = is
@@ -98,7 +99,7 @@ said_once part tick t (Some (Drop a p)) rise is =
 said_once part tick t (Some (Interrupt i)) rise is = joined_once part tick t.row (Taken i t.end) t refl is
 said_once part tick t (Some (Snapshot s)) rise is = joined_once part tick t.row (Shown s) t refl is
 
--- the last completion behind a line
+-- the last completion after a line
 said_end : (part : RowRange) (t : Timetable) (said : Option TimetableLine) → (after_said part t said).end ≡ completion_after t.end said
 said_end part t None = refl
 said_end part t (Some (Row n a p r c)) = refl
@@ -106,7 +107,7 @@ said_end part t (Some (Drop a p)) = refl
 said_end part t (Some (Interrupt i)) = refl
 said_end part t (Some (Snapshot s)) = refl
 
--- what lines say
+-- the timetable after several lines
 lines_once : (part : RowRange) (tick : ℕ) (t : Timetable) (lines : List (List ℕ)) → CompletionsRise t.end lines
     → IsOnce tick t → IsOnce tick (after_lines part t lines)
 lines_once part tick t [] rise is = is
@@ -114,7 +115,7 @@ lines_once part tick t (line ∷ lines) rise is =
     let next : CompletionsRise (after_line part t line).end lines = rw (said_end part t (item line)) rise.1 in
     lines_once part tick (after_line part t line) lines next (said_once part tick t (item line) rise.0 is)
 
--- what a report says
+-- the timetable of a report
 pub executing_once : (part : RowRange) (report : List ℕ) (tick : ℕ) → CompletionsRise 0 (pieces_of 10 report)
     → executing_at tick (timetable part report).entries ≤ 1
 unfolding timetable

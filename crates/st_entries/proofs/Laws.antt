@@ -1,4 +1,4 @@
--- The law, with the lemma that carries it.
+-- The law with its proof.
 use Rattle.st_entries.specs.Laws.{OneExecutesAtATick}
 use Rattle.st_entries.proofs.Executing.{executing_once}
 

@@ -1,10 +1,10 @@
--- What holds of each kind of statement holds of those that are drawn.
+-- A property of each form of statement holds of all drawn statements.
 use Rattle.std.proofs.Common.{◌++◌, ℕ, List, codes}
 use Rattle.st_gen.specs.Deck.{index, word_text, bit_text, small_value, field_length, byte_field_length, field_operands, statement, form_after}
 use Rattle.st_gen.specs.declared.form.StatementForm.{StatementForm}
 use Rattle.st_gen.specs.declared.form.StatementForm.TheVariants.{LoadValue, AddValue, LoadWord, Add, Store, AddOne, Connect, Multiply}
 
--- it holds of the eight kinds of statement, whatever the letters are drawn after
+-- the property holds of the eight forms of statement, regardless of the generator's state
 pub record HoldsOfEach (P : List ℕ → Type 0) : Type 0 where
   pub load_value : (x : ℕ) → P (codes "LVI,$X" ++ index 1 x ++ codes "," ++ word_text 2 x ++ codes ".0")
   pub add_value : (x : ℕ) → P (codes "V+I,$X" ++ index 1 x ++ codes "," ++ small_value 2 x ++ codes ".0")

@@ -1,4 +1,4 @@
--- How long a made deck is.
+-- A bound on the length of a generated deck.
 use Rattle.std.proofs.Common.{◌≡◌, ◌≤◌, ◌<◌, ◌+◌, ◌*◌, ◌++◌, ◌^◌, ℕ, zero, suc, List, length, codes, decimal, length-append, arith, sym, subst}
 use Rattle.std.proofs.lemmas.Fmt.{length-decimal-le}
 use Rattle.std.specs.Prelude.{replicate}
@@ -7,17 +7,17 @@ use Rattle.st_gen.specs.Deck.{next_number, number_after, draw, below, index, wor
 use Rattle.st_gen.specs.declared.form.StatementForm.{StatementForm}
 use Rattle.st_gen.specs.declared.form.StatementForm.TheVariants.{LoadValue, AddValue, LoadWord, Add, Store, AddOne, Connect, Multiply}
 
--- one text behind another
+-- the length of two concatenated texts
 joined : (a b : List ℕ) (m n : ℕ) → length a ≤ m → length b ≤ n → length (a ++ b) ≤ m + n
 joined a b m n p q =
     let whole = length-append a b in
     omega (arith, whole, p, q)
 
--- a number of four digits
+-- the length of a number of at most four digits
 four : (n : ℕ) → n < 10000 → length (decimal n) ≤ 4
 four n small = length-decimal-le 4 n (omega arith) (omega arith) (omega arith)
 
--- a number between two words
+-- the length of a number between two words
 held : (front behind : List ℕ) (m k n : ℕ) → length front ≤ m → length behind ≤ k → n < 10000 → length (front ++ decimal n ++ behind) ≤ m + 4 + k
 held front behind m k n p q small = joined (front ++ decimal n) behind (m + 4) k (joined front (decimal n) m 4 p (four n small)) q
 
@@ -96,7 +96,7 @@ closing_cards-short cards x few =
     let all = joined (card (codes "BEW") ++ card (codes "END,32.0") ++ control (codes "/BUDGET " ++ decimal (cards + 2)) ++ delay_cards 16 x) (control (codes "/TIME")) 268 6 delays (control-short (codes "/TIME") 5 (omega arith)) in
     omega (arith, all)
 
--- at most 40 bytes a drawn card, and 300 more
+-- a generated deck has at most 40 bytes for each drawn card, and 300 more
 pub made_deck-short : (number cards : ℕ) → cards < 2 ^ 32 → length (made_deck number cards) ≤ 40 * cards + 300
 made_deck-short number cards few =
     joined (drawn_cards cards number) (closing_cards cards (after_cards cards number)) (40 * cards) 300

@@ -1,4 +1,4 @@
--- The laws, each with the lemma that carries it.
+-- The laws with their proofs.
 use Rattle.st_kanata.specs.Laws.{LogsGoForward, LabelsStayInTheirLines}
 use Rattle.st_kanata.specs.Moments.{happenings, moments, in_order}
 use Rattle.st_entries.specs.Phases.{first_tick}

@@ -1,4 +1,4 @@
--- A stable sort by keys puts items in order.
+-- The result of a stable sort by keys is the sorted list of the definition.
 use Rattle.std.proofs.Common.{◌≡◌, ◌∙◌, ◌≤◌, ℕ, zero, suc, sym, refl, ap, nat_le, nat_cmp, is_lt, cond, if◌then◌else◌, Bool, true, false, List, [], ◌∷◌, filter, zero-le, suc-le-suc, inl, inr, arith}
 use Rattle.std.proofs.lemmas.Bool.{leb-false, cond-true, cond-false, cases_Bool}
 use Rattle.std.proofs.lemmas.Bool.Decides.{nat_tests}
@@ -9,14 +9,14 @@ use Rattle.st_kanata.proofs.Forward.{in_order_rises}
 tied_numbers : (m n : ℕ) → (ties (λ x y. is_lt (nat_cmp x y)) m n ≡ true → m ≡ n) × (m ≡ n → ties (λ x y. is_lt (nat_cmp x y)) m n ≡ true)
 tied_numbers m n = (λ h. grind (arith, nat_tests), λ h. grind (arith, nat_tests))
 
--- an item that passes a test, and one that does not
+-- an item that passes the test of a filter, and one that does not
 passed : {X : Type 0} (p : X → Bool) (x : X) (xs : List X) → p x ≡ true → filter p (x ∷ xs) ≡ x ∷ filter p xs
 passed p x xs is = cond-true _ _ _ is
 
 failed : {X : Type 0} (p : X → Bool) (x : X) (xs : List X) → p x ≡ false → filter p (x ∷ xs) ≡ filter p xs
 failed p x xs is = cond-false _ _ _ is
 
--- an item goes past another: of those that pass a test, and not both of these do, none changes its place
+-- swapping two items, not both of which pass a test, does not change the order of those that pass
 past_by : {X : Type 0} (p : X → Bool) (a b : Bool) (x y : X) (ys rest : List X) → p x ≡ a → p y ≡ b
     → (p x ≡ true → p y ≡ true → ⊥) → filter p rest ≡ filter p (x ∷ ys) → filter p (y ∷ rest) ≡ filter p (x ∷ y ∷ ys)
 past_by p true true x y ys rest here there not_both same = absurd (not_both here there)
@@ -25,7 +25,7 @@ past_by p false true x y ys rest here there not_both same = grind (arith, here, 
 past_by p false false x y ys rest here there not_both same = grind (arith, here, there, same)
 
 module _ {X : Type 0} (key : X → ℕ) where
-  -- whether two items have one key, as the sort has it
+  -- whether two items have equal keys, as the sort tests it
   abbrev are_tied : X → X → Bool
   are_tied = ties (λ x y. is_lt (nat_cmp (key x) (key y)))
 
@@ -35,7 +35,7 @@ module _ {X : Type 0} (key : X → ℕ) where
   same_tied : (x y : X) → key x ≡ key y → are_tied x y ≡ true
   same_tied x y = (tied_numbers (key x) (key y)).1
 
-  -- the items with one key, where one more is put in its place
+  -- the items with one key after one more is inserted
   inserted_tied : (z x : X) (ys : List X) → filter (are_tied z) (ordered_with key x ys) ≡ filter (are_tied z) (x ∷ ys)
   unfolding ordered_with
   inserted_tied z x [] = refl
@@ -49,14 +49,14 @@ module _ {X : Type 0} (key : X → ℕ) where
           λ here there. omega (arith, tied_keys z x here, tied_keys z y there, leb-false _ _ test) in
           rw test (past_by (are_tied z) (are_tied z x) (are_tied z y) x y ys (ordered_with key x ys) refl refl not_both rest)
 
-  -- the items with one key, in order
+  -- the items with one key in a sorted list
   ordered_tied : (z : X) (xs : List X) → filter (are_tied z) (in_order key xs) ≡ filter (are_tied z) xs
   unfolding in_order
   ordered_tied z [] = refl
   ordered_tied z (x ∷ xs) =
       inserted_tied z x (in_order key xs) ∙ ap (λ l. cond (are_tied z x) (x ∷ l) l) (ordered_tied z xs)
 
-  -- what a sort says of neighbours
+  -- the keys of neighbours after a sort
   rise_behind : (x : X) (xs : List X) → IsNonDecreasingBy key (x ∷ xs) → KeysRise key (key x) xs
   rise_behind x [] up = tt
   rise_behind x (y ∷ ys) up = (
@@ -68,7 +68,8 @@ module _ {X : Type 0} (key : X → ℕ) where
   rise_from_sort [] up = tt
   rise_from_sort (x ∷ xs) up = (zero-le, rise_behind x xs up)
 
-  -- of items whose keys rise none with the key of z comes before the first
+  -- if the keys of a list do not fall and begin at n or later, and an item has the key of z, then
+  -- that key is at least n
   found : (n : ℕ) (z : X) (xs : List X) (y : X) (ys : List X) → KeysRise key n xs → filter (are_tied z) xs ≡ y ∷ ys → n ≤ key z
   found n z [] y ys up is = cc
   found n z (x ∷ xs) y ys up is = elim (cases_Bool (are_tied z x)) [
@@ -76,7 +77,7 @@ module _ {X : Type 0} (key : X → ℕ) where
     | inr there ↦ let later = found (key x) z xs y ys up.1 (sym (failed (are_tied z) x xs there) ∙ is) in omega (arith, up.0, later)
   ]
 
-  -- items whose keys rise are known by those with each key
+  -- lists with nondecreasing keys are equal if they agree on the items of each key
   known_by_keys : (m n : ℕ) (xs ys : List X) → KeysRise key m xs → KeysRise key n ys
       → ((z : X) → filter (are_tied z) xs ≡ filter (are_tied z) ys) → xs ≡ ys
   known_by_keys m n [] [] left right same = refl
@@ -98,7 +99,7 @@ module _ {X : Type 0} (key : X → ℕ) where
       ] in
       ap (λ w. w ∷ xs) head ∙ ap (λ l. y ∷ l) (known_by_keys (key x) (key y) xs ys left.1 right.1 tails)
 
-  -- what a stable sort gives is the items in order
+  -- a stable sort gives the sorted list of the definition
   pub sorted_in_order : (xs ys : List X) → IsNonDecreasingBy key ys → IsStableByKey key nat_cmp xs ys → ys ≡ in_order key xs
   sorted_in_order xs ys up stable =
       known_by_keys 0 0 ys (in_order key xs) (rise_from_sort ys up) (in_order_rises key xs)

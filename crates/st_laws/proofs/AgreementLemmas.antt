@@ -1,4 +1,4 @@
--- Rules that stand in two crates are one rule.
+-- Rules that are defined in two crates are the same.
 use Rattle.std.proofs.Common.{◌≡◌, ◌≤◌, ◌<◌, ◌+◌, ◌-◌, ◌*◌, ◌/◌, ◌%◌, ◌^◌, ◌==◌, ◌&&◌, ◌||◌, ℕ, zero, suc, Bool, true, false, nat_le, nat_lt, List, [], ◌∷◌, length, take, get_or, sum, decimal, None, if◌then◌else◌, refl, ap, sym, ◌∙◌, arith, rules}
 use Rattle.std.specs.List.{list_all}
 use Rattle.std.proofs.lemmas.Bool.Decides.{nat_tests}
@@ -85,7 +85,7 @@ past n small long =
       | false ↦ λ test. refl
     ] refl
 
--- a number with more digits than a card may have is past the most on a line too
+-- a number with more digits than a card may have is also above the limit of an object text's line
 long-none : (n : ℕ) → n < 2 ^ 64 → 12 < length (decimal n) → short_number (decimal n) ≡ None
 long-none n small long =
     let same : text_value (decimal n) ≡ n = digits_value-decimal own n small in

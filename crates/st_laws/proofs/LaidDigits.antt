@@ -1,4 +1,4 @@
--- The digits that are laid, as they are read.
+-- Lemmas on reading the digits of an assembled number.
 use Rattle.std.proofs.Common.{lit<, ◌≡◌, ℕ, zero, suc, ◌/◌, ◌%◌, ◌^◌, ◌<◌, ◌≤◌, map, refl, arith}
 use Rattle.std.proofs.Math.Nat.{mod-eq_of_lt, pow-suc}
 use Rattle.std.proofs.lemmas.Nat.{mod-mul-add, div-mul-add}
@@ -8,7 +8,7 @@ use Rattle.st_asm.proofs.FieldLemmas.{digit-below}
 use Rattle.st_dec.specs.DigitLists.{bytes, codes_value, decimal}
 use Rattle.st_dec.proofs.DigitLemmas.{digit_and_rest}
 
--- packed digits are the decimal digits, each in a byte
+-- packed digits are the decimal digits, each in one byte
 pub bytes-packed : (b n x : ℕ) → 4 ≤ b → bytes b n (packed_digits b n x) ≡ decimal n x
 unfolding bytes packed_digits decimal
 bytes-packed b zero x wide = refl
@@ -16,13 +16,13 @@ bytes-packed b (suc n) x wide =
     let small : x % 10 < 2 ^ b = digit-below b x wide in
     rw (mod-mul-add (packed_digits b n (x / 10)) (2 ^ b) (x % 10) small, div-mul-add (packed_digits b n (x / 10)) (2 ^ b) (x % 10) small, bytes-packed b n (x / 10) wide) refl
 
--- each is its own code
+-- each digit is its own code
 codes-decimal : (n x : ℕ) → map (λ d. d % 16) (decimal n x) ≡ decimal n x
 unfolding decimal
 codes-decimal zero x = refl
 codes-decimal (suc n) x = let code : x % 10 % 16 ≡ x % 10 = omega arith in rw (code, codes-decimal n (x / 10)) refl
 
--- their value is the number, as far as there are digits
+-- the value of the digits is the number modulo a power of ten
 value-decimal : (n x : ℕ) → codes_value (decimal n x) ≡ x % 10 ^ n
 unfolding codes_value decimal
 value-decimal zero x = omega arith

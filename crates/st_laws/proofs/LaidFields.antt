@@ -1,4 +1,4 @@
--- Laid fields, as they are read.
+-- Lemmas on reading assembled fields.
 use Rattle.std.proofs.Common.{◌≡◌, ℕ, ◌-◌, ◌%◌, ◌^◌, ◌<◌, ◌≤◌, ◌&&◌, ◌||◌, ◌==◌, Bool, true, false, not, nat_lt, refl, ap, subst, ◌∙◌, arith, map, if◌then◌else◌}
 use Rattle.std.proofs.lemmas.Bool.{or_parts as either_false}
 use Rattle.std.specs.Bool.{IsFalse}
@@ -21,7 +21,7 @@ no_minus : (form : Form) (minus : Bool) (number : ℕ) → holds form minus numb
 unfolding holds
 no_minus form minus number held = first_part (form.unsigned && minus) (nat_lt number (capacity form)) held
 
--- a laid field is read as its magnitude and its sign
+-- an assembled field is read with its magnitude and its sign
 magnitude-read : (form : Form) (minus negated : Bool) (number offset : ℕ) → IsHeld form minus number →
     let f = field_of_number form minus number (laid_shape form negated offset) in
     IsRead f f.mag minus (magnitude form number)
@@ -65,7 +65,7 @@ decimal-read form minus negated number offset held decimal =
       no_zone = read.no_zone;
     }
 
--- the bytes of a laid decimal field are the digits of the number
+-- the bytes of an assembled decimal field are the digits of the number
 pub digits-read : (form : Form) (minus negated : Bool) (number offset : ℕ) → IsHeld form minus number → form.decimal ≡ true →
     let h = laid_shape form negated offset in
     digit_bytes (field_of_number form minus number h) h ≡ digits (digits_of_form form) number

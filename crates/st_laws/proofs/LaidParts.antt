@@ -1,4 +1,4 @@
--- The parts of a laid field, as they are read.
+-- Lemmas on reading the parts of an assembled field.
 use Rattle.std.proofs.Common.{◌≡◌, ℕ, ◌+◌, ◌-◌, ◌*◌, ◌^◌, ◌<◌, ◌≤◌, ◌&&◌, Bool, true, false, refl, ap, ◌∙◌, arith, if◌then◌else◌}
 use Rattle.std.proofs.Math.Pow.{pow_pos}
 use Rattle.std.proofs.lemmas.Nat.{mod-mul-add, div-mul-add}
@@ -8,14 +8,14 @@ use Rattle.st_field.specs.declared.fields.Shape.{Shape}
 use Rattle.st_field.specs.Fields.{field_of, last_byte, sign_of, flags_of, zone_of}
 use Rattle.st_laws.specs.LaidNumbers.{IsRead}
 
--- a minus has room in its byte
+-- a minus fits in its byte
 minus-below : (b : ℕ) → 1 ≤ b → b ≤ 8 → sign_byte_of b true < 2 ^ b
 minus-below b some small =
     each_byte (λ b. sign_byte_of b true < 2 ^ b)
     (omega arith) (omega arith) (omega arith) (omega arith) (omega arith) (omega arith) (omega arith) (omega arith)
     b some small
 
--- what is missing of four bits is put behind it: it is the bit of value 8
+-- the sign byte, extended to four bits on the right, is the bit of value 8
 minus-moved : (b : ℕ) → 1 ≤ b → b ≤ 8 → sign_byte_of b true * 2 ^ (4 - b) ≡ 8
 minus-moved b some small =
     each_byte (λ b. sign_byte_of b true * 2 ^ (4 - b) ≡ 8)
@@ -33,7 +33,8 @@ last_byte-minus m b some small =
 last_byte-plus : (m b : ℕ) → last_byte (m * 2 ^ b + 0) b ≡ 0
 last_byte-plus m b = last_byte-joined m 0 b (pow_pos b) ∙ omega arith
 
--- a magnitude, and behind it a sign byte where the field is signed, are read as that magnitude and that sign
+-- a magnitude, followed by a sign byte if the field is signed, is read with that magnitude and that
+-- sign
 pub parts-read : (unsigned minus negated : Bool) (m length b offset : ℕ) → (unsigned && minus) ≡ false → 1 ≤ b → b ≤ 8 →
     let h : Shape = record { length = length; byte = b; unsigned = unsigned; negated = negated; offset = offset } in
     let f = field_of (if unsigned then m else m * 2 ^ b + sign_byte_of b minus) h in

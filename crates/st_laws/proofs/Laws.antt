@@ -1,4 +1,5 @@
--- The laws that tie crates which do not know each other, and the numbers in figures.
+-- Proofs of the laws that relate crates which do not depend on each other, and of the values of
+-- constants.
 use Rattle.st_expr.specs.System.{system_symbols}
 use Rattle.st_entries.specs.Caption.{indicator_text, indicator_names}
 use Rattle.st_strap.specs.Reading.{index_fields}

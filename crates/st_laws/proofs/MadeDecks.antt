@@ -1,4 +1,4 @@
--- A made deck is a text of cards, which is assembled.
+-- A generated deck is a text of cards that is assembled.
 use Rattle.std.proofs.Common.{◌≡◌, ◌≤◌, ◌+◌, ◌==◌, ℕ, zero, suc, true, false, nat_le, List, [], ◌∷◌, ◌++◌, length, map, codes, decimal, Ok, refl, sym, ap, ◌∙◌, append_assoc, append-nil, length-append, replicate, arith}
 use Rattle.std.proofs.lemmas.Bool.{and_from as both_true, le-leb as within}
 use Rattle.std.proofs.lemmas.Bool.Decides.{nat_tests}
@@ -60,7 +60,7 @@ drawn-length (suc n) x =
     let rest = drawn-length n x in
     omega (arith, size, rest)
 
--- with a number between two texts
+-- a number between two printable texts is printable
 held : (ahead behind : List ℕ) (n : ℕ) → IsPlain ahead → IsPlain behind → IsPlain (ahead ++ decimal n ++ behind)
 held ahead behind n p q = join (ahead ++ decimal n) behind (join ahead (decimal n) p (number n)) q
 
@@ -108,7 +108,7 @@ statement-plain y x = drawn-cases IsPlain (record {
 statement-few : (y x : ℕ) → IsShort (statement (form_after y) x)
 statement-few y x = let few = statement-short (form_after y) x in omega (arith, few)
 
--- all statements but the end
+-- the texts of all statements except END
 abbrev made_texts : ℕ → ℕ → List (List ℕ)
 made_texts cards x = drawn_texts cards x ++ codes "BEW" ∷ []
 
@@ -116,7 +116,7 @@ made-all : (P : List ℕ → Type 0) → ((y x : ℕ) → P (statement (form_aft
 made-all P each wait cards x = All-append P (drawn_texts cards x) (codes "BEW" ∷ []) (drawn-all P each cards x)
     (All-cons P (codes "BEW") [] wait (All-nil P))
 
--- ---- what the control cards ask for
+-- ---- the requests of the control cards
 
 -- n drawn delays
 drawn_delays : ℕ → ℕ → List ℕ
@@ -143,7 +143,7 @@ drawn_delays-length (suc n) x =
     let rest = drawn_delays-length n x in
     omega (arith, size, rest)
 
--- a budget, delays and the ticks
+-- requests with a budget, delays and timing
 abbrev asked_with : ℕ → List ℕ → Asked
 asked_with budget delays = record {
   budget = budget;
@@ -223,7 +223,7 @@ controls-are budget delays some =
     let cards = map (λ d. codes "/DELAYS " ++ decimal d) delays in
     rw is (ap (λ (cs : List (List ℕ)). (codes "/BUDGET " ++ decimal budget) ∷ (cs ++ codes "/TIME" ∷ [])) (append-nil (cards ++ []) ∙ append-nil cards))
 
--- the cards behind the drawn ones, the branch and the end aside
+-- the cards after the drawn ones, without the branch and END
 five : (a b c d e : List ℕ) → a ++ b ++ c ++ d ++ e ≡ a ++ (b ++ (c ++ (d ++ e)))
 five a b c d e = simp append_assoc refl
 
@@ -339,7 +339,7 @@ module _ (cards seed : ℕ) (few : cards ≤ 19980) where
       let behind = controls-count in
       omega (arith, few, all, same, size, made, behind)
 
-  -- the statements lead on from the empty image
+  -- the statements lead from the empty image
   lead-on : LeadOn (made_texts cards seed) (stand 2048 (replicate words_of_storage 0) 0)
   lead-on =
       let made = texts-count in
@@ -381,7 +381,8 @@ module _ (cards seed : ℕ) (few : cards ≤ 19980) where
   asked-kept : with_defaults asked ≡ asked
   asked-kept = let sixteen = drawn_delays-length 16 (after_cards cards seed) in defaults-kept asked (omega arith) (omega (arith, sixteen))
 
--- a made deck is assembled, its program begins at the first word behind the registers, and it asks for its budget, sixteen delays and the ticks
+-- a generated deck is assembled; its program begins at the first word after the registers, and it
+-- requests its budget, sixteen delays and timing
 pub made-assembled : (seed cards : ℕ) → cards ≤ 19980 →
     (a : Assembly) × (assembly (made_deck seed cards) ≡ Ok a) × (a.start ≡ 64) × (a.asked.budget ≡ cards + 2) × (length a.asked.delays ≡ 16)
     × (a.asked.time ≡ true)

@@ -1,4 +1,5 @@
--- Each statement of a made deck is read, and lays one or two half-words wherever these are in storage.
+-- Each statement of a generated deck is read, and assembles to one or two half-words at any
+-- location in storage.
 use Rattle.std.proofs.Common.{◌≡◌, ◌≤◌, ◌<◌, ◌+◌, ◌*◌, ◌%◌, ◌^◌, ◌==◌, ℕ, ℤ, true, false, nat_le, nat_lt, List, [], ◌∷◌, ◌++◌, Some, None, unwrap_or, length, codes, Ok, refl, sym, ap, subst, ◌∙◌, if◌then◌else◌, arith}
 use Rattle.std.proofs.lemmas.Bool.Decides.{nat_tests}
 use Rattle.std.proofs.lemmas.List.Elements.{All-nil, All-cons, All-head, All-tail}
@@ -30,7 +31,7 @@ use Rattle.st_dis.proofs.WordsLead.{Leads}
 use Rattle.st_gen.specs.Deck.{draw, index, word_text, bit_text, small_value, field_length, byte_field_length, field_operands, form_after, statement as made_statement}
 use Rattle.st_gen.proofs.Drawn.{drawn-cases}
 
--- a statement without names that lays so many bits, one or two half-words, and is not the end
+-- a statement without names that assembles to one or two half-words, and is not END
 pub record LaysHalves (s : Statement) (count : ℕ) : Type 0 where
   pub few : count ≤ 64
   pub halves : count % 32 ≡ 0
@@ -42,7 +43,7 @@ pub record LaysHalves (s : Statement) (count : ℕ) : Type 0 where
   pub long : (v : ℤ) → extent (placing_of s) v ≡ count
   pub laid : length_in (placing_of s) ≡ count
 
--- a text that is read as such a statement
+-- a text that is read as a statement of one or two half-words
 pub record IsGood (text : List ℕ) : Type 0 where
   pub statement : Statement
   pub count : ℕ
@@ -253,9 +254,9 @@ made-good y x = drawn-cases IsGood (record {
   multiply = multiply-good;
 }) y x
 
--- ---- one after another
+-- ---- sequences of statements
 
--- a place that is a multiple of 32, with room for so many bits
+-- a location that is a multiple of 32, with room for the bits
 halves-steps : (s : Statement) (count a start : ℕ) (image : List ℕ) → LaysHalves s count → a % 32 ≡ 0 → 2048 ≤ a → a + count ≤ 6291456 →
     Steps s (stand a image start) (stand (a + count) (image_with image a count (bits_of s (values_of [] s))) start)
 halves-steps s count a start image lays even above room =
@@ -274,7 +275,7 @@ halves-steps s count a start image lays even above room =
       start = ap (λ b. if b then half_word_bits v else start) lays.going;
     }
 
--- texts that are read as statements that lead on from a stand
+-- texts that are read as statements which lead from a state
 pub record LeadOn (texts : List (List ℕ)) (here : Stand) : Type 0 where
   pub statements : List Statement
   pub read : AreRead texts statements
@@ -311,7 +312,7 @@ good-leads (t ∷ ts) a start image good even above room =
       leads = (stand (a + count) next start, halves-steps s count a start image first.lays even above (omega (arith, few, room)), rest.leads);
     }
 
--- one more statement behind them
+-- the statements with one more statement after them
 pub leads-behind : (ss : List Statement) (s : Statement) (here next there : Stand) → Leads ss here next → Steps s next there →
     Leads (ss ++ s ∷ []) here there
 leads-behind [] s here next there same step = (there, subst (λ (k : Stand). Steps s k there) (sym same) step, refl)

@@ -130,7 +130,8 @@ pub record DigitsAgree : Type 0 where
   pub value : (n x : ℕ) → value_of_digits n x ≡ codes_value (bytes 4 n x)
   pub digits : (n v : ℕ) → digits_of n v ≡ number_of_bytes 4 (digit_list n v)
 
--- A connective leaves its two counts in those bits of their register that the register keeps.
+-- A connective leaves its two counts in their register, each in its own field, and only in bits
+-- that the register keeps.
 pub record CountsAgree : Type 0 where
   pub zeros : (bs : List ℕ) → length bs ≤ 64 → sum bs ≤ 64
       → part (counts_of bs) 17 7 ≡ leading_zeros bs
@@ -159,7 +160,7 @@ pub record SizesOfStorageAgree : Type 0 where
       && nat_le (place + bits) (64 * words_of_storage)))
 
 -- Control cards and lines of an object text read a number alike, for every text of at most 12
--- digits, with leading zeros or without, and for every number in decimal below 2^64.
+-- characters, with leading zeros or without, and for every number below 2^64 in decimal.
 pub record NumbersAgree : Type 0 where
   pub short : (text : List ℕ) → length text ≤ 12
       → card_number text ≡ short_number text

@@ -1,4 +1,4 @@
--- What a charge adds to the sums.
+-- Lemmas on the ticks that a charge adds to the totals.
 use Rattle.std.specs.Prelude.{if◌then◌else◌, Result, Ok, Err, IsErr}
 use Rattle.std.proofs.Common.{◌≡◌, ℕ, ◌+◌, ◌-◌, ◌≤◌, inl, inr, max, List, [], ◌∷◌, ◌++◌, refl, sym, ◌∙◌, ap, subst, arith}
 use Rattle.std.proofs.lemmas.Bool.{le-ltb}
@@ -19,7 +19,7 @@ use Rattle.st_ledger.proofs.Sums.{lt-cases}
 use Rattle.st_ledger.proofs.Told.{charged-parts}
 use Rattle.st_ledger.proofs.Runs.{ticks_for-append}
 
--- the sums with so many ticks more for a stage
+-- the totals with n more ticks for a stage
 abbrev pub added : Stage → ℕ → Totals → Totals
 added Restart n a = record a { restart = a.restart + n }
 added Instruction n a = record a { instruction = a.instruction + n }
@@ -162,7 +162,7 @@ pub sums_none : (s : OutputState) (sums : List StageSum) (o : Unit {0}) → sums
 unfolding sum_lines
 sums_none s sums o is = subst (λ xs. WritesLines s s (sum_lines xs) (Ok o)) (sym is) (record { ok = wrote_nothing s; err = tt })
 
--- the same sums
+-- totals of equal functions are equal
 pub sums-same : (f g : Stage → ℕ) (ss : List Stage) → ((s : Stage) → f s ≡ g s) → sums_by f ss ≡ sums_by g ss
 sums-same f g [] each = refl
 sums-same f g (s ∷ ss) each =

@@ -1,4 +1,4 @@
--- What holds of charges, proved.
+-- Proofs of the laws of charges.
 use Rattle.std.proofs.Common.{refl, arith}
 use Rattle.st_rows.specs.Rows.{row_of_entry}
 use Rattle.st_run.specs.Moments.{moment_at_start}

@@ -1,4 +1,4 @@
--- What holds of the charges of each row.
+-- Lemmas on the charges of each row.
 use Rattle.std.proofs.Common.{◌≡◌, ℕ, ◌+◌, ◌-◌, ◌≤◌, max, List, [], ◌∷◌, refl, ◌∙◌, ap, subst, arith}
 use Rattle.st_rows.specs.Rows.{row_of_entry, preparation_tick, tick_p, tick_c}
 use Rattle.st_rows.specs.declared.entry.Entry.{Entry}
@@ -10,7 +10,7 @@ use Rattle.st_ledger.specs.declared.charges.Stage.TheVariants.{Restart, Instruct
 use Rattle.st_ledger.specs.Charges.{parts_of_row, charges, all_ticks, ticks_for, Follow}
 use Rattle.st_ledger.proofs.Sums.{reach, AreOthers, charged-follow, follow-sum, charged-last, charged-first}
 
--- the ticks of a row stand in this order
+-- the order of the ticks of a row
 record IsOrdered (f : Front) (row : EntryTicks) (cost : ℕ) : Type 0 where
   a : row.a ≤ row.p
   p : row.p ≤ row.r
@@ -20,12 +20,13 @@ ordered : (ds : List ℕ) (n : ℕ) (f : Front) (e : Entry) → IsOrdered f (row
 unfolding row_of_entry tick_p preparation_tick tick_c
 ordered ds n f e = record { a = omega arith; p = ready-after ds n f e; c = refl }
 
--- the stages of a row end where it is done
+-- the stages of a row end at its completion
 reach-end : (t cost : ℕ) (f : Front) (r : EntryTicks) → IsOrdered f r cost → t ≤ f.c → reach t (parts_of_row f.c r) ≡ r.c
 unfolding reach
 reach-end t cost f r is early = omega (arith, is.a, is.p, is.c)
 
--- and those before it executes where it is ready and the last entry is done
+-- the stages of a row before executing; they end when the row is ready and the previous entry has
+-- completed
 front_parts : ℕ → EntryTicks → List StagePart
 front_parts start row =
     record { stage = Restart; end = start }
@@ -51,7 +52,7 @@ executing t cost f r is early =
     ∙ ap (λ k. r.c - k) (reach-ready t cost f r is early)
     ∙ omega (arith, is.c)
 
--- a restart ends where the segment starts
+-- the stages of a row after the restart, which ends at the start of the segment
 later_parts : EntryTicks → List StagePart
 later_parts r =
     record { stage = Instruction; end = r.a - 1 }

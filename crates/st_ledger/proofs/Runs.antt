@@ -1,4 +1,4 @@
--- What holds of the charges of all rows of a run.
+-- Lemmas on the charges of all rows of a run.
 use Rattle.std.specs.Prelude.{Bool, if◌then◌else◌, map, reverse}
 use Rattle.std.proofs.Common.{◌≡◌, ℕ, zero, suc, ◌+◌, ◌≤◌, true, false, List, [], ◌∷◌, ◌++◌, length, refl, sym, ◌∙◌, ap, subst, append_assoc, arith}
 use Rattle.st_prep.proofs.Choices.{of_choice}
@@ -33,7 +33,7 @@ ticks_for-append s (x ∷ xs) ys = omega (arith, ticks_for-append s xs ys)
 
 -- ---- moments
 
--- the front of a moment is that of the entry that has just been done
+-- the front of a moment is that of the entry that has just completed
 standing-late : (m : Moment) → m.front.c ≡ m.tick → m.tick ≤ (next_front m).c
 unfolding next_front
 standing-late m at = of_choice (λ f. m.tick ≤ f.c) (ends_segment m) (next_segment m) m.front (omega arith) (omega (arith, at))
@@ -133,7 +133,7 @@ rows-append (x ∷ xs) ys =
 rows-none : (xs ys : List Timed) → rows_told xs ≡ [] → rows_told (xs ++ ys) ≡ rows_told ys
 rows-none xs ys none = rows-append xs ys ∙ ap (λ rows. rows ++ rows_told ys) none
 
--- events that tell no row
+-- events other than completions have no row
 each-none : {A : Type 0} (f : A → Timed) (xs : List A) → ((x : A) → row_of_event (f x).event ≡ []) → rows_told (map f xs) ≡ []
 unfolding rows_told
 each-none f [] none = refl

@@ -1,4 +1,4 @@
--- What holds of ticks that are charged to stages one after another.
+-- Lemmas on ticks that are charged to consecutive stages.
 use Rattle.std.specs.Prelude.{nat_lt, nat_le, if◌then◌else◌, Bool, All}
 use Rattle.std.proofs.Common.{◌≡◌, ℕ, ◌+◌, ◌-◌, ◌<◌, ◌≤◌, ◌⊎◌, inl, inr, max, true, false, List, [], ◌∷◌, ◌++◌, refl, ◌∙◌, arith}
 use Rattle.std.proofs.lemmas.Bool.{cases_Bool, ltb-true, ltb-false, le-leb, lt-leb}
@@ -11,7 +11,7 @@ use Rattle.st_rows.specs.declared.front.EntryTicks.{EntryTicks}
 use Rattle.st_ledger.specs.declared.charges.Stage.TheVariants.{Restart, Instruction, Address, Index, Preparing, Operand, Executing}
 use Rattle.st_ledger.specs.Charges.{stage_at, parts_of_row, charges_behind, is_stage, all_ticks, ticks_for, Follow}
 
--- a tick is before another, or not
+-- a tick is before another, or it is not
 pub lt-cases : (a t : ℕ) → ((nat_lt a t ≡ true) × (a < t)) ⊎ ((nat_lt a t ≡ false) × (t ≤ a))
 lt-cases a t = elim (cases_Bool (nat_lt a t)) [ inl y ↦ inl (y, ltb-true a t y) | inr n ↦ inr (n, ltb-false a t n) ]
 
@@ -20,7 +20,7 @@ unfoldable pub reach : ℕ → List StagePart → ℕ
 reach t [] = t
 reach t (x ∷ xs) = reach (max t x.end) xs
 
--- ---- they follow each other
+-- ---- charges are consecutive
 
 pub charged-follow : (t : ℕ) (xs : List StagePart) → Follow t (reach t xs) (charges_behind t xs)
 unfolding charges_behind reach Follow
@@ -50,7 +50,7 @@ last-alone t x own = elim (lt-cases t x.end) [
   | inr n ↦ rw n.0 (omega (arith, n.1))
 ]
 
--- none of these is the stage
+-- none of these stages is the given one
 unfoldable pub AreOthers : Stage → List StagePart → Type 0
 AreOthers s [] = Unit {0}
 AreOthers s (x ∷ xs) = (is_stage s x.stage ≡ false) × AreOthers s xs
@@ -96,7 +96,7 @@ charged-first t x xs own others = elim (lt-cases t x.end) [
 
 -- ---- the stage of a tick
 
--- the first of the stages that has not ended before the tick u
+-- the first of the stages that has not ended before tick u
 unfoldable pub first_at : ℕ → Stage → List StagePart → Stage
 first_at u last [] = last
 first_at u last (x ∷ xs) = if nat_le u x.end then x.stage else first_at u last xs
@@ -105,7 +105,7 @@ first-passed : (u : ℕ) (last : Stage) (x : StagePart) (xs : List StagePart) �
 unfolding first_at
 first-passed u last x xs late = rw (lt-leb u x.end late) refl
 
--- a charge begins at a tick or behind it, and its ticks belong to its stage
+-- a charge begins at a tick or later, and its ticks belong to its stage
 HasStage : Stage → ℕ → List StagePart → Charge → Type 0
 HasStage last t xs y = (t ≤ y.from) × ((u : ℕ) → y.from < u → u ≤ y.to → first_at u last xs ≡ y.stage)
 
@@ -133,7 +133,7 @@ charged-stages last t (x ∷ xs) = elim (lt-cases t x.end) [
       (charges_behind t xs) (charged-stages last t xs))
 ]
 
--- so do they by the row
+-- the ticks belong to the stage of the row
 below-le : (u a : ℕ) → 1 ≤ u → nat_lt u a ≡ nat_le u (a - 1)
 below-le u a some = grind (arith, nat_tests)
 

@@ -1,10 +1,10 @@
--- The charges of stages, one after another.
+-- Lemmas on the charges of consecutive stages.
 use Rattle.std.proofs.Common.{◌≡◌, ℕ, inl, inr, max, List, ◌∷◌, ◌++◌, refl, arith}
 use Rattle.st_ledger.specs.declared.charges.StagePart.{StagePart}
 use Rattle.st_ledger.specs.Charges.{charges_behind, part_charges}
 use Rattle.st_ledger.proofs.Sums.{lt-cases}
 
--- the first stage, and then the others
+-- the charges of the first stage, then those of the others
 pub charged-parts : (t : ℕ) (x : StagePart) (xs : List StagePart) → charges_behind t (x ∷ xs) ≡ part_charges t x ++ charges_behind (max t x.end) xs
 unfolding charges_behind
 charged-parts t x xs = elim (lt-cases t x.end) [

@@ -43,7 +43,7 @@ charges_behind t (x ∷ xs) =
     ∷ charges_behind x.end xs
     else charges_behind t xs
 
--- the charge of a single stage from tick t on; none if the stage ended by then
+-- the charge of a single stage after tick t; none if the stage ended by then
 abbrev pub part_charges : ℕ → StagePart → List Charge
 part_charges t x = if nat_lt t x.end then record { from = t; to = x.end; stage = x.stage } ∷ []
     else []

@@ -35,9 +35,9 @@ pub struct RowLine {
     p: KeptDigits,
     r: KeptDigits,
     c: KeptDigits,
-    /// The digits of the tick at which the charge or wait of the last line begins.
+    /// The digits of the tick after which the charge or wait of the last line begins.
     pub from: KeptDigits,
-    /// The digits of the tick at which the charge or wait of the last line ends.
+    /// The digits of the tick with which the charge or wait of the last line ends.
     pub to: KeptDigits,
 }
 

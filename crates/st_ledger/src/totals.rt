@@ -46,7 +46,7 @@ impl Totals {
         }
     }
 
-    // Adds the charge of a stage from the tick `from` on, if the stage ends later.
+    // Adds the charge of a stage after the tick `from`, if the stage ends later.
     fn add_part(&mut self, from: u64, part: StagePart)
         requires within { AreWithin from self.old }
         ensures within { AreWithin (max from part.end) self.new }
@@ -63,7 +63,7 @@ impl Totals {
         });
     }
 
-    // Adds the charges of stages from the tick `from` on.
+    // Adds the charges of stages after the tick `from`.
     fn add_parts(&mut self, from: u64, parts: &[StagePart])
         requires within { AreWithin from self.old }
         ensures within { AreWithin (from + all_ticks (charges_behind from parts.now)) self.new }

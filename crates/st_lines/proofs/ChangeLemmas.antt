@@ -1,4 +1,4 @@
--- Words that changed, and those that did not.
+-- Lemmas on words that changed and words that did not.
 use Rattle.std.specs.Prelude.{Bool, if◌then◌else◌, nat_eq, slice_index, slice_set, Result, Ok, Err, IsErr}
 use Rattle.std.proofs.Common.{◌≡◌, ◌≢◌, ℕ, zero, suc, ◌+◌, ◌-◌, ◌<◌, ◌≤◌, inl, inr, true, false, List, [], ◌++◌, length, length-set, get_or-set_other, refl, sym, ◌∙◌, ap, subst, arith}
 use Rattle.std.proofs.lemmas.Bool.Decides.{leb_tells, eqb_tells, nat_tests}
@@ -45,7 +45,8 @@ same-change old now m w same = rw same refl
 
 -- ---- some words
 
--- the words from w on and below c did not change; c is at most the first word behind the registers
+-- the words from w on and below c did not change; c is at most the address of the first word after
+-- the registers
 pub record AreSame (old : List ℕ) (m : Machine) (w c : ℕ) : Type 0 where
   pub least : w ≤ c
   pub most : c ≤ 32
@@ -56,7 +57,8 @@ same-starts old m w few = record { least = omega arith; most = few; between = λ
 
 -- ---- all of them
 
--- So far the changes of the words below w are written, and these words are as the machine has them.
+-- Loop invariant: the changes of the words below w are written, and these words are those of the
+-- machine.
 pub record IsChanging (s t : OutputState) (old now : List ℕ) (m : Machine) (w : ℕ) : Type 0 where
   pub so_far : LinesSoFar s t (lines_for (word_change_lines old m) WORDS 0) (lines_for (word_change_lines old m) (WORDS - w) w)
   pub most : w ≤ WORDS
@@ -73,7 +75,7 @@ change-starts s old m size = record {
   left = λ v from. refl;
 }
 
--- words that did not change are passed over
+-- words that did not change are skipped
 pub change-passes : (s t : OutputState) (old now : List ℕ) (m : Machine) (w c : ℕ) → IsChanging s t old now m w → w ≤ c → c ≤ WORDS
     → ((v : ℕ) → w ≤ v → v < c → slice_index now v ≡ word m v) → IsChanging s t old now m c
 change-passes s t old now m w c h from most between = record {
@@ -125,7 +127,7 @@ module _ (s t : OutputState) (old now : List ℕ) (m : Machine) (w : ℕ) (h : I
           | inr e ↦ other v e.1 ∙ h.kept v (omega (arith, e.1, below))
         ]
 
-    -- behind the word
+    -- the invariant after one more word
     pub change-made : IsChanging s u old new m (w + 1)
     change-made = record {
       so_far = made;
@@ -142,7 +144,7 @@ module _ (s t : OutputState) (old now : List ℕ) (m : Machine) (w : ℕ) (h : I
         → (v : ℕ) → w + 1 ≤ v → v < WORDS → IsUntouched v may → slice_index new v ≡ word m v
     change-left may same v low below left = change-made.left v low ∙ same v below left
 
--- at the end
+-- the invariant at the end
 module _ (s t : OutputState) (old now : List ℕ) (m : Machine) (w : ℕ) (h : IsChanging s t old now m w) (end : WORDS ≤ w) where
   pub change-ends : (x : Unit {0}) → WritesLines s t (lines_for (word_change_lines old m) WORDS 0) (Ok x)
   change-ends x = record {

@@ -1,4 +1,4 @@
--- Hexadecimal digits, eight at a time.
+-- Lemmas on hexadecimal digits, eight at a time.
 use Rattle.std.proofs.Common.{◌+◌, ◌*◌, ◌%◌, ◌∷◌, get_or, ◌≡◌, ℕ, ◌/◌, ◌^◌, List, [], ◌++◌, refl, ◌∙◌, ap, sym, append_assoc, arith}
 use Rattle.std.proofs.lemmas.List.{append-nil}
 use Rattle.st_report.proofs.PairTables.{pair-at}
@@ -10,7 +10,7 @@ unfolding hex_text
 hex-halves x =
     let same : x / 2 ^ 32 ≡ x / 16 / 16 / 16 / 16 / 16 / 16 / 16 / 16 = omega arith in rw same refl
 
--- two pieces of eight digits before a line
+-- two pieces of eight digits in front of a line
 pub word_pieces : (x y : ℕ) (old mid new : List ℕ) → y ≡ x / 2 ^ 32 → mid ≡ hex_text 8 x ++ old → new ≡ hex_text 8 y ++ mid
     → new ≡ hex_word x ++ old
 word_pieces x y old mid new half one two =
@@ -20,11 +20,11 @@ word_pieces x y old mid new half one two =
     ∙ ap (λ (h : ℕ). (hex_text 8 h ++ hex_text 8 x) ++ old) half
     ∙ ap (λ xs. xs ++ old) (hex-halves x)
 
--- three pieces, the last one first
+-- a line of three pieces, the last one first
 pub three_pieces : (a b c l0 l1 l2 l3 : List ℕ) → l0 ≡ [] → l1 ≡ c ++ l0 → l2 ≡ b ++ l1 → l3 ≡ a ++ l2 → l3 ≡ a ++ b ++ c
 three_pieces a b c l0 l1 l2 l3 e0 e1 e2 e3 = rw (e3, e2, e1, e0) (simp (append_assoc, append-nil) refl)
 
--- four pieces
+-- a line of four pieces, the last one first
 pub four_pieces : (a b c d l0 l1 l2 l3 l4 : List ℕ) → l0 ≡ [] → l1 ≡ d ++ l0 → l2 ≡ c ++ l1 → l3 ≡ b ++ l2 → l4 ≡ a ++ l3
     → l4 ≡ a ++ b ++ c ++ d
 four_pieces a b c d l0 l1 l2 l3 l4 e0 e1 e2 e3 e4 = rw (e4, e3, e2, e1, e0) (simp (append_assoc, append-nil) refl)

@@ -1,4 +1,4 @@
--- Lines that are written one after another.
+-- Lemmas on lines that are written in sequence.
 use Rattle.std.specs.Prelude.{Option, Some, Bool, if◌then◌else◌, nat_eq, Result, Ok, Err, IsErr, IsOk, codes, decimal}
 use Rattle.std.proofs.Common.{◌≡◌, ◌≢◌, ℕ, zero, suc, ◌+◌, ◌/◌, ◌≤◌, inl, inr, min, true, false, List, [], ◌∷◌, ◌++◌, length, take, drop, refl, sym, ◌∙◌, ap, subst, append_assoc, arith}
 use Rattle.std.proofs.lemmas.Bool.Decides.{leb_tells, nat_tests}
@@ -27,7 +27,7 @@ drops-first : (by : ℕ → Option Origin) (n tick : ℕ) (found xs : List Ahead
 unfolding drop_lines
 drops-first by n tick found xs x is = rw is refl
 
--- one of them, and where its half-words come from
+-- the lines of a dropped entry, with the origin of its half-words
 abbrev drop_text : ℕ → ℕ → Ahead → Option Origin → List (List ℕ)
 drop_text n tick x origin = dropped_line n x.plan.place.address x.row ∷ facts_lines n (Some tick) x.plan x.known origin x.uses.items
 
@@ -166,16 +166,16 @@ not_both-by : {A : Type 0} (r : Result (Unit {0}) Failed) → IsErr r → IsOk r
 not_both-by (Ok x) f g = absurd (cc)
 not_both-by (Err x) f g = absurd (cc)
 
--- no answer is both
+-- no result is both an error and good
 pub not_both : {A : Type 0} (r : Result (Unit {0}) Failed) → IsErr r → IsOk r → A
 not_both r f g = not_both-by r f g
 
--- a line, and what stands in place of those behind it
+-- a line followed by the remaining lines, in two forms
 pub line_then : (s v u : OutputState) (x : List ℕ) (xs ys : List (List ℕ)) (o : Unit {0}) (r : Result (Unit {0}) Failed) → xs ≡ ys
     → WritesLines s v (x ∷ []) (Ok o) → WritesLines v u xs r → WritesLines s u (x ∷ ys) r
 line_then s v u x xs ys o r same h k = lines_then s v u (x ∷ []) ys o r h (same_lines v u xs ys r same k)
 
--- the same of lines
+-- lines followed by the remaining lines, in two forms
 pub both_then : (s v u : OutputState) (ws xs ys zs : List (List ℕ)) (o : Unit {0}) (r : Result (Unit {0}) Failed) → ws ≡ xs → ys ≡ zs
     → WritesLines s v ws (Ok o) → WritesLines v u ys r → WritesLines s u (xs ++ zs) r
 both_then s v u ws xs ys zs o r one two h k = lines_then s v u xs zs o r (same_lines s v ws xs (Ok o) one h) (same_lines v u ys zs r two k)
@@ -184,7 +184,7 @@ pub both_cut : (s u : OutputState) (ws xs zs : List (List ℕ)) (e : Failed) (r 
     → WritesLines s u ws (Err e) → WritesLines s u (xs ++ zs) r
 both_cut s u ws xs zs e r f one h = lines_cut s u xs zs e r f (same_lines s u ws xs (Err e) one h)
 
--- three parts
+-- an error in the first of three parts
 pub first_cut : (s u : OutputState) (xs ys zs : List (List ℕ)) (e : Failed) (r : Result (Unit {0}) Failed) → IsErr r → WritesLines s u xs (Err e)
     → WritesLines s u ((xs ++ ys) ++ zs) r
 first_cut s u xs ys zs e r f h = lines_cut s u (xs ++ ys) zs e r f (lines_cut s u xs ys e (Err e) refl h)

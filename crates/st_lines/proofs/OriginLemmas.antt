@@ -1,4 +1,4 @@
--- Where half-words come from, and its line.
+-- Lemmas on the origin of half-words and on its line.
 use Rattle.std.specs.Prelude.{Bool, None, Some, slice_index}
 use Rattle.std.proofs.Common.{◌≡◌, ◌≢◌, ℕ, zero, suc, List, [], ◌++◌, refl, sym, ◌∙◌, ap, append_assoc}
 use Rattle.std.proofs.lemmas.List.{append-nil}
@@ -6,7 +6,7 @@ use Rattle.st_lines.specs.Origins.{card_by, is_kept, origin_by, origin_at}
 use Rattle.st_lines.specs.declared.origins.Origins.{Origins}
 use Rattle.st_state.specs.Machine.{Machine}
 
--- five pieces, of which two are put at once, the last one first
+-- a line of five pieces, two of which are put together, the last one first
 pub laid_pieces : (a b c d e l0 l1 l2 l3 l4 : List ℕ) → l0 ≡ [] → l1 ≡ e ++ l0 → l2 ≡ (c ++ d) ++ l1 → l3 ≡ b ++ l2 → l4 ≡ a ++ l3
     → l4 ≡ a ++ b ++ c ++ d ++ e
 laid_pieces a b c d e l0 l1 l2 l3 l4 e0 e1 e2 e3 e4 = rw (e4, e3, e2, e1, e0) (simp (append_assoc, append-nil) refl)

@@ -1,4 +1,4 @@
--- Writing charges with their waits, one after another.
+-- Lemmas on writing charges with their waits in sequence.
 use Rattle.std.specs.Prelude.{if◌then◌else◌, Result, Ok, Err, IsErr}
 use Rattle.std.proofs.Common.{◌≡◌, ℕ, ◌+◌, ◌≤◌, ◌<◌, max, true, List, [], ◌∷◌, ◌++◌, refl, sym, ◌∙◌, ap, subst, append_assoc, arith}
 use Rattle.std.proofs.lemmas.Bool.{lt-ltb, le-ltb}
@@ -26,7 +26,7 @@ use Rattle.st_reasons.proofs.Laws.{waits_are_within_their_charge}
 use Rattle.st_lines.specs.Waited.{AddsWaits}
 use Rattle.st_lines.specs.WaitLines.{wait_line, wait_lines, charged_lines, wait_sum_line, wait_sum_lines}
 
--- ---- waits, one after another
+-- ---- waits in sequence
 
 waits-first : (waits xs : List Wait) (x : Wait) → waits ≡ x ∷ xs → wait_lines waits ≡ (wait_line x ∷ []) ++ wait_lines xs
 unfolding wait_lines
@@ -46,7 +46,7 @@ pub waits_none : (s : OutputState) (waits : List Wait) (o : Unit {0}) → waits 
 unfolding wait_lines
 waits_none s waits o is = subst (λ xs. WritesLines s s (wait_lines xs) (Ok o)) (sym is) (record { ok = wrote_nothing s; err = tt })
 
--- ---- sums, one after another
+-- ---- totals in sequence
 
 sums-first : (sums xs : List WaitSum) (x : WaitSum) → sums ≡ x ∷ xs → wait_sum_lines sums ≡ (wait_sum_line x ∷ []) ++ wait_sum_lines xs
 unfolding wait_sum_lines
@@ -73,7 +73,7 @@ pub part_left : (s : OutputState) (uses before : List Use) (t : ℕ) (x : StageP
 unfolding charged_lines
 part_left s uses before t x o past = rw (le-ltb t x.end past) (record { ok = wrote_nothing s; err = tt })
 
--- where it ends
+-- the tick at which the charge of a stage ends
 pub part_end : (t bound : ℕ) (x : StagePart) → bound ≡ max t x.end → t + all_ticks (part_charges t x) ≡ bound
 unfolding charges_behind all_ticks
 part_end t bound x top =
@@ -125,7 +125,7 @@ pub part_few : (uses before : List Use) (t : ℕ) (x : StagePart) (waits : List 
 part_few uses before t x waits early new old is =
     omega (arith, early, ap all_stalled is, waits_are_within_their_charge (record { from = t; to = x.end; stage = x.stage }) uses before new.each old.each)
 
--- ---- and those behind it
+-- ---- the charges of the remaining stages
 
 charged-append : (uses before : List Use) (xs ys : List Charge)
     → charged_lines uses before (xs ++ ys) ≡ charged_lines uses before xs ++ charged_lines uses before ys
@@ -205,7 +205,7 @@ parts_taken uses before t bound parts xs x old mid new is top first rest = recor
   sums = λ r s parted. stalled_more r s uses before t bound parts xs x _ _ _ is top (first.sums r s parted) (rest.sums r s parted);
 }
 
--- no sum is greater than the tick at which the next ones begin
+-- no total is greater than the tick at which the next charges begin
 pub next_within : (uses before : List Use) (t bound : ℕ) (x : StagePart) (old new : WaitTotals) → bound ≡ max t x.end
     → AddsWaits uses before t (part_charges t x) old new → AreWaitsWithin bound new
 next_within uses before t bound x old new top is = subst (λ m. AreWaitsWithin m new) (part_end t bound x top) is.within

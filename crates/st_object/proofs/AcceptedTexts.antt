@@ -1,4 +1,4 @@
--- What reading a text leads to; a text that is read is the object text of what it holds.
+-- The results of reading a text; a text that is read is the object text of its program.
 use Rattle.std.proofs.Common.{◌≡◌, ◌≤◌, ◌<◌, ◌+◌, ◌==◌, ℕ, suc, Bool, true, false, List, [], ◌∷◌, ◌++◌, length, take, Option, Some, None, is_some, Result, Ok, Err, if◌then◌else◌, refl, ap, sym, subst, ◌∙◌, append_assoc, append-nil, arith, rules}
 use Rattle.std.specs.List.{flat_map}
 use Rattle.std.specs.Option.{option_map_or}
@@ -14,7 +14,7 @@ use Rattle.st_object.proofs.LineByLine.{read_step, IsGood, good_line}
 use Rattle.st_object.proofs.WholeDrafts.{whole_program, whole_words, whole_lines_of}
 use Rattle.st_object.proofs.Completions.{IsOrderly, blank_orderly}
 
--- lines, each with its line end
+-- the text of lines, each with its line end
 abbrev pub closed : List (List ℕ) → List ℕ
 closed lines = flat_map (λ line. line ++ lf) lines
 
@@ -23,7 +23,7 @@ abbrev pub AreLines : List (List ℕ) → Type 0
 AreLines [] = Unit {0}
 AreLines (line ∷ more) = (lacks 10 line ≡ true) × AreLines more
 
--- a text cut at its line ends: its lines, and what stands behind the last line end
+-- a text split at its line ends: its lines, and the text after the last line end
 pub record Cut (text : List ℕ) : Type 0 where
   pub lines : List (List ℕ)
   pub rest : List ℕ
@@ -49,7 +49,7 @@ cut (c ∷ cs) = go (c == 10) refl (cut cs)
         record { lines = [] ∷ later.lines; rest = later.rest; lacking = (refl, later.lacking); pieces = rw (here, later.pieces); whole = whole }
     go false other later = cut_more c cs later.lines later.rest other later.lacking later.pieces later.whole
 
--- what stands behind the last line end is a line too, where it is not empty
+-- the text after the last line end is a line too if it is not empty
 abbrev pub last_line : List ℕ → List (List ℕ)
 last_line rest = if is_empty rest then [] else rest ∷ []
 
@@ -58,7 +58,7 @@ lines_in_all [] rest = refl
 lines_in_all (line ∷ []) rest = refl
 lines_in_all (line ∷ next ∷ more) rest = ap (λ (s : List (List ℕ)). line ∷ s) (lines_in_all (next ∷ more) rest)
 
--- what good lines make of a draft
+-- good lines lead from one draft to another
 pub record ReadsOn (d : Draft) (front : List (List ℕ)) : Type 0 where
   pub last : Draft
   pub draft : IsDraft last
@@ -81,7 +81,7 @@ pub record Accepts (d : Draft) (lines : List (List ℕ)) (rest : List ℕ) (p : 
   pub ended : is_whole on.last ≡ true
   pub program : program_of on.last ≡ p
 
--- the m-th line is bad where lines are counted from the n-th, whatever stands behind it
+-- the m-th line is bad, counted from n, regardless of the text after it
 pub record Refuses (d : Draft) (n : ℕ) (all : List (List ℕ)) (m : ℕ) : Type 0 where
   pub good : ℕ
   pub counted : m ≡ n + good
@@ -102,7 +102,7 @@ bad_at_end d n draft orderly =
     let none : 0 < 0 → ⊥ = λ inside. omega arith in
     record { good = 0; counted = omega arith; within = omega arith; on = no_line_on d draft orderly; bad = λ inside. absurd (none inside) }
 
--- a good line before the others
+-- the result of reading a good line and then others
 line_before : (d e : Draft) (n : ℕ) (line : List ℕ) (lines : List (List ℕ)) (rest : List ℕ) (all : List (List ℕ)) (r : Result Program ℕ) →
     draft_with_line d line ≡ Some e → Outcome e (n + 1) lines rest all r → Outcome d n (line ∷ lines) rest (line ∷ all) r
 line_before d e n line lines rest all (Ok p) good later =
@@ -146,7 +146,7 @@ read_on (line ∷ lines) d n rest draft orderly =
 blank_draft : IsDraft draft_at_start
 blank_draft = search (rules, arith)
 
--- what reading a whole text leads to
+-- the result of reading a whole text
 pub outcome : (text : List ℕ) (r : Result Program ℕ) → read_text text ≡ r → Outcome draft_at_start 1 (cut text).lines (cut text).rest (text_lines text) r
 unfolding read_text
 outcome text r read =

@@ -1,4 +1,4 @@
--- A text that is refused has a bad line, and the named one is the first.
+-- A text that is refused has a bad line, and the number in the refusal is that of the first.
 use Rattle.std.proofs.Common.{◌≡◌, ◌<◌, ◌-◌, ℕ, suc, zero, List, [], ◌∷◌, ◌++◌, take, drop, Result, Ok, Err, IfOk, IfErr, refl, ap, sym, ◌∙◌, append_assoc, arith}
 use Rattle.std.proofs.lemmas.Bool.{cond_both}
 use Rattle.std.proofs.lemmas.List.{take-append-drop, take-take}
@@ -15,7 +15,7 @@ use Rattle.st_object.proofs.AcceptedTexts.{closed, AreLines, cut, last_line, lin
 use Rattle.st_object.proofs.ReadBack.{parted_line, read_back}
 use Rattle.st_object.proofs.Completions.{begins}
 
--- the lines of a text have no line ends
+-- the lines of a text contain no line ends
 all_lines : (lines : List (List ℕ)) (rest : List ℕ) → AreLines (lines ++ rest ∷ []) → AreLines (lines ++ last_line rest)
 all_lines [] rest are = cond_both (is_empty rest) [] (rest ∷ []) AreLines (λ none. tt) (λ some. are)
 all_lines (line ∷ more) rest are = (are.0, all_lines more rest are.1)
@@ -25,7 +25,7 @@ taken_lines zero lines are = tt
 taken_lines (suc n) [] are = tt
 taken_lines (suc n) (line ∷ more) are = (are.0, taken_lines n more are.1)
 
--- lines that a text begins with
+-- the lines at the beginning of a text
 parted-closed : (lines : List (List ℕ)) (rest : List ℕ) → AreLines lines → pieces_of 10 (closed lines ++ rest) ≡ lines ++ pieces_of 10 rest
 parted-closed [] rest are = refl
 parted-closed (line ∷ more) rest are =
@@ -35,7 +35,7 @@ parted-closed (line ∷ more) rest are =
 not_both : (p : Program) (n : ℕ) (r : Result Program ℕ) → r ≡ Ok p → r ≡ Err n → ⊥
 not_both p n r read refused = cc
 
--- lines that are refused whatever stands behind them begin no object text
+-- no object text begins with lines that are refused regardless of the text after them
 not_front : (lines : List (List ℕ)) (n : ℕ) → AreLines lines →
     ((next : List ℕ) (more : List (List ℕ)) → read_from draft_at_start 1 (lines ++ next ∷ more) ≡ Err n) → BeginsObjectText (closed lines) → ⊥
 unfolding read_text
@@ -44,7 +44,7 @@ not_front lines n are bad front =
     not_both front.0 n (read_text (object_text front.0)) (read_back front.0 front.1 front.2)
     (ap (λ (s : List ℕ). read_from draft_at_start 1 (pieces_of 10 s)) front.4 ∙ rw (parted-closed lines front.3 are, first.1.1) (bad first.0 first.1.0))
 
--- the named line is the first bad one
+-- the number in the refusal is that of the first bad line
 pub bad_line : (text : List ℕ) (n : ℕ) → read_text text ≡ Err n → IsBadLine text n
 bad_line text n read =
     let is : Refuses draft_at_start 1 (text_lines text) n = outcome text (Err n) read in
@@ -60,7 +60,8 @@ bad_line text n read =
           (rw next at (is.bad (omega (arith, inside, next)))) front;
     }
 
--- no line before the bad one is bad: a front of what an object text begins with begins it too
+-- no line before the bad line is bad: if an object text begins with a text, it begins with each
+-- prefix of it
 none_earlier : (text : List ℕ) (n m : ℕ) → IsBadLine text n → IsBadLine text m → n < m → ⊥
 none_earlier text n m bad later before =
     let lines : List (List ℕ) = text_lines text in
@@ -78,7 +79,7 @@ one_bad_line text n m first second =
     let not_behind : m < n → ⊥ = none_earlier text m n second first in
     grind (arith, not_before, not_behind)
 
--- a text that has a bad line is refused there
+-- a text that has a bad line is refused at that line
 pub refused_there : (text : List ℕ) (n : ℕ) → IsBadLine text n → read_text text ≡ Err n
 refused_there text n bad = go (read_text text) refl
   where
@@ -86,7 +87,7 @@ refused_there text n bad = go (read_text text) refl
     go (Ok p) read = let is = accepted text p read in absurd (bad.none (p, is.program, is.words, is.same))
     go (Err m) read = ap (λ (k : ℕ). Err k) (one_bad_line text n m bad (bad_line text m read))
 
--- what an answer says of its text
+-- the result of reading agrees with the text
 pub read_program : (text : List ℕ) (r : Result Program ObjectError) → Gives (read_text text) r → IfOk r (λ p. IsProgram p)
 read_program text (Ok p) gives = (accepted text p gives).program
 read_program text (Err e) gives = tt

@@ -1,4 +1,4 @@
--- Lines that were read can be followed by others up to a whole program.
+-- Lines that were read can be followed by other lines up to a complete program.
 use Rattle.std.proofs.Common.{◌≡◌, ◌≤◌, ◌==◌, ℕ, Bool, true, false, not, List, [], ◌∷◌, ◌++◌, Some, unwrap_or, if◌then◌else◌, refl, ap, subst, ◌∙◌, append_assoc, arith}
 use Rattle.std.proofs.lemmas.Bool.{or_right, cond_both}
 use Rattle.std.proofs.lemmas.Bool.Decides.{nat_tests}
@@ -16,7 +16,7 @@ use Rattle.st_object.proofs.FurtherLines.{no_lines_of, cut, IsPut, added}
 use Rattle.st_object.proofs.WrittenLines.{text_of-append}
 use Rattle.st_object.proofs.WholeDrafts.{start_small, whole_program, whole_words, whole_lines_of}
 
--- behind the first kind that must stand and does not, none does
+-- after the first required kind that is missing, no kind has been read
 abbrev orderly : Draft → List Kind → Bool
 orderly d [] = true
 orderly d (kind ∷ more) = if is_met (has_line d) kind then orderly d more else none_stands (has_line d) (kind ∷ more)
@@ -45,7 +45,7 @@ put_orderly kind d e item is =
 pub ordered : (d e : Draft) (item : Item) → with_item d item ≡ Some e → IsOrderly e
 ordered d e item same = put_orderly (kind_of_line item) d e item (added d e item same)
 
--- a draft with all that must stand
+-- a draft with the missing required lines added
 abbrev completion : Draft → Draft
 completion d = record {
   begun = true;
@@ -61,7 +61,7 @@ completion d = record {
 met_kept : (d : Draft) (kind : Kind) → is_met (has_line d) kind ≡ true → kind_lines (completion d) kind ≡ kind_lines d kind
 met_kept d kind met = grind arith
 
--- its lines go on behind those that were read
+-- the lines of the completed draft begin with those that were read
 abbrev GoesOn : Draft → List Kind → Type 0
 GoesOn d kinds = (more : List Item) × (flat_map (λ k. kind_lines (completion d) k) kinds ≡ flat_map (λ k. kind_lines d k) kinds ++ more)
 
@@ -74,7 +74,7 @@ goes_on d (kind ∷ kinds) orders = go (is_met (has_line d) kind) refl (λ later
     go true met on later_orders = let later = on later_orders in (later.0, rw (met_kept d kind met, later.1, append_assoc))
     go false lacking on none = (flat_map (λ k. kind_lines (completion d) k) (kind ∷ kinds), rw (no_lines_of d (kind ∷ kinds) none))
 
--- it is a whole draft
+-- the budget and the delays of the completed draft are within their limits
 some_limits : (n : ℕ) (ds : List ℕ) → n ≤ 10000000 → AreDelays ds →
     ((if n == 0 then 1 else n) ≤ 10000000) × AreDelays (if is_empty ds then 1 ∷ [] else ds)
 some_limits n ds few are = (
@@ -93,7 +93,7 @@ completion_whole : (d : Draft) → is_whole (completion d) ≡ true
 unfolding is_whole
 completion_whole d = grind (arith, nat_tests)
 
--- lines that were read begin an object text
+-- an object text begins with the lines that were read
 pub begins : (d : Draft) (front : List ℕ) → IsDraft d → IsOrderly d → object_text_of (lines_read d) ≡ front → BeginsObjectText front
 begins d front draft orders same =
     let last = completion d in

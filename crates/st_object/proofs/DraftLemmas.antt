@@ -1,4 +1,4 @@
--- What holds of a draft holds of it with a further line.
+-- The invariants of drafts are preserved by a further line.
 use Rattle.std.proofs.Common.{◌≡◌, ◌+◌, ◌≤◌, ◌<◌, ◌-◌, ◌^◌, ℕ, Bool, true, false, nat_lt, List, [], ◌∷◌, ◌++◌, length, get_or, replicate, Option, Some, None, if◌then◌else◌, refl, length-append, arith, lit<}
 use Rattle.std.proofs.lemmas.Bool.{and_from as both_true, ltb-true as below}
 use Rattle.std.proofs.lemmas.Grind.{common_steps}
@@ -19,7 +19,7 @@ use Rattle.st_card.specs.declared.written.Control.TheVariants.{Budget, Delay, Si
 use Rattle.st_object.specs.declared.items.Item.TheVariants.{Object, Start, Word, Fin, Ask}
 use Rattle.st_object.proofs.LineMeanings.{IsNarrow}
 
--- a word above the registers leaves them zero
+-- adding a word above the registers leaves the registers zero
 registers_kept : (xs : List ℕ) (n w x : ℕ) → length xs + n ≡ w → 32 ≤ w → ((k : ℕ) → k < 32 → get_or xs k 0 ≡ 0) →
     (k : ℕ) → k < 32 → get_or (xs ++ replicate n 0 ++ x ∷ []) k 0 ≡ 0
 registers_kept xs n w x whole above zero_below k low = grind (arith, common_steps)
@@ -44,12 +44,12 @@ kept_word d w x draft fits small =
       unlisted = draft.unlisted;
     }
 
--- only listings are asked for by a keyword of their own
+-- only the keyword of the listing requests a listing
 unlisted : (keyword : Keyword) (old new : Asked) (numbers : List ℕ) → (keyword ≡ keywords.Listing → ⊥) →
     with_keyword keyword old numbers ≡ Some new → old.list ≡ new.list
 unlisted keyword old new numbers other same = grind arith
 
--- what is asked for, where it is within its limits
+-- a request within its limits preserves the invariants
 kept_asked : (d e : Draft) (place : Bool) (keyword : Keyword) (numbers : List ℕ) → (if place then draft_with_order d keyword numbers else None) ≡ Some e →
     (keyword ≡ keywords.Listing → ⊥) →
     ((new : Asked) → with_keyword keyword d.asked numbers ≡ Some new → IsWithinLimits d.asked → IsWithinLimits new) → IsDraft d → IsDraft e
@@ -61,12 +61,12 @@ kept_asked d e place keyword numbers same other limits draft =
     let none : new.0.list ≡ false = cc (unlisted keyword d.asked new.0 numbers other new.1.0) in
     let here : IsDraft (record d { asked = new.0 }) = assumption in rw new.1.1 at here
 
--- what is put in where a test passes
+-- an item that is accepted passes its test
 by_value : (d e new : Draft) (place test : Bool) → (if place then (if test then Some new else None) else None) ≡ Some e →
     (place ≡ true → test ≡ true → IsDraft new) → IsDraft e
 by_value d e new place test same holds = grind arith
 
--- each line that is added keeps what holds of drafts
+-- each line that is added preserves the invariants of drafts
 pub kept : (d e : Draft) (item : Item) → with_item d item ≡ Some e → IsNarrow item → IsDraft d → IsDraft e
 unfolding draft_with_value
 kept d e Object same narrow draft = by_value d e (record d { begun = true }) _ true same (λ placed test. assumption)

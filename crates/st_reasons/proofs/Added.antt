@@ -1,4 +1,4 @@
--- What waits add to the sums.
+-- Lemmas on the ticks that waits add to the totals.
 use Rattle.std.specs.Prelude.{Bool, if◌then◌else◌}
 use Rattle.std.proofs.Common.{◌≡◌, ℕ, ◌+◌, ◌-◌, ◌≤◌, ◌<◌, true, false, List, [], ◌∷◌, ap, arith}
 use Rattle.std.proofs.lemmas.Bool.{cond_both}

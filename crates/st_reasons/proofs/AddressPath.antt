@@ -1,4 +1,4 @@
--- The reason that is told is the end of a path.
+-- The cause of a row's address is the end of a path.
 use Rattle.std.specs.Prelude.{Bool, ◌||◌, if◌then◌else◌, Option, None, Some, reverse, All, length, replicate}
 use Rattle.std.specs.List.{list_any}
 use Rattle.std.proofs.Common.{◌≡◌, ℕ, ◌+◌, ◌-◌, ◌≤◌, ◌<◌, ◌⊎◌, inl, inr, max, true, false, List, [], ◌∷◌, ◌++◌, refl, sym, ◌∙◌, ap, subst, arith, length-append}
@@ -81,7 +81,7 @@ module _ (ds : List ℕ) (f : Front) (e : Entry) (fits : IsEntryInTime e) (order
   address-late : f.p ≤ tick_a ds f e - 1
   address-late = omega (arith, address-is)
 
-  -- with the index-side word, which stands before them
+  -- the words of the entry with its index-side word in front of them
   module _ (side : List Use) (others : All (λ (u : Use). is_role Instruction u.role ≡ false) side) where
     abbrev words : List Use
     words = side ++ reverse (fetch_uses ds f e)
@@ -100,7 +100,7 @@ module _ (ds : List ℕ) (f : Front) (e : Entry) (fits : IsEntryInTime e) (order
           let no : ⊥ = omega (arith, some, at) in absurd no
     ]
 
-    -- when the address is formed, something came or the bus was not free before
+    -- at the tick before the address is formed, an event came or the bus was not free earlier
     address-came : CameBy f e.serial (tick_a ds f e - 1) words ⊎ ((f.bus.free ≡ tick_a ds f e - 1 + 1) × (f.p < tick_a ds f e - 1))
     address-came =
         let a = tick_a ds f e in

@@ -1,4 +1,4 @@
--- Each read finds its bank as the last read in it left it.
+-- Each read finds its bank busy as long as the previous read in it determines.
 use Rattle.std.specs.Prelude.{nat_eq, All, reverse, length}
 use Rattle.std.proofs.Common.{◌≡◌, ℕ, true, false, List, [], ◌∷◌, ◌++◌, inl, inr, refl, sym, ◌∙◌, ap, subst}
 use Rattle.std.proofs.lemmas.Bool.{cases_Bool, eqb-true, eq-eqb}
@@ -22,7 +22,7 @@ use Rattle.st_reasons.specs.Words.{is_read, read_of}
 use Rattle.st_reasons.proofs.BusLemmas.{told-of-entry}
 use Rattle.st_reasons.proofs.Chains.{pour-cons}
 
--- ---- what holds of the words so far, where the bus is b
+-- ---- the invariant of the words so far and the bus b after them
 
 pub record AreBanked (banks : LastAnswers) (b : Bus) (us : List Use) : Type 0 where
   pub each : AreBankedBehind banks us
@@ -78,7 +78,7 @@ module _ (banks : LastAnswers) where
           whole = ap (λ ticks. length ticks) (left-by b r) ∙ length-set b.banks.ticks (bank_of r.w) answer ∙ are.whole;
         }
 
-    -- ---- several
+    -- ---- several reads
 
     first-read : (u : Use) (vs : List Use) (reads : List Read) (b : Bus) (us : List Use)
         → ((rest : List Read) (c : Bus) → reads_told vs ≡ served ds rest c → AreBanked banks c (u ∷ us)

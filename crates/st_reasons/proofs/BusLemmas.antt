@@ -1,4 +1,4 @@
--- The reads that are told are those of the bus.
+-- The reads among an entry's words are those that the bus serves.
 use Rattle.std.specs.Prelude.{zero, suc, nat_lt, nat_le, Option, None, Some}
 use Rattle.std.proofs.Common.{◌≡◌, ℕ, ◌+◌, ◌-◌, max, true, false, List, [], ◌∷◌, ◌++◌, inl, inr, refl, sym, ◌∙◌, ap, subst}
 use Rattle.std.proofs.lemmas.Bool.{cases_Bool, ltb-true, ltb-false, le-leb, lt-leb}
@@ -41,7 +41,7 @@ module _ (ds : List ℕ) where
   made-append [] ys b = refl
   made-append (x ∷ xs) ys b = ap (λ zs. record { w = x.w; ticks = read_ticks ds b x.w x.want } ∷ zs) (made-append xs ys (after_one ds b x))
 
-  -- two parts one behind the other, where d is the bus behind the first
+  -- two consecutive parts, where d is the bus after the first
   two : (us vs : List Use) (xs ys : List Read) (b d : Bus) → reads_told us ≡ served ds xs b → bus_after_reads ds xs b ≡ d → reads_told vs ≡ served ds ys d
       → reads_told (us ++ vs) ≡ served ds (xs ++ ys) b
   two us vs xs ys b d one is other =

@@ -1,4 +1,4 @@
--- The words of an entry come behind those of the entries before it, read by read.
+-- The words of an entry are linked to those of the entries before it, read by read.
 use Rattle.std.specs.Prelude.{zero, suc, Bool, nat_lt, nat_le, nat_eq, if◌then◌else◌, Option, None, Some, reverse, take}
 use Rattle.std.specs.List.{list_any}
 use Rattle.std.proofs.Common.{◌≡◌, ℕ, ◌+◌, ◌-◌, ◌≤◌, inl, inr, max, true, false, List, [], ◌∷◌, ◌++◌, refl, sym, ◌∙◌, ap, subst, append_assoc, arith}
@@ -32,7 +32,7 @@ use Rattle.st_reasons.specs.Served.{AreBrought, brings, is_held_until}
 use Rattle.st_rows.proofs.UseLemmas.{side_if, followed-is}
 use Rattle.st_plain.proofs.UseLemmas.{inside-told, following-told}
 
--- ---- words that are poured onto older ones
+-- ---- words that are put in front of older ones in reverse order
 
 pub pour-cons : (x : Use) (xs older : List Use) → reverse (x ∷ xs) ++ older ≡ reverse xs ++ (x ∷ older)
 pour-cons x xs older = ap (λ ys. ys ++ older) (reverse-append (x ∷ []) xs) ∙ append_assoc (reverse xs) (x ∷ []) older
@@ -40,7 +40,8 @@ pour-cons x xs older = ap (λ ys. ys ++ older) (reverse-append (x ∷ []) xs) �
 pub pour-append : (xs ys older : List Use) → reverse (xs ++ ys) ++ older ≡ reverse ys ++ (reverse xs ++ older)
 pour-append xs ys older = ap (λ zs. zs ++ older) (reverse-append xs ys) ∙ append_assoc (reverse ys) (reverse xs) older
 
--- ---- what holds of the words so far, where the bus is b and the next read is wanted from the tick v on at the earliest
+-- ---- the invariant of the words so far: the bus is b after them, and the next read is wanted at
+-- tick v or later
 
 pub record AreBehind (base : ℕ) (b : Bus) (v : ℕ) (us : List Use) : Type 0 where
   pub linked : AreLinked base us
@@ -53,11 +54,11 @@ wanted-late : (f : Front) → f.p ≤ wanted_from f
 wanted-late f = cond_both f.serial (max f.p f.c) f.p (λ w. f.p ≤ w) (λ y. omega arith) (λ m. omega arith)
 
 module _ (base : ℕ) where
-  -- a later want serves as well
+  -- the invariant for a tick v holds for a later tick
   pub later : (b : Bus) (v w : ℕ) (us : List Use) → v ≤ w → AreBehind base b v us → AreBehind base b w us
   later b v w us late are = record { linked = are.linked; turn = are.turn; want = omega (arith, late, are.want); brought = are.brought; held = are.held }
 
-  -- a word that is not read
+  -- the invariant after a word that is not read
   pub passed : (b : Bus) (v : ℕ) (u : Use) (us : List Use) → is_read u.supply ≡ false
       → ((t : ℕ) → 32 ≤ u.word → is_held_until t u.supply ≡ true → list_any (brings u.word t) us ≡ true)
       → AreBehind base b v us → AreBehind base b v (u ∷ us)
@@ -80,7 +81,7 @@ module _ (base : ℕ) where
       accept = λ y. omega arith;
     }
 
-    -- one that is read
+    -- the invariant after a word that is read
     pub read-one : (b : Bus) (v : ℕ) (us : List Use) (role : Role) (w want : ℕ) → v ≤ want → AreBehind base b v us
         → AreBehind base (bus_after_read ds b w want) want (record { role = role; word = w; supply = Read (read_ticks ds b w want) } ∷ us)
     unfolding AreLinked turn_at want_at AreBrought read_of is_read is_held_until bus_after_read
@@ -258,7 +259,7 @@ module _ (base : ℕ) where
     answered-early f e = omega arith
 
     module _ (n : ℕ) (f : Front) (e : Entry) where
-      -- up to the instruction words
+      -- the invariant after the instruction words
       pub fetch-behind : (us : List Use) → AreBehind base f.bus f.p us
           → AreBehind base (words_tick ds f e).bus (max f.p (words_tick ds f e).answered) (reverse (fetch_uses ds f e) ++ us)
       unfolding fetch_uses words_tick fetch_words instruction_uses

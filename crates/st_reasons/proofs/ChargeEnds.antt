@@ -1,4 +1,4 @@
--- Where the charges of a row begin and end.
+-- Lemmas on the ticks at which the charges of a row begin and end.
 use Rattle.std.specs.Prelude.{nat_le, nat_lt, All}
 use Rattle.std.proofs.Common.{◌≡◌, ℕ, ◌+◌, ◌-◌, ◌≤◌, ◌<◌, inl, inr, true, List, [], ◌∷◌, refl, ◌∙◌, ap, arith}
 use Rattle.std.proofs.lemmas.Bool.{cond_both, leb-false}
@@ -56,7 +56,7 @@ operand-after start row u =
     (λ j. cond_both (nat_lt u row.p) _ _ (λ s. s ≡ AtOperand → row.p < u) (λ y is. absurd (cc))
     (λ i. cond_both (nat_le u row.p) _ _ (λ s. s ≡ AtOperand → row.p < u) (λ y is. absurd (cc)) (λ h is. leb-false _ _ h)))))
 
--- ---- charges that have waits begin when the last entry is done or later
+-- ---- charges with waits begin when the previous entry completes, or later
 
 not-empty : (t : ℕ) (xs : List StagePart) → All (λ (c : Charge). c.from < c.to) (charges_behind t xs)
 unfolding charges_behind

@@ -1,4 +1,4 @@
--- The waits of each charge of a segment cover it.
+-- The waits of each charge of a segment cover its ticks.
 use Rattle.std.specs.Prelude.{zero, suc, Bool, Option, reverse, All, take, replicate}
 use Rattle.std.specs.List.{list_any}
 use Rattle.std.proofs.Common.{◌≡◌, ℕ, ◌+◌, ◌-◌, ◌≤◌, ◌<◌, inl, inr, max, true, false, List, [], ◌∷◌, ◌++◌, refl, sym, ◌∙◌, ap, subst, arith}
@@ -42,7 +42,7 @@ use Rattle.st_reasons.proofs.SegmentLemmas.{linked-cut, linked-drop, turn-cut, w
 use Rattle.st_reasons.proofs.Truth.{others-no-words, deep_uses, deep-is, two-linked, base-early, four-is}
 use Rattle.st_reasons.proofs.WordLemmas.{all-reversed}
 
--- ---- lists turned round
+-- ---- reversed lists
 
 any-reversed : (p : Use → Bool) (xs : List Use) → list_any p xs ≡ true → list_any p (reverse xs) ≡ true
 any-reversed p [] some = some
@@ -130,7 +130,7 @@ module _ (ds : List ℕ) (n : ℕ) (f : Front) (e : Entry) (side : Option ℕ) (
       ∙ or_right _ _ (list_any-append p (side_uses ds f.past (words_tick ds f e).bus side (tick_a ds f e)) (prepared_uses ds n f e reads)
       ∙ or_right _ _ (list_any-append p (data_uses ds f.past (bus_a ds f e) (tick_p ds n f e) reads e.reads) (following_uses ds (operands ds n f e).bus e (tick_p ds n f e)) ∙ or_left _ _ some)))
 
--- ---- words that are none of the instruction's
+-- ---- words other than the instruction's
 
 others-wanted : (from : ℕ) (xs ys : List Use) → All (λ (u : Use). is_instruction u.role ≡ false) xs → AreWantedAtAnswers from ys → AreWantedAtAnswers from (xs ++ ys)
 unfolding AreWantedAtAnswers

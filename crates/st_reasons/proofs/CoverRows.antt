@@ -1,4 +1,4 @@
--- The waits of a row have no gap: what each stage awaits is there when it ends.
+-- The waits of a row have no gap: the words that each stage waits for are available at its end.
 use Rattle.std.specs.Prelude.{zero, suc, nat_lt, nat_le, ◌||◌, if◌then◌else◌, Option, None, Some, reverse, All}
 use Rattle.std.specs.List.{list_any}
 use Rattle.std.proofs.Common.{◌≡◌, ℕ, ◌+◌, ◌-◌, ◌≤◌, ◌<◌, ◌⊎◌, inl, inr, max, true, false, List, [], ◌∷◌, ◌++◌, refl, sym, ◌∙◌, ap, subst, arith}
@@ -131,7 +131,8 @@ module _ (ds : List ℕ) (from : ℕ) (f : Front) (e : Entry) (writers : (w : �
   pub fetches-wanted : AreWantedAtAnswers from (reverse (fetch_uses ds f e))
   fetches-wanted = subst (AreWantedAtAnswers from) (append-nil (reverse (fetch_uses ds f e))) fetches-answered.wants
 
-  -- when the address is formed, the last instruction word is answered, or the bus was not free before
+  -- at the tick before the address is formed, the last instruction word is answered, or the bus was
+  -- not free earlier
   pub address-awaits : from < tick_a ds f e - 1
       → (list_any (is_answered_at Instruction (tick_a ds f e - 1)) (reverse (fetch_uses ds f e)) ≡ true) ⊎ (f.bus.free ≡ tick_a ds f e - 1 + 1)
   address-awaits behind =
@@ -194,7 +195,7 @@ run-answered ds past p t s w (suc n) at = elim (run-answered ds past p t (read_w
   | inr later_on ↦ inr (or_right _ _ later_on)
 ]
 
--- the completion of an entry before is no later than the last one
+-- an earlier entry completes no later than the last one
 completion-within : (m : ℕ) (past : List Past) (j : ℕ) → ArePastWithin m past → completion_of past j ≤ m
 completion-within m [] j is = omega arith
 completion-within m (p ∷ past) zero is = All-head (λ (p : Past). p.c ≤ m) p past is.each
@@ -227,7 +228,7 @@ module _ (ds : List ℕ) (n : ℕ) (from : ℕ) (f : Front) (e : Entry) (within 
         rw m (or_left _ _ (and_from _ _ refl (storage-there ds f.past (words_tick ds f e).bus w (tick_a ds f e) t from writers behind (sym there ∙ at))))
   ]
 
-  -- when the row is prepared, its index-side word was answered the tick before
+  -- at the tick before the row is prepared, its index-side word is answered
   pub preparation-awaits : (side : Option ℕ) → e.side ≡ side_to_read side → tick_a ds f e ≤ from → from < tick_p ds n f e - 1
       → list_any (is_answered_at Index (tick_p ds n f e - 1)) (side_uses ds f.past (words_tick ds f e).bus side (tick_a ds f e)) ≡ true
   preparation-awaits side is after behind =
@@ -250,7 +251,7 @@ module _ (ds : List ℕ) (n : ℕ) (from : ℕ) (f : Front) (e : Entry) (within 
   unfolding data_uses
   data-parts t reads some = some
 
-  -- when its operands are there, one was answered then
+  -- at the tick at which the operands are available, one of them is answered
   pub operands-await : (reads : Words) → tick_p ds n f e ≤ from → from < (operands ds n f e).answered
       → list_any (is_answered_at Operand (operands ds n f e).answered) (data_uses ds f.past (bus_a ds f e) (tick_p ds n f e) reads e.reads) ≡ true
   operands-await reads after behind =

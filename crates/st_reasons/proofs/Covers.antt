@@ -90,7 +90,7 @@ read-fall from t u older wanted early order =
           (subst (λ k. FallTo b k (turns b u.word (acceptance_of u) older)) same (turns-fall b u.word (acceptance_of u) older (omega (arith, high, wanted, tick-of u))))
     ]
 
--- it has no ticks at the end
+-- the waits of an empty span are empty
 read-empty : (from t : ℕ) (u : Use) (older : List Use) → (read_of u.supply).accept ≤ t → t ≤ from → read_waits from t u older ≡ []
 unfolding read_waits
 read-empty from t u older early late =
@@ -101,7 +101,7 @@ read-empty from t u older early late =
 
 -- ---- data
 
--- a word that is answered is read, in time, and wanted by the tick `from`
+-- a word that is answered at t is read, in time, and wanted by tick `from`
 pub record IsDataBy (role : Role) (from t : ℕ) (u : Use) : Type 0 where
   pub wanted : is_answered_at role t u ≡ true → (read_of u.supply).want ≤ from
   pub accepted : is_answered_at role t u ≡ true → ((read_of u.supply).want ≤ (read_of u.supply).accept) × ((read_of u.supply).accept ≤ t)
@@ -137,7 +137,7 @@ data-fall role from t before (u ∷ earlier) order all some = elim (cases_Bool (
 
 -- ---- instruction words
 
--- the words of the row before were wanted by then
+-- the waits of a held word have no gap if the words of the row before were wanted by then
 held-fall : (from t w : ℕ) (before : List Use) → from ≤ t → All IsReadInTime before → All (λ (u : Use). (read_of u.supply).want ≤ from) before
     → FallTo from t (held_waits from t w before)
 unfolding held_waits
@@ -151,7 +151,7 @@ held-fall from t w (u ∷ older) order all low =
     subst (λ k. FallTo k t (read_waits from t u older)) same (read-fall from t u older is.wanted (omega (arith, at, is.answered)) order))
     (λ no_read. held-fall from t w older order (All-tail IsReadInTime u older all) (All-tail (λ (u : Use). (read_of u.supply).want ≤ from) u older low))
 
--- the last read is accepted at the tick t
+-- the waits for the bus have no gap if the last read is accepted at tick t
 pub bus-fall : (base from t : ℕ) (before : List Use) → base ≤ from → from < t → AreLinked base before → turn_at base before ≡ t + 1
     → All (λ (u : Use). (read_of u.supply).want ≤ from) before → FallTo from t (bus_waits from t before)
 unfolding bus_waits turn_at AreLinked
@@ -172,7 +172,8 @@ bus-fall base from t (u ∷ older) early order linked at low = elim (cases_Bool 
 
 -- ---- from the answer of one instruction word to that of one before it
 
--- each instruction word that is wanted behind the tick `from` is wanted when a word before it is answered
+-- each instruction word that is wanted after tick `from` is wanted when a word before it is
+-- answered
 unfoldable pub AreWantedAtAnswers : ℕ → List Use → Type 0
 AreWantedAtAnswers from [] = Unit {0}
 AreWantedAtAnswers from (u ∷ earlier) =
@@ -250,7 +251,7 @@ fetch-fall from t before (u ∷ earlier) order old all low wants some =
       | inr not_due ↦ rw not_due (fetch-fall from t before earlier order old rest low wants.1 (further Instruction t u earlier some not_due))
     ]
 
--- where no word is answered then, the bus is awaited
+-- if no word is answered at t, the row waits for the bus
 pub fetch-bus : (from t : ℕ) (before words : List Use) → list_any (is_answered_at Instruction t) words ≡ false
     → fetch_waits from t before words ≡ bus_waits from t before
 unfolding fetch_waits

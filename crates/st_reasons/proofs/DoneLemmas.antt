@@ -1,4 +1,4 @@
--- No two rows of a segment are done at one tick.
+-- No two rows of a segment complete at the same tick.
 use Rattle.std.specs.Prelude.{zero, suc, take, length, replicate, All}
 use Rattle.std.proofs.Common.{◌≡◌, ℕ, ◌≤◌, ◌<◌, List, [], ◌∷◌, inl, inr, refl, ap, arith, get_or-take}
 use Rattle.std.proofs.lemmas.Bool.{cases_lt}

@@ -1,4 +1,4 @@
--- What holds of each word that an entry uses.
+-- A property of each word that an entry uses, from the kinds of words.
 use Rattle.std.specs.Prelude.{zero, suc, Bool, false, true, nat_lt, if◌then◌else◌, Option, None, Some, All, length}
 use Rattle.std.proofs.Common.{◌≡◌, ℕ, ◌+◌, ◌-◌, ◌≤◌, ◌<◌, max, List, [], ◌∷◌, ◌++◌, refl, append_assoc, arith, length-append}
 use Rattle.std.proofs.lemmas.Bool.{cond_both}
@@ -85,7 +85,7 @@ module _ (P : Use → Type 0) (ds : List ℕ) where
         (λ y. All-append P (inside_uses ds b w (tick_p ds n f e)) (inside_uses ds behind (w + 1) (tick_p ds n f e)) (each-inside b w) (each-inside behind (w + 1)))
         (λ m. All-nil P))
 
-    -- those from its preparation on
+    -- the property of the words from the entry's preparation on
     pub each-prepared : (reads : Words) → All P (prepared_uses ds n f e reads)
     each-prepared reads =
         All-append P (data_uses ds f.past (bus_a ds f e) (tick_p ds n f e) reads e.reads) (following_uses ds (operands ds n f e).bus e (tick_p ds n f e))
@@ -103,14 +103,14 @@ module _ (P : Use → Type 0) (ds : List ℕ) where
       each-side b None = All-nil P
       each-side b (Some w) = side-if (nat_lt w FIRST_STORAGE_WORD) b w
 
-      -- those behind the instruction words
+      -- the property of the words after the instruction words
       pub each-other : (side : Option ℕ) (reads : Words)
           → All P (side_uses ds f.past (words_tick ds f e).bus side (tick_a ds f e) ++ prepared_uses ds n f e reads)
       each-other side reads =
           All-append P (side_uses ds f.past (words_tick ds f e).bus side (tick_a ds f e)) (prepared_uses ds n f e reads)
           (each-side (words_tick ds f e).bus side) (each-prepared reads)
 
--- ---- how many instruction words there are
+-- ---- the number of instruction words
 
 pub words-length : (ds : List ℕ) (past : List Past) (from : ℕ) (s : Fetching) (w n : ℕ) → length (instruction_uses ds past s from w n) ≡ n
 unfolding instruction_uses uses wishes fetch_word

@@ -1,4 +1,5 @@
--- The words of an entry: each that is read is accepted no earlier than it is wanted, and answered no earlier than that.
+-- Each word that an entry reads is accepted no earlier than it is wanted, and answered no earlier
+-- than it is accepted.
 use Rattle.std.specs.Prelude.{Option, None, Some, All}
 use Rattle.std.proofs.Common.{ℕ, List, sym, subst, arith}
 use Rattle.std.proofs.lemmas.Bool.{cond_both}
@@ -40,7 +41,7 @@ register : (role : Role) (w : ℕ) → IsReadInTime (record { role = role; word 
 unfolding read_of
 register role w = record { wanted = omega arith; answered = omega arith }
 
--- ---- all of them
+-- ---- all words
 
 others-in-time : (ds : List ℕ) (n : ℕ) (f : Front) (e : Entry) (o : Option ℕ) (reads : Words) → All IsReadInTime (other_uses ds n f e o reads)
 unfolding other_uses

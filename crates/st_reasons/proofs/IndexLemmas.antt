@@ -50,7 +50,7 @@ piece-no-turn : (from to w v : ℕ) (why : Stall) → is_stall Turn why ≡ fals
 unfolding wait_piece stalled_for
 piece-no-turn from to w v why other = cond_both (nat_lt from to) _ _ (λ xs. stalled_for Turn xs ≡ 0) (λ y. rw other refl) (λ m. refl)
 
--- a read behind which the bus is free when it is wanted
+-- a read has no turns to wait for if the bus is free when it is wanted
 read-no-turn : (base from t : ℕ) (u : Use) (older : List Use) → AreLinked base older → turn_at base older ≤ max from (read_of u.supply).want
     → stalled_for Turn (read_waits from t u older) ≡ 0
 unfolding read_waits
@@ -60,7 +60,7 @@ read-no-turn base from t u older linked early =
     (rw (turns-none base (max from (read_of u.supply).want) u.word (acceptance_of u) older linked early)
     (piece-no-turn (max from (read_of u.supply).want) (acceptance_of u).tick u.word (acceptance_of u).word Bank refl))
 
--- words of another role are passed over
+-- words of another role are skipped
 pub data-passed : (role : Role) (from t : ℕ) (before xs ys : List Use) → All (λ (u : Use). is_role role u.role ≡ false) xs
     → data_waits role from t before (xs ++ ys) ≡ data_waits role from t before ys
 unfolding data_waits is_answered_at
@@ -78,7 +78,7 @@ data-none role from t before (x ∷ xs) all =
     and_left _ _ (and_left (is_role role x.role) (is_answered t x.supply) (All-head (λ (u : Use). is_role role u.role ≡ false) x xs all)) in
     rw other (data-none role from t before xs (All-tail (λ (u : Use). is_role role u.role ≡ false) x xs all))
 
--- one such word alone, before which the bus is free when it is wanted
+-- a single index-side word has no turns to wait for if the bus is free when it is wanted
 pub index-no-turn : (base from t : ℕ) (before fetches : List Use) (u : Use) → All (λ (u : Use). is_role Index u.role ≡ false) fetches
     → AreLinked base (fetches ++ before) → turn_at base (fetches ++ before) ≤ from
     → stalled_for Turn (data_waits Index from t before (u ∷ fetches)) ≡ 0
@@ -139,7 +139,7 @@ module _ (most : ℕ) (ds : List ℕ) (are : AreDelaysUpTo most ds) (n : ℕ) (b
         ∙ side-one ds f.past (words_tick ds f e).bus x.side (tick_a ds f e) base from t (reverse before) (reverse fetches)
         (all-reversed (λ (u : Use). is_role Index u.role ≡ false) fetches (roles-fetch ds f e)) linked early
 
--- a charge of the stage begins at the address or later
+-- a charge of the stage begins at the tick of the address or later
 charge-no-turn : (most : ℕ) (ds : List ℕ) (are : AreDelaysUpTo most ds) (n : ℕ) (banks : LastAnswers) (start : ℕ) (opening : IsTight most (opening_front banks start))
     (older : List Told) (x : Told) (all : All IsTold (x ∷ older)) (c : Charge) → tick_a ds (front_of ds n banks start older) x.entry ≤ c.from → c.stage ≡ AtIndex
     → stalled_for Turn (charge_waits c (uses_behind ds n banks start older x) (last_uses ds n banks start older)) ≡ 0

@@ -1,4 +1,4 @@
--- What holds of the waits of a charge, proved.
+-- Proofs of the laws of the waits of a charge.
 use Rattle.std.specs.Prelude.{All, reverse, take}
 use Rattle.std.proofs.Common.{ℕ, ◌≤◌, ◌-◌, List, arith}
 use Rattle.std.proofs.lemmas.List.Elements.{All-take}

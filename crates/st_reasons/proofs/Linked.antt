@@ -1,22 +1,23 @@
--- Reads one behind the other. Words stand youngest first.
+-- Consecutive reads. Words are listed youngest first.
 use Rattle.std.specs.Prelude.{ℕ, ◌≡◌, ◌≤◌, ◌+◌, max, true, if◌then◌else◌, List, [], ◌∷◌}
 use Rattle.st_plain.specs.declared.uses.Use.{Use}
 use Rattle.st_reasons.specs.Words.{is_read, read_of}
 
--- ---- reads one behind the other, youngest first
+-- ---- consecutive reads, youngest first
 
--- from when on the bus is free behind them, where it was free from the tick `base` on before them
+-- the tick from which the bus is free after these words, if it was free from tick `base` on before
+-- them
 unfoldable pub turn_at : ℕ → List Use → ℕ
 turn_at base [] = base
 turn_at base (u ∷ older) = if is_read u.supply then (read_of u.supply).accept + 1
     else turn_at base older
 
--- when the youngest one is wanted
+-- the tick at which the youngest read is wanted
 unfoldable pub want_at : List Use → ℕ
 want_at [] = 0
 want_at (u ∷ older) = if is_read u.supply then (read_of u.supply).want else want_at older
 
--- a word is not read, or its read has its turn right behind the older ones
+-- a word is not read, or its read has its turn directly after the older ones
 pub record ComesBehind (base : ℕ) (u : Use) (older : List Use) : Type 0 where
   pub turn : is_read u.supply ≡ true → (read_of u.supply).turn ≡ turn_at base older
   pub want : is_read u.supply ≡ true → want_at older ≤ (read_of u.supply).want

@@ -1,4 +1,4 @@
--- Where the path ends that is told.
+-- Lemmas on the end of a path.
 use Rattle.std.specs.Prelude.{zero, suc, Bool, not, find, unwrap_or, nat_lt, nat_le, nat_eq, ◌&&◌, ◌||◌, if◌then◌else◌, Option, None, Some, reverse, length}
 use Rattle.std.specs.List.{list_any}
 use Rattle.std.proofs.Common.{◌≡◌, ℕ, ◌+◌, ◌-◌, ◌≤◌, ◌<◌, ◌⊎◌, inl, inr, max, true, false, List, [], ◌∷◌, ◌++◌, refl, sym, ◌∙◌, ap, subst, append_assoc, arith}
@@ -27,16 +27,16 @@ use Rattle.st_reasons.proofs.CoverRows.{fetch-answered}
 use Rattle.st_reasons.proofs.WordLemmas.{decided-role}
 use Rattle.st_rows.specs.Uses.{behind, behind_use, uses, wishes}
 
--- ---- what came at a tick
+-- ---- the events at a tick
 
--- something came then: preparation of the row before, or its completion where that is awaited, or a
--- writer's, or an answer
+-- an event came at the tick: the preparation of the row before, its completion if that is awaited,
+-- the completion of a writer, or an answer
 abbrev pub CameBy : Front → Bool → ℕ → List Use → Type 0
 CameBy f alone t words =
     (t ≡ f.p) ⊎ (((t ≡ f.c) × ((alone || f.serial) ≡ true))
     ⊎ ((list_any (is_stored f.past t) words ≡ true) ⊎ (list_any (is_answered_at Instruction t) words ≡ true)))
 
--- each instruction word that is read was wanted when something came
+-- each instruction word that is read was wanted at a tick with an event
 unfoldable pub AreCaused : Front → ℕ → List Use → Type 0
 AreCaused f own [] = Unit {0}
 AreCaused f own (u ∷ earlier) =
@@ -44,9 +44,9 @@ AreCaused f own (u ∷ earlier) =
     → (f.p ≤ (read_of u.supply).want) × CameBy f (nat_le own (length earlier)) (read_of u.supply).want earlier)
     × AreCaused f own earlier
 
--- ---- a row that was done at a tick
+-- ---- a row that completed at a tick
 
--- it is one of the last eight
+-- the row is one of the last eight
 done-among : (past : List Past) (w : ℕ) → 1 ≤ latest_done past w → (j : ℕ) × ((j < length past) × (completion_of past j ≡ latest_done past w))
 unfolding latest_done
 done-among [] w some = let no : ⊥ = omega (arith, some) in absurd no
@@ -78,15 +78,15 @@ eight-have p (suc (suc (suc (suc (suc (suc zero)))))) low is = or_right (p 1) _ 
 eight-have p (suc (suc (suc (suc (suc (suc (suc zero))))))) low is = or_right (p 1) _ (or_right (p 2) _ (or_right (p 3) _ (or_right (p 4) _ (or_right (p 5) _ (or_right (p 6) _ (or_right (p 7) _ (or_left (p 8) _ is)))))))
 eight-have p (suc (suc (suc (suc (suc (suc (suc (suc j)))))))) low is = let no : ⊥ = omega (arith, low) in absurd no
 
--- the row that is told is done then
+-- the row at the listed distance completes at the tick
 pub back-found : (past : List Past) (t j : ℕ) → j < 8 → completion_of past j ≡ t → done_before (back_to t past) past ≡ t
 back-found past t j low is =
     let p : ℕ → Bool = λ k. nat_eq (done_before k past) t in
     let place : j + 1 - 1 ≡ j = omega arith in
     eqb-true _ _ (found-one p (1 ∷ 2 ∷ 3 ∷ 4 ∷ 5 ∷ 6 ∷ 7 ∷ 8 ∷ []) (eight-have p j low (eq-eqb _ _ (ap (completion_of past) place ∙ is))))
 
--- what is asked of a front: that its past is of eight entries, that only the first one of a segment
--- is prepared at tick 0, and that before it nothing is done
+-- the requirements on a front: its past has eight entries, only the first entry of a segment is
+-- prepared at tick 0, and nothing completes before that entry
 pub record IsRowFront (f : Front) : Type 0 where
   pub eight : length f.past ≡ 8
   pub later : is_first f ≡ false → 1 ≤ f.p
@@ -105,7 +105,7 @@ stored-by f t (u ∷ us) some = elim (or_cases (is_instruction u.role && is_writ
 some-ends : (f : Front) (alone : Bool) (before words : List Use) (t : ℕ) (a b : Because) → Some a ≡ Some b → EndsAt f alone before words t a → EndsAt f alone before words t b
 some-ends f alone before words t a b is ends = let same : a ≡ b = cc in subst (λ c. EndsAt f alone before words t c) same ends
 
--- what reason_done says is an end
+-- the result of reason_done is the end of a path
 pub done-ends : (f : Front) (alone : Bool) (before words : List Use) (t : ℕ) (b : Because) → IsRowFront f → f.p ≤ t
     → reason_done f alone t words ≡ Some b → EndsAt f alone before words t b
 unfolding reason_done EndsAt EndsByRow
@@ -131,7 +131,7 @@ done-ends f alone before words t b row late =
     ))
     (λ j is. absurd (cc))))
 
--- where it says nothing, nothing came
+-- if reason_done has no result, no completion that counts came
 pub nothing-done : (f : Front) (alone : Bool) (words : List Use) (t : ℕ) → reason_done f alone t words ≡ None → IsNothingDone f alone t words
 unfolding reason_done
 nothing-done f alone words t =
@@ -150,7 +150,7 @@ in-order-ends f alone before words t none at = elim (cases_Bool (is_first f)) [
   | inr m ↦ rw m ((none, m, at, sym at, refl), omega (arith, at))
 ]
 
--- the last read of the rows before
+-- the last read of the rows before ends a path
 bus-ends : (f : Front) (alone : Bool) (base t : ℕ) (all before words : List Use) → AreLinked base before → turn_at base before ≡ f.bus.free → base ≤ f.p
     → ((p : Use → Bool) → list_any p before ≡ true → list_any p all ≡ true)
     → IsNothingDone f alone t words → IsNoneAnswered t words
@@ -204,7 +204,7 @@ bus-ends f alone base t all (u ∷ older) words linked turn low among done answe
       (subst (λ b. (if b then (read_of u.supply).accept + 1 else turn_at base older) ≡ f.bus.free) m turn) low (λ p some. among p (or_right _ _ some)) done answered came)
 ]
 
--- ---- where no completion is told, none came
+-- ---- if no completion is found, none came
 pub none-came : (f : Front) (alone : Bool) (words : List Use) (t : ℕ) → IsRowFront f → f.p ≤ t → IsNothingDone f alone t words
     → CameBy f alone t words → (t ≡ f.p) ⊎ (list_any (is_answered_at Instruction t) words ≡ true)
 none-came f alone words t row late none came = elim came [
@@ -241,7 +241,7 @@ or-path f own before alone words t None r some none = none refl
 
 module _ (f : Front) (own base : ℕ) (before : List Use) (linked : AreLinked base before) (turn : turn_at base before ≡ f.bus.free) (low : base ≤ f.p)
     (row : IsRowFront f) where
-  -- `all` are the instruction words at hand, of which the later ones are passed
+  -- `all` are the instruction words so far, of which the later ones have been skipped
   pub words-path : (alone : Bool) (all later words : List Use) (t : ℕ) → all ≡ later ++ words → AreCaused f own words
       → IsNothingDone f alone t all → (list_any (is_answered_at Instruction t) all ≡ true → list_any (is_answered_at Instruction t) words ≡ true)
       → (t ≡ f.p) ⊎ (((f.bus.free ≡ t + 1) × (f.p < t)) ⊎ (list_any (is_answered_at Instruction t) words ≡ true))
@@ -287,7 +287,7 @@ module _ (f : Front) (own base : ℕ) (before : List Use) (linked : AreLinked ba
         ]))
   ]
 
--- ---- the instruction words were wanted when something came
+-- ---- the instruction words were wanted at ticks with events
 
 fetch-want-is : (ds : List ℕ) (o : Option ℕ) (s : Fetching) (w want : ℕ) → is_read (fetch_supply o ds s.bus w want) ≡ true → (read_of (fetch_supply o ds s.bus w want)).want ≡ want
 unfolding is_read read_of

@@ -1,4 +1,4 @@
--- How many ticks waits have.
+-- Lemmas on the number of ticks of waits.
 use Rattle.std.specs.Prelude.{true, ◌&&◌, nat_eq, All}
 use Rattle.std.proofs.Common.{◌≡◌, ℕ, ◌+◌, ◌-◌, ◌≤◌, max, List, [], ◌∷◌, ◌++◌, arith}
 use Rattle.std.proofs.lemmas.Bool.{cond_both, and_parts, eqb-true}
@@ -51,7 +51,7 @@ turns-ticks from w next (u ∷ older) =
     ))
     (λ is_not. turns-ticks from w next older)
 
--- from its answer back to its want
+-- the ticks from the answer of a read back to its want
 read-ticks : (from t : ℕ) (u : Use) (older : List Use) → IsReadInTime u → (read_of u.supply).accept ≤ t
     → all_stalled (read_waits from t u older) ≡ t - max from (read_of u.supply).want
 unfolding read_waits acceptance_of
@@ -79,7 +79,7 @@ decided-by : (role : Role) (t : ℕ) (u : Use) (earlier : List Use) → IsReadIn
 unfolding is_answered_at
 decided-by role t u earlier is due = answered-by t u.supply is.answered (and_parts _ _ (and_parts _ _ due).0).1
 
--- ---- what a row waits for
+-- ---- the waits of a row
 
 pub data-ticks : (role : Role) (from t : ℕ) (before uses : List Use) → All IsReadInTime uses
     → all_stalled (data_waits role from t before uses) ≤ t - from

@@ -1,4 +1,4 @@
--- What held a row back did.
+-- The cause that the ledger names did delay the row: the proofs.
 use Rattle.std.specs.Prelude.{nat_lt, nat_le, Option, None, Some, All}
 use Rattle.std.proofs.Common.{◌≡◌, ℕ, ◌+◌, ◌-◌, ◌≤◌, ◌<◌, max, true, false, List, [], ◌∷◌, ◌++◌, inl, inr, refl, sym, ◌∙◌, ap, arith, ◌⊎◌, subst}
 use Rattle.std.specs.List.{list_any}

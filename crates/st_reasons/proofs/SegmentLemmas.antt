@@ -58,7 +58,7 @@ linked-cut base (x ∷ xs) ys linked = (
   linked-cut base xs ys linked.1,
 )
 
--- ---- a read that is accepted early is on its way
+-- ---- a read that is accepted early is in progress
 
 turn-lower : (base : ℕ) (u : Use) (older : List Use) → AreLinked base (u ∷ older) → turn_at base older ≤ turn_at base (u ∷ older)
 unfolding AreLinked
@@ -89,7 +89,7 @@ brought-cause base from w t (u ∷ us) linked low some v late early = elim (or_c
       or_right _ _ (brought-cause base from w t us linked.1 (omega (arith, low, turn-lower base u us linked)) further v late early)
 ]
 
--- ---- held words are on their way
+-- ---- held words are in progress
 
 pub others-on-their-way : (us : List Use) (from : ℕ) (before xs ys : List Use) → All (λ (u : Use). is_instruction u.role ≡ false) xs
     → AreOnTheirWay us from before ys → AreOnTheirWay us from before (xs ++ ys)
@@ -115,7 +115,7 @@ held-supply t (Held a) none at = at
 held-supply t (Forwarded w) none at = absurd (cc)
 held-supply t Register none at = absurd (cc)
 
--- a word that some instruction word brings is answered with it
+-- a word that an instruction word's read brings is answered with that read
 brings-answered : (w t : ℕ) (u : Use) → is_instruction u.role ≡ true → brings w t u ≡ true → is_answered_at Instruction t u ≡ true
 unfolding is_answered_at
 brings-answered w t u is by =
@@ -177,7 +177,7 @@ module _ (ds : List ℕ) (n : ℕ) (banks : LastAnswers) (start : ℕ) where
       entry-behind start ds n (front_of ds n banks start older) x.entry x.side x.reads (all_uses ds n banks start older)
       (All-head IsTold x older all).side (segment-behind older (All-tail IsTold x older all))
 
-  -- the ticks of the front stand in their order
+  -- the ticks of the front are in their order
   pub front-order : (older : List Told) → (start ≤ (front_of ds n banks start older).p) × ((front_of ds n banks start older).p ≤ (front_of ds n banks start older).c)
   unfolding front_of front_after_entry tick_c tick_p preparation_tick tick_a address_tick
   front-order [] = (omega arith, omega arith)
@@ -186,7 +186,7 @@ module _ (ds : List ℕ) (n : ℕ) (banks : LastAnswers) (start : ℕ) where
       let at = front-order older in
       (omega (arith, at), omega (arith, ready-after ds n f x.entry))
 
-  -- the bus is free of all but the last row when the last one is prepared
+  -- the bus is free of the reads of all rows except the last when the last one is prepared
   pub deep-free : (x : Told) (older : List Told) → (front_of ds n banks start older).bus.free ≤ (front_of ds n banks start (x ∷ older)).p
   unfolding front_of front_after_entry tick_p preparation_tick tick_a address_tick
   deep-free x older = omega arith

@@ -1,4 +1,4 @@
--- Waits that are filled in from the youngest word back.
+-- Waits that are filled in from the youngest word backwards.
 use Rattle.std.specs.Prelude.{Bool, true, false, if◌then◌else◌}
 use Rattle.std.proofs.Common.{◌≡◌, ℕ, ◌+◌, ◌≤◌, ◌<◌, List, [], ◌∷◌, ◌++◌, refl, sym, ◌∙◌, ap, append_assoc}
 use Rattle.std.proofs.lemmas.Bool.{and_parts, leb-true, ltb-true}
@@ -17,7 +17,7 @@ is_between-parts from before u is =
     let ends = and_parts _ _ both.1 in
     (leb-true _ _ ends.0, ltb-true _ _ ends.1)
 
--- the next word, which stands before the acceptance or not
+-- the waits with the next word, by whether its read precedes the acceptance
 by_word : ℕ → ℕ → Accepted → Use → List Use → Bool → List Wait
 by_word from w next u older b =
     if b
@@ -63,7 +63,7 @@ turns_one from w tick next behind read u all rest older ws one two now is is_one
     (k ∙ ap (λ n. one ++ wait_piece read.tick n Turn w u.word) is_tick ∙ ap (λ r. one ++ wait_piece r.tick (r.tick + 1) Turn w u.word) same)
     (l ∙ ap (λ r. two ++ turns from w r (rest ++ older)) same)
 
--- the words of the row, and then those of the row before
+-- the waits of the words of the row, and then of those of the row before
 pub turns_all : (from w : ℕ) (next here there : Accepted) (earlier before : List Use) (ws one two now : List Wait)
     → one ++ turns from w here (before ++ []) ≡ ws ++ turns from w next (earlier ++ (before ++ []))
     → two ++ turns from w there [] ≡ one ++ turns from w here (before ++ [])

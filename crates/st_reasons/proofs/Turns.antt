@@ -44,7 +44,7 @@ module _ (us : List Use) (n : Use) (is : is_read n.supply ≡ true) (among : (p 
   unfolding has_cause
   storage-true to t late early = own Storage to t (and_from _ _ (le-leb _ _ late) (lt-ltb _ _ early))
 
--- ---- reads that come too early are none of the turns
+-- ---- reads that come too early are not among the turns
 
 not-between : (from before : ℕ) (u : Use) → (read_of u.supply).accept < from → is_accepted_between from before u.supply ≡ false
 unfolding is_accepted_between
@@ -59,7 +59,7 @@ between : (from before : ℕ) (u : Use) → is_read u.supply ≡ true → from �
 unfolding is_accepted_between
 between from before u is late early = and_from _ _ is (and_from _ _ (le-leb _ _ late) (lt-ltb _ _ early))
 
--- ---- what the youngest word is for those behind it
+-- ---- the youngest word in relation to those after it
 
 want-read : (u : Use) (older : List Use) → is_read u.supply ≡ true → want_at (u ∷ older) ≡ (read_of u.supply).want
 unfolding want_at
@@ -91,7 +91,7 @@ unfolding turn_at
 nothing base = refl
 
 module _ (us : List Use) (base from w : ℕ) (early : base ≤ from) where
-  -- the last piece: the next read n waits for its bank from the tick `from` on
+  -- the last piece is true: the next read n waits for its bank from tick `from` on
   last-true : (n : Use) (next : Accepted) → is_read n.supply ≡ true → ((p : Use → Bool) → p n ≡ true → list_any p us ≡ true)
       → next ≡ acceptance_of n → (read_of n.supply).accept ≡ max (max (read_of n.supply).want (read_of n.supply).turn) (read_of n.supply).free
       → (t : ℕ) → (read_of n.supply).want ≤ t → (read_of n.supply).turn ≤ t

@@ -1,4 +1,4 @@
--- What is true of the waits that the ledger tells, proved.
+-- Proofs of the laws of the waits in the ledger.
 use Rattle.std.specs.Prelude.{Bool, nat_eq, ◌||◌, if◌then◌else◌, All}
 use Rattle.std.proofs.Common.{◌≡◌, ℕ, ◌+◌, ◌-◌, ◌≤◌, ◌<◌, inl, inr, true, false, List, [], ◌∷◌, refl, sym, ◌∙◌, ap, arith}
 use Rattle.std.proofs.lemmas.Bool.{cases_Bool, eqb-true}
@@ -34,7 +34,7 @@ use Rattle.st_reasons.proofs.SegmentLemmas.{segment-behind}
 use Rattle.st_reasons.proofs.Truth.{data-wait-true, fetch-wait-true, index-is-read, operand-is-read, others-after-four}
 use Rattle.st_reasons.proofs.WriterLemmas.{uses-written}
 
--- ---- the words that they are found from
+-- ---- the words from which waits are found
 
 pub reads_told_are_those_of_the_bus : ReadsToldAreThoseOfTheBus
 reads_told_are_those_of_the_bus ds n f e side reads is = told-of-entry ds n f e side reads is
@@ -78,7 +78,7 @@ waits_are_true ds n t banks start older x all =
     (λ c late. stage-true ds n banks start older x all c.stage c.from c.to late)
     (charges t f (row_of_entry ds n f x.entry)) (charges-late t f.c (row_of_entry ds n f x.entry))
 
--- ---- they cover their charges
+-- ---- waits cover their charges
 
 pub waits_cover_their_charge : WaitsCoverTheirCharge
 waits_cover_their_charge ds n t banks start older x all =
@@ -94,7 +94,7 @@ waits_cover_their_charge ds n t banks start older x all =
     (λ (c : Charge). (is_parted c.stage ≡ true → f.c ≤ c.from) × ((u : ℕ) → c.from < u → u ≤ c.to → stage_at f.c row u ≡ c.stage))
     (λ c a b. (a, b)) (charges t f row) (charges-late t f.c row) (charges-stages t f.c row))
 
--- ---- they end before the row is done
+-- ---- waits end before the row completes
 
 prepared-after : (ds : List ℕ) (n : ℕ) (f : Front) (e : Entry) → tick_a ds f e < tick_p ds n f e
 unfolding tick_p preparation_tick
@@ -144,7 +144,7 @@ waits_end_before_their_row ds n t banks start older x all =
     ])
     (charges t f row) (waits_cover_their_charge ds n t banks start older x all) (row-ends t f.c row)
 
--- ---- and so their sums are those of the stages
+-- ---- the totals of waits are those of the stages
 
 three-one : (why : Stall) (d : ℕ) → (if is_stall Turn why then d else 0) + (if is_stall Bank why then d else 0) + (if is_stall Storage why then d else 0) ≡ d
 three-one Turn d = omega arith

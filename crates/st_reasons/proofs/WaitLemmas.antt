@@ -1,4 +1,4 @@
--- What a row waits for is true at each tick.
+-- The waits of a row are true at each tick.
 use Rattle.std.specs.Prelude.{Bool, nat_eq, ◌&&◌, All}
 use Rattle.std.specs.List.{list_any}
 use Rattle.std.proofs.Common.{◌≡◌, ℕ, ◌≤◌, ◌<◌, max, true, false, List, [], ◌∷◌, ◌++◌, refl, arith}
@@ -36,7 +36,7 @@ answered-at : (role : Role) (t : ℕ) (u : Use) → is_read u.supply ≡ true �
 unfolding is_answered_at
 answered-at role t u is at = answer-of t u.supply is (and_parts _ _ at).1
 
--- a held word that decides is on its way all the time, where no read of the row before brings it
+-- a held word that decides is in progress the whole time, unless a read of the row before brings it
 unfoldable pub AreOnTheirWay : List Use → ℕ → List Use → List Use → Type 0
 AreOnTheirWay us from before [] = Unit {0}
 AreOnTheirWay us from before (u ∷ earlier) =
@@ -58,7 +58,7 @@ module _ (us : List Use) (base from : ℕ) (early : base ≤ from) where
       (turns-true us base (max from (read_of u.supply).want) u.word (omega (arith, early)) u (acceptance_of u) older linked.1 is
       (head-among us u older all) (flat-among us older (tail-among us u older all)) refl linked.0 (omega arith))
 
-  -- one that is accepted at it
+  -- the wait for a read that is accepted at tick t is true
   accepted-true : (u : Use) (older : List Use) → AreLinked base (u ∷ older) → AreAmong us (u ∷ older) → is_read u.supply ≡ true
       → All (IsTrueOf us) (turns (max from (read_of u.supply).want) u.word (acceptance_of u) older)
   unfolding AreLinked
@@ -70,7 +70,7 @@ module _ (us : List Use) (base from : ℕ) (early : base ≤ from) where
   unfolding AreLinked
   linked-tail u older linked = linked.1
 
-  -- ---- what a row waits for
+  -- ---- the waits of a row
 
   pub data-true : (role : Role) (t : ℕ) (before uses : List Use) → AreLinked base (uses ++ before) → AreAmong us (uses ++ before)
       → All (λ u. is_answered_at role t u ≡ true → is_read u.supply ≡ true) uses
@@ -86,7 +86,8 @@ module _ (us : List Use) (base from : ℕ) (early : base ≤ from) where
       (λ not_due. data-true role t before earlier (linked-tail u (earlier ++ before) linked) (tail-among us u (earlier ++ before) all)
       (All-tail (λ v. is_answered_at role t v ≡ true → is_read v.supply ≡ true) u earlier read))
 
-  -- a word that is held: its read is one of the row before, or it is on its way all the time
+  -- the wait for a held word is true: its read is one of the row before, or it is in progress the
+  -- whole time
   pub held-true : (t w : ℕ) (before : List Use) → AreLinked base before → AreAmong us before
       → (list_any (brings w t) before ≡ false → (s : ℕ) → from ≤ s → s < t → list_any (is_cause Storage w t s) us ≡ true)
       → All (IsTrueOf us) (held_waits from t w before)
@@ -109,7 +110,8 @@ module _ (us : List Use) (base from : ℕ) (early : base ≤ from) where
       (λ not_at. All-nil (IsTrueOf us)))
       (λ no_read. bus-true t older (linked-tail u older linked) (tail-among us u older all))
 
-  -- the instruction words: each of them that is held is on its way where no read of the row before brings it
+  -- the waits for instruction words are true: each held word is in progress unless a read of the
+  -- row before brings it
   pub fetch-true : (t : ℕ) (before words : List Use) → AreLinked base before → AreAmong us before
       → AreLinked base (words ++ before) → AreAmong us (words ++ before)
       → AreOnTheirWay us from before words

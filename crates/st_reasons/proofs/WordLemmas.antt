@@ -1,4 +1,4 @@
--- Words, as they are told apart.
+-- Lemmas on the tests of words.
 use Rattle.std.specs.Prelude.{true, false, not, ◌&&◌, All, reverse}
 use Rattle.std.specs.List.{list_any}
 use Rattle.std.proofs.Common.{◌≡◌, ℕ, ◌+◌, List, [], ◌∷◌, refl, sym, subst}
@@ -26,7 +26,7 @@ pub tick-of : (u : Use) → (acceptance_of u).tick ≡ (read_of u.supply).accept
 unfolding acceptance_of
 tick-of u = refl
 
--- ---- one that decides
+-- ---- a word that decides
 
 pub decided-role : (role : Role) (t : ℕ) (u : Use) (earlier : List Use) → decides role t u earlier ≡ true → is_role role u.role ≡ true
 unfolding is_answered_at
@@ -43,7 +43,7 @@ decided-answer role t u earlier due =
 pub decided-first : (role : Role) (t : ℕ) (u : Use) (earlier : List Use) → decides role t u earlier ≡ true → list_any (is_answered_at role t) earlier ≡ false
 decided-first role t u earlier due = not-true _ (and_parts (is_answered_at role t u) (not (list_any (is_answered_at role t) earlier)) due).1
 
--- ---- from when on the bus is free behind it
+-- ---- the tick from which the bus is free after a word
 
 pub turn-read : (base : ℕ) (u : Use) (older : List Use) → is_read u.supply ≡ true → turn_at base (u ∷ older) ≡ (read_of u.supply).accept + 1
 unfolding turn_at
@@ -53,7 +53,7 @@ pub turn-other : (base : ℕ) (u : Use) (older : List Use) → is_read u.supply 
 unfolding turn_at
 turn-other base u older none = rw none refl
 
--- ---- several, the youngest first
+-- ---- several words, youngest first
 
 pub all-reversed : (P : Use → Type 0) (xs : List Use) → All P xs → All P (reverse xs)
 all-reversed P [] all = All-nil P

@@ -1,4 +1,4 @@
--- The rows that forwarded words come from.
+-- Lemmas on the rows that forwarded words come from.
 use Rattle.std.specs.Prelude.{zero, suc, position, get_or, Option, None, Some, All}
 use Rattle.std.proofs.Common.{◌≡◌, ℕ, ◌+◌, ◌-◌, ◌≤◌, ◌<◌, true, false, List, [], ◌∷◌, inl, inr, refl, sym, ◌∙◌, ap, subst, arith}
 use Rattle.std.proofs.lemmas.Grind.{common_steps}
@@ -23,7 +23,7 @@ use Rattle.st_reasons.specs.Reasons.{writer_of_supply}
 use Rattle.st_reasons.specs.Served.{IsWrittenBy}
 use Rattle.st_reasons.proofs.EachUse.{other_uses, two-parts, each-fetch, each-other}
 
--- the latest writer of a word, by its place
+-- the latest writer of a word, by its position
 none-further : (past : List Past) (w : ℕ) (x : Past) → is_among w x.writes ≡ false → position (λ (entry : Past). is_among w entry.writes) (x ∷ past) ≡ None
     → position (λ (entry : Past). is_among w entry.writes) past ≡ None
 none-further past w x other none = grind (arith, common_steps)
@@ -47,7 +47,7 @@ latest-at [] w i is others = refl
 latest-at (x ∷ past) w zero is others = rw is refl
 latest-at (x ∷ past) w (suc i) is others = rw (others 0 (omega arith)) (latest-at past w i is (λ k low. others (suc k) (omega (arith, low))))
 
--- the row that is told is done then
+-- the row at the listed distance completes at the listed tick
 writer-by : (past : List Past) (w : ℕ) (o : Option ℕ) → position (λ (entry : Past). is_among w entry.writes) past ≡ o → 1 ≤ latest_done past w
     → done_before (one_behind o) past ≡ latest_done past w
 writer-by past w None is some = let no : ⊥ = omega (arith, some, latest-none past w is) in absurd no
@@ -59,7 +59,7 @@ writer-by past w (Some i) is some =
 pub writer-done : (past : List Past) (w : ℕ) → 1 ≤ latest_done past w → done_before (writer_back past w) past ≡ latest_done past w
 writer-done past w some = writer-by past w (position (λ (entry : Past). is_among w entry.writes) past) refl some
 
--- and writes the word
+-- the row at the listed distance writes the word
 written-by : (past : List Past) (w : ℕ) (o : Option ℕ) → position (λ (entry : Past). is_among w entry.writes) past ≡ o → 1 ≤ latest_done past w
     → is_among w (get_or past (one_behind o - 1) (record { c = 0; writes = no_runs })).writes ≡ true
 written-by past w None is some = let no : ⊥ = omega (arith, some, latest-none past w is) in absurd no

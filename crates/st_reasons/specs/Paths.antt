@@ -99,8 +99,7 @@ pub data IsPath : Front → ℕ → List Use → Bool → List Use → ℕ → B
       → IsPath f own before alone words t b
 
 -- ---- the cause that delayed the entry e after the front f; `words` are the words that it uses
--- until
--- its address is formed, and `before` those of the row before it, in the order of their reads
+-- until its address is formed, and `before` those of the row before, in the order of their reads
 
 -- The cause is a level: the entry is prepared directly after the completion of the row whose level
 -- it takes over, x.late ticks later than its address and its index-side word would allow.

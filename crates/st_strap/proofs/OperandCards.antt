@@ -1,5 +1,5 @@
--- Operations on an index word and on a field are read as what they say: an index word, a description in parentheses, an
--- address that is a word and a bit, and an offset.
+-- Cards of operations on an index word and on a field are read as these operations, with their
+-- index word, data description in parentheses, address of a word and a bit, and offset.
 use Rattle.std.proofs.Common.{◌≡◌, ◌≤◌, ◌<◌, ◌+◌, ◌-◌, ◌*◌, ◌^◌, ◌==◌, ◌||◌, ℕ, zero, suc, Bool, true, false, not, nat_lt, List, [], ◌∷◌, ◌++◌, Option, Some, None, is_some, if◌then◌else◌, length, take, drop, codes, decimal, Ok, Err, refl, ap, sym, ◌∙◌, append_assoc, length-append, arith}
 use Rattle.std.proofs.Math.Seq.{drop-append_seam}
 use Rattle.std.proofs.lemmas.Bool.{and_parts as both, and_from as and_true}
@@ -68,7 +68,7 @@ number-field n small =
     ap (λ (part : List ℕ). reading_without_index part (number_result (field_front text))) nothing
     ∙ (ap (λ (t : List ℕ). number_result t) whole ∙ ap (λ r. number_or_fault r) (reading-decimal 18446744073709551615 n (omega arith) small))
 
--- what holds of the index words 1 to 7
+-- a property of each of the index words 1 to 7 holds of every number from 1 to 7
 pub of_seven : (P : ℕ → Type 0) → P 1 → P 2 → P 3 → P 4 → P 5 → P 6 → P 7 → (j : ℕ) → 1 ≤ j → j ≤ 7 → P j
 of_seven P a b c d e f g zero some few = let no : ⊥ = omega arith in absurd no
 of_seven P a b c d e f g (suc zero) some few = a
@@ -80,7 +80,7 @@ of_seven P a b c d e f g (suc (suc (suc (suc (suc (suc zero)))))) some few = f
 of_seven P a b c d e f g (suc (suc (suc (suc (suc (suc (suc zero))))))) some few = g
 of_seven P a b c d e f g (suc (suc (suc (suc (suc (suc (suc (suc n)))))))) some few = let no : ⊥ = omega arith in absurd no
 
--- the field of an index word
+-- the text of an index word's field
 abbrev index_text : ℕ → List ℕ
 index_text j = 36 ∷ 88 ∷ decimal j
 
@@ -128,7 +128,7 @@ unfolding clean_statement_of is_misnamed
 add_value-clean text =
     ap (λ op. if is_misnamed [] op then Err BadName else next_reading UnknownOperation op (λ found. reading_of_operation found (44 ∷ text))) add_value-operation
 
--- an index word and an address have no byte but these
+-- the text of an index word and an address lacks every other byte
 index-lacks : (at j w b : ℕ) → IsOther at → lacks at (codes "$X,.") ≡ true → j < 2 ^ 64 → w < 2 ^ 64 → b < 2 ^ 64 →
     lacks at (index_text j ++ 44 ∷ place_text w b) ≡ true
 index-lacks at j w b other plain small_j small_w small_b =
@@ -176,7 +176,7 @@ add_value-read j w some few fits_w =
 
 -- ---- a group in parentheses
 
--- what stands in parentheses, with them
+-- a text in parentheses
 abbrev group_text : List ℕ → List ℕ
 group_text inside = 40 ∷ (inside ++ 41 ∷ [])
 
@@ -228,7 +228,7 @@ module _ (inside : List ℕ) (lack : lacks 41 inside ≡ true) where
       ap (λ b. if b then in_pieces (pieces_of 44 (take (length (group_text inside) - 2) (inside ++ 41 ∷ []))) else None) (ends-append 41 (40 ∷ inside))
       ∙ ap (λ (t : List ℕ). in_pieces (pieces_of 44 t)) (take_at inside (41 ∷ []) (length (group_text inside) - 2) size)
 
-  -- an operation with a description that is no progressive form
+  -- an operation with a group that is a data description and not a progressive form
   group-said : (op : Operation) (rest : List ℕ) → is_some (row_of (40 ∷ inside) progressive_forms) ≡ false →
       reading_of_operation op (group_text inside ++ rest)
       ≡ next_reading BadDataDescription (option_and_then (described_form op) (in_pieces (pieces_of 44 inside))) (λ d. statement_in_form d.0 d.1 rest)
@@ -257,7 +257,7 @@ number-to : (n : ℕ) → 1 ≤ n → n ≤ 64 → number_to 64 (decimal n) ≡ 
 unfolding number_to
 number-to n some few = ap (λ r. some_number r) (reading-decimal 64 n few (omega arith)) ∙ some_number-is n some
 
--- an unsigned binary field of n bits, and a signed one, both in bytes of eight
+-- the form of an unsigned binary field of n bits in bytes of eight
 abbrev pub unsigned_form : ℕ → Form
 unsigned_form n = plain_form false true n 8
 
@@ -283,7 +283,7 @@ signed-pieces n some few =
     ∙ (ap (λ o. option_and_then (λ k. option_map (λ s. InForm (plain_form false false k s)) (number_to 8 (codes "8"))) o) (number-to n some few)
     ∙ ap (λ o. option_map (λ s. InForm (plain_form false false n s)) o) eight-to)
 
--- a form without a progressive one
+-- the statement of an operation with a form that has no progressive form
 plain-formed : (op : Operation) (d u : Bool) (n s : ℕ) (text : List ℕ) →
     statement_in_form op (plain_form d u n s) (44 ∷ text) ≡ with_fields op (plain_form d u n s) (fields_of (44 ∷ text))
 unfolding statement_in_form form_with_progress group_length form_number may_have_form
@@ -307,7 +307,7 @@ signed-lacks : (at n : ℕ) → IsOther at → lacks at (codes "B,") ≡ true �
 signed-lacks at n other plain eight small =
     join at (codes "B,") (decimal n ++ codes ",8") plain (join at (decimal n) (codes ",8") (decimal-lacks at n other small) eight)
 
--- an operation that may have the form of a description
+-- the statement of an operation that allows the form of its description
 described-formed : (op : Operation) (inside : List ℕ) (form : Form) (rest : List ℕ) → lacks 41 inside ≡ true →
     is_some (row_of (40 ∷ inside) progressive_forms) ≡ false → in_pieces (pieces_of 44 inside) ≡ Some (InForm form) → may_have op form ≡ true →
     reading_of_operation op (group_text inside ++ rest) ≡ statement_in_form op form rest
@@ -602,7 +602,7 @@ add_one-read n w b fits few fits_w fits_b =
 
 -- ---- a progressive form
 
--- what stands behind the description: the form and the address, with index word j
+-- the text after the description: the progressive form and the address with index word j
 abbrev progressive_text : ℕ → List ℕ
 progressive_text j = codes "(V+I),0.32($X" ++ (48 + j) ∷ 41 ∷ []
 

@@ -1,4 +1,5 @@
--- Places are read as their bit addresses, by the cards that set the location and that end a program.
+-- The cards that set the location counter and that end a program are read with their operands as
+-- bit addresses.
 use Rattle.std.proofs.Common.{◌≡◌, ◌≤◌, ◌<◌, ◌+◌, ◌*◌, ◌^◌, ◌==◌, ◌&&◌, ℕ, Bool, true, false, not, nat_le, List, [], ◌∷◌, ◌++◌, Option, Some, None, if◌then◌else◌, length, take, drop, codes, decimal, Ok, Err, refl, ap, ◌∙◌, append_assoc, arith}
 use Rattle.std.proofs.lemmas.Bool.{and_parts as both, and_from as and_true}
 use Rattle.std.proofs.lemmas.Bool.Decides.{nat_tests}
@@ -27,18 +28,18 @@ use Rattle.st_mnemonic.specs.declared.operations.Operation.TheVariants.{SetLocat
 use Rattle.st_mnemonic.proofs.Digits.{AreDigits, decimal-digits, reading-decimal, unequal, digits-lack, IsOther, low_other, high_other, lacks-parted, clean-is}
 use Rattle.st_strap.proofs.NumberCards.{no_index_part, is_behind_groups-comma}
 
--- word w and bit b as text
+-- the text of word w and bit b
 abbrev pub place_text : ℕ → ℕ → List ℕ
 place_text w b = decimal w ++ 46 ∷ decimal b
 
--- a place has digits and a point alone
+-- the text of a word and a bit has only digits and a point
 pub place-lacks : (at w b : ℕ) → IsOther at → not (46 == at) ≡ true → w < 2 ^ 64 → b < 2 ^ 64 → lacks at (place_text w b) ≡ true
 place-lacks at w b other point small_w small_b =
     list_all-append (λ c. not (c == at)) (decimal w) (46 ∷ decimal b)
     ∙ and_true (lacks at (decimal w)) (lacks at (46 ∷ decimal b)) (digits-lack at (decimal w) other (decimal-digits w small_w))
     (and_true (not (46 == at)) (lacks at (decimal b)) point (digits-lack at (decimal b) other (decimal-digits b small_b)))
 
--- without signs a text is one part
+-- a text without signs is one part
 parts_after-plain : (m : Bool) (text : List ℕ) → lacks 43 text ≡ true → lacks 45 text ≡ true → parts_after m text ≡ (m, text) ∷ []
 parts_after-plain m [] plus minus = refl
 parts_after-plain m (c ∷ cs) plus minus =
@@ -59,7 +60,7 @@ parts-plain (c ∷ cs) plus minus =
     ap (λ x. step x (c == 45)) (unequal (c == 43) p.0)
     ∙ (ap (λ y. step false y) (unequal (c == 45) q.0) ∙ parts_after-plain false (c ∷ cs) plus minus)
 
--- what begins with a digit is no name
+-- a text that begins with a digit is not a name
 no_letter : (c : ℕ) → is_ascii_digit c ≡ true → is_ascii_uppercase c ≡ false
 no_letter c digit = grind (arith, nat_tests)
 
@@ -78,7 +79,7 @@ no_system_word (c ∷ cs) rest digits =
     let first = (both (is_ascii_digit c) (list_all is_ascii_digit cs) digits.each).0 in
     ap (λ b. b && is_filled (cs ++ rest) && list_all is_name_byte (cs ++ rest) && nat_le (length (cs ++ rest)) 7) (no_dollar c first)
 
--- a text is cut at a byte that it has once
+-- a text is split at a byte that it contains once
 pub parted-once : (at : ℕ) (ahead back : List ℕ) → lacks at ahead ≡ true → pieces_of at (ahead ++ at ∷ back) ≡ ahead ∷ pieces_of at back
 parted-once at [] back lack =
     let same : (at == at) ≡ true = grind (arith, nat_tests) in
@@ -88,7 +89,7 @@ parted-once at (c ∷ cs) back lack =
     ap (λ b. if b then [] ∷ pieces_of at (cs ++ at ∷ back) else onto_first c (pieces_of at (cs ++ at ∷ back))) (unequal (c == at) tests.0)
     ∙ ap (λ (ps : List (List ℕ)). onto_first c ps) (parted-once at cs back tests.1)
 
--- a place is read as its word and its bit
+-- the text of a word and a bit is read as that word and that bit
 place-pieces : (w b : ℕ) → w ≤ 262143 → b ≤ 63 → place_reading (pieces_of 46 (place_text w b)) ≡ bit_reading (Good w) (Good b)
 place-pieces w b fits_w fits_b =
     let ds = decimal-digits w (omega arith) in
@@ -130,7 +131,7 @@ place-expression w b fits_w fits_b =
     ap (λ (part : List ℕ). reading_without_index part (expr_of (field_front text))) nothing
     ∙ (ap (λ (t : List ℕ). expr_of t) whole ∙ place-expr w b fits_w fits_b)
 
--- the one field of a card
+-- the single field of a card with an address
 place-field : (w b : ℕ) → w ≤ 262143 → b ≤ 63 →
     expression_alone (fields_of (44 ∷ place_text w b)) ≡ Ok (number_expr (64 * w + b))
 unfolding expression_alone fields_of
@@ -139,7 +140,7 @@ place-field w b fits_w fits_b =
     (lacks-parted 44 (place_text w b) (place-lacks 44 w b (low_other 44 (omega arith)) refl (omega arith) (omega arith)))
     ∙ place-expression w b fits_w fits_b
 
--- an operation without description and progressive form
+-- the form of an operation without description and progressive form
 plain-progressed : (op : Operation) (text : List ℕ) → form_with_progress op default_form (44 ∷ text) ≡ Some default_form
 unfolding form_with_progress group_length form_number may_have_form
 plain-progressed op text = ap (λ b. if b then Some default_form else None) (is_behind_groups-comma text)
@@ -177,7 +178,7 @@ end-fields : (w b : ℕ) → w ≤ 262143 → b ≤ 63 →
 unfolding with_fields
 end-fields w b fits_w fits_b = ap (λ r. reading_map (λ at. End at) r) (place-field w b fits_w fits_b)
 
--- the card that sets the location, and the one that ends a program
+-- the card that sets the location counter, and the one that ends a program
 pub set-read : (w b : ℕ) → w ≤ 262143 → b ≤ 63 →
     statement_of [] (codes "SLC," ++ decimal w ++ codes "." ++ decimal b) ≡ Ok (SetLocation (number_expr (64 * w + b)))
 set-read w b fits_w fits_b =

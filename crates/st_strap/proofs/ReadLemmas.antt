@@ -1,4 +1,4 @@
--- What holds of what was read, through the steps of a reading.
+-- Properties of a reading that follow from the properties of its steps.
 use Rattle.std.proofs.Common.{◌≡◌, Bool, true, false, cond, List, [], ◌∷◌, Option, Some, None, Result, Ok, Err, refl, ℕ}
 use Rattle.std.proofs.lemmas.Bool.{and_parts as both-true}
 use Rattle.std.specs.List.{list_all}
@@ -8,7 +8,7 @@ use Rattle.st_text.specs.Tables.{is_same, row_of}
 use Rattle.st_card.specs.declared.faults.Fault.{Fault}
 use Rattle.st_strap.specs.Order.{both_of, reading_map, next_reading}
 
--- what is there has a property
+-- a property of the optional value leads to one of the next reading
 pub some-judged : {A B : Type 0} (Q : A → Type 0) (P : B → Type 0) (fault : Fault) (o : Option A) (next : A → Result B Fault) →
     IfSome o Q → ((a : A) → o ≡ Some a → Q a → IfOk (next a) P) → IfOk (next_reading fault o next) P
 some-judged Q P fault None next q h = tt
@@ -26,7 +26,7 @@ ok-both P Q (Ok a) (Err f) p q = tt
 ok-both P Q (Err e) (Ok b) p q = tt
 ok-both P Q (Err e) (Err f) p q = tt
 
--- whatever was read
+-- every good reading satisfies the trivial property
 pub ok-any : {A : Type 0} (r : Result A Fault) → IfOk r (λ _. Unit {0})
 ok-any (Ok a) = tt
 ok-any (Err e) = tt

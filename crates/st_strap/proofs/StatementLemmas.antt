@@ -1,4 +1,4 @@
--- A statement that was read has parts that fit their places.
+-- The parts of a statement that was read fit in their fields of an instruction.
 use Rattle.std.proofs.Common.{◌≡◌, ◌≤◌, ◌<◌, ◌+◌, ◌-◌, ◌==◌, ◌&&◌, ◌||◌, ℕ, Bool, true, false, not, nat_lt, nat_le, List, [], ◌∷◌, length, take, Option, Some, None, Result, Ok, Err, refl, subst, lit<, lit≤, arith, if◌then◌else◌}
 use Rattle.std.proofs.lemmas.Bool.{and_parts as both-true, not-true as not_false}
 use Rattle.std.specs.Bool.{IsFalse}
@@ -40,7 +40,7 @@ use Rattle.st_strap.proofs.ReadLemmas.{some-judged, ok-mapped, ok-both, ok-any, 
 
 -- ---- operations
 
--- what an operation says by its word alone
+-- the bounds of an operation's own parts
 abbrev fits_word : Operation → Bool
 fits_word (ConnectOperation kind truth) = nat_lt truth 16
 fits_word (BitBranchOperation sense change) = nat_lt change 4
@@ -171,7 +171,7 @@ description-is (c ∷ cs) =
       | false ↦ tt
     ]
 
--- what an operation and its form keep: before a progressive form is put in, and with it
+-- the bounds of an operation and its form, before and after a progressive form is added
 abbrev Suits : Operation → Form → Type 0
 Suits (VflOperation op negated) form = IsNumberForm form
 Suits (ConnectOperation kind truth) form = IsForm form × (truth < 16)
@@ -216,7 +216,7 @@ floating-suits : (unnormalized : Bool) (n : ℕ) → n < 8 → Suits (FloatingOp
 floating-suits true n below = omega arith
 floating-suits false n below = omega arith
 
--- an operation and a form, of which the form has no progressive form
+-- the bounds of an operation and of its form, which has no progressive form
 abbrev IsDescribed : Operation × Form → Type 0
 IsDescribed p = Suits p.0 p.1 × (p.1.p ≡ 0)
 
@@ -250,7 +250,7 @@ form-below (c ∷ cs) =
     below_eight (Some n) h = grind (arith, h)
     below_eight None h = tt
 
--- what the progressive form keeps: an operand in the address is not written and has at most 24 bits
+-- the rule of the immediate form: the field is not written and has at most 24 bits
 abbrev MayProgress : Bool → Form → Type 0
 MayProgress writing form = form.p ≡ 1 → (writing ≡ false) × (form.length ≤ 24)
 
@@ -325,7 +325,7 @@ index-is : (field : List ℕ) → IfOk (index_field field) (λ j. j < 16)
 unfolding index_field
 index-is field = some-ok (λ j. j < 16) (row_of field index_fields) BadIndex (index_below field)
 
--- an index part that stands where one must is that of an index word
+-- an index part is below 16, and where one is required it is that of an index word
 abbrev IsIndex : Bool → ℕ → Type 0
 IsIndex must i = (i < 16) × (must ≡ true → 1 ≤ i)
 
@@ -362,7 +362,7 @@ spot_alone-is (place ∷ []) = only (spot false place) (spot-is false place)
     only (Err e) h = tt
 spot_alone-is (place ∷ second ∷ more) = tt
 
--- an address joined with something
+-- the address in a pair of readings is within its bounds
 spot-with : {A : Type 0} (place : List ℕ) (other : Result A Fault) → IfOk (both_of (spot false place) other) (λ p. IsSpot p.0)
 spot-with place other = only (spot false place) other (spot-is false place)
   where
@@ -428,7 +428,7 @@ two_and_number-is (place ∷ more) = spot-with place (address_and_number more)
 
 -- ---- statements
 
--- the progressive form is not misused
+-- the progressive form is allowed
 not_misused : (writing : Bool) (form : Form) (i : ℕ) → MayProgress writing form → IsIndex (nat_le 2 form.p) i →
     IsFalse (misuses_p writing form.p form.length i)
 not_misused writing form i may is =
@@ -553,7 +553,7 @@ named_or name text s false misnamed filled e =
     (either_false (is_filled name && not (is_name name))
     (option_map_or (misnames (is_filled name)) (operation_of_word (operation_text (statement_text text))) false) misnamed)
 
--- the name of a card that was read is none or a good one
+-- the name of a card that was read is valid, if there is one
 pub read-named : (name text : List ℕ) (s : Statement) → statement_of name text ≡ Ok s → is_filled name ≡ true →
     is_name name ≡ true
 unfolding clean_statement_of

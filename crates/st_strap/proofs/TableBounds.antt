@@ -1,4 +1,4 @@
--- What the rows of a table have in common.
+-- Properties that all rows of a table share.
 use Rattle.std.proofs.Common.{◌≡◌, ◌<◌, ℕ, List, [], ◌∷◌, true, false, cond, Option, Some, None, Result, subst, sym, lit<}
 use Rattle.std.specs.Option.{IfSome, ok_or}
 use Rattle.std.specs.Result.{IfOk}
@@ -11,7 +11,7 @@ abbrev pub AllBelow : ℕ → List (List ℕ × ℕ) → Type 0
 AllBelow most [] = Unit {0}
 AllBelow most (row ∷ rows) = (row.1 < most) × AllBelow most rows
 
--- so is the value that is found
+-- the value of the row that is found is below the bound
 pub found_below : (most : ℕ) (word : List ℕ) (rows : List (List ℕ × ℕ)) → AllBelow most rows →
     IfSome (row_of word rows) (λ n. n < most)
 found_below most word [] all = tt
@@ -50,7 +50,7 @@ index_below field = found_below 16 field index_fields (
   ),
 )
 
--- so a reading that is one of its rows
+-- a reading that is a row of the index fields is below 16
 pub reading_below : (field : List ℕ) (fault : Fault) (row : Option ℕ) (answer : Result ℕ Fault) → row ≡ row_of field index_fields →
     answer ≡ ok_or row fault → IfOk answer (λ j. j < 16)
 reading_below field fault row answer is_row is_answer =

@@ -16,7 +16,7 @@ entries-init g c =
     c.new-account.ensures.enabled c.new-account.ensures.below c.new-account.ensures.log c.new-account.ensures.tight c.new-account.ensures.unused c.new-account.ensures.waiting
     c.new-account.ensures.unwaited)
 
--- ---- what is asked of the calls
+-- ---- preconditions of the calls
 
 pub finish-written-requires-clause-few : goal.finish-written-requires-clause-few
 finish-written-requires-clause-few g c = omega (arith, few-then _ _ _ _ _ _ _ _ _ _ _ c.entries.invariant c.pass.new.self c.pass.new.coming.signals c.pass.new.coming.cards c.pass.ensures.rest (c.pass.ensures.came c.entries.invariant.b c.entries.invariant.m c.entries.invariant.at))
@@ -57,7 +57,7 @@ finish-written-requires-clause-waiting g c = waiting-then _ _ _ _ _ _ _ _ _ _ _ 
 pub cross-requires-clause-waiting : goal.cross-requires-clause-waiting
 cross-requires-clause-waiting g c = waiting-then _ _ _ _ _ _ _ _ _ _ _ c.entries.invariant c.pass.new.self c.pass.new.coming.signals c.pass.new.coming.cards c.pass.ensures.rest (c.pass.ensures.came c.entries.invariant.b c.entries.invariant.m c.entries.invariant.at)
 
--- ---- it goes on
+-- ---- the run continues
 
 pub returns-in_err-cross-clause-lines : goal.returns-in_err-cross-clause-lines
 returns-in_err-cross-clause-lines g c =

@@ -20,7 +20,7 @@ returns-in_default-clause-printed c =
     ∙ none-printed (interlude before).happened
     (subst (λ ws. ArePrinted ws (interlude before).happened) c.in_default.is (c.between-came.ensures.told (settled-one before)))
 
--- ---- where nothing comes
+-- ---- no event comes
 
 pub returns-then-still-clause-came : goal.returns-then-still-clause-came
 returns-then-still-clause-came c =

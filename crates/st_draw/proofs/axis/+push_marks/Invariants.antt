@@ -1,4 +1,4 @@
--- One turn fewer is left at each call.
+-- Termination: one round fewer remains at each call.
 use Rattle.st_draw.proofs.axis.+push_marks.Given as goal
 
 abbrev pub decreases-push_marks : goal.decreases-push_marks

@@ -1,4 +1,4 @@
--- One turn fewer is left at each call.
+-- Termination: one round fewer remains at each call.
 use Rattle.st_draw.proofs.axis.+step_from.Given as goal
 
 abbrev pub decreases-step_from : goal.decreases-step_from

@@ -1,4 +1,4 @@
--- The entries that are left decide with those before them.
+-- Loop invariant: the highest tick so far, with those of the remaining entries, is the result.
 use Rattle.std.proofs.Common.{◌≡◌, max, length}
 use Rattle.st_draw.specs.Axis.{highest_tick}
 use Rattle.st_draw.proofs.axis.highest.Given as goal

@@ -1,4 +1,4 @@
--- The entries that are left decide with those before them.
+-- Loop invariant: the lowest tick so far, with those of the remaining entries, is the result.
 use Rattle.std.proofs.Common.{◌≡◌, ◌≤◌, ◌-◌, ◌^◌, min, length}
 use Rattle.st_draw.specs.Axis.{lowest_tick}
 use Rattle.st_draw.proofs.axis.lowest.Given as goal

@@ -1,4 +1,4 @@
--- The rows that are left go behind those that stand.
+-- Loop invariant: the output so far, followed by the remaining rows, is the result.
 use Rattle.std.proofs.Common.{◌≡◌, ◌+◌, ◌*◌, ◌++◌, length}
 use Rattle.st_draw.specs.Drawing.{rows_elements}
 use Rattle.st_draw.specs.Element.{elements_text}

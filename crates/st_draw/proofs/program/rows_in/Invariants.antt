@@ -1,4 +1,5 @@
--- The rows counted so far and those that are left; no more were counted than entries are past.
+-- Loop invariant: the count so far plus the rows among the remaining entries is the result; the
+-- count is at most the number of entries so far.
 use Rattle.std.proofs.Common.{◌≡◌, ◌≤◌, ◌+◌, length}
 use Rattle.st_draw.specs.Answers.{rows_in}
 use Rattle.st_draw.proofs.program.rows_in.Given as goal

@@ -1,4 +1,4 @@
--- The lines that are left go behind those that stand.
+-- Loop invariant: the output so far, followed by the lines of the remaining entries, is the result.
 use Rattle.std.proofs.Common.{◌≡◌, ◌++◌, length}
 use Rattle.st_draw.specs.Terminal.{entry_lines}
 use Rattle.st_draw.proofs.terminal.push_entries.Given as goal

@@ -1,4 +1,4 @@
--- So many bytes stand behind the others as turns are done.
+-- Loop invariant: one byte has been appended in each round.
 use Rattle.std.proofs.Common.{◌≡◌, ◌++◌, replicate}
 use Rattle.st_draw.proofs.terminal.push_many.Given as goal
 

@@ -1,4 +1,4 @@
--- The round ticks that are left go behind the line as it stands.
+-- Loop invariant: the line so far, followed by the remaining marked ticks, is the result.
 use Rattle.std.proofs.Common.{◌≡◌, length}
 use Rattle.st_draw.specs.Terminal.{scale}
 use Rattle.st_draw.proofs.terminal.push_scale.Given as goal

@@ -1,4 +1,4 @@
--- The entries that are left decide with those before them.
+-- Loop invariant: the width so far, with that of the remaining entries, is the result.
 use Rattle.std.proofs.Common.{◌≡◌, ◌≤◌, max, length}
 use Rattle.st_entries.specs.Caption.{widest}
 use Rattle.st_entries.proofs.caption.widest.Given as goal

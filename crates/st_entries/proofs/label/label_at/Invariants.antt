@@ -1,4 +1,4 @@
--- The card is found in the lines that are left.
+-- Loop invariant: the card is found among the remaining lines.
 use Rattle.std.proofs.Common.{◌≡◌, length}
 use Rattle.st_text.specs.Pieces.{pieces_of}
 use Rattle.st_entries.specs.Label.{label_card}

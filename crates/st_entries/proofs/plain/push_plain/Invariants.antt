@@ -1,4 +1,4 @@
--- The bytes that are left go behind those that stand.
+-- Loop invariant: the output so far, followed by the remaining bytes, is the result.
 use Rattle.std.proofs.Common.{◌≡◌, ◌++◌, length}
 use Rattle.st_entries.specs.Plain.{plain_text}
 use Rattle.st_entries.proofs.plain.push_plain.Given as goal

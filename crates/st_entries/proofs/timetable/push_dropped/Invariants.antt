@@ -1,4 +1,5 @@
--- What is left of the dropped entries goes behind the others, its last one first.
+-- Loop invariant: the entries so far, followed by the remaining dropped entries, last one first,
+-- are the result.
 use Rattle.std.proofs.Common.{◌≡◌, ◌++◌, length, reverse}
 use Rattle.st_entries.proofs.timetable.push_dropped.Given as goal
 

@@ -1,4 +1,4 @@
--- What the lines that are left tell from here is what all lines tell from the start.
+-- Loop invariant: the timetable so far, with the remaining lines, is the timetable of all lines.
 use Rattle.std.proofs.Common.{◌≡◌, length}
 use Rattle.st_text.specs.Pieces.{pieces_of}
 use Rattle.st_entries.specs.Timetable.{after_lines, timetable_of}

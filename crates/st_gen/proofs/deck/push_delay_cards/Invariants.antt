@@ -1,4 +1,4 @@
--- As many delays are drawn and appended as rounds are done.
+-- Loop invariant: one delay is drawn and appended in each round.
 use Rattle.std.proofs.Common.{◌≡◌, ◌++◌}
 use Rattle.st_gen.specs.Deck.{number_after, delay_cards}
 use Rattle.st_gen.proofs.deck.push_delay_cards.Given as goal

@@ -1,4 +1,4 @@
--- As many cards are drawn and appended as rounds are done.
+-- Loop invariant: one card is drawn and appended in each round.
 use Rattle.std.proofs.Common.{◌≡◌, ◌++◌}
 use Rattle.st_gen.specs.Deck.{after_cards, drawn_cards}
 use Rattle.st_gen.proofs.deck.push_drawn_cards.Given as goal

@@ -1,4 +1,4 @@
--- The lines of the moments that are left go behind those that stand.
+-- Loop invariant: the output so far, followed by the lines of the remaining moments, is the result.
 use Rattle.std.proofs.Common.{◌≡◌, ◌++◌, length}
 use Rattle.st_kanata.specs.Log.{moments_lines}
 use Rattle.st_kanata.proofs.log.push_moments.Given as goal

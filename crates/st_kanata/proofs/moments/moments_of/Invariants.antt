@@ -1,4 +1,5 @@
--- What happens to the entries that are left goes behind what stands; as many are numbered as are past.
+-- Loop invariant: the events so far, followed by those of the remaining entries, are the result;
+-- the number is the count of entries so far.
 use Rattle.std.proofs.Common.{◌≡◌, ◌++◌, ◌+◌, length}
 use Rattle.st_kanata.specs.Moments.{moments}
 use Rattle.st_kanata.proofs.moments.moments_of.Given as goal

@@ -1,4 +1,4 @@
--- How the search ends.
+-- Termination of the search.
 use Rattle.std.proofs.Common.{length}
 use Rattle.st_reasons.proofs.because.+first_done.Given as goal
 
