@@ -43,6 +43,7 @@ product_summed a f h p =
     in_accumulator (with_number a (n.mag % 2 ^ 128) n.negative) (n.mag % 2 ^ 128)
     (flag_indicators f.flags + lost_carry (exceeds p 128 || exceeds n.mag 128))
 
+-- the result of *+ with the factor register ft
 unfoldable pub product_added : Acc → Field → Shape → ℕ → Done
 product_added a f h ft = product_summed a f h (ft * f.mag * 2 ^ h.offset)
 
@@ -71,6 +72,7 @@ conversion_result f h = converted_number f h (f.mag * 10 ^ (h.offset / 4))
 
 -- ---- the base
 
+-- the base-2 parts of a result, for given inputs
 abbrev pub base : Taken → InBase
 base t = record {
   whole = t.acc.mag;

@@ -22,6 +22,7 @@ digit_count h = magnitude_bits h / h.byte
 abbrev pub digit_bytes : Field → Shape → List ℕ
 digit_bytes f h = bytes h.byte (digit_count h) f.mag
 
+-- the codes of a field's digits, the digit in place 0 first
 abbrev pub codes : Field → Shape → List ℕ
 codes f h = map (λ d. d % 16) (digit_bytes f h)
 
@@ -47,6 +48,7 @@ last_digit_place h = h.offset / 4
 abbrev pub acc_codes : Acc → List ℕ
 acc_codes a = bytes 4 32 a.mag
 
+-- the codes of the accumulator from the digit place
 abbrev pub codes_from_place : Acc → Shape → List ℕ
 codes_from_place a h = drop (last_digit_place h) (acc_codes a)
 
@@ -67,6 +69,7 @@ codes_at_place f h = replicate (last_digit_place h) 0 ++ codes f h
 abbrev pub codes_kept : Field → Shape → List ℕ
 codes_kept f h = take 32 (codes_at_place f h)
 
+-- the codes of the aligned operand beyond the 32nd digit, which are lost
 abbrev pub codes_lost : Field → Shape → List ℕ
 codes_lost f h = drop 32 (codes_at_place f h)
 

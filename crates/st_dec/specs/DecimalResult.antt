@@ -56,6 +56,7 @@ abbrev pub stored_magnitude : Acc → Shape → ℕ
 stored_magnitude a h = number_of_bytes h.byte (codes_with_zones (zone_of a.sb % 2 ^ (h.byte - 4))
     (field_codes a h))
 
+-- the accumulator from the digit place as ST stores it in the field
 abbrev pub field_of_digits : Taken → Kept
 field_of_digits t = digits_in_field t.field t.shape (stored_magnitude t.acc t.shape)
     (any_code (codes_left_out t.acc t.shape))
@@ -76,6 +77,7 @@ binary_value f h = load_result (aligned_operand f h (number_cut 128
 
 -- ---- the base
 
+-- the base-10 parts of a result, for given inputs
 abbrev pub base : Taken → InBase
 base t = record {
   whole = codes_value (acc_codes t.acc);

@@ -42,6 +42,7 @@ target (BitBranch sense change address i second) following = second
 target (IndBranch sense off address i second) following = second
 target _ following = following
 
+-- the program counter after an entry that is not suppressed, with t the state before its effect
 abbrev pub counter : Prepared → Machine → ℕ
 counter p t = if is_taken p.instr p.e t then target p.instr p.following else p.following
 
@@ -75,6 +76,8 @@ unfoldable pub guessed_state : Prepared → Machine → Machine
 guessed_state p s = if p.serial then state_after_completion p s
     else record (state_after_completion p s) { ic = p.following }
 
+-- the predicted state after the next entry of a state, or after the table instruction of an
+-- interrupt
 abbrev pub guess : Option ℕ → Machine → Machine
 guess table s = guessed_state (plan s table) s
 

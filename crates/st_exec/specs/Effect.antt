@@ -78,6 +78,7 @@ effect_of (StoreCounter address i second) e v t = Put (32 * (e / 32)) 19 v
 effect_of (Transfer write address i count) e v t = order_effect write e count t.done
 effect_of (Invalid first second full) e v t = Rest
 
+-- the effect of a prepared entry in state t
 abbrev pub effect : Prepared → Machine → Effect
 effect p t = effect_of p.instr p.e p.value t
 
@@ -102,6 +103,7 @@ abbrev pub order_standing : Bool → Machine → Option Order
 order_standing false t = t.reader
 order_standing true t = t.printer
 
+-- the state with this order of the printer if the Boolean is true, of the reader otherwise
 abbrev pub machine_with_order : Bool → Order → Machine → Machine
 machine_with_order false order t = record t { reader = Some order }
 machine_with_order true order t = record t { printer = Some order }
@@ -113,6 +115,7 @@ state_with_order write order t =
     if is_some (order_standing write t) then state_with_signal t CHANNEL_BUSY_REJECT
     else machine_with_order write order t
 
+-- the state after an effect
 unfoldable pub carried_out : Effect → Machine → Machine
 carried_out Rest t = t
 carried_out (Put a n v) t = state_with_bits t a (bits n v)
@@ -138,6 +141,7 @@ pub record AreRuns (from to n : ℕ) : Type 0 where
   pub from_inside : from + n ≤ words_of_storage
   pub to_inside : to + n ≤ words_of_storage
 
+-- an effect whose addresses lie in storage and whose numbers are in range
 abbrev pub CanBeDone : Effect → Type 0
 CanBeDone Rest = Unit {0}
 CanBeDone (Put a n v) = IsField a n v

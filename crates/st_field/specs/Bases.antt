@@ -66,6 +66,7 @@ accumulator_number b t = number_in t.acc b.whole
 abbrev pub operand_in_base : InBase → Taken → Signed
 operand_in_base b t = operand_of t.field t.shape b.value
 
+-- the operand shifted to its place in the accumulator
 abbrev pub aligned_in_base : InBase → Taken → Aligned
 aligned_in_base b t = aligned_of t.field t.shape b.at_place
 
@@ -73,6 +74,7 @@ aligned_in_base b t = aligned_of t.field t.shape b.at_place
 abbrev pub field_number : InBase → Taken → Signed
 field_number b t = number_of_field t.field b.value
 
+-- the number that is added to the field: the accumulator from the offset
 abbrev pub addend : InBase → Taken → Signed
 addend b t = addend_of t.acc t.shape b.part
 

@@ -21,9 +21,11 @@ magnitude_bits h = if h.unsigned then h.length else h.length - h.byte
 abbrev pub zone_of : ℕ → ℕ
 zone_of s = s / 16
 
+-- whether the sign in a sign byte is minus
 abbrev pub sign_of : ℕ → Bool
 sign_of s = s / 8 % 2 == 1
 
+-- the flags T, U and V of a sign byte
 abbrev pub flags_of : ℕ → ℕ
 flags_of s = s % 8
 

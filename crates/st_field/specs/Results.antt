@@ -22,6 +22,7 @@ is_minus a = sign_of a.sb
 abbrev pub number_in : Acc → ℕ → Signed
 number_in a m = record { negative = is_minus a; mag = m }
 
+-- the signed number with the magnitude m and the sign of a field
 abbrev pub number_of_field : Field → ℕ → Signed
 number_of_field f m = record { negative = f.negative; mag = m }
 
@@ -29,6 +30,8 @@ number_of_field f m = record { negative = f.negative; mag = m }
 abbrev pub signed_operand : Field → Shape → ℕ → Signed
 signed_operand f h m = record { negative = exactly_one f.negative h.negated; mag = m }
 
+-- the number that is added to a field: the magnitude m with the sign of the accumulator, inverted
+-- if the operation is negated
 abbrev pub addend_from : Acc → Shape → ℕ → Signed
 addend_from a h m = record { negative = exactly_one (is_minus a) h.negated; mag = m }
 
@@ -99,5 +102,6 @@ operand_kept a n on = done_with a (by_number false n.negative n.mag on)
 abbrev pub transit_loaded : Acc → Signed → ℕ → ℕ → Done
 transit_loaded a n x on = record (operand_kept a n on) { tr = Some x }
 
+-- the result of LFT: the bits x of the field are loaded into the factor register
 abbrev pub factor_loaded : Acc → Signed → ℕ → ℕ → Done
 factor_loaded a n x on = record (operand_kept a n on) { ft = Some x }

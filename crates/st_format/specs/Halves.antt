@@ -25,9 +25,12 @@ i_of first = half_word_part first 28 4
 unfoldable pub address_of : ℕ → ℕ
 address_of first = half_word_part first 0 19
 
+-- the J field: the index word that a half-word instruction works on, or its operation within a
+-- group
 unfoldable pub j_of : ℕ → ℕ
 j_of first = half_word_part first 19 4
 
+-- the operation number of a half-word instruction
 unfoldable pub operation_of : ℕ → ℕ
 operation_of first = half_word_part first 23 5
 
@@ -35,6 +38,7 @@ operation_of first = half_word_part first 23 5
 unfoldable pub bit_address_of : ℕ → ℕ
 bit_address_of first = half_word_part first 0 24
 
+-- the second address of a full-word instruction, a half-word address
 unfoldable pub second_address_of : ℕ → ℕ
 second_address_of second = later second 32 19
 
@@ -46,12 +50,15 @@ p_of second = later second 32 3
 abbrev pub or_greatest : ℕ → ℕ → ℕ
 or_greatest greatest n = if n == 0 then greatest else n
 
+-- the length of a field in bits, 1 to 64; the bits have 0 for 64
 unfoldable pub length_of : ℕ → ℕ
 length_of second = or_greatest 64 (later second 35 6)
 
+-- the byte size of a field in bits, 1 to 8; the bits have 0 for 8
 unfoldable pub byte_of : ℕ → ℕ
 byte_of second = or_greatest 8 (later second 41 3)
 
+-- the offset of a field in the accumulator
 unfoldable pub offset_of : ℕ → ℕ
 offset_of second = later second 44 7
 
@@ -59,6 +66,7 @@ offset_of second = later second 44 7
 unfoldable pub k_of : ℕ → ℕ
 k_of second = later second 60 4
 
+-- the word count of a transmission, 1 to 16; the bits have 0 for 16
 unfoldable pub words_moved : ℕ → ℕ
 words_moved second = or_greatest 16 (k_of second)
 

@@ -36,6 +36,7 @@ abbrev pub misfits : Bool → Bool → ℕ → ℕ → Bool
 misfits decimal unsigned length byte =
     (decimal && (nat_lt byte 4 || not (length % byte == 0))) || (not unsigned && nat_lt length byte)
 
+-- whether the field of an operation on a field has a wrong size; false for other operations
 abbrev pub has_misfit : FullOp → ℕ → Bool
 has_misfit (Variable _) second =
     misfits (is_one second 52) (is_one second 53) (length_of second) (byte_of second)
@@ -46,6 +47,7 @@ has_misfit _ second = false
 abbrev pub misuses_p : Bool → ℕ → ℕ → ℕ → Bool
 misuses_p writes p length i = (p == 1 && (writes || nat_lt 24 length)) || (nat_le 2 p && i == 0)
 
+-- whether the progressive form of an operation on a field is wrong; false for other operations
 abbrev pub has_misused_p : FullOp → ℕ → ℕ → Bool
 has_misused_p (Variable op) first second =
     misuses_p (writes_field (Variable op)) (p_of second) (length_of second) (i_of first)
@@ -57,6 +59,7 @@ has_misused_p _ first second = false
 abbrev pub miscounts : ℕ → Bool
 miscounts count = count == 0 || nat_lt 1000 count
 
+-- whether the count of an order is out of range; false for other operations
 abbrev pub has_miscount : FullOp → ℕ → Bool
 has_miscount (Order _) second = miscounts (second_address_of second)
 has_miscount _ second = false

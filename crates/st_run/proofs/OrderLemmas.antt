@@ -30,7 +30,7 @@ rising-from t u (x ∷ xs) le is = elim (test-lt x u) [
   | inr late ↦ rw late.0 (late.1, is.1)
 ]
 
--- ---- events that lead from one tick to another: in order, and whatever comes from there on in order stands behind them in order
+-- ---- events from one tick to another: followed by any ordered events from there, they are ordered
 
 abbrev Leads : ℕ → ℕ → List Timed → Type 0
 Leads t u xs = (ys : List Timed) → AreEventsInOrder u ys → AreEventsInOrder t (xs ++ ys)

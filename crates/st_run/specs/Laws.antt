@@ -26,8 +26,8 @@ abbrev pub DelaysChangeNothingButTicks : Type 0
 DelaysChangeNothingButTicks = (ds es snaps shots : List ℕ) (n k left : ℕ) (c : Scene) →
     plain_run (timed_run ds n left c snaps) ≡ plain_run (timed_run es k left c shots)
 
--- An event occurs at most 64 times (the longest delay plus four) ticks after the start for each
--- completed instruction and one more. The end of the run has the same bound.
+-- The tick of each event is at most 64 times (the longest delay plus four) for each completed
+-- instruction and for one more. So is the last tick of the run.
 pub record RunsAreInTime : Type 0 where
   pub each : (ds snaps : List ℕ) (most n left : ℕ) (c : Scene) →
       AreDelaysUpTo most ds → n ≤ 8 → IsScene c →

@@ -168,8 +168,9 @@ pub record IsLeft (left : ℕ) (snaps : List ℕ) (tick : ℕ) (t : Together) : 
       (moment_of t) snaps))
 
 -- the events of the rows up to this one are skipped from the old list; the rows before it are added
--- to the queue as far as there is room. Here done instructions were completed before the first of
--- these rows, and after the last one at most as many as most, or it is the only one.
+-- to the queue as long as there is room. The argument done is the count of completed
+-- instructions before the first of these rows; after the last row the count is at most the argument
+-- most, unless it is the only row.
 pub record HasGoneFar (done most : ℕ) (row : Row) (old new : List TimedReportedEvent)
     (before after : Queue) : Type 0 where
   pub out : AreLeftOut row old new

@@ -32,6 +32,7 @@ is_protected bounds enabled w =
 abbrev pub address_invalid : ℕ
 address_invalid = ADDRESS_INVALID
 
+-- the indicator of each kind of access to a protected word
 abbrev pub protection_indicator : Access → ℕ
 protection_indicator Read = DATA_FETCH
 protection_indicator Write = DATA_STORE
