@@ -140,7 +140,7 @@ pub(crate) fn open_segment(last: &mut Last, banks: LastAnswers, dropped: u64)
     last.past = [Past::default(); 8];
 }
 
-/// Begins a segment with the next entry if the last one ends; otherwise the front is unchanged.
+/// Begins a segment with the next entry if the last segment ends; otherwise the front is unchanged.
 pub(crate) fn open_if(ends: bool, last: &mut Last, banks: LastAnswers, dropped: u64)
     requires dropped { dropped ≤ 8 }
     requires early { last.old.tick ≤ 2 ^ 62 }
