@@ -33,8 +33,8 @@ export function fieldText(field, words) {
 
 function wordsOf(first, length) {
   const words = [];
-  for (let word = Math.floor(first / WORD); word <= Math.floor((first + length - 1) / WORD);
-    word += 1) words.push(word);
+  const last = Math.floor((first + length - 1) / WORD);
+  for (let word = Math.floor(first / WORD); word <= last; word += 1) words.push(word);
   return words;
 }
 
@@ -51,8 +51,9 @@ export class Fields {
     const all = Array.from({ length: field.count }, (_, k) => ({ ...field, first: field.first + k * length,
       name: field.count > 1 ? `${field.name} (field ${k + 1})` : field.name }));
     this.byName.set(field.name, all);
-    for (const one of all) for (const word of wordsOf(one.first, length)) this.byWord.set(word,
-      [...(this.byWord.get(word) ?? []), one]);
+    for (const one of all) {
+      for (const word of wordsOf(one.first, length)) this.byWord.set(word, [...(this.byWord.get(word) ?? []), one]);
+    }
   }
 
   // The fields that lie in a word, or in a part of it.

@@ -6,6 +6,7 @@ import { bitsOf, charactersOf, formsOf, onIn, registerName, registerText } from 
 import { fieldText, fieldsOf } from './fields.js';
 
 const MOST_LINES = 2000;        // so many lines of a report are shown
+const MOST_TOGETHER = 8;
 const MOST_FIELDS = 400;
 const EVENT = /^(INT|END|BACK|SNAP|CARD) /;
 
@@ -71,13 +72,17 @@ function registersView({ registers, counter, enabled }, indicators, nameOf) {
 function fieldRow(field, words, before) {
   const word = (k) => words.get(k) ?? ZERO;
   const { length } = field.form;
-  const bits = bitsOf(word, field.first, length);
-  const changed = bits !== bitsOf((k) => before.get(k) ?? ZERO, field.first, length);
-  const hex = bits.toString(16).toUpperCase().padStart(Math.ceil(length / 4), '0');
-  const text = length % 8 ? '' : charactersOf(hex);
+  // Of a card DR with many fields the text is of all of them, up to a limit.
+  const places = Array.from({ length: Math.min(field.count, MOST_TOGETHER) }, (_, k) => field.first + k * length);
+  const hexOf = (words) => places.map((first) => bitsOf(words, first, length).toString(16).toUpperCase()
+    .padStart(Math.ceil(length / 4), '0'));
+  const bits = hexOf(word);
+  const changed = bits.join() !== hexOf((k) => before.get(k) ?? ZERO).join();
+  const hex = `${bits[0]}${bits.length > 1 ? ' …' : ''}`;
+  const text = length % 8 ? '' : bits.map(charactersOf).join('');
   return h('tr', { class: changed ? 'changed' : null }, h('th', { scope: 'row', class: 'code' }, field.name || '–'),
     h('td', { class: 'code' }, field.place), h('td', { class: 'code' }, field.statement),
-    h('td', {}, h('b', {}, fieldText(field, word))),
+    h('td', {}, h('b', {}, fieldText(field, word)), field.count > 1 ? ` (first of ${field.count})` : null),
     h('td', { class: 'code' }, hex), h('td', { class: 'code' }, /[A-Za-z0-9 ]{2}/.test(text) ? text : ''));
 }
 

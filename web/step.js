@@ -281,7 +281,7 @@ export class Stepper {
     if (kind === 'interrupt') return { ticks: data.interrupts.map((one) => one.tick),
       none: 'the run has no interrupt' };
     if (kind === 'card') {
-      const address = /^\d{1,6}\.(0|32)$/.test(what) ? what : this.on.addressOf?.(what);
+      const address = /^\d{1,6}\.(0|32)$/.test(what) ? what : this.on.addressOf?.(what) ?? addressOf(what, rows);
       if (address) return { ticks: rows.filter((row) => row.address === address).map((row) => row.c),
         none: `no instruction at ${address} is done` };
       if (!/^\d{1,7}$/.test(what)) return { none: 'the number of a card, its name or its address: 5, LOOP, 34.32' };
@@ -385,6 +385,15 @@ export class Stepper {
     this.on.levels?.(levels, run.next(t));
     for (const table of this.tables) table.later();
   }
+}
+
+// The address of the card that has a name, where it was done: the name stands before the statement.
+function addressOf(name, rows) {
+  const isNamed = ({ text }) => {
+    const [first, second] = (text ?? '').trim().split(/\s+/, 2);
+    return first === name && second !== undefined;
+  };
+  return rows.find(isNamed)?.address;
 }
 
 // What is the same in two runs, and what is not.
