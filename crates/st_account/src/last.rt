@@ -7,10 +7,10 @@ ghost use Rattle.st_rows.specs.Rows.{opening_front};
 
 use st_banks::LastAnswers;
 use st_lines::Origin;
-use st_plain::{Known, Uses, WaitedRow};
+use st_plain::{Known, WaitedRow};
 use st_prep::Prepared;
 use st_reasons::Because;
-use st_rows::{Front, LastEntries, Past};
+use st_rows::{Front, LastEntries, Past, Uses};
 
 /// What is told of an entry that has been done, besides how it was prepared.
 #[derive(Clone, Copy, Debug, Default, PartialEq, Eq)]

@@ -23,7 +23,9 @@ use st_prep::{
     Fetched, Fetching as Given, Needs, Place, Prepared, fetch_on, halves_known, is_execute_format,
     prepare_in, prepare_without_side, side_word,
 };
-use st_rows::{Bus, Entry, Fetching, Formed, Front, Log, Timing, Wanted, WordRun};
+use st_rows::{
+    Bus, Entry, Fetching, Formed, Front, Log, Nobody, TimedEntry, Timing, Wanted, WordRun,
+};
 use st_segment::{side_to_read, words_to_read, words_to_write};
 use st_state::State;
 
@@ -180,7 +182,7 @@ impl Next {
             delays,
             past: &front.past,
         };
-        self.words.word(log, &wanted, w);
+        self.words.word(log, &mut Nobody, &wanted, w);
         self.own = with_word(self.own, w);
     }
 
@@ -205,7 +207,7 @@ impl Next {
             delays,
             past: &front.past,
         };
-        self.words.word(log, &wanted, w);
+        self.words.word(log, &mut Nobody, &wanted, w);
         self.target = with_word(self.target, w);
     }
 
@@ -250,7 +252,11 @@ impl Next {
         if !self.prepare_own_before(due, basis, log) {
             return false;
         }
-        self.formed = front.form(&basis.timing, &self.entry, &mut self.words, log);
+        let next = TimedEntry {
+            entry: &self.entry,
+            timing: &basis.timing,
+        };
+        self.formed = front.form(&next, &mut self.words, log, &mut Nobody);
         self.planned = true;
         true
     }

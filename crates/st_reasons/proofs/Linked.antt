@@ -1,6 +1,6 @@
 -- Reads one behind the other. Words stand youngest first.
 use Rattle.std.specs.Prelude.{ℕ, ◌≡◌, ◌≤◌, ◌+◌, max, true, if◌then◌else◌, List, [], ◌∷◌}
-use Rattle.st_plain.specs.declared.uses.Use.{Use}
+use Rattle.st_rows.specs.declared.uses.Use.{Use}
 use Rattle.st_reasons.specs.Words.{is_read, read_of}
 
 -- ---- reads one behind the other, youngest first
