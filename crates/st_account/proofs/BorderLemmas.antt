@@ -12,7 +12,7 @@ use Rattle.st_run.specs.Moments.{Moment, next_state, has_card, has_waited, ends_
 use Rattle.st_run.proofs.DoneLemmas.{settled-done}
 use Rattle.st_plain.specs.declared.looking.Ahead.{Ahead}
 use Rattle.st_plain.specs.Looking.{seen_ahead}
-use Rattle.st_plain.specs.declared.uses.Use.{Use}
+use Rattle.st_rows.specs.declared.uses.Use.{Use}
 use Rattle.st_card.specs.declared.control_cards.Signal.{Signal}
 use Rattle.st_run.specs.Run.{Scene}
 use Rattle.st_account.specs.declared.account.Account.{Account}

@@ -23,7 +23,7 @@ use Rattle.st_ledger.specs.Totals.{AreWithin}
 use Rattle.st_ledger.proofs.Rows.{row-sum}
 use Rattle.st_plain.specs.Looking.{known_at, level_wait, side_at}
 use Rattle.st_plain.specs.Uses.{formed_uses, uses_of_entry}
-use Rattle.st_plain.specs.declared.uses.Use.{Use}
+use Rattle.st_rows.specs.declared.uses.Use.{Use}
 use Rattle.st_plain.specs.declared.known.Known.{Known}
 use Rattle.st_plain.specs.declared.rows.WaitedRow.{WaitedRow}
 use Rattle.st_account.specs.declared.last.Last.{Last}

@@ -31,7 +31,7 @@ use Rattle.std.proofs.lemmas.List.{length-append, length-map}
 use Rattle.st_prep.proofs.Choices.{of_choice}
 use Rattle.st_plain.specs.Looking.{seen_ahead}
 use Rattle.st_plain.specs.Uses.{formed_uses}
-use Rattle.st_plain.specs.declared.uses.Use.{Use}
+use Rattle.st_rows.specs.declared.uses.Use.{Use}
 use Rattle.st_reasons.specs.Reasons.{because}
 use Rattle.st_reasons.specs.declared.because.Because.{Because}
 use Rattle.st_plain.specs.declared.looking.Ahead.{Ahead as Seen}

@@ -17,7 +17,7 @@ use Rattle.st_ledger.specs.declared.totals.Totals.{Totals}
 use Rattle.st_ledger.specs.Charges.{ticks_for}
 use Rattle.st_ledger.specs.Ledger.{entries_from, charges_at, all_charges}
 use Rattle.st_ledger.specs.Totals.{sum_at, AreWithin}
-use Rattle.st_plain.specs.declared.uses.Use.{Use}
+use Rattle.st_rows.specs.declared.uses.Use.{Use}
 use Rattle.st_reasons.specs.Sums.{row_stalled}
 use Rattle.st_reasons.specs.declared.waits.Stall.{Stall}
 use Rattle.st_account.proofs.RunLemmas.{lines-end, lines-on, waits-end, waits-on, charges-end, charges-on}

@@ -19,7 +19,7 @@ use Rattle.st_ledger.specs.declared.charges.Stage.{Stage}
 use Rattle.st_ledger.specs.Charges.{ticks_for}
 use Rattle.st_ledger.specs.Ledger.{entries_from, charges_at, all_charges}
 use Rattle.st_ledger.proofs.Runs.{entries-none, entries-step, ticks_for-append}
-use Rattle.st_plain.specs.declared.uses.Use.{Use}
+use Rattle.st_rows.specs.declared.uses.Use.{Use}
 use Rattle.st_reasons.specs.Sums.{row_stalled}
 use Rattle.st_reasons.specs.declared.waits.Stall.{Stall}
 use Rattle.st_lines.specs.declared.origins.Origin.{Origin}

@@ -15,7 +15,7 @@ use Rattle.st_ledger.specs.Ledger.{charges_at}
 use Rattle.st_ledger.specs.declared.charges.Stage.{Stage}
 use Rattle.st_ledger.specs.declared.charges.Stage.TheVariants.{Restart, Instruction, Address, Index, Preparing, Operand, Executing}
 use Rattle.st_ledger.proofs.Rows.{row-sum}
-use Rattle.st_plain.specs.declared.uses.Use.{Use}
+use Rattle.st_rows.specs.declared.uses.Use.{Use}
 use Rattle.st_reasons.specs.Sums.{AreSharesWithin, AreWaitsWithin, share_at, waited_at, row_stalled}
 use Rattle.st_reasons.specs.Words.{IsReadInTime}
 use Rattle.st_reasons.specs.declared.sums.Shares.{Shares}

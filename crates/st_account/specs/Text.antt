@@ -20,7 +20,7 @@ use Rattle.st_ledger.specs.Totals.{stages, sums_by, sum_lines}
 use Rattle.st_plain.specs.declared.looking.Ahead.{Ahead}
 use Rattle.st_plain.specs.Looking.{known_at, level_wait, side_at, seen_ahead, first_late}
 use Rattle.st_plain.specs.Uses.{formed_uses, uses_of_entry}
-use Rattle.st_plain.specs.declared.uses.Use.{Use}
+use Rattle.st_rows.specs.declared.uses.Use.{Use}
 use Rattle.st_reasons.specs.Reasons.{because}
 use Rattle.st_reasons.specs.Sums.{row_stalled, wait_sums_by}
 use Rattle.st_reasons.specs.declared.waits.Stall.{Stall}

@@ -91,7 +91,6 @@ pub(crate) fn look_behind(
     let mut front = front_of(last);
     state.ic = last.ic;
     let reach = Reach {
-        past: &last.past,
         timing,
         more: timing.levels,
         tick,

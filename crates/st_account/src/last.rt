@@ -7,10 +7,10 @@ ghost use Rattle.st_rows.specs.Rows.{opening_front};
 
 use st_banks::LastAnswers;
 use st_lines::Origin;
-use st_plain::{Known, Uses, WaitedRow};
+use st_plain::{Known, WaitedRow};
 use st_prep::Prepared;
 use st_reasons::Because;
-use st_rows::{Front, LastEntries, Past};
+use st_rows::{Front, LastEntries, Past, Uses};
 
 /// The facts about a completed entry, except its preparation.
 #[derive(Clone, Copy, Debug, Default, PartialEq, Eq)]

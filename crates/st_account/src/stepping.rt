@@ -128,7 +128,6 @@ pub(crate) fn count_on(
     let next = NextEntry {
         plan: &last.plan,
         planned: &planned,
-        past: &last.past,
         timing,
     };
     begin(&mut begun, &last.front, &next, log, &mut last.uses);

@@ -7,7 +7,7 @@ use crate::lookahead::Lookahead;
 use st_banks::Delays;
 use st_next::Basis;
 use st_prep::{Place, Prepared};
-use st_rows::{FormedEntry, Timing};
+use st_rows::{FormedEntry, Nobody, Timing};
 use st_state::State;
 
 impl<const N: usize> Lookahead<N> {
@@ -122,11 +122,12 @@ impl<const N: usize> Lookahead<N> {
         let timing = Timing { delays, levels: N };
         let next = FormedEntry {
             entry: &self.next.entry,
+            timing: &timing,
             formed: self.next.formed,
         };
         let filled = self
             .front
-            .fill(&timing, &next, &mut self.next.words, &mut self.log);
+            .fill(&next, &mut self.next.words, &mut self.log, &mut Nobody);
         self.levels.push(&self.next.prepared, &self.front, &filled);
         self.front
             .pass(&self.next.entry, &filled.row, &self.next.words.bus);

@@ -18,7 +18,7 @@ use Rattle.st_segment.specs.Ahead.{reads_to_end}
 use Rattle.st_segment.specs.Entries.{entry}
 use Rattle.st_run.specs.Moments.{Moment, Standing, next_state, next_front, ends_segment, standing_at, next_row, next_moment, entry_of_moment}
 use Rattle.st_plain.specs.Looking.{side_at}
-use Rattle.st_plain.specs.declared.uses.Use.{Use}
+use Rattle.st_rows.specs.declared.uses.Use.{Use}
 use Rattle.st_reasons.specs.Served.{AreBankedBehind, busy_until}
 use Rattle.st_reasons.proofs.BankLemmas.{AreBanked, left-by, banked}
 use Rattle.st_reasons.proofs.WaitLaws.{reads_told_are_those_of_the_bus}

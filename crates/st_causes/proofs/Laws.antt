@@ -8,7 +8,7 @@ use Rattle.st_ledger.specs.Ledger.{charges_at}
 use Rattle.st_ledger.specs.declared.charges.Charge.{Charge}
 use Rattle.st_ledger.specs.declared.charges.Stage.{Stage}
 use Rattle.st_ledger.specs.declared.charges.Stage.TheVariants.{Restart, Instruction, Address, Index, Preparing, Operand, Executing}
-use Rattle.st_plain.specs.declared.uses.Use.{Use}
+use Rattle.st_rows.specs.declared.uses.Use.{Use}
 use Rattle.st_reasons.specs.Causes.{is_cause, IsTrueOf, FallTo}
 use Rattle.st_reasons.specs.Paths.{IsReason}
 use Rattle.st_reasons.specs.Served.{served, reads_told, AreBrought, IsWrittenBy}

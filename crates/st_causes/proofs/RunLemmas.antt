@@ -22,7 +22,7 @@ use Rattle.st_ledger.specs.Ledger.{entries_from, charges_at, all_charges}
 use Rattle.st_ledger.specs.declared.charges.Charge.{Charge}
 use Rattle.st_ledger.specs.declared.charges.Stage.{Stage}
 use Rattle.st_plain.specs.Looking.{side_at}
-use Rattle.st_plain.specs.declared.uses.Use.{Use}
+use Rattle.st_rows.specs.declared.uses.Use.{Use}
 use Rattle.st_reasons.specs.Served.{served, reads_told, AreBrought, IsWrittenBy}
 use Rattle.st_reasons.specs.Sums.{is_parted, row_stalled}
 use Rattle.st_reasons.specs.Waits.{charge_waits}

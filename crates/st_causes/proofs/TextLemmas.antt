@@ -18,7 +18,7 @@ use Rattle.st_plain.specs.Looking.{seen_ahead}
 use Rattle.st_plain.specs.declared.known.Code.{Code}
 use Rattle.st_plain.specs.declared.known.Known.{Known}
 use Rattle.st_plain.specs.declared.looking.Ahead.{Ahead}
-use Rattle.st_plain.specs.declared.uses.Use.{Use}
+use Rattle.st_rows.specs.declared.uses.Use.{Use}
 use Rattle.st_ledger.proofs.Runs.{entries-none, entries-step}
 use Rattle.st_ledger.specs.Charges.{all_ticks}
 use Rattle.st_ledger.specs.Ledger.{entries_from, charges_at, all_charges}

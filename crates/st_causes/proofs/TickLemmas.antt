@@ -13,8 +13,8 @@ use Rattle.st_ledger.specs.Charges.{charges, all_ticks, ticks_for}
 use Rattle.st_ledger.specs.Ledger.{charges_at}
 use Rattle.st_ledger.specs.declared.charges.Stage.TheVariants.{Executing}
 use Rattle.st_ledger.proofs.Laws.{charges_follow}
-use Rattle.st_plain.specs.declared.uses.ReadTicks.{ReadTicks}
-use Rattle.st_plain.specs.declared.uses.Use.{Use}
+use Rattle.st_rows.specs.declared.uses.ReadTicks.{ReadTicks}
+use Rattle.st_rows.specs.declared.uses.Use.{Use}
 use Rattle.st_reasons.specs.Causes.{has_cause, is_cause}
 use Rattle.st_reasons.specs.Words.{is_read, read_of}
 use Rattle.st_reasons.specs.declared.waits.Stall.{Stall}

@@ -7,7 +7,7 @@ use Rattle.st_run.specs.Moments.{Moment, Standing, moment_at_start, next_state, 
 use Rattle.st_ledger.specs.Ledger.{charges_at}
 use Rattle.st_ledger.specs.Lines.{row_stage_line}
 use Rattle.st_plain.specs.Looking.{level_wait}
-use Rattle.st_plain.specs.declared.uses.Use.{Use}
+use Rattle.st_rows.specs.declared.uses.Use.{Use}
 use Rattle.st_reasons.specs.Reasons.{because}
 use Rattle.st_reasons.specs.declared.because.Because.{Because}
 use Rattle.st_lines.specs.EntryLines.{level_lines}

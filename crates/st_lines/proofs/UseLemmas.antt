@@ -8,7 +8,7 @@ use Rattle.st_banks.specs.Bank.{bank_of}
 use Rattle.st_io.specs.Lines.{text}
 use Rattle.st_io.specs.Output.{OutputState, Wrote}
 use Rattle.st_io.proofs.Progress.{LinesSoFar, lines_whole}
-use Rattle.st_plain.specs.declared.uses.Use.{Use}
+use Rattle.st_rows.specs.declared.uses.Use.{Use}
 use Rattle.st_lines.specs.UseLines.{is_told, use_line, use_lines}
 
 -- fourteen pieces in front of a line, two at a time, the last ones first

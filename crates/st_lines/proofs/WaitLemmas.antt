@@ -7,7 +7,7 @@ use Rattle.st_io.specs.Output.{OutputState}
 use Rattle.st_io.specs.declared.Failed.{Failed}
 use Rattle.st_io.specs.Lines.{WritesLines}
 use Rattle.st_io.proofs.Progress.{lines_then, lines_cut, wrote_nothing}
-use Rattle.st_plain.specs.declared.uses.Use.{Use}
+use Rattle.st_rows.specs.declared.uses.Use.{Use}
 use Rattle.st_ledger.specs.declared.charges.Charge.{Charge}
 use Rattle.st_ledger.specs.declared.charges.StagePart.{StagePart}
 use Rattle.st_ledger.specs.declared.charges.Stage.{Stage}

@@ -8,7 +8,7 @@ use Rattle.st_prep.specs.declared.entries.Prepared.{Prepared}
 use Rattle.st_prep.specs.declared.entries.Words.{Words}
 use Rattle.st_plain.specs.declared.known.Code.{Code}
 use Rattle.st_plain.specs.declared.known.Known.{Known}
-use Rattle.st_plain.specs.declared.uses.Use.{Use}
+use Rattle.st_rows.specs.declared.uses.Use.{Use}
 use Rattle.st_ledger.specs.Charges.{parts_of_row, charges_behind}
 use Rattle.st_ledger.specs.Lines.{row_stage_line}
 use Rattle.st_ledger.specs.declared.charges.Charge.{Charge}

@@ -2,7 +2,7 @@
 use Rattle.std.specs.Prelude.{ℕ, ◌-◌, List, [], ◌∷◌, ◌++◌, nat_lt, if◌then◌else◌, codes, decimal}
 use Rattle.st_text.specs.Bytes.{lf}
 use Rattle.st_banks.specs.Bank.{bank_of}
-use Rattle.st_plain.specs.declared.uses.Use.{Use}
+use Rattle.st_rows.specs.declared.uses.Use.{Use}
 use Rattle.st_ledger.specs.Lines.{stage_name, charge_line}
 use Rattle.st_ledger.specs.declared.charges.Charge.{Charge}
 use Rattle.st_reasons.specs.Waits.{charge_waits}

@@ -4,7 +4,7 @@ use Rattle.std.specs.Prelude.{ℕ, ◌≡◌, ◌+◌, true, List}
 use Rattle.st_ledger.specs.Charges.{all_ticks}
 use Rattle.st_ledger.specs.declared.charges.Charge.{Charge}
 use Rattle.st_ledger.specs.declared.charges.Stage.{Stage}
-use Rattle.st_plain.specs.declared.uses.Use.{Use}
+use Rattle.st_rows.specs.declared.uses.Use.{Use}
 use Rattle.st_reasons.specs.Sums.{AreWaitsWithin, is_parted, waited_at, row_stalled}
 use Rattle.st_reasons.specs.Words.{AreWordsInTime}
 use Rattle.st_reasons.specs.declared.sums.WaitTotals.{WaitTotals}

@@ -16,10 +16,11 @@ use crate::waits::{RowTelling, write_because, write_charged};
 use st_bits::indicator;
 use st_io::{Failed, Sink, write_line};
 use st_ledger::write_row;
-use st_plain::{Code, Known, Use, WaitedRow};
+use st_plain::{Code, Known, WaitedRow};
 use st_prep::{IndexChange, Prepared, Words, has_register, is_register};
 use st_reasons::Because;
 use st_report::{LineFromEnd, put};
+use st_rows::Use;
 
 // Why a serialized entry is serialized.
 fn alone_for(table: Option<u8>, execute: bool, register: bool) -> Alone

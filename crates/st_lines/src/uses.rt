@@ -7,8 +7,8 @@ ghost use Rattle.st_lines.specs.UseLines.{role_text, is_before as is_before_of, 
 
 use st_banks::bank_of;
 use st_io::{Failed, Sink, write_line};
-use st_plain::{ReadTicks, Role, Supply, Use, Writer};
 use st_report::{KeptDigits, LineFromEnd};
+use st_rows::{ReadTicks, Role, Supply, Use, Writer};
 
 // Whether a tick is before the end of a segment; true if the segment continues.
 #[inline(always)]

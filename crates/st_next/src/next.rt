@@ -23,7 +23,9 @@ use st_prep::{
     Fetched, Fetching as Given, Needs, Place, Prepared, change_by_side, fetch_on, halves_known,
     is_execute_format, prepare_without_side, side_word,
 };
-use st_rows::{Bus, Entry, Fetching, Formed, Front, Log, Timing, Wanted, WordRun};
+use st_rows::{
+    Bus, Entry, Fetching, Formed, Front, Log, Nobody, TimedEntry, Timing, Wanted, WordRun,
+};
 use st_segment::{side_to_read, words_to_read, words_to_write};
 use st_state::State;
 use std::snapshot::Snapshot;
@@ -183,7 +185,7 @@ impl Next {
             delays,
             past: &front.past,
         };
-        self.words.word(log, &wanted, w);
+        self.words.word(log, &mut Nobody, &wanted, w);
         self.entry.own = with_word(self.entry.own, w);
     }
 
@@ -208,7 +210,7 @@ impl Next {
             delays,
             past: &front.past,
         };
-        self.words.word(log, &wanted, w);
+        self.words.word(log, &mut Nobody, &wanted, w);
         self.entry.target = with_word(self.entry.target, w);
     }
 
@@ -253,7 +255,11 @@ impl Next {
         if !self.prepare_own_before(due, basis, log) {
             return false;
         }
-        self.formed = front.form(&basis.timing, &self.entry, &mut self.words, log);
+        let next = TimedEntry {
+            entry: &self.entry,
+            timing: &basis.timing,
+        };
+        self.formed = front.form(&next, &mut self.words, log, &mut Nobody);
         self.planned = true;
         true
     }

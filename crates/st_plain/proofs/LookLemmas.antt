@@ -219,9 +219,3 @@ row-p ds n f e = refl
 pub after-c : (ds : List ℕ) (n : ℕ) (f : Front) (e : Entry) → (front_after_entry ds n f e).c ≡ tick_c ds n f e
 unfolding front_after_entry
 after-c ds n f e = refl
-
--- the last entries behind one more
-pub past-kept : (ds : List ℕ) (n : ℕ) (f : Front) (e : Entry) (r : EntryTicks) (old new : List Past) (g : Front) → old ≡ f.past → r ≡ row_of_entry ds n f e
-    → new ≡ record { c = r.c; writes = e.writes } ∷ take 7 old → g ≡ front_after_entry ds n f e → new ≡ g.past
-unfolding row_of_entry front_after_entry
-past-kept ds n f e r old new g same is kept behind = rw (behind, kept, is, same) refl

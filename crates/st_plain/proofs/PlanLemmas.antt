@@ -6,10 +6,12 @@ use Rattle.st_prep.specs.Plan.{sight, plan}
 use Rattle.st_prep.specs.Reading.{words_read, own_words}
 use Rattle.st_prep.specs.declared.entries.Place.{Place}
 use Rattle.st_prep.specs.declared.entries.Prepared.{Prepared}
-use Rattle.st_segment.specs.Entries.{run_of, instruction_words, own_count, entry}
+use Rattle.st_rows.specs.declared.entry.Entry.{Entry}
+use Rattle.st_segment.specs.Entries.{run_of, instruction_words, own_count, entry, side_to_read}
 use Rattle.st_plain.specs.Looking.{side_at, executes_at, executed_code, known_at}
 use Rattle.st_plain.specs.Straight.{IsEntryPlanned}
 use Rattle.st_plain.specs.declared.entries.Planned.{Planned}
+use Rattle.st_plain.specs.declared.known.Known.{Known}
 
 -- it is planned at this place, by all that it reads
 abbrev pub IsPlannedAt : Machine → List ℕ → Place → Prepared → Planned → Type 0
@@ -34,3 +36,8 @@ module _ (s : Machine) (table : Option ℕ) (q : Place) (x : List ℕ) (p : Prep
   pub entry-planned : e.entry ≡ entry table s
   unfolding entry instruction_words own_count sight place_of
   entry-planned = there.entry ∙ rw plan-planned refl
+
+-- its index-side word, where that is read
+pub side-planned : (s : Machine) (table : Option ℕ) (e : Entry) (k : Known) → e ≡ entry table s → k ≡ known_at table s → e.side ≡ side_to_read k.side
+unfolding entry side_at
+side-planned s table e k entry_is known_is = rw (entry_is, known_is) refl

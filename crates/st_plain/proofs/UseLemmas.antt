@@ -1,25 +1,34 @@
 -- Words that are noted one after another.
-use Rattle.std.specs.Prelude.{Bool, not, is_some, None, Some, map, if◌then◌else◌, nat_lt, false}
-use Rattle.std.proofs.Common.{◌≡◌, ℕ, zero, suc, true, ◌+◌, ◌-◌, ◌≤◌, max, List, [], ◌∷◌, ◌++◌, Option, refl, sym, ◌∙◌, ap, append_assoc, arith}
-use Rattle.std.proofs.lemmas.Bool.{le-ltb}
-use Rattle.std.proofs.lemmas.List.{append-nil}
+use Rattle.std.specs.Prelude.{Bool, None, Some, map, if◌then◌else◌, nat_lt, nat_le, false, length}
+use Rattle.std.proofs.Common.{◌≡◌, ℕ, zero, suc, true, ◌+◌, ◌-◌, ◌≤◌, max, List, [], ◌∷◌, ◌++◌, Option, inl, inr, refl, sym, ◌∙◌, ap, append_assoc, length-append, arith}
+use Rattle.std.proofs.lemmas.Bool.{cases_Bool}
+use Rattle.std.proofs.lemmas.Bool.Decides.{nat_tests}
+use Rattle.std.proofs.lemmas.List.{append-nil, take_all}
+use Rattle.arrayvec.specs.ArrayVec.{ArrayVec}
+use Rattle.st_bits.specs.declared.register.TheConstants.{FIRST_STORAGE_WORD}
 use Rattle.st_bits.specs.Storage.{words_of_storage}
 use Rattle.st_fetch.specs.Planned.{tick_of}
-use Rattle.st_rows.specs.Rows.{wanted_from, words_tick, tick_a, bus_a, tick_p, operands}
+use Rattle.st_rows.specs.KeptUses.{uses_with}
+use Rattle.st_rows.specs.Rows.{wanted_from, words_tick, tick_a, bus_a, tick_p, index_uses, operands, followings}
 use Rattle.st_rows.specs.Words.{fetch_word, fetch_words, read_word, operands_read, read_words, request_inside}
 use Rattle.st_rows.specs.declared.bus.Bus.{Bus}
 use Rattle.st_rows.specs.declared.entry.Entry.{Entry}
+use Rattle.st_rows.specs.declared.entry.WordRun.{WordRun}
 use Rattle.st_rows.specs.declared.front.Front.{Front}
 use Rattle.st_prep.specs.declared.entries.Words.{Words}
 use Rattle.st_rows.specs.declared.fetching.Fetching.{Fetching}
 use Rattle.st_rows.specs.declared.past.Past.{Past}
-use Rattle.st_plain.specs.Uses.{fetch_supply, storage_supply, instruction_uses, fetch_uses, side_uses, register_uses, operand_uses, data_uses, inside_uses, following_uses, formed_uses, prepared_uses, uses_of_entry, use_told}
-use Rattle.st_plain.specs.declared.uses.Role.TheVariants.{Instruction, Operand, Following}
-use Rattle.st_plain.specs.declared.uses.Supply.{Supply}
-use Rattle.st_plain.specs.declared.uses.Supply.TheVariants.{Register}
-use Rattle.st_plain.specs.declared.uses.Use.{Use}
-use Rattle.st_rows.specs.Uses.{uses, wishes, Following as OfFollowing, unused, behind_use}
+use Rattle.st_plain.specs.Uses.{instruction_uses, fetch_uses, side_uses, register_uses, operand_uses, data_uses, inside_uses, following_uses, formed_uses, prepared_uses, side_register, uses_of_entry}
+use Rattle.st_rows.specs.Supplies.{fetch_supply, use_told, told}
+use Rattle.st_rows.specs.declared.uses.Role.TheVariants.{Instruction, Operand, Following}
+use Rattle.st_rows.specs.declared.uses.Supply.{Supply}
+use Rattle.st_rows.specs.declared.uses.Supply.TheVariants.{Register}
+use Rattle.st_rows.specs.declared.uses.Use.{Use}
+use Rattle.st_rows.specs.Uses.{uses, wishes, words_of, wish_of, use_of, unused, behind_use}
+use Rattle.st_rows.specs.declared.uses.Wish.{Wish}
 use Rattle.st_rows.specs.BusTimes.{bus_after_request}
+use Rattle.st_rows.proofs.Served.{wishes-length, followings-length}
+use Rattle.st_segment.specs.Entries.{side_to_read}
 
 -- the next word is noted, and the others are left
 turned : (us vs rest all : List Use) (u : Use) → vs ≡ us ++ u ∷ [] → all ≡ u ∷ rest → vs ++ rest ≡ us ++ all
@@ -45,21 +54,6 @@ module _ (ds : List ℕ) (past : List Past) (from w : ℕ) where
   instruction-end s zero us all none h = ended us [] all refl h
   instruction-end s (suc n) us all none h = let no : ⊥ = omega arith in absurd no
 
-module _ (ds : List ℕ) (past : List Past) (p w : ℕ) where
-  pub operand-turn : (s t : Fetching) (n : ℕ) (us vs : List Use) → t ≡ read_word ds past s w p
-      → vs ≡ us ++ record { role = Operand; word = w; supply = storage_supply ds past s.bus w p } ∷ [] → 1 ≤ n
-      → vs ++ operand_uses ds past t p (w + 1) (n - 1) ≡ us ++ operand_uses ds past s p w n
-  unfolding operand_uses uses wishes read_word
-  operand-turn s t zero us vs is one some = let no : ⊥ = omega arith in absurd no
-  operand-turn s t (suc n) us vs is one some =
-      let e : suc n - 1 ≡ n = omega arith in
-      turned us vs _ _ _ one (rw (e, is) refl)
-
-  pub operand-end : (s : Fetching) (n : ℕ) (us all : List Use) → n ≡ 0 → us ++ operand_uses ds past s p w n ≡ all → us ≡ all
-  unfolding operand_uses uses wishes read_word
-  operand-end s zero us all none h = ended us [] all refl h
-  operand-end s (suc n) us all none h = let no : ⊥ = omega arith in absurd no
-
 pub register-turn : (w n : ℕ) (us vs : List Use) → vs ≡ us ++ record { role = Operand; word = w; supply = Register } ∷ [] → 1 ≤ n
     → vs ++ register_uses (w + 1) (n - 1) ≡ us ++ register_uses w n
 unfolding register_uses
@@ -78,9 +72,78 @@ register-end w (suc n) us all none h = let no : ⊥ = omega arith in absurd no
 pub two-noted : (us vs ws a b : List Use) → vs ≡ us ++ a → ws ≡ vs ++ b → ws ≡ us ++ (a ++ b)
 two-noted us vs ws a b one two = two ∙ ap (λ xs. xs ++ b) one ∙ append_assoc us a b
 
+-- ---- words that a list is told of, where it has room for them
+
+abbrev Items : Type 0
+Items = ArrayVec Use
+
+put-all : (us : List Use) (kept : Items) → length kept.items + length us ≤ 48 → (uses_with us kept).items ≡ kept.items ++ us
+unfolding uses_with
+put-all [] kept few = sym (append-nil kept.items)
+put-all (u ∷ us) kept few =
+    let counted = length-append kept.items (u ∷ []) in
+    ap (λ (xs : List Use). (uses_with us (record { items = xs })).items) (take_all 48 (kept.items ++ u ∷ []) (omega (arith, counted, few)))
+    ∙ put-all us (record { items = kept.items ++ u ∷ [] }) (omega (arith, counted, few))
+    ∙ append_assoc kept.items (u ∷ []) us
+
+pub put-one : (u : Use) (kept new : Items) → new ≡ uses_with (u ∷ []) kept → length kept.items + 1 ≤ 48
+    → (new.items ≡ kept.items ++ u ∷ []) × (length new.items ≡ length kept.items + 1)
+put-one u kept new is few =
+    let one : new.items ≡ kept.items ++ u ∷ [] = ap (λ (k : Items). k.items) is ∙ put-all (u ∷ []) kept few in
+    (one, ap length one ∙ length-append kept.items (u ∷ []))
+
+uses-count : (ds : List ℕ) (past : List Past) (s : Fetching) (xs : List Wish) → length (told ds past (uses ds past s xs)) ≡ length xs
+unfolding uses
+uses-count ds past s [] = refl
+uses-count ds past s (x ∷ xs) = ap suc (uses-count ds past (behind_use ds past s (use_of ds past s x)) xs)
+
+module _ (ds : List ℕ) (past : List Past) (s : Fetching) where
+  pub put-uses : (xs : List Wish) (n : ℕ) (kept new : Items) → length xs ≤ n → new ≡ uses_with (told ds past (uses ds past s xs)) kept → length kept.items + n ≤ 48
+      → (new.items ≡ kept.items ++ told ds past (uses ds past s xs)) × (length new.items ≤ length kept.items + n)
+  put-uses xs n kept new most is few =
+      let counted = uses-count ds past s xs in
+      let us = told ds past (uses ds past s xs) in
+      let all : new.items ≡ kept.items ++ us = ap (λ (k : Items). k.items) is ∙ put-all us kept (omega (arith, counted, most, few)) in
+      (all, omega (arith, ap length all, length-append kept.items us, counted, most))
+
+  pub put-operands : (p : ℕ) (run : WordRun) (kept new : Items) → new ≡ uses_with (told ds past (uses ds past s (words_of Operand p run))) kept → length kept.items + run.len ≤ 48
+      → (new.items ≡ kept.items ++ operand_uses ds past s p run.first run.len) × (length new.items ≤ length kept.items + run.len)
+  unfolding operand_uses
+  put-operands p run kept new is few = put-uses (words_of Operand p run) run.len kept new (omega (arith, wishes-length Operand p run.first run.len)) is few
+
+pub put-side : (ds : List ℕ) (f : Front) (e : Entry) (kept new : Items) → new ≡ uses_with (told ds f.past (index_uses ds f e)) kept → length kept.items + 1 ≤ 48
+    → (new.items ≡ kept.items ++ told ds f.past (index_uses ds f e)) × (length new.items ≤ length kept.items + 1)
+put-side ds f e kept new is few = put-uses ds f.past (unused (words_tick ds f e).bus 0) (wish_of e.side (tick_a ds f e)) 1 kept new (one-side e.side) is few
+  where
+    one-side : (o : Option ℕ) → length (wish_of o (tick_a ds f e)) ≤ 1
+    one-side None = omega arith
+    one-side (Some w) = omega arith
+
+pub put-following : (ds : List ℕ) (b : Bus) (e : Entry) (p : ℕ) (kept new : Items) → new ≡ uses_with (told ds [] (uses ds [] (unused b p) (followings e p))) kept → length kept.items + 2 ≤ 48
+    → new.items ≡ kept.items ++ following_uses ds b e p
+unfolding following_uses
+put-following ds b e p kept new is few = (put-uses ds [] (unused b p) (followings e p) 2 kept new (followings-length e p) is few).0
+
+-- ---- an index-side word that is a register
+
+pub side-parts : (ds : List ℕ) (past : List Past) (b : Bus) (side : Option ℕ) (a : ℕ)
+    → side_uses ds past b side a ≡ told ds past (uses ds past (unused b 0) (wish_of (side_to_read side) a)) ++ side_register side
+unfolding side_uses side_to_read uses
+side-parts ds past b None a = refl
+side-parts ds past b (Some w) a = elim (cases_Bool (nat_lt w FIRST_STORAGE_WORD)) [
+  | inl low ↦ rw (low, lt-le w FIRST_STORAGE_WORD low) refl
+  | inr high ↦ rw (high, le-of w FIRST_STORAGE_WORD high) refl
+]
+  where
+    lt-le : (v first : ℕ) → nat_lt v first ≡ true → nat_le first v ≡ false
+    lt-le v first low = grind (arith, nat_tests)
+
+    le-of : (v first : ℕ) → nat_lt v first ≡ false → nat_le first v ≡ true
+    le-of v first high = grind (arith, nat_tests)
+
 -- a following word, and both of them
 inside_if : (inside : Bool) (ds : List ℕ) (b : Bus) (w p : ℕ)
-    → map (use_told ds []) (uses ds [] (unused b p) (if inside then record { role = OfFollowing; w = w; from = p } ∷ [] else []))
+    → map (use_told ds []) (uses ds [] (unused b p) (if inside then record { role = Following; w = w; from = p } ∷ [] else []))
     ≡ (if inside then record { role = Following; word = w; supply = fetch_supply (tick_of b.held.words w) ds b w p } ∷ [] else [])
 unfolding uses
 inside_if true ds b w p = refl
@@ -94,10 +157,10 @@ inside-told ds b w p = inside_if (nat_lt w words_of_storage) ds b w p
 module _ (ds : List ℕ) (b : Bus) where
   both_if : (follows one two : Bool) (w p : ℕ)
       → map (use_told ds []) (uses ds [] (unused b p)
-      (if follows then (if one then record { role = OfFollowing; w = w; from = p } ∷ [] else []) ++ (if two then record { role = OfFollowing; w = w + 1; from = p } ∷ [] else []) else []))
+      (if follows then (if one then record { role = Following; w = w; from = p } ∷ [] else []) ++ (if two then record { role = Following; w = w + 1; from = p } ∷ [] else []) else []))
       ≡ (if follows
-      then map (use_told ds []) (uses ds [] (unused b p) (if one then record { role = OfFollowing; w = w; from = p } ∷ [] else []))
-      ++ map (use_told ds []) (uses ds [] (unused (if one then bus_after_request ds b w p else b) p) (if two then record { role = OfFollowing; w = w + 1; from = p } ∷ [] else []))
+      then map (use_told ds []) (uses ds [] (unused b p) (if one then record { role = Following; w = w; from = p } ∷ [] else []))
+      ++ map (use_told ds []) (uses ds [] (unused (if one then bus_after_request ds b w p else b) p) (if two then record { role = Following; w = w + 1; from = p } ∷ [] else []))
       else [])
   unfolding uses behind_use bus_after_request
   both_if false one two w p = refl
@@ -115,18 +178,6 @@ module _ (ds : List ℕ) (b : Bus) where
   following-told e p =
       let w = e.own.first + e.own.len in
       both_if e.follows (nat_lt w words_of_storage) (nat_lt (w + 1) words_of_storage) w p
-
-  pub following-used : (d : Bus) (e : Entry) (p w : ℕ) (us vs ws : List Use) → e.follows ≡ true → w ≡ e.own.first + e.own.len → d ≡ request_inside ds b w p
-      → vs ≡ us ++ inside_uses ds b w p → ws ≡ vs ++ inside_uses ds d (w + 1) p → ws ≡ us ++ following_uses ds b e p
-  following-used d e p w us vs ws follows here is one two =
-      two-noted us vs ws _ _ one (two ∙ ap (λ (c : Bus). vs ++ inside_uses ds c (w + 1) p) is)
-      ∙ ap (λ (xs : List Use). us ++ xs) (sym (rw (following-told e p, follows, ← here) refl))
-
-  pub following-none : (e : Entry) (p : ℕ) (us : List Use) → e.follows ≡ false → us ≡ us ++ following_uses ds b e p
-  following-none e p us none = rw (following-told e p, none) (sym (append-nil us))
-
-pub inside-none : (ds : List ℕ) (b : Bus) (w p : ℕ) (us : List Use) → words_of_storage ≤ w → us ≡ us ++ inside_uses ds b w p
-inside-none ds b w p us late = rw (inside-told ds b w p, le-ltb w words_of_storage late) (sym (append-nil us))
 
 module _ (ds : List ℕ) (f : Front) (e : Entry) where
   pub words-fetched : (s t all : Fetching) (from late : ℕ) → s ≡ record { bus = f.bus; answered = 0; awaited = 0 } → from ≡ wanted_from f → late ≡ max from f.c
@@ -147,17 +198,15 @@ module _ (ds : List ℕ) (f : Front) (e : Entry) where
       let two_is : ws ≡ vs ++ instruction_uses ds f.past behind (max (wanted_from f) f.c) e.target.first e.target.len = two ∙ rw (t_is, later, wanted) refl in
       two-noted us vs ws _ _ one_is two_is
 
-  pub formed-used : (side : Option ℕ) (s : Fetching) (a : ℕ) (us vs ws : List Use) → s ≡ words_tick ds f e → a ≡ tick_a ds f e
-      → vs ≡ us ++ fetch_uses ds f e → ws ≡ vs ++ side_uses ds f.past s.bus side a → ws ≡ us ++ formed_uses ds f e side
-  formed-used side s a us vs ws is at one two =
-      let two_is : ws ≡ vs ++ side_uses ds f.past (words_tick ds f e).bus side (tick_a ds f e) = two ∙ rw (is, at) refl in
-      two-noted us vs ws _ _ one two_is
-
-  -- without an index-side word
-  pub formed-bare : (side : Option ℕ) (b : Bool) (us vs : List Use) → is_some side ≡ not b → b ≡ true → vs ≡ us ++ fetch_uses ds f e → vs ≡ us ++ formed_uses ds f e side
-  unfolding side_uses uses
-  formed-bare None b us vs is none one = one ∙ ap (λ xs. us ++ xs) (sym (append-nil (fetch_uses ds f e)))
-  formed-bare (Some w) b us vs is none one = absurd (cc)
+  -- the index-side word, where it is read, is told, and a register is noted behind it
+  pub formed-used : (side : Option ℕ) (us vs ws xs : List Use) → e.side ≡ side_to_read side → vs ≡ us ++ fetch_uses ds f e
+      → ws ≡ vs ++ told ds f.past (index_uses ds f e) → xs ≡ ws ++ side_register side → xs ≡ us ++ formed_uses ds f e side
+  formed-used side us vs ws xs is one two three =
+      two-noted us vs xs _ _ one
+      (two-noted vs ws xs _ _ two three
+      ∙ ap (λ (zs : List Use). vs ++ zs)
+      (ap (λ (o : Option ℕ). told ds f.past (uses ds f.past (unused (words_tick ds f e).bus 0) (wish_of o (tick_a ds f e))) ++ side_register side) is
+      ∙ sym (side-parts ds f.past (words_tick ds f e).bus side (tick_a ds f e))))
 
   module _ (n : ℕ) where
     -- what is read behind the index-side word from preparation on are the operands

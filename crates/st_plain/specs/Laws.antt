@@ -5,10 +5,10 @@ use Rattle.st_rows.specs.declared.entry.Entry.{Entry}
 use Rattle.st_rows.specs.declared.front.Front.{Front}
 use Rattle.st_segment.specs.Entries.{side_to_read}
 use Rattle.st_plain.specs.Uses.{uses_of_entry}
-use Rattle.st_plain.specs.declared.uses.ReadTicks.{ReadTicks}
-use Rattle.st_plain.specs.declared.uses.Supply.{Supply}
-use Rattle.st_plain.specs.declared.uses.Supply.TheVariants.{Read, Held, Forwarded, Register}
-use Rattle.st_plain.specs.declared.uses.Use.{Use}
+use Rattle.st_rows.specs.declared.uses.ReadTicks.{ReadTicks}
+use Rattle.st_rows.specs.declared.uses.Supply.{Supply}
+use Rattle.st_rows.specs.declared.uses.Supply.TheVariants.{Read, Held, Forwarded, Register}
+use Rattle.st_rows.specs.declared.uses.Use.{Use}
 
 -- the next read is wanted from the tick w on at the earliest, and made from the tick t on: when it
 -- is wanted, and the bus and its bank are free

@@ -1,14 +1,12 @@
--- The words that an entry uses, in the order of their reads, and where each of them comes from.
+-- The words that an entry uses, registers among them, in the order of their reads, and where each of
+-- them comes from.
 use Rattle.std.specs.Prelude.{ℕ, zero, suc, ◌+◌, ◌-◌, nat_lt, if◌then◌else◌, List, [], ◌∷◌, ◌++◌, map, Option, None, Some}
-use Rattle.std.specs.List.{position}
 use Rattle.st_bits.specs.declared.register.TheConstants.{FIRST_STORAGE_WORD}
-use Rattle.st_banks.specs.Bank.{last_of}
 use Rattle.st_prep.specs.declared.entries.Words.{Words}
-use Rattle.st_rows.specs.BusTimes.{accept_at, answer_at}
-use Rattle.st_rows.specs.Entries.{is_among, latest_done}
 use Rattle.st_rows.specs.Rows.{own_uses, target_uses, words_tick, tick_a, bus_a, tick_p, operands, inside_wish, followings}
-use Rattle.st_rows.specs.Uses.{Role as WordRole, Instruction as OfInstruction, Index as OfIndex, Operand as OfOperand, Following as OfFollowing, Use as WordUse, wishes, uses, unused, wish_of}
-use Rattle.st_rows.specs.Words.{read_words, is_forwarded}
+use Rattle.st_rows.specs.Supplies.{storage_supply, use_told}
+use Rattle.st_rows.specs.Uses.{Use as WordUse, wishes, uses, unused, wish_of}
+use Rattle.st_rows.specs.Words.{read_words}
 use Rattle.st_rows.specs.declared.bus.Bus.{Bus}
 use Rattle.st_rows.specs.declared.entry.Entry.{Entry}
 use Rattle.st_rows.specs.declared.entry.WordRun.{WordRun}
@@ -16,71 +14,17 @@ use Rattle.st_rows.specs.declared.entry.WordRuns.{WordRuns}
 use Rattle.st_rows.specs.declared.fetching.Fetching.{Fetching}
 use Rattle.st_rows.specs.declared.front.Front.{Front}
 use Rattle.st_rows.specs.declared.past.Past.{Past}
-use Rattle.st_plain.specs.declared.uses.ReadTicks.{ReadTicks}
-use Rattle.st_plain.specs.declared.uses.Role.{Role}
-use Rattle.st_plain.specs.declared.uses.Role.TheVariants.{Instruction, Index, Operand, Following}
-use Rattle.st_plain.specs.declared.uses.Supply.{Supply}
-use Rattle.st_plain.specs.declared.uses.Supply.TheVariants.{Read, Held, Forwarded, Register}
-use Rattle.st_plain.specs.declared.uses.Use.{Use}
-
--- ---- where a word comes from
-
--- the read of the word w that is wanted from a tick on, on the bus before it
-abbrev pub read_ticks : List ℕ → Bus → ℕ → ℕ → ReadTicks
-read_ticks ds b w want = record {
-  want = want;
-  turn = b.free;
-  free = last_of b.banks.ticks w;
-  accept = accept_at b w want;
-  answer = answer_at ds b w want;
-}
-
--- an instruction word, given the tick of its answer if it is held
-abbrev pub fetch_supply : Option ℕ → List ℕ → Bus → ℕ → ℕ → Supply
-fetch_supply (Some tick) ds b w want = Held tick
-fetch_supply None ds b w want = Read (read_ticks ds b w want)
-
--- how many entries before the latest one lies that writes the word w, 0 where none does; they stand
--- newest first
-abbrev pub one_behind : Option ℕ → ℕ
-one_behind None = 0
-one_behind (Some k) = k + 1
-
-abbrev pub writer_back : List Past → ℕ → ℕ
-writer_back past w = one_behind (position (λ entry. is_among w entry.writes) past)
-
--- a word of storage that is wanted at a tick: from its latest writer where that is not done by then
-abbrev pub storage_supply : List ℕ → List Past → Bus → ℕ → ℕ → Supply
-storage_supply ds past b w tick =
-    if is_forwarded past w tick
-    then Forwarded (record { back = writer_back past w; done = latest_done past w })
-    else Read (read_ticks ds b w tick)
-
--- ---- the uses that the timetable tells, one by one
-
--- what the word is used as
-abbrev pub role_told : WordRole → Role
-role_told OfInstruction = Instruction
-role_told OfIndex = Index
-role_told OfOperand = Operand
-role_told OfFollowing = Following
-
--- where it comes from
-abbrev pub supply_told : List ℕ → List Past → WordUse → Supply
-supply_told ds past u =
-    if u.read.fetch then fetch_supply u.unread ds u.bus u.read.w u.read.want
-    else storage_supply ds past u.bus u.read.w u.read.want
-
-abbrev pub use_told : List ℕ → List Past → WordUse → Use
-use_told ds past u =
-    record { role = role_told u.role; word = u.read.w; supply = supply_told ds past u }
+use Rattle.st_rows.specs.declared.uses.Role.TheVariants.{Instruction, Index, Operand}
+use Rattle.st_rows.specs.declared.uses.Supply.{Supply}
+use Rattle.st_rows.specs.declared.uses.Supply.TheVariants.{Register}
+use Rattle.st_rows.specs.declared.uses.Use.{Use}
 
 -- ---- its instruction words
 
 -- n of them from the word w on
 unfoldable pub instruction_uses : List ℕ → List Past → Fetching → ℕ → ℕ → ℕ → List Use
 instruction_uses ds past s from w n =
-    map (use_told ds past) (uses ds past s (wishes OfInstruction from w n))
+    map (use_told ds past) (uses ds past s (wishes Instruction from w n))
 
 -- its own, and behind them those of the target of EX
 unfoldable pub fetch_uses : List ℕ → Front → Entry → List Use
@@ -96,7 +40,7 @@ side_supply ds past b w a = if nat_lt w FIRST_STORAGE_WORD then Register
 
 abbrev pub side_told : List ℕ → List Past → WordUse → Use
 side_told ds past u = record {
-  role = role_told u.role;
+  role = u.role;
   word = u.read.w;
   supply = side_supply ds past u.bus u.read.w u.read.want;
 }
@@ -105,6 +49,12 @@ side_told ds past u = record {
 unfoldable pub side_uses : List ℕ → List Past → Bus → Option ℕ → ℕ → List Use
 side_uses ds past b side a =
     map (side_told ds past) (uses ds past (unused b 0) (wish_of side a))
+
+-- the word, if it is a register
+abbrev pub side_register : Option ℕ → List Use
+side_register None = []
+side_register (Some w) = if nat_lt w FIRST_STORAGE_WORD
+    then record { role = Index; word = w; supply = Register } ∷ [] else []
 
 -- ---- its operand words
 
@@ -117,7 +67,7 @@ register_uses w (suc n) = record { role = Operand; word = w; supply = Register }
 -- n words of storage from the word w on, wanted at preparation
 unfoldable pub operand_uses : List ℕ → List Past → Fetching → ℕ → ℕ → ℕ → List Use
 operand_uses ds past s p w n =
-    map (use_told ds past) (uses ds past s (wishes OfOperand p w n))
+    map (use_told ds past) (uses ds past s (wishes Operand p w n))
 
 -- n words from the word w on: registers come first, and the run has the words of storage
 abbrev pub run_uses : List ℕ → List Past → Fetching → ℕ → ℕ → ℕ → WordRun → List Use

@@ -12,7 +12,7 @@ ghost use Rattle.st_prep.specs.Reading.{Continuation, words_read, own_words, hal
 ghost use Rattle.st_plain.specs.Looking.{known_at};
 ghost use Rattle.st_rows.specs.Ranges.{IsEntryInTime};
 ghost use Rattle.st_plain.specs.Straight.{IsReadOver, if_more, IsEntryPlanned};
-ghost use Rattle.st_segment.specs.Entries.{run_of as run_by, entry as entry_of, entry_with};
+ghost use Rattle.st_segment.specs.Entries.{run_of as run_by, entry as entry_of, entry_with, side_to_read as side_to_read_of};
 
 use crate::known::{Code, Known, code_found, code_in};
 use st_bits::part;
@@ -466,6 +466,7 @@ pub fn plan_entry(table: Option<u8>, state: &State, p: &mut Prepared) -> Planned
     ensures in_time { IsEntryInTime result.entry }
     ensures machine { IsMachine state.now }
     ensures known { result.known ≡ known_at table state.now }
+    ensures side { result.entry.side ≡ side_to_read_of result.known.side }
 {
     p.place = place_of(state, table);
     let x = index_words(state);

@@ -12,4 +12,3 @@ pub use entries::{Planned, plan_entry};
 pub use known::{Code, Known};
 pub use looking::{Ahead, Aheads, FoundAhead, Reach, look};
 pub use rows::{Begun, NextEntry, WaitedRow, begin, finish, put_past};
-pub use uses::{ReadTicks, Role, Supply, Use, Uses, Writer};

@@ -13,13 +13,12 @@ ghost use Rattle.st_plain.specs.Looking.{seen_ahead, first_late, reads_up_to};
 
 use crate::entries::plan_entry;
 use crate::known::Known;
-use crate::rows::{Begun, NextEntry, begin, finish, put_past};
-use crate::uses::Uses;
+use crate::rows::{Begun, NextEntry, begin, finish};
 use arrayvec::ArrayVec;
 use st_back::{keep, undo};
 use st_exec::complete_in;
 use st_prep::Prepared;
-use st_rows::{EntryTicks, Front, Log, Past, Timing};
+use st_rows::{EntryTicks, Front, Log, Timing, Uses};
 use st_state::State;
 
 /// An entry that runs ahead.
@@ -53,8 +52,6 @@ pub fn guess(p: &Prepared, state: &mut State)
 /// Up to where one looks at the entries that run ahead of a state behind a front.
 #[derive(Clone, Copy)]
 pub struct Reach<'a> {
-    /// The last entries of the front, the newest one first.
-    pub past: &'a [Past; 8],
     /// The delays and levels of the machine.
     pub timing: &'a Timing<'a>,
     /// How many entries are looked for, at most as many as there are levels.
@@ -93,7 +90,6 @@ pub fn look(
     requires first { let n = reach.now.timing.now.levels in reach.now.more < n →
         reach.now.tick ≤ done_before (n - reach.now.more) front.old.past }
     requires space { length ahead.old.found.items + reach.now.more ≤ 8 }
-    requires past { reach.now.past.now ≡ front.old.past }
 
     ensures state { state.new ≡ state.old }
     ensures machine { IsMachine state.new }
@@ -116,7 +112,6 @@ pub fn look(
     let next = NextEntry {
         plan: &p,
         planned: &planned,
-        past: reach.past,
         timing: reach.timing,
     };
     let mut uses = Uses::new();
@@ -142,16 +137,7 @@ pub fn look(
         known: planned.known,
         uses,
     });
-    let mut behind = *reach.past;
-    put_past(
-        &mut behind,
-        Past {
-            c: row.c,
-            writes: planned.entry.writes,
-        },
-    );
     let further = Reach {
-        past: &behind,
         timing: reach.timing,
         more: reach.more - 1,
         tick: reach.tick,

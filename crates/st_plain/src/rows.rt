@@ -12,15 +12,16 @@ ghost use Rattle.st_rows.specs.Words.{fetch_words, bus_sided, side_there as side
 ghost use Rattle.st_rows.specs.Ranges.{IsEntryInTime, IsTight, IsFetchingWithin, ArePastWithin, IsReadable, most_ticks_of_entry};
 ghost use Rattle.st_rows.specs.declared.log.Made.{Made};
 ghost use Rattle.st_prep.specs.Ranges.{IsRuns};
+ghost use Rattle.st_segment.specs.Entries.{side_to_read};
 ghost use Rattle.st_plain.specs.Uses.{instruction_uses, fetch_uses, formed_uses, prepared_uses};
 
 use crate::entries::Planned;
-use crate::uses::{Role, Uses, WantedFrom, fetch_supply, note, use_data, use_following, use_side};
+use crate::uses::{use_data, use_side_register};
 use st_banks::{BANKS, LastAnswers};
 use st_prep::Prepared;
 use st_rows::{
-    Bus, Entry, EntryTicks, Fetching, Formed, Front, LastEntries, Log, Past, Timing, Wanted,
-    WordRun,
+    Bus, Entry, EntryTicks, Fetching, Formed, Front, LastEntries, Log, Past, TimedEntry, Timing,
+    Uses, Wanted, WordRun, follow,
 };
 
 /// One more entry is kept, and the oldest one given up.
@@ -65,10 +66,7 @@ fn fetch_run(
     let mut w = run.first;
     let mut left = run.len;
     'words: while left > 0 {
-        let want = wanted.tick.max(words.answered).max(words.awaited);
-        let supply = fetch_supply(&words.bus, wanted.delays, w, want);
-        note(uses, Role::Instruction, w, supply);
-        words.word(log, wanted, w);
+        words.word(log, uses, wanted, w);
         w += 1;
         left -= 1;
     }
@@ -81,8 +79,6 @@ pub struct NextEntry<'a> {
     pub plan: &'a Prepared,
     /// What the timetable sees of it.
     pub planned: &'a Planned,
-    /// The last entries of the front before it, the newest one first.
-    pub past: &'a [Past; 8],
     /// The delays and levels of the machine.
     pub timing: &'a Timing<'a>,
 }
@@ -184,8 +180,9 @@ pub fn begin(begun: &mut Begun, front: &Front, next: &NextEntry<'_>, log: &mut L
     requires entry { IsEntryInTime next.now.planned.now.entry }
     requires tight { IsTight MOST_DELAY front.now }
     requires early { front.now.c ≤ 2 ^ 63 + 2 ^ 20 }
-    requires past { next.now.past.now ≡ front.now.past }
-    requires space { length uses.old.items + 5 ≤ 48 }
+    requires side { next.now.planned.now.entry.side
+        ≡ side_to_read next.now.planned.now.known.side }
+    requires space { length uses.old.items + 6 ≤ 48 }
 
     ensures address { let t = next.now.timing.now in let e = next.now.planned.now.entry in
         begun.new.formed.a ≡ tick_a t.delays.now.list front.now e }
@@ -201,12 +198,11 @@ pub fn begin(begun: &mut Begun, front: &Front, next: &NextEntry<'_>, log: &mut L
     ensures uses { let t = next.now.timing.now in let e = next.now.planned.now.entry in
         uses.new.items ≡ uses.old.items
         ++ formed_uses t.delays.now.list front.now e next.now.planned.now.known.side }
-    ensures noted { length uses.new.items ≤ length uses.old.items + 5 }
+    ensures noted { length uses.new.items ≤ length uses.old.items + 6 }
 {
     let timing = next.timing;
     let planned = next.planned;
     let entry = &planned.entry;
-    let side = planned.known.side;
     begun.words = Fetching {
         bus: front.bus,
         answered: 0,
@@ -214,20 +210,9 @@ pub fn begin(begun: &mut Begun, front: &Front, next: &NextEntry<'_>, log: &mut L
     };
     let words = &mut begun.words;
     fetch_all(words, front, next, log, uses);
-    let formed;
-    if side.is_none() {
-        formed = front.form(timing, entry, words, log);
-    } else {
-        let bus = words.bus;
-        formed = front.form(timing, entry, words, log);
-        let wanted = WantedFrom {
-            tick: formed.a,
-            delays: timing.delays,
-            last: &front.past,
-            past: next.past,
-        };
-        use_side(uses, &bus, &wanted, side);
-    }
+    let timed = TimedEntry { entry, timing };
+    let formed = front.form(&timed, words, log, uses);
+    use_side_register(uses, planned.known.side);
     begun.level_wait = level_wait(front, timing, entry, formed.a, &words.bus);
     begun.formed = formed;
 }
@@ -250,7 +235,6 @@ pub fn finish(
         begun.old.formed.p ≡ tick_p t.delays.now.list t.levels front.old e }
     requires bus { let t = next.now.timing.now in let e = next.now.planned.now.entry in
         begun.old.words.bus ≡ bus_a t.delays.now.list front.old e }
-    requires past { next.now.past.now ≡ front.old.past }
     requires runs { IsRuns next.now.plan.now.reads }
     requires space { length uses.old.items + 34 ≤ 48 }
 
@@ -273,11 +257,10 @@ pub fn finish(
     let planned = next.planned;
     let entry = &planned.entry;
     let Formed { a, p } = begun.formed;
-    let wanted = WantedFrom {
+    let wanted = Wanted {
         tick: p,
         delays: timing.delays,
-        last: &front.past,
-        past: next.past,
+        past: &front.past,
     };
     let words = &mut begun.words;
     words.answered = p;
@@ -285,7 +268,7 @@ pub fn finish(
     use_data(uses, words, log, &wanted, next);
     let r = words.answered;
     let c = front.c.max(r) + u64::from(entry.cost);
-    use_following(uses, &mut words.bus, log, &wanted, entry);
+    follow(&mut words.bus, log, uses, &wanted, entry);
     let row = EntryTicks { a, p, r, c };
     front.pass(entry, &row, &words.bus);
     row

@@ -17,8 +17,8 @@ use Rattle.st_rows.specs.declared.front.Front.{Front}
 use Rattle.st_rows.proofs.Within.{latest-within}
 use Rattle.st_plain.specs.Looking.{level_wait}
 use Rattle.st_plain.specs.Uses.{instruction_uses, fetch_uses, side_uses, formed_uses}
-use Rattle.st_plain.specs.declared.uses.Role.TheVariants.{Instruction}
-use Rattle.st_plain.specs.declared.uses.Use.{Use}
+use Rattle.st_rows.specs.declared.uses.Role.TheVariants.{Instruction}
+use Rattle.st_rows.specs.declared.uses.Use.{Use}
 use Rattle.st_reasons.specs.Reasons.{because, is_stored, side_writer, reason_of_side, reason_of_address, reason_done, reason_of_words}
 use Rattle.st_reasons.specs.Words.{is_role, is_answered_at}
 use Rattle.st_reasons.proofs.Linked.{turn_at, AreLinked}

@@ -13,9 +13,9 @@ use Rattle.st_rows.specs.Rows.{reads_of_entry}
 use Rattle.st_rows.specs.BusTimes.{answer_at, bus_after_read, Read, after_one}
 use Rattle.st_rows.specs.declared.bus.Bus.{Bus}
 use Rattle.st_rows.proofs.Laws.{rows_make_their_reads}
-use Rattle.st_plain.specs.Uses.{read_ticks}
-use Rattle.st_plain.specs.declared.uses.ReadTicks.{ReadTicks}
-use Rattle.st_plain.specs.declared.uses.Use.{Use}
+use Rattle.st_rows.specs.Supplies.{read_ticks}
+use Rattle.st_rows.specs.declared.uses.ReadTicks.{ReadTicks}
+use Rattle.st_rows.specs.declared.uses.Use.{Use}
 use Rattle.st_reasons.specs.Segments.{Told, IsTold, front_of, uses_behind, all_uses}
 use Rattle.st_reasons.specs.Served.{Served, served, reads_told, busy_until, AreBankedBehind}
 use Rattle.st_reasons.specs.Words.{is_read, read_of}

@@ -17,11 +17,12 @@ use Rattle.st_rows.specs.declared.front.Front.{Front}
 use Rattle.st_rows.specs.declared.past.Past.{Past}
 use Rattle.st_rows.proofs.Served.{served-word, served-words, served-data, served-operands, served-inside, served-fetches, served-runs, served-formed}
 use Rattle.st_segment.specs.Entries.{side_to_read}
-use Rattle.st_plain.specs.Uses.{read_ticks, fetch_supply, storage_supply, instruction_uses, fetch_uses, side_uses, register_uses, operand_uses, data_uses, inside_uses, following_uses, formed_uses, prepared_uses, uses_of_entry}
-use Rattle.st_plain.specs.declared.uses.Role.{Role}
-use Rattle.st_plain.specs.declared.uses.Role.TheVariants.{Instruction, Index, Operand, Following}
-use Rattle.st_plain.specs.declared.uses.Supply.TheVariants.{Register}
-use Rattle.st_plain.specs.declared.uses.Use.{Use}
+use Rattle.st_plain.specs.Uses.{instruction_uses, fetch_uses, side_uses, register_uses, operand_uses, data_uses, inside_uses, following_uses, formed_uses, prepared_uses, uses_of_entry}
+use Rattle.st_rows.specs.Supplies.{read_ticks, fetch_supply, storage_supply}
+use Rattle.st_rows.specs.declared.uses.Role.{Role}
+use Rattle.st_rows.specs.declared.uses.Role.TheVariants.{Instruction, Index, Operand, Following}
+use Rattle.st_rows.specs.declared.uses.Supply.TheVariants.{Register}
+use Rattle.st_rows.specs.declared.uses.Use.{Use}
 use Rattle.st_reasons.specs.Words.{is_read, read_of}
 use Rattle.st_reasons.specs.Served.{served, reads_told}
 use Rattle.st_rows.proofs.UseLemmas.{following-is as asked-is, reads-are}

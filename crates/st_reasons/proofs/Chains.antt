@@ -16,16 +16,17 @@ use Rattle.st_rows.specs.declared.fetching.Fetching.{Fetching}
 use Rattle.st_rows.specs.declared.past.Past.{Past}
 use Rattle.st_rows.specs.Entries.{latest_done}
 use Rattle.st_segment.specs.Entries.{side_to_read}
-use Rattle.st_plain.specs.Uses.{read_ticks, fetch_supply, storage_supply, writer_back, instruction_uses, fetch_uses, side_uses, register_uses, operand_uses, data_uses, inside_uses, following_uses, formed_uses, prepared_uses, uses_of_entry}
+use Rattle.st_plain.specs.Uses.{instruction_uses, fetch_uses, side_uses, register_uses, operand_uses, data_uses, inside_uses, following_uses, formed_uses, prepared_uses, uses_of_entry}
+use Rattle.st_rows.specs.Supplies.{read_ticks, fetch_supply, storage_supply, writer_back}
 use Rattle.st_prep.specs.declared.entries.Words.{Words}
 use Rattle.st_rows.specs.declared.entry.Entry.{Entry}
 use Rattle.st_rows.specs.declared.front.Front.{Front}
 use Rattle.st_rows.proofs.Parts.{a-p}
-use Rattle.st_plain.specs.declared.uses.Role.{Role}
-use Rattle.st_plain.specs.declared.uses.Role.TheVariants.{Instruction, Index, Operand, Following}
-use Rattle.st_plain.specs.declared.uses.Supply.{Supply}
-use Rattle.st_plain.specs.declared.uses.Supply.TheVariants.{Read, Held, Forwarded, Register}
-use Rattle.st_plain.specs.declared.uses.Use.{Use}
+use Rattle.st_rows.specs.declared.uses.Role.{Role}
+use Rattle.st_rows.specs.declared.uses.Role.TheVariants.{Instruction, Index, Operand, Following}
+use Rattle.st_rows.specs.declared.uses.Supply.{Supply}
+use Rattle.st_rows.specs.declared.uses.Supply.TheVariants.{Read, Held, Forwarded, Register}
+use Rattle.st_rows.specs.declared.uses.Use.{Use}
 use Rattle.st_reasons.specs.Words.{is_read, read_of}
 use Rattle.st_reasons.proofs.Linked.{turn_at, want_at, ComesBehind, AreLinked}
 use Rattle.st_reasons.specs.Served.{AreBrought, brings, is_held_until}

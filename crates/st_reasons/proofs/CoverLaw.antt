@@ -21,12 +21,13 @@ use Rattle.st_rows.proofs.Within.{latest-within, past-weaker}
 use Rattle.st_ledger.specs.Charges.{stage_at}
 use Rattle.st_ledger.specs.declared.charges.Stage.{Stage}
 use Rattle.st_ledger.specs.declared.charges.Stage.TheVariants.{Restart, Address, Preparing, Executing, Instruction as AtInstruction, Index as AtIndex, Operand as AtOperand}
-use Rattle.st_plain.specs.declared.uses.Role.{Role}
-use Rattle.st_plain.specs.declared.uses.Role.TheVariants.{Instruction, Index, Operand, Following}
-use Rattle.st_plain.specs.declared.uses.Supply.{Supply}
-use Rattle.st_plain.specs.declared.uses.Supply.TheVariants.{Register}
-use Rattle.st_plain.specs.declared.uses.Use.{Use}
-use Rattle.st_plain.specs.Uses.{fetch_supply, storage_supply, fetch_uses, side_uses, data_uses, following_uses, prepared_uses, uses_of_entry}
+use Rattle.st_rows.specs.declared.uses.Role.{Role}
+use Rattle.st_rows.specs.declared.uses.Role.TheVariants.{Instruction, Index, Operand, Following}
+use Rattle.st_rows.specs.declared.uses.Supply.{Supply}
+use Rattle.st_rows.specs.declared.uses.Supply.TheVariants.{Register}
+use Rattle.st_rows.specs.declared.uses.Use.{Use}
+use Rattle.st_plain.specs.Uses.{fetch_uses, side_uses, data_uses, following_uses, prepared_uses, uses_of_entry}
+use Rattle.st_rows.specs.Supplies.{fetch_supply, storage_supply}
 use Rattle.st_reasons.specs.Sums.{is_parted}
 use Rattle.st_reasons.specs.Waits.{stage_waits, data_waits, fetch_waits}
 use Rattle.st_reasons.specs.Words.{IsReadInTime, read_of, is_role, is_instruction, is_answered, is_answered_at}

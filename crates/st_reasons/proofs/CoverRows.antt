@@ -21,11 +21,12 @@ use Rattle.st_rows.specs.declared.front.Front.{Front}
 use Rattle.st_rows.specs.declared.past.Past.{Past}
 use Rattle.st_rows.proofs.Within.{latest-within}
 use Rattle.st_segment.specs.Entries.{side_to_read}
-use Rattle.st_plain.specs.declared.uses.Role.TheVariants.{Instruction, Index, Operand}
-use Rattle.st_plain.specs.declared.uses.Supply.{Supply}
-use Rattle.st_plain.specs.declared.uses.Supply.TheVariants.{Read, Held, Forwarded, Register}
-use Rattle.st_plain.specs.declared.uses.Use.{Use}
-use Rattle.st_plain.specs.Uses.{fetch_supply, storage_supply, instruction_uses, fetch_uses, side_uses, register_uses, operand_uses, data_uses}
+use Rattle.st_rows.specs.declared.uses.Role.TheVariants.{Instruction, Index, Operand}
+use Rattle.st_rows.specs.declared.uses.Supply.{Supply}
+use Rattle.st_rows.specs.declared.uses.Supply.TheVariants.{Read, Held, Forwarded, Register}
+use Rattle.st_rows.specs.declared.uses.Use.{Use}
+use Rattle.st_plain.specs.Uses.{instruction_uses, fetch_uses, side_uses, register_uses, operand_uses, data_uses}
+use Rattle.st_rows.specs.Supplies.{fetch_supply, storage_supply}
 use Rattle.st_reasons.specs.Words.{is_read, read_of, is_answered, is_answered_at}
 use Rattle.st_reasons.proofs.Linked.{want_at, AreLinked}
 use Rattle.st_reasons.proofs.Chains.{pour-cons, pour-append}

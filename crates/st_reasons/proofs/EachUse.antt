@@ -16,10 +16,11 @@ use Rattle.st_rows.specs.declared.entry.WordRuns.{WordRuns}
 use Rattle.st_rows.specs.declared.fetching.Fetching.{Fetching}
 use Rattle.st_rows.specs.declared.front.Front.{Front}
 use Rattle.st_rows.specs.declared.past.Past.{Past}
-use Rattle.st_plain.specs.declared.uses.Role.TheVariants.{Instruction, Index, Operand, Following}
-use Rattle.st_plain.specs.declared.uses.Supply.TheVariants.{Register}
-use Rattle.st_plain.specs.declared.uses.Use.{Use}
-use Rattle.st_plain.specs.Uses.{fetch_supply, storage_supply, instruction_uses, fetch_uses, side_uses, register_uses, operand_uses, run_uses, data_uses, inside_uses, following_uses, prepared_uses, uses_of_entry}
+use Rattle.st_rows.specs.declared.uses.Role.TheVariants.{Instruction, Index, Operand, Following}
+use Rattle.st_rows.specs.declared.uses.Supply.TheVariants.{Register}
+use Rattle.st_rows.specs.declared.uses.Use.{Use}
+use Rattle.st_plain.specs.Uses.{instruction_uses, fetch_uses, side_uses, register_uses, operand_uses, run_uses, data_uses, inside_uses, following_uses, prepared_uses, uses_of_entry}
+use Rattle.st_rows.specs.Supplies.{fetch_supply, storage_supply}
 use Rattle.st_rows.specs.Uses.{uses, wishes}
 use Rattle.st_plain.proofs.UseLemmas.{inside-told, following-told}
 

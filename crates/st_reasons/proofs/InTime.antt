@@ -13,10 +13,11 @@ use Rattle.st_rows.specs.declared.bus.Bus.{Bus}
 use Rattle.st_rows.specs.declared.entry.Entry.{Entry}
 use Rattle.st_rows.specs.declared.front.Front.{Front}
 use Rattle.st_rows.specs.declared.past.Past.{Past}
-use Rattle.st_plain.specs.declared.uses.Role.{Role}
-use Rattle.st_plain.specs.declared.uses.Role.TheVariants.{Instruction, Index, Operand, Following}
-use Rattle.st_plain.specs.declared.uses.Supply.TheVariants.{Read, Forwarded, Register}
-use Rattle.st_plain.specs.Uses.{read_ticks, fetch_supply, storage_supply, writer_back, fetch_uses, uses_of_entry}
+use Rattle.st_rows.specs.declared.uses.Role.{Role}
+use Rattle.st_rows.specs.declared.uses.Role.TheVariants.{Instruction, Index, Operand, Following}
+use Rattle.st_rows.specs.declared.uses.Supply.TheVariants.{Read, Forwarded, Register}
+use Rattle.st_plain.specs.Uses.{fetch_uses, uses_of_entry}
+use Rattle.st_rows.specs.Supplies.{read_ticks, fetch_supply, storage_supply, writer_back}
 use Rattle.st_reasons.specs.Words.{IsReadInTime, read_of}
 use Rattle.st_reasons.proofs.EachUse.{other_uses, two-parts, each-fetch, each-other}
 

@@ -25,9 +25,9 @@ use Rattle.st_reasons.proofs.ChargeEnds.{end_of, row-ends, index-after, both}
 use Rattle.st_reasons.proofs.EachUse.{each-fetch, each-prepared}
 use Rattle.st_reasons.proofs.SegmentLemmas.{linked-cut, turn-cut, segment-behind}
 use Rattle.st_reasons.proofs.Truth.{deep_uses, deep-is}
-use Rattle.st_plain.specs.declared.uses.Role.{Role}
-use Rattle.st_plain.specs.declared.uses.Role.TheVariants.{Index}
-use Rattle.st_plain.specs.declared.uses.Use.{Use}
+use Rattle.st_rows.specs.declared.uses.Role.{Role}
+use Rattle.st_rows.specs.declared.uses.Role.TheVariants.{Index}
+use Rattle.st_rows.specs.declared.uses.Use.{Use}
 use Rattle.st_reasons.specs.Sums.{stalled_for, is_stall}
 use Rattle.st_reasons.specs.Waits.{wait_piece, acceptance_of, turns, read_waits, data_waits}
 use Rattle.st_reasons.specs.Words.{read_of, is_role, is_answered, is_answered_at, decides}

@@ -4,8 +4,8 @@ use Rattle.std.proofs.Common.{ℕ, ◌≤◌, ◌-◌, List, arith}
 use Rattle.std.proofs.lemmas.List.Elements.{All-take}
 use Rattle.st_ledger.specs.declared.charges.Stage.{Stage}
 use Rattle.st_ledger.specs.declared.charges.Stage.TheVariants.{Restart, Address, Preparing, Executing, Instruction as AtInstruction, Index as AtIndex, Operand as AtOperand}
-use Rattle.st_plain.specs.declared.uses.Role.TheVariants.{Index, Operand}
-use Rattle.st_plain.specs.declared.uses.Use.{Use}
+use Rattle.st_rows.specs.declared.uses.Role.TheVariants.{Index, Operand}
+use Rattle.st_rows.specs.declared.uses.Use.{Use}
 use Rattle.st_reasons.specs.Laws.{WaitsAreWithinTheirCharge, ReadsOfAnEntryAreInTime}
 use Rattle.st_reasons.specs.Words.{IsReadInTime}
 use Rattle.st_reasons.specs.Sums.{all_stalled}

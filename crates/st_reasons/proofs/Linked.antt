@@ -1,6 +1,6 @@
 -- Consecutive reads. Words are listed youngest first.
 use Rattle.std.specs.Prelude.{ℕ, ◌≡◌, ◌≤◌, ◌+◌, max, true, if◌then◌else◌, List, [], ◌∷◌}
-use Rattle.st_plain.specs.declared.uses.Use.{Use}
+use Rattle.st_rows.specs.declared.uses.Use.{Use}
 use Rattle.st_reasons.specs.Words.{is_read, read_of}
 
 -- ---- consecutive reads, youngest first

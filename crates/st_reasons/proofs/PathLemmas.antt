@@ -11,9 +11,10 @@ use Rattle.st_rows.specs.Words.{fetch_word, fetch_words}
 use Rattle.st_rows.specs.declared.fetching.Fetching.{Fetching}
 use Rattle.st_rows.specs.declared.front.Front.{Front}
 use Rattle.st_rows.specs.declared.past.Past.{Past}
-use Rattle.st_plain.specs.declared.uses.Role.TheVariants.{Instruction}
-use Rattle.st_plain.specs.declared.uses.Use.{Use}
-use Rattle.st_plain.specs.Uses.{fetch_supply, instruction_uses}
+use Rattle.st_rows.specs.declared.uses.Role.TheVariants.{Instruction}
+use Rattle.st_rows.specs.declared.uses.Use.{Use}
+use Rattle.st_plain.specs.Uses.{instruction_uses}
+use Rattle.st_rows.specs.Supplies.{fetch_supply}
 use Rattle.st_reasons.specs.Reasons.{row_reason, back_to, is_first, is_written, is_stored, reason_done, reason_in_order, reason_of_bus, reason_or, reason_of_words}
 use Rattle.st_reasons.specs.Words.{is_read, read_of, is_role, is_instruction, is_answered_at, decides}
 use Rattle.st_reasons.specs.declared.because.Because.{Because}

@@ -17,9 +17,10 @@ use Rattle.st_rows.specs.declared.front.Front.{Front}
 use Rattle.st_rows.specs.declared.past.Past.{Past}
 use Rattle.st_segment.specs.Entries.{side_to_read}
 use Rattle.st_plain.specs.Looking.{level_wait}
-use Rattle.st_plain.specs.Uses.{storage_supply, writer_back, fetch_uses, side_uses, formed_uses}
-use Rattle.st_plain.specs.declared.uses.Use.{Use}
-use Rattle.st_plain.specs.declared.uses.Writer.{Writer}
+use Rattle.st_plain.specs.Uses.{fetch_uses, side_uses, formed_uses}
+use Rattle.st_rows.specs.Supplies.{storage_supply, writer_back}
+use Rattle.st_rows.specs.declared.uses.Use.{Use}
+use Rattle.st_rows.specs.declared.uses.Writer.{Writer}
 use Rattle.st_reasons.specs.Paths.{is_side_read, IsForLevel, IsForForwarding, IsReason, ForLevel, ForForwarding, ForAddress}
 use Rattle.st_reasons.specs.ReasonLaws.{NoTwoRowsAreDoneAtOnce, ReasonsAreTrue}
 use Rattle.st_reasons.specs.Reasons.{because, back_to, side_writer, writer_of_supply}

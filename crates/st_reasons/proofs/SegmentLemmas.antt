@@ -9,10 +9,10 @@ use Rattle.st_banks.specs.declared.answers.LastAnswers.{LastAnswers}
 use Rattle.st_fetch.specs.Planned.{tick_of, no_word}
 use Rattle.st_rows.specs.Rows.{opening_front, front_after_entry, tick_a, tick_p, tick_c, address_tick, preparation_tick}
 use Rattle.st_rows.proofs.Awaited.{ready-after}
-use Rattle.st_plain.specs.declared.uses.Role.TheVariants.{Instruction}
-use Rattle.st_plain.specs.declared.uses.Supply.{Supply}
-use Rattle.st_plain.specs.declared.uses.Supply.TheVariants.{Read, Held, Forwarded, Register}
-use Rattle.st_plain.specs.declared.uses.Use.{Use}
+use Rattle.st_rows.specs.declared.uses.Role.TheVariants.{Instruction}
+use Rattle.st_rows.specs.declared.uses.Supply.{Supply}
+use Rattle.st_rows.specs.declared.uses.Supply.TheVariants.{Read, Held, Forwarded, Register}
+use Rattle.st_rows.specs.declared.uses.Use.{Use}
 use Rattle.st_reasons.specs.declared.waits.Stall.TheVariants.{Storage}
 use Rattle.st_reasons.specs.Words.{is_read, read_of, is_instruction, is_answered, is_answered_at}
 use Rattle.st_reasons.specs.Causes.{is_cause, has_cause}

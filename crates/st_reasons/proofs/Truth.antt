@@ -17,12 +17,13 @@ use Rattle.st_rows.specs.declared.bus.Bus.{Bus}
 use Rattle.st_rows.specs.declared.past.Past.{Past}
 use Rattle.st_rows.specs.declared.entry.Entry.{Entry}
 use Rattle.st_rows.specs.declared.front.Front.{Front}
-use Rattle.st_plain.specs.declared.uses.Role.{Role}
-use Rattle.st_plain.specs.declared.uses.Role.TheVariants.{Instruction, Index, Operand, Following}
-use Rattle.st_plain.specs.declared.uses.Supply.{Supply}
-use Rattle.st_plain.specs.declared.uses.Supply.TheVariants.{Register}
-use Rattle.st_plain.specs.declared.uses.Use.{Use}
-use Rattle.st_plain.specs.Uses.{fetch_supply, storage_supply, fetch_uses, uses_of_entry}
+use Rattle.st_rows.specs.declared.uses.Role.{Role}
+use Rattle.st_rows.specs.declared.uses.Role.TheVariants.{Instruction, Index, Operand, Following}
+use Rattle.st_rows.specs.declared.uses.Supply.{Supply}
+use Rattle.st_rows.specs.declared.uses.Supply.TheVariants.{Register}
+use Rattle.st_rows.specs.declared.uses.Use.{Use}
+use Rattle.st_plain.specs.Uses.{fetch_uses, uses_of_entry}
+use Rattle.st_rows.specs.Supplies.{fetch_supply, storage_supply}
 use Rattle.st_reasons.specs.Words.{is_read, is_instruction, is_role, is_answered, is_answered_at}
 use Rattle.st_reasons.specs.Waits.{data_waits, fetch_waits}
 use Rattle.st_reasons.specs.Causes.{IsTrueOf}

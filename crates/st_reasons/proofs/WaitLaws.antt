@@ -13,14 +13,14 @@ use Rattle.st_ledger.specs.declared.charges.Charge.{Charge}
 use Rattle.st_ledger.specs.declared.charges.Stage.{Stage}
 use Rattle.st_ledger.specs.declared.charges.Stage.TheVariants.{Restart, Address, Preparing, Executing, Instruction as AtInstruction, Index as AtIndex, Operand as AtOperand}
 use Rattle.st_ledger.proofs.Sums.{charges-stages}
-use Rattle.st_plain.specs.declared.uses.Role.TheVariants.{Index, Operand}
+use Rattle.st_rows.specs.declared.uses.Role.TheVariants.{Index, Operand}
 use Rattle.st_reasons.specs.Sums.{is_parted}
 use Rattle.st_reasons.specs.Waits.{stage_waits, charge_waits}
 use Rattle.st_reasons.specs.Causes.{IsTrueOf, FallTo}
 use Rattle.st_reasons.specs.WaitLaws.{ReadsToldAreThoseOfTheBus, BanksAreHeldByTheReadBefore, HeldWordsAreBrought, ForwardedWordsAreWritten, InstructionWordsAreFirst, WaitsAreTrue, WaitsCoverTheirCharge, WaitsEndBeforeTheirRow, WaitsAddUpToTheirStage, IndexWordsWaitForNoTurn}
 use Rattle.st_reasons.specs.Segments.{Told, IsTold, front_of, uses_behind, last_uses, all_uses}
 use Rattle.st_ledger.specs.Charges.{is_stage, ticks_for, stage_number}
-use Rattle.st_plain.specs.declared.uses.Use.{Use}
+use Rattle.st_rows.specs.declared.uses.Use.{Use}
 use Rattle.st_reasons.specs.Sums.{stalled_for, row_stalled, is_stall}
 use Rattle.st_reasons.specs.declared.waits.Stall.{Stall}
 use Rattle.st_reasons.specs.declared.waits.Stall.TheVariants.{Turn, Bank, Storage}

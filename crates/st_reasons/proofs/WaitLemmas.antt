@@ -4,9 +4,9 @@ use Rattle.std.specs.List.{list_any}
 use Rattle.std.proofs.Common.{◌≡◌, ℕ, ◌≤◌, ◌<◌, max, true, false, List, [], ◌∷◌, ◌++◌, refl, arith}
 use Rattle.std.proofs.lemmas.Bool.{cond_both, and_parts, eqb-true, or_left, or_right}
 use Rattle.std.proofs.lemmas.List.Elements.{All-nil, All-append, All-head, All-tail}
-use Rattle.st_plain.specs.declared.uses.Role.{Role}
-use Rattle.st_plain.specs.declared.uses.Role.TheVariants.{Instruction}
-use Rattle.st_plain.specs.declared.uses.Use.{Use}
+use Rattle.st_rows.specs.declared.uses.Role.{Role}
+use Rattle.st_rows.specs.declared.uses.Role.TheVariants.{Instruction}
+use Rattle.st_rows.specs.declared.uses.Use.{Use}
 use Rattle.st_reasons.specs.declared.waits.Stall.TheVariants.{Storage}
 use Rattle.st_reasons.specs.Words.{is_read, read_of, is_answered_at, decides}
 use Rattle.st_reasons.specs.Waits.{wait_piece, acceptance_of, turns, read_waits, data_waits, held_waits, bus_waits, fetch_waits}

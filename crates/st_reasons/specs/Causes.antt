@@ -1,8 +1,8 @@
 -- The truth of a wait: the condition that it names holds at each of its ticks.
 use Rattle.std.specs.Prelude.{ℕ, ◌≡◌, ◌≤◌, ◌<◌, Bool, true, ◌&&◌, nat_eq, nat_le, nat_lt, List, [], ◌∷◌}
 use Rattle.std.specs.List.{list_any}
-use Rattle.st_plain.specs.declared.uses.ReadTicks.{ReadTicks}
-use Rattle.st_plain.specs.declared.uses.Use.{Use}
+use Rattle.st_rows.specs.declared.uses.ReadTicks.{ReadTicks}
+use Rattle.st_rows.specs.declared.uses.Use.{Use}
 use Rattle.st_reasons.specs.Words.{is_read, read_of}
 use Rattle.st_reasons.specs.declared.waits.Stall.{Stall}
 use Rattle.st_reasons.specs.declared.waits.Stall.TheVariants.{Turn, Bank, Storage}

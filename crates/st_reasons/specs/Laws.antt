@@ -5,7 +5,7 @@ use Rattle.st_prep.specs.declared.entries.Words.{Words}
 use Rattle.st_rows.specs.declared.entry.Entry.{Entry}
 use Rattle.st_rows.specs.declared.front.Front.{Front}
 use Rattle.st_plain.specs.Uses.{uses_of_entry}
-use Rattle.st_plain.specs.declared.uses.Use.{Use}
+use Rattle.st_rows.specs.declared.uses.Use.{Use}
 use Rattle.st_reasons.specs.Words.{IsReadInTime}
 use Rattle.st_reasons.specs.Waits.{charge_waits}
 use Rattle.st_reasons.specs.Sums.{all_stalled}

@@ -7,8 +7,8 @@ use Rattle.st_rows.specs.Rows.{tick_a, tick_y, tick_p, done_before}
 use Rattle.st_rows.specs.declared.entry.Entry.{Entry}
 use Rattle.st_rows.specs.declared.front.Front.{Front}
 use Rattle.st_plain.specs.Looking.{level_wait}
-use Rattle.st_plain.specs.declared.uses.Role.TheVariants.{Instruction}
-use Rattle.st_plain.specs.declared.uses.Use.{Use}
+use Rattle.st_rows.specs.declared.uses.Role.TheVariants.{Instruction}
+use Rattle.st_rows.specs.declared.uses.Use.{Use}
 use Rattle.st_reasons.specs.Reasons.{is_first, is_stored, side_writer}
 use Rattle.st_reasons.specs.Words.{is_index, is_read, read_of, is_answered_at, decides}
 use Rattle.st_reasons.specs.declared.because.Because.{Because}

@@ -10,7 +10,7 @@ use Rattle.st_segment.specs.Entries.{side_to_read}
 use Rattle.st_ledger.specs.Charges.{charges}
 use Rattle.st_ledger.specs.declared.charges.Charge.{Charge}
 use Rattle.st_plain.specs.Uses.{uses_of_entry}
-use Rattle.st_plain.specs.declared.uses.Use.{Use}
+use Rattle.st_rows.specs.declared.uses.Use.{Use}
 use Rattle.st_reasons.specs.Waits.{charge_waits}
 use Rattle.st_reasons.specs.declared.waits.Wait.{Wait}
 

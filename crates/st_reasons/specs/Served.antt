@@ -8,12 +8,12 @@ use Rattle.st_rows.specs.Entries.{is_among, no_runs}
 use Rattle.st_rows.specs.Rows.{done_before}
 use Rattle.st_rows.specs.declared.bus.Bus.{Bus}
 use Rattle.st_rows.specs.declared.past.Past.{Past}
-use Rattle.st_plain.specs.Uses.{read_ticks}
-use Rattle.st_plain.specs.declared.uses.ReadTicks.{ReadTicks}
-use Rattle.st_plain.specs.declared.uses.Supply.{Supply}
-use Rattle.st_plain.specs.declared.uses.Supply.TheVariants.{Read as ByRead, Held, Forwarded, Register}
-use Rattle.st_plain.specs.declared.uses.Use.{Use}
-use Rattle.st_plain.specs.declared.uses.Writer.{Writer}
+use Rattle.st_rows.specs.Supplies.{read_ticks}
+use Rattle.st_rows.specs.declared.uses.ReadTicks.{ReadTicks}
+use Rattle.st_rows.specs.declared.uses.Supply.{Supply}
+use Rattle.st_rows.specs.declared.uses.Supply.TheVariants.{Read as ByRead, Held, Forwarded, Register}
+use Rattle.st_rows.specs.declared.uses.Use.{Use}
+use Rattle.st_rows.specs.declared.uses.Writer.{Writer}
 use Rattle.st_reasons.specs.Reasons.{writer_of_supply}
 use Rattle.st_reasons.specs.Words.{is_read, read_of}
 

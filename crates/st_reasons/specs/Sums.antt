@@ -4,7 +4,7 @@ use Rattle.st_ledger.specs.Charges.{is_stage}
 use Rattle.st_ledger.specs.declared.charges.Charge.{Charge}
 use Rattle.st_ledger.specs.declared.charges.Stage.{Stage}
 use Rattle.st_ledger.specs.declared.charges.Stage.TheVariants.{Restart, Instruction, Address, Index, Preparing, Operand, Executing}
-use Rattle.st_plain.specs.declared.uses.Use.{Use}
+use Rattle.st_rows.specs.declared.uses.Use.{Use}
 use Rattle.st_reasons.specs.Waits.{charge_waits}
 use Rattle.st_reasons.specs.declared.sums.Shares.{Shares}
 use Rattle.st_reasons.specs.declared.sums.WaitSum.{WaitSum}

@@ -15,7 +15,7 @@ use Rattle.st_ledger.specs.declared.charges.Charge.{Charge}
 use Rattle.st_ledger.specs.declared.charges.Stage.{Stage}
 use Rattle.st_ledger.specs.declared.charges.Stage.TheVariants.{Index}
 use Rattle.st_plain.specs.Uses.{uses_of_entry}
-use Rattle.st_plain.specs.declared.uses.Use.{Use}
+use Rattle.st_rows.specs.declared.uses.Use.{Use}
 use Rattle.st_reasons.specs.Causes.{IsTrueOf, FallTo}
 use Rattle.st_reasons.specs.Segments.{Told, IsTold, front_of, uses_behind, last_uses, all_uses, charges_behind_all, waits_behind}
 use Rattle.st_reasons.specs.Served.{served, reads_told, AreBankedBehind, AreBrought, IsWrittenBy}

@@ -1,12 +1,12 @@
 -- The words that an entry uses, as needed for its waits.
 use Rattle.std.specs.Prelude.{ℕ, ◌≤◌, Bool, true, false, not, ◌&&◌, nat_eq, List, length, All}
 use Rattle.std.specs.List.{list_any}
-use Rattle.st_plain.specs.declared.uses.ReadTicks.{ReadTicks}
-use Rattle.st_plain.specs.declared.uses.Role.{Role}
-use Rattle.st_plain.specs.declared.uses.Role.TheVariants.{Instruction, Index, Operand, Following}
-use Rattle.st_plain.specs.declared.uses.Supply.{Supply}
-use Rattle.st_plain.specs.declared.uses.Supply.TheVariants.{Read, Held, Forwarded, Register}
-use Rattle.st_plain.specs.declared.uses.Use.{Use}
+use Rattle.st_rows.specs.declared.uses.ReadTicks.{ReadTicks}
+use Rattle.st_rows.specs.declared.uses.Role.{Role}
+use Rattle.st_rows.specs.declared.uses.Role.TheVariants.{Instruction, Index, Operand, Following}
+use Rattle.st_rows.specs.declared.uses.Supply.{Supply}
+use Rattle.st_rows.specs.declared.uses.Supply.TheVariants.{Read, Held, Forwarded, Register}
+use Rattle.st_rows.specs.declared.uses.Use.{Use}
 
 -- whether a word is read
 unfoldable pub is_read : Supply → Bool

@@ -7,8 +7,8 @@ ghost use Rattle.st_reasons.specs.Reasons.{row_reason, back_to as back_by, is_fi
 
 use crate::uses::{decides, is_index, is_instruction, is_read, last_use, read_of};
 use st_bits::register::FIRST_STORAGE_WORD;
-use st_plain::{Begun, Role, Supply, Use, Writer};
-use st_rows::{Entry, Front, LastEntries};
+use st_plain::Begun;
+use st_rows::{Entry, Front, LastEntries, Role, Supply, Use, Writer};
 
 /// The kind of dependence of a row on an earlier row that delayed it.
 #[derive(Clone, Copy, Debug, PartialEq, Eq)]

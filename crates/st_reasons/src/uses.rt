@@ -3,7 +3,7 @@ ghost use Rattle.std.specs.Prelude.{◌≡◌, ◌+◌, ◌∷◌, [], length, r
 ghost use Rattle.std.specs.List.{list_any};
 ghost use Rattle.st_reasons.specs.Words.{is_read as is_read_of, read_of as read_by, is_instruction as is_instruction_of, is_index as is_index_of, is_operand as is_operand_of, is_role as is_role_of, is_answered as is_answered_of, is_answered_at as is_due_of, decides as decides_of};
 
-use st_plain::{ReadTicks, Role, Supply, Use};
+use st_rows::{ReadTicks, Role, Supply, Use};
 
 /// The last of some uses, and the uses before it.
 #[inline(always)]

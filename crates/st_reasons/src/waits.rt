@@ -1,13 +1,13 @@
 //! Finds the waits in the ticks of a charge.
 ghost use Rattle.std.specs.Prelude.{◌≡◌, ◌+◌, ◌*◌, ◌≤◌, ◌<◌, ◌++◌, List, length, take, reverse, nat_eq, ◌&&◌};
-ghost use Rattle.st_plain.specs.declared.uses.Use.{Use as UseOf};
+ghost use Rattle.st_rows.specs.declared.uses.Use.{Use as UseOf};
 ghost use Rattle.st_reasons.specs.Words.{is_read as is_read_of, read_of as read_by};
 ghost use Rattle.st_reasons.specs.Waits.{wait_piece, acceptance_of as accepted_of, is_accepted_between as is_between_of, turns, read_waits, data_waits, held_waits, bus_waits, fetch_waits, charge_waits};
 
 use crate::uses::{decides, is_read, last_use, read_of};
 use arrayvec::ArrayVec;
 use st_ledger::{Charge, Stage};
-use st_plain::{Role, Supply, Use};
+use st_rows::{Role, Supply, Use};
 
 /// The kind of a wait for a word.
 #[derive(Clone, Copy, Debug, PartialEq, Eq)]

@@ -6,6 +6,7 @@ pub mod Served
 pub mod Sooner
 pub mod Stages
 pub mod Tight
+pub mod Telling
 pub mod Turns
 pub mod Within
 pub mod NoteLemmas

@@ -9,7 +9,10 @@ use Rattle.st_rows.specs.BusTimes.{accept_at, bus_after_read, requested_if, bus_
 use Rattle.st_rows.specs.Ranges.{AreDelaysUpTo, IsNear}
 use Rattle.st_rows.specs.Rows.{wanted_from, words_tick, tick_a, bus_a, tick_p, operands, front_after_entry, reads_of_entry, followings}
 use Rattle.st_rows.specs.Words.{fetch_words, bus_sided, read_word, read_words, operands_read, request_inside}
-use Rattle.st_rows.specs.Uses.{behind, behind_use, reads_of, uses, wishes, read_made, forwarded_at, Instruction, Operand, Wish, use_of, unused, wish_of, Role, Following}
+use Rattle.st_rows.specs.Uses.{behind, behind_use, reads_of, uses, wishes, read_made, forwarded_at, use_of, unused, wish_of}
+use Rattle.st_rows.specs.declared.uses.Wish.{Wish}
+use Rattle.st_rows.specs.declared.uses.Role.TheVariants.{Instruction, Operand, Following}
+use Rattle.st_rows.specs.declared.uses.Role.{Role}
 use Rattle.st_rows.specs.declared.bus.Bus.{Bus}
 use Rattle.st_rows.specs.declared.entry.Entry.{Entry}
 use Rattle.st_rows.specs.declared.past.Past.{Past}
@@ -142,7 +145,7 @@ few-uses ds past s (x ∷ xs) =
     let u = use_of ds past s x in
     simp length-append (omega (arith, few-made u.unread u.read, few-uses ds past (behind_use ds past s u) xs))
 
-wishes-length : (role : Role) (from w n : ℕ) → length (wishes role from w n) ≡ n
+pub wishes-length : (role : Role) (from w n : ℕ) → length (wishes role from w n) ≡ n
 unfolding wishes
 wishes-length role from w zero = refl
 wishes-length role from w (suc n) = ap suc (wishes-length role from (w + 1) n)
@@ -161,7 +164,7 @@ unfolding operands_asked
 few-operands past p w zero = omega arith
 few-operands past p w (suc n) = simp length-append (omega (arith, few-made (forwarded_at past w p) (record { w = w; want = p; fetch = false }), few-operands past p (w + 1) n))
 
-followings-length : (e : Entry) (p : ℕ) → length (followings e p) ≤ 2
+pub followings-length : (e : Entry) (p : ℕ) → length (followings e p) ≤ 2
 followings-length e p = followed_by e.follows (nat_lt (e.own.first + e.own.len) words_of_storage) (nat_lt (e.own.first + e.own.len + 1) words_of_storage)
   where
     followed_by : (follows one two : Bool)

@@ -11,7 +11,8 @@ use Rattle.st_rows.specs.BusTimes.{accept_at, answer_at, bus_after_read, request
 use Rattle.st_rows.specs.Ranges.{AreDelaysUpTo, IsNear, IsTight, IsEntryInTime}
 use Rattle.st_rows.specs.Rows.{wanted_from, words_tick, address_tick, preparation_tick, tick_a, bus_a, tick_y, tick_p, operands, tick_c, front_after_entry, own_fetched, first_read, followings}
 use Rattle.st_rows.specs.Words.{fetch_word, fetch_words, bus_sided, side_there, read_word, read_words, operands_read, request_inside, bus_followed}
-use Rattle.st_rows.specs.Uses.{behind, behind_use, uses, wishes, forwarded_at, Wish, use_of, unused, wish_of}
+use Rattle.st_rows.specs.Uses.{behind, behind_use, uses, wishes, forwarded_at, use_of, unused, wish_of}
+use Rattle.st_rows.specs.declared.uses.Wish.{Wish}
 use Rattle.st_rows.specs.declared.bus.Bus.{Bus}
 use Rattle.st_rows.specs.declared.entry.Entry.{Entry}
 use Rattle.st_rows.specs.declared.past.Past.{Past}

@@ -7,7 +7,9 @@ use Rattle.st_fetch.specs.Planned.{tick_of}
 use Rattle.st_rows.specs.Asked.{word_asked, data_asked, side_asked, operands_asked, inside_asked, following_asked, fetches_asked, formed_asked, prepared_asked}
 use Rattle.st_rows.specs.BusTimes.{Read, bus_if, answer_if, bus_after_request}
 use Rattle.st_rows.specs.Rows.{own_uses, target_uses, index_uses, first_uses, second_uses, following_uses, first_read, tick_a, tick_p, words_tick, bus_a, uses_of_entry, reads_of_entry}
-use Rattle.st_rows.specs.Uses.{Operand, Following, Wish, Use, answered_by, use_of, behind_use, uses, behind, wishes, read_made, reads_of, unused, wish_of}
+use Rattle.st_rows.specs.Uses.{Use, answered_by, use_of, behind_use, uses, behind, wishes, read_made, reads_of, unused, wish_of}
+use Rattle.st_rows.specs.declared.uses.Wish.{Wish}
+use Rattle.st_rows.specs.declared.uses.Role.TheVariants.{Operand, Following}
 use Rattle.st_rows.specs.Words.{bus_followed, request_inside}
 use Rattle.st_rows.specs.declared.bus.Bus.{Bus}
 use Rattle.st_rows.specs.declared.entry.Entry.{Entry}

@@ -2,12 +2,14 @@
 use Rattle.std.specs.Prelude.{ℕ, zero, suc, Bool, ◌&&◌, ◌||◌, nat_le, nat_lt, if◌then◌else◌, List, [], ◌∷◌, get_or}
 use Rattle.std.specs.Int.{bit_at, bit_not, trailing_zeros, w64}
 use Rattle.std.proofs.Common.{take, All, ◌≡◌, ◌+◌, ◌*◌, ◌/◌, ◌%◌, ◌^◌, bit_and, ◌<◌, ◌≤◌, true, false, inl, inr, length, refl, ap, sym, ◌∙◌, arith}
-use Rattle.std.proofs.lemmas.Bool.{cases_eq}
+use Rattle.std.proofs.lemmas.Bool.{cases_eq, lt-ltb, le-ltb}
+use Rattle.std.proofs.lemmas.List.Sums.{position_or_len_is}
 use Rattle.std.proofs.lemmas.Bool.Decides.{nat_tests}
 use Rattle.std.proofs.lemmas.Nat.Bits.{bit_at_lowest, bit_at-suc, bit_at-zero, bit_at-trailing_zeros, bit_at_clear_same, bit_at_clear_other, bit_at_and}
 use Rattle.std.proofs.lemmas.Nat.{and_le_l}
 use Rattle.std.proofs.lemmas.List.Elements.{All-head, All-tail, All-cons, All-take}
 use Rattle.st_rows.specs.Entries.{is_in, is_among, no_runs, has_words, writer_bits, latest_done}
+use Rattle.st_rows.specs.Supplies.{writer_back}
 use Rattle.st_rows.specs.declared.past.Past.{Past}
 
 -- the entry at a place, one without words behind the last one
@@ -99,7 +101,23 @@ latest-here [] w i here none = refl
 latest-here (entry ∷ past) w zero here none = rw (← here) refl
 latest-here (entry ∷ past) w (suc i) here none = rw (none 0 (omega arith)) (latest-here past w i here (λ j less. none (suc j) (omega arith)))
 
+-- how far back it lies
+back-here : (past : List Past) (w i : ℕ) → i < length past → true ≡ is_among w (nth past i).writes
+    → ((j : ℕ) → j < i → is_among w (nth past j).writes ≡ false) → i + 1 ≡ writer_back past w
+back-here past w i inside here none =
+    let at = position_or_len_is (λ (e : Past). is_among w e.writes) past i (record { c = 0; writes = no_runs }) (omega arith) none (λ less. sym here) in
+    rw (at, lt-ltb i (length past) inside) refl
+
+back-none : (past : List Past) (w : ℕ) → ((i : ℕ) → i < length past → is_among w (nth past i).writes ≡ false) → 0 ≡ writer_back past w
+back-none past w none =
+    let at = position_or_len_is (λ (e : Past). is_among w e.writes) past (length past) (record { c = 0; writes = no_runs }) (omega arith) none (λ less. absurd (omega (arith, less))) in
+    rw (at, le-ltb (length past) (length past) (omega arith)) refl
+
 -- no entry is left
+pub none-back : (past : List Past) (w left : ℕ) → left ≡ 0 → IsLeft past w left → 0 ≡ writer_back past w
+none-back past w left none is =
+    back-none past w (λ i inside. is.others i inside (ap (λ m. bit_at m i) none ∙ bit_at-zero i))
+
 pub none-left : (past : List Past) (w left : ℕ) → left ≡ 0 → IsLeft past w left → 0 ≡ latest_done past w
 none-left past w left none is =
     sym (latest-none past w (λ i inside. is.others i inside (ap (λ m. bit_at m i) none ∙ bit_at-zero i)))
@@ -115,6 +133,10 @@ module _ (past : List Past) (w left : ℕ) (some : 0 < left) (fits : left < 2 ^ 
   pub newest-writes : true ≡ is_among w (nth past (trailing_zeros w64 left)).writes → (nth past (trailing_zeros w64 left)).c ≡ latest_done past w
   newest-writes here =
       latest-here past w _ here (λ j less. is.others j (omega (arith, newest-inside)) ((bit_at-trailing_zeros w64 left some fits).2 j less))
+
+  pub newest-back : true ≡ is_among w (nth past (trailing_zeros w64 left)).writes → trailing_zeros w64 left + 1 ≡ writer_back past w
+  newest-back here =
+      back-here past w _ newest-inside here (λ j less. is.others j (omega (arith, newest-inside)) ((bit_at-trailing_zeros w64 left some fits).2 j less))
 
   pub fewer-left : bit_and left (bit_not w64 (1 * 2 ^ trailing_zeros w64 left % 2 ^ 64)) < left
   fewer-left =

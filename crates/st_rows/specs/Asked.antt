@@ -4,7 +4,8 @@ use Rattle.st_bits.specs.Storage.{words_of_storage}
 use Rattle.st_fetch.specs.Planned.{tick_of}
 use Rattle.st_rows.specs.BusTimes.{Read, after_one, accept_at}
 use Rattle.st_rows.specs.Rows.{followings, own_uses, target_uses, tick_a, tick_p, operands}
-use Rattle.st_rows.specs.Uses.{Instruction, wishes, uses, forwarded_at, read_made, reads_of, unused}
+use Rattle.st_rows.specs.Uses.{wishes, uses, forwarded_at, read_made, reads_of, unused}
+use Rattle.st_rows.specs.declared.uses.Role.TheVariants.{Instruction}
 use Rattle.st_rows.specs.declared.bus.Bus.{Bus}
 use Rattle.st_rows.specs.declared.entry.Entry.{Entry}
 use Rattle.st_rows.specs.declared.entry.WordRuns.{WordRuns}

@@ -13,7 +13,8 @@ use Rattle.st_rows.specs.declared.bus.Bus.{Bus}
 use Rattle.st_rows.specs.declared.entry.Entry.{Entry}
 use Rattle.st_rows.specs.declared.entry.WordRuns.{WordRuns}
 use Rattle.st_rows.specs.declared.front.Front.{Front}
-use Rattle.st_rows.specs.Uses.{Wish, uses, behind, reads_of}
+use Rattle.st_rows.specs.Uses.{uses, behind, reads_of}
+use Rattle.st_rows.specs.declared.uses.Wish.{Wish}
 use Rattle.st_rows.specs.declared.fetching.Fetching.{Fetching}
 use Rattle.st_rows.specs.declared.past.Past.{Past}
 

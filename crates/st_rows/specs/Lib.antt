@@ -1,11 +1,13 @@
 pub mod Asked
 pub mod BusTimes
 pub mod Entries
+pub mod KeptUses
 pub mod Levels
 pub mod LogLaws
 pub mod Notes
 pub mod Ranges
 pub mod Rows
+pub mod Supplies
 pub mod Uses
 pub mod Words
 pub mod Laws

@@ -6,7 +6,9 @@ use Rattle.st_bits.specs.Storage.{words_of_storage}
 use Rattle.st_banks.specs.declared.answers.LastAnswers.{LastAnswers}
 use Rattle.st_rows.specs.BusTimes.{Read, no_reads}
 use Rattle.st_rows.specs.Entries.{no_runs}
-use Rattle.st_rows.specs.Uses.{Instruction, Operand, Following, Wish, Use, words_of, uses, behind, reads_of, unused, wish_of}
+use Rattle.st_rows.specs.Uses.{Use, words_of, uses, behind, reads_of, unused, wish_of}
+use Rattle.st_rows.specs.declared.uses.Wish.{Wish}
+use Rattle.st_rows.specs.declared.uses.Role.TheVariants.{Instruction, Operand, Following}
 use Rattle.st_rows.specs.declared.bus.Bus.{Bus}
 use Rattle.st_rows.specs.declared.entry.Entry.{Entry}
 use Rattle.st_rows.specs.declared.past.Past.{Past}

@@ -9,19 +9,9 @@ use Rattle.st_rows.specs.declared.bus.Bus.{Bus}
 use Rattle.st_rows.specs.declared.entry.WordRun.{WordRun}
 use Rattle.st_rows.specs.declared.past.Past.{Past}
 use Rattle.st_rows.specs.declared.fetching.Fetching.{Fetching}
-
--- what a word is for
-pub data Role : Type 0 where
-  Instruction : Role
-  Index : Role
-  Operand : Role
-  Following : Role
-
--- a word that is asked for from the tick `from` on
-pub record Wish : Type 0 where
-  pub role : Role
-  pub w : ℕ
-  pub from : ℕ
+use Rattle.st_rows.specs.declared.uses.Role.{Role}
+use Rattle.st_rows.specs.declared.uses.Role.TheVariants.{Instruction, Index, Operand, Following}
+use Rattle.st_rows.specs.declared.uses.Wish.{Wish}
 
 -- a use of a word: its read, on the bus that it finds, and the tick at which the word is there where
 -- no read is made, since it is held or comes from its writer

@@ -5,7 +5,8 @@ use Rattle.st_bits.specs.Storage.{words_of_storage}
 use Rattle.st_rows.specs.BusTimes.{answer_if, bus_after_request}
 use Rattle.st_rows.specs.Entries.{latest_done}
 use Rattle.st_rows.specs.Rows.{followings, bus_a, tick_p}
-use Rattle.st_rows.specs.Uses.{Instruction, Operand, wishes, forwarded_at, use_of, behind_use, uses, behind, unused, wish_of}
+use Rattle.st_rows.specs.Uses.{wishes, forwarded_at, use_of, behind_use, uses, behind, unused, wish_of}
+use Rattle.st_rows.specs.declared.uses.Role.TheVariants.{Instruction, Operand}
 use Rattle.st_rows.specs.declared.bus.Bus.{Bus}
 use Rattle.st_rows.specs.declared.entry.Entry.{Entry}
 use Rattle.st_rows.specs.declared.entry.WordRun.{WordRun}

@@ -1,12 +1,16 @@
 //! The bus: when reads are accepted and answered, and which instruction words are held.
-ghost use Rattle.std.specs.Prelude.{◌≡◌, ◌-◌, ◌≤◌, ◌^◌, ◌∷◌, take, false};
+ghost use Rattle.std.specs.Prelude.{◌≡◌, ◌-◌, ◌≤◌, ◌^◌, ◌∷◌, [], take, false};
 ghost use Rattle.st_rows.specs.BusTimes.{no_reads, bus_after_read, answer_at, bus_after_request, answer_tick_on};
 ghost use Rattle.st_fetch.specs.Planned.{tick_of};
 ghost use Rattle.st_rows.specs.Asked.{word_asked};
 ghost use Rattle.st_rows.specs.Notes.{note, log_after_reads};
 ghost use Rattle.st_rows.specs.Ranges.{IsBusWithin};
+ghost use Rattle.st_rows.specs.Supplies.{read_ticks, fetch_supply};
+ghost use Rattle.st_rows.specs.declared.uses.Supply.TheVariants as from;
 
 use crate::log::{Log, Made};
+use crate::uses::{ReadTicks, Wish};
+use crate::watch::Watch;
 use st_banks::{Delays, LastAnswers};
 use st_fetch::HeldWords;
 
@@ -35,46 +39,80 @@ impl Bus {
         }
     }
 
-    /// Reads the word `w`, which is wanted from the tick `want` on, and notes that in the log. The
-    /// result is the tick of the answer.
-    pub fn read(&mut self, log: &mut Log, delays: &Delays, w: u32, want: u64) -> u64
+    /// Reads a word, notes that in the log, and tells it to who looks on. The result is the tick of
+    /// the answer.
+    pub fn read<W: Watch>(
+        &mut self,
+        log: &mut Log,
+        watch: &mut W,
+        delays: &Delays,
+        wish: Wish,
+    ) -> u64
         requires room { IsBusWithin (2 ^ 64 - 512) self.old }
-        requires early { want ≤ 2 ^ 64 - 512 }
-        ensures value { result ≡ answer_at delays.now.list self.old w want }
-        ensures after { self.new ≡ bus_after_read delays.now.list self.old w want }
+        requires early { wish.from ≤ 2 ^ 64 - 512 }
+        ensures value { result ≡ answer_at delays.now.list self.old wish.w wish.from }
+        ensures after { self.new ≡ bus_after_read delays.now.list self.old wish.w wish.from }
         ensures log { log.new ≡ take 64 (note self.old (record {
-          w = w;
-          want = want;
+          w = wish.w;
+          want = wish.from;
           fetch = false;
         }) ∷ log.old) }
+        ensures told { watch.new ≡ W.noted (record {
+          role = wish.role;
+          word = wish.w;
+          supply = from.Read (read_ticks delays.now.list self.old wish.w wish.from);
+        } ∷ []) watch.old }
     {
-        let tick = self.banks.accept_tick(w, self.free, want);
-        let answer = delays.answer(tick);
+        let Wish { role, w, from } = wish;
+        let accept = self.banks.accept_tick(w, self.free, from);
+        let answer = delays.answer(accept);
+        let before = self.banks.of(w);
         log.put(Made {
-            tick,
-            before: self.banks.of(w),
+            tick: accept,
+            before,
             w,
         });
+        let ticks = ReadTicks {
+            want: from,
+            turn: self.free,
+            free: before,
+            accept,
+            answer,
+        };
+        watch.read(role, w, &ticks);
         self.banks.answer(w, answer);
-        self.free = tick + 1;
+        self.free = accept + 1;
         answer
     }
 
-    /// Asks for the instruction word `w`, which is wanted from the tick `want` on: if it is held,
-    /// no read is made, and else it is held from now on. The result is the tick of its answer.
-    pub fn request(&mut self, log: &mut Log, delays: &Delays, w: u32, want: u64) -> u64
+    /// Asks for an instruction word: if it is held, no read is made, and else it is held from now
+    /// on. The result is the tick of its answer.
+    pub fn request<W: Watch>(
+        &mut self,
+        log: &mut Log,
+        watch: &mut W,
+        delays: &Delays,
+        wish: Wish,
+    ) -> u64
         requires room { IsBusWithin (2 ^ 64 - 512) self.old }
-        requires early { want ≤ 2 ^ 64 - 512 }
-        ensures value { result ≡ answer_tick_on delays.now.list self.old w want }
-        ensures after { self.new ≡ bus_after_request delays.now.list self.old w want }
+        requires early { wish.from ≤ 2 ^ 64 - 512 }
+        ensures value { result ≡ answer_tick_on delays.now.list self.old wish.w wish.from }
+        ensures after { self.new ≡ bus_after_request delays.now.list self.old wish.w wish.from }
         ensures log { log.new ≡ log_after_reads delays.now.list
-            (word_asked (tick_of self.old.held.words w) w want) self.old log.old }
+            (word_asked (tick_of self.old.held.words wish.w) wish.w wish.from) self.old log.old }
+        ensures told { watch.new ≡ W.noted (record {
+          role = wish.role;
+          word = wish.w;
+          supply = fetch_supply (tick_of self.old.held.words wish.w) delays.now.list self.old
+              wish.w wish.from;
+        } ∷ []) watch.old }
     {
-        if let Some(tick) = self.held.tick_of(w) {
+        if let Some(tick) = self.held.tick_of(wish.w) {
+            watch.held(wish.role, wish.w, tick);
             return tick;
         }
-        let tick = self.read(log, delays, w, want);
-        self.held.request(w, tick);
+        let tick = self.read(log, watch, delays, wish);
+        self.held.request(wish.w, tick);
         tick
     }
 }

@@ -1,14 +1,19 @@
 //! The instruction words of an entry, asked for one after another.
-ghost use Rattle.std.specs.Prelude.{◌≡◌, ◌-◌, ◌≤◌, ◌^◌, max};
+ghost use Rattle.std.specs.Prelude.{◌≡◌, ◌-◌, ◌≤◌, ◌^◌, ◌∷◌, [], max};
 ghost use Rattle.st_fetch.specs.Planned.{tick_of};
 ghost use Rattle.st_rows.specs.Asked.{word_asked};
 ghost use Rattle.st_rows.specs.Notes.{log_after_reads};
 ghost use Rattle.st_rows.specs.Words.{fetch_word};
 ghost use Rattle.st_rows.specs.Ranges.{IsFetchingWithin, ArePastWithin};
+ghost use Rattle.st_rows.specs.Supplies.{told};
+ghost use Rattle.st_rows.specs.Uses.{use_of};
+ghost use Rattle.st_rows.specs.declared.uses.Role.TheVariants.{Instruction};
 
 use crate::bus::Bus;
 use crate::log::Log;
 use crate::past::LastEntries;
+use crate::uses::{Role, Wish};
+use crate::watch::Watch;
 use st_banks::Delays;
 
 /// From when on words are wanted, and what decides when they are there: the delays of storage, and
@@ -56,9 +61,9 @@ impl Fetching {
     }
 
     /// Fetches the next instruction word; the read that is made for it, where it was not held, is
-    /// noted in the log.
+    /// noted in the log, and who looks on is told of the word.
     #[inline(always)]
-    pub fn word(&mut self, log: &mut Log, wanted: &Wanted<'_>, w: u32)
+    pub fn word<W: Watch>(&mut self, log: &mut Log, watch: &mut W, wanted: &Wanted<'_>, w: u32)
         requires room { IsFetchingWithin (2 ^ 64 - 512) self.old }
         requires before { ArePastWithin (2 ^ 64 - 512) wanted.now.past.now }
         requires early { wanted.now.tick ≤ 2 ^ 64 - 512 }
@@ -69,9 +74,17 @@ impl Fetching {
         ensures log { let x = wanted.now in log.new ≡ log_after_reads x.delays.now.list
             (word_asked (tick_of self.old.bus.held.words w) w
             (max (max x.tick self.old.answered) self.old.awaited)) self.old.bus log.old }
+        ensures told { let x = wanted.now in let ds = x.delays.now.list in
+            watch.new ≡ W.noted (told ds x.past.now (use_of ds x.past.now self.old
+            (record { role = Instruction; w = w; from = x.tick }) ∷ [])) watch.old }
     {
         let want = wanted.tick.max(self.answered).max(self.awaited);
-        let tick = self.bus.request(log, wanted.delays, w, want);
+        let wish = Wish {
+            role: Role::Instruction,
+            w,
+            from: want,
+        };
+        let tick = self.bus.request(log, watch, wanted.delays, wish);
         self.answered = self.answered.max(tick);
         let past = wanted.past;
         self.awaited = self.awaited.max(past.latest_done(w));

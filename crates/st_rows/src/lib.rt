@@ -10,11 +10,15 @@ mod log;
 mod past;
 mod reading;
 mod timing;
+mod uses;
+mod watch;
 
 pub use bus::Bus;
 pub use entry::{Entry, WordRun, WordRuns};
 pub use fetching::{Fetching, Wanted};
-pub use front::{EntryTicks, Filled, Formed, FormedEntry, Front};
+pub use front::{EntryTicks, Filled, Formed, FormedEntry, Front, TimedEntry, follow};
 pub use log::{Log, Made};
 pub use past::{LastEntries, Past};
 pub use timing::Timing;
+pub use uses::{ReadTicks, Role, Supply, Use, Uses, Wish, Writer};
+pub use watch::{Nobody, Watch};

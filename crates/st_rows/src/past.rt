@@ -2,6 +2,7 @@
 ghost use Rattle.std.specs.Prelude.{◌≡◌, ◌∷◌, ℕ, ◌≤◌, take, replicate, true, false};
 ghost use Rattle.st_rows.specs.Entries.{no_runs, is_in, is_outside, latest_done as latest_done_of};
 ghost use Rattle.st_rows.specs.Rows.{done_before as done_before_of};
+ghost use Rattle.st_rows.specs.Supplies.{writer_back};
 
 use crate::entry::{WordRun, WordRuns};
 use st_bits::register::FIRST_STORAGE_WORD;
@@ -122,6 +123,23 @@ impl LastEntries {
                 return entry.c;
             }
             left &= !(1 << newest);
+        }
+        0
+    }
+
+    /// How many entries before the latest of these entries lies that writes the word `w`, 1 to 8; 0
+    /// where none does.
+    pub fn latest_back(&self, w: u32) -> u8
+        ensures { result ≡ writer_back self.now w }
+    {
+        let mut left = self.writers;
+        'writers: while left > 0 {
+            let at = left.trailing_zeros();
+            let entry = &self.entries[(self.head + at as usize) % KEPT];
+            if entry.writes.has(w) {
+                return at as u8 + 1;
+            }
+            left &= !(1 << at);
         }
         0
     }

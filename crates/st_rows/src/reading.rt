@@ -1,19 +1,30 @@
 //! The operand words of an entry, read one after another.
-ghost use Rattle.std.specs.Prelude.{◌≡◌, ◌-◌, ◌≤◌, ◌^◌};
+ghost use Rattle.std.specs.Prelude.{◌≡◌, ◌-◌, ◌≤◌, ◌^◌, ◌∷◌, []};
 ghost use Rattle.st_rows.specs.Asked.{data_asked, operands_asked};
 ghost use Rattle.st_rows.specs.Notes.{log_after_reads};
 ghost use Rattle.st_rows.specs.Words.{read_word, read_words, fill_at};
 ghost use Rattle.st_rows.specs.Ranges.{IsReadingWithin, ArePastWithin, IsReadable};
+ghost use Rattle.st_rows.specs.Supplies.{told};
+ghost use Rattle.st_rows.specs.Uses.{use_of, uses, words_of};
+ghost use Rattle.st_rows.specs.declared.uses.Role.TheVariants.{Operand};
 
 use crate::entry::WordRun;
 use crate::fetching::{Fetching, Wanted};
 use crate::log::Log;
+use crate::uses::{Role, Wish};
+use crate::watch::Watch;
 
 impl Fetching {
     // Reads the next operand word of an entry, which is wanted when that is prepared, unless an
     // earlier entry writes it that is done later. The result is the tick at which the word is
     // there.
-    pub(crate) fn read(&mut self, log: &mut Log, wanted: &Wanted<'_>, w: u32) -> u64
+    pub(crate) fn read<W: Watch>(
+        &mut self,
+        log: &mut Log,
+        watch: &mut W,
+        wanted: &Wanted<'_>,
+        w: u32,
+    ) -> u64
         requires room { IsReadingWithin (2 ^ 64 - 512) self.old }
         requires before { ArePastWithin (2 ^ 64 - 512) wanted.now.past.now }
         requires early { wanted.now.tick ≤ 2 ^ 64 - 512 }
@@ -25,20 +36,35 @@ impl Fetching {
             ≡ read_word x.delays.now.list x.past.now self.old w x.tick }
         ensures log { let x = wanted.now in log.new ≡ log_after_reads x.delays.now.list
             (data_asked x.past.now w x.tick) self.old.bus log.old }
+        ensures told { let x = wanted.now in let ds = x.delays.now.list in
+            watch.new ≡ W.noted (told ds x.past.now (use_of ds x.past.now self.old
+            (record { role = Operand; w = w; from = x.tick }) ∷ [])) watch.old }
     {
         let past = wanted.past;
         let done = past.latest_done(w);
         if done > wanted.tick {
+            watch.forwarded(Role::Operand, w, past, done);
             return done;
         }
-        let answer = self.bus.read(log, wanted.delays, w, wanted.tick);
+        let wish = Wish {
+            role: Role::Operand,
+            w,
+            from: wanted.tick,
+        };
+        let answer = self.bus.read(log, watch, wanted.delays, wish);
         self.answered = self.answered.max(answer);
         answer
     }
 
-    // Reads the next operand words.
+    /// Reads the next operand words.
     #[inline(always)]
-    pub(crate) fn read_on(&mut self, log: &mut Log, wanted: &Wanted<'_>, run: WordRun)
+    pub fn read_on<W: Watch>(
+        &mut self,
+        log: &mut Log,
+        watch: &mut W,
+        wanted: &Wanted<'_>,
+        run: WordRun,
+    )
         requires room { IsReadingWithin (2 ^ 64 - 2 ^ 16) self.old }
         requires before { ArePastWithin (2 ^ 64 - 2 ^ 16) wanted.now.past.now }
         requires early { wanted.now.tick ≤ 2 ^ 64 - 2 ^ 16 }
@@ -49,11 +75,14 @@ impl Fetching {
             x.delays.now.list x.past.now self.old x.tick run.first run.len }
         ensures log { let x = wanted.now in log.new ≡ log_after_reads x.delays.now.list
             (operands_asked x.past.now x.tick run.first run.len) self.old.bus log.old }
+        ensures told { let x = wanted.now in let ds = x.delays.now.list in
+            watch.new ≡ W.noted (told ds x.past.now (uses ds x.past.now self.old
+            (words_of Operand x.tick run))) watch.old }
     {
         let mut w = run.first;
         let mut left = run.len;
         'words: while left > 0 {
-            self.read(log, wanted, w);
+            self.read(log, watch, wanted, w);
             w += 1;
             left -= 1;
         }

@@ -1,5 +1,4 @@
-use Rattle.std.proofs.Common.{sym, subst, ◌∙◌, ap}
-use Rattle.st_rows.specs.declared.front.Front.{Front}
+use Rattle.std.proofs.Common.{subst, ap}
 use Rattle.st_state.specs.Machine.{Machine, IsMachine}
 use Rattle.st_rows.proofs.Within.{delays-are}
 use Rattle.st_account.specs.Standing.{guessing}
@@ -25,6 +24,3 @@ pub returns-clause-few : goal.returns-clause-few
 returns-clause-few c =
     few-found c.args.timing.now.delays.now.list c.args.timing.now.levels c.args.last.now.tick c.args.timing.now.levels _ _ c.args.behind.now.ahead.found.items c.look.new.ahead.found.items c.requires.none
     c.args.timing.now.few c.look.ensures.found
-
-pub look-requires-clause-past : goal.look-requires-clause-past
-look-requires-clause-past c = c.requires.past ∙ ap (λ (f : Front). f.past) (sym c.front_of-front.ensures)

@@ -1,5 +1,5 @@
 use Rattle.st_segment.proofs.EntryRanges.{entry-ranges}
-use Rattle.st_plain.proofs.PlanLemmas.{plan-planned, known-planned, entry-planned}
+use Rattle.st_plain.proofs.PlanLemmas.{plan-planned, known-planned, entry-planned, side-planned}
 use Rattle.st_plain.proofs.entries.plan_entry.Goals as goal
 
 pub returns-in-Some-clause-plan : goal.returns-in-Some-clause-plan
@@ -41,3 +41,9 @@ pub returns-in-None-clause-in_time : goal.returns-in-None-clause-in_time
 returns-in-None-clause-in_time c =
     rw (returns-in-None-clause-entry c)
     (entry-ranges c.args.table c.args.state.now c.place_of-p.ensures.machine c.requires.indicator)
+
+pub returns-in-Some-clause-side : goal.returns-in-Some-clause-side
+returns-in-Some-clause-side c = side-planned c.args.state.now c.args.table _ _ (returns-in-Some-clause-entry c) (returns-in-Some-clause-known c)
+
+pub returns-in-None-clause-side : goal.returns-in-None-clause-side
+returns-in-None-clause-side c = side-planned c.args.state.now c.args.table _ _ (returns-in-None-clause-entry c) (returns-in-None-clause-known c)

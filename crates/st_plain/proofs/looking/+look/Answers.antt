@@ -18,9 +18,9 @@ use Rattle.arrayvec.specs.ArrayVec.{ArrayVec}
 use Rattle.st_plain.specs.Looking.{side_at, known_at}
 use Rattle.st_plain.specs.Uses.{uses_of_entry}
 use Rattle.st_plain.specs.declared.known.Known.{Known}
-use Rattle.st_plain.specs.declared.uses.Use.{Use}
+use Rattle.st_rows.specs.declared.uses.Use.{Use}
 use Rattle.st_plain.specs.declared.looking.Ahead.{Ahead as Seen}
-use Rattle.st_plain.proofs.LookLemmas.{guess-counted, guess-done, found-late, found-same, found-look, begun-here, begun-behind, bus-late, log-late, bus-look, log-look, first-next, some-more, row-p, after-c, past-kept}
+use Rattle.st_plain.proofs.LookLemmas.{guess-counted, guess-done, found-late, found-same, found-look, begun-here, begun-behind, bus-late, log-late, bus-look, log-look, first-next, some-more, row-p, after-c}
 use Rattle.st_plain.proofs.UseLemmas.{all-used}
 use Rattle.st_plain.proofs.looking.+look.Goals as goal
 
@@ -125,10 +125,7 @@ look-requires t c =
               (
                 first-next ds n n c.args.reach.now.more c.args.reach.now.tick f c.finish-row.new.front e c.args.reach.now.timing.now.few some
                     c.args.reach.now.left c.requires.late rises c.requires.first c.finish-row.ensures.after,
-                (
-                  omega (arith, more, c.requires.space, some),
-                  past-kept ds n f e c.finish-row.result _ _ _ c.requires.past c.finish-row.ensures.value c.put_past.ensures c.finish-row.ensures.after,
-                ),
+                omega (arith, more, c.requires.space, some),
               ),
             ),
           ),

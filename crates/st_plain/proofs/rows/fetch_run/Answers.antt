@@ -1,8 +1,8 @@
-use Rattle.std.proofs.Common.{◌+◌, ◌-◌, ◌*◌, ◌^◌, ◌∙◌, arith}
+use Rattle.std.proofs.Common.{◌+◌, ◌-◌, ◌*◌, ◌^◌, ◌∙◌, refl, arith}
 use Rattle.st_bits.specs.Storage.{words_of_storage_is}
 use Rattle.st_rows.proofs.Within.{delays-are, past-weaker, fetching-weaker, fetch_word-within}
 use Rattle.st_plain.proofs.RowLemmas.{fetch-turn, noted-turn, noted-end, fetch-end}
-use Rattle.st_plain.proofs.UseLemmas.{instruction-turn, instruction-end}
+use Rattle.st_plain.proofs.UseLemmas.{instruction-turn, instruction-end, put-one}
 use Rattle.st_plain.proofs.rows.fetch_run.Goals as goal
 
 pub overflow_add-w : goal.overflow_add-w
@@ -16,16 +16,17 @@ words-preserved c =
     let m = 2 ^ 64 - 512 - 256 * c.words.left in
     let are = delays-are c.args.wanted.now.delays.now in
     let before = past-weaker (2 ^ 64 - 2 ^ 16) m c.args.wanted.now.past.now (omega (arith, c.words.invariant.few)) c.requires.before in
+    let told = put-one _ c.words.uses c.word.new.watch c.word.ensures.told (omega (arith, c.words.invariant.space, c.requires.space)) in
     record {
       value = fetch-turn c.args.wanted.now.delays.now.list c.args.wanted.now.past.now c.args.wanted.now.tick c.words.w c.words.words c.word.new.self c.words.left c.word.ensures.after (omega arith)
           ∙ c.words.invariant.value;
       log = noted-turn c.args.wanted.now.delays.now.list c.args.wanted.now.past.now c.args.wanted.now.tick c.words.w c.words.words c.word.new.self c.words.left c.words.log c.word.new.log
           c.word.ensures.after c.word.ensures.log (omega arith)
           ∙ c.words.invariant.log;
-      uses = instruction-turn c.args.wanted.now.delays.now.list c.args.wanted.now.past.now c.args.wanted.now.tick c.words.w c.words.words c.word.new.self c.words.left c.words.uses.items c.note.new.uses.items _
-          c.word.ensures.after (rw (c.max-want.ensures, c.max.ensures) at c.fetch_supply-supply.ensures) c.note.ensures.items (omega arith)
+      uses = instruction-turn c.args.wanted.now.delays.now.list c.args.wanted.now.past.now c.args.wanted.now.tick c.words.w c.words.words c.word.new.self c.words.left c.words.uses.items c.word.new.watch.items _
+          c.word.ensures.after refl told.0 (omega arith)
           ∙ c.words.invariant.uses;
-      space = omega (arith, c.note.ensures.room, c.words.invariant.space);
+      space = omega (arith, told.1, c.words.invariant.space);
       room = fetching-weaker (m + 256) _ c.word.new.self (omega arith)
           (rw c.word.ensures.after
           (fetch_word-within 255 c.args.wanted.now.delays.now.list are m (m + 256) (omega arith) c.args.wanted.now.past.now c.words.words c.words.w c.args.wanted.now.tick before

@@ -5,7 +5,7 @@ use Rattle.st_rows.proofs.Within.{delays-are, bus-weaker}
 use Rattle.st_rows.proofs.Stages.{bus_a-within, p-within, c-within, operands_of-within}
 use Rattle.st_rows.proofs.Tight.{tight-after}
 use Rattle.st_plain.proofs.RowLemmas.{noted-prepared, noted-asked}
-use Rattle.st_plain.proofs.UseLemmas.{operands-read, prepared-used}
+use Rattle.st_plain.proofs.UseLemmas.{operands-read, prepared-used, put-following}
 use Rattle.st_plain.proofs.rows.finish.Goals as goal
 use Rattle.st_rows.specs.declared.fetching.Fetching.{Fetching}
 use Rattle.st_rows.specs.Words.{operands_read, read_words, bus_followed}
@@ -32,8 +32,8 @@ overflow_add-c c =
     (operands_of-within 255 c.args.next.now.timing.now.delays.now.list (delays-are c.args.next.now.timing.now.delays.now) f c.args.next.now.planned.now.entry c.requires.entry c.requires.tight c.args.next.now.timing.now.levels) in
     omega (arith, read.answered)
 
-pub use_following-requires-clause-room : goal.use_following-requires-clause-room
-use_following-requires-clause-room c =
+pub follow-requires-clause-room : goal.follow-requires-clause-room
+follow-requires-clause-room c =
     let f = c.args.front.now in
     let reads = operands-read c.args.next.now.timing.now.delays.now.list f c.args.next.now.planned.now.entry c.args.next.now.timing.now.levels c.use_data.new.words c.args.begun.now.words.bus
     c.args.begun.now.formed.p c.use_data.ensures.after c.requires.bus c.requires.tick in
@@ -41,8 +41,8 @@ use_following-requires-clause-room c =
     (bus-weaker (f.c + 40 * 255 + 41) (2 ^ 64 - 1024) _ (omega arith)
     (operands_of-within 255 c.args.next.now.timing.now.delays.now.list (delays-are c.args.next.now.timing.now.delays.now) f c.args.next.now.planned.now.entry c.requires.entry c.requires.tight c.args.next.now.timing.now.levels).bus)
 
-pub use_following-requires-clause-early : goal.use_following-requires-clause-early
-use_following-requires-clause-early c =
+pub follow-requires-clause-early : goal.follow-requires-clause-early
+follow-requires-clause-early c =
     rw c.requires.tick
     (omega (arith, p-within 255 c.args.next.now.timing.now.delays.now.list (delays-are c.args.next.now.timing.now.delays.now) c.args.front.now c.args.next.now.planned.now.entry c.requires.entry c.requires.tight c.args.next.now.timing.now.levels))
 
@@ -59,17 +59,17 @@ returns-clause-after c =
     let reads = operands-read c.args.next.now.timing.now.delays.now.list c.args.front.now c.args.next.now.planned.now.entry c.args.next.now.timing.now.levels c.use_data.new.words c.args.begun.now.words.bus
     c.args.begun.now.formed.p c.use_data.ensures.after c.requires.bus c.requires.tick in
     c.pass.ensures c.args.next.now.timing.now.delays.now.list c.args.next.now.timing.now.levels (returns-clause-value c)
-    (rw (c.use_following.ensures.after, ap (λ (s : Fetching). s.bus) reads, c.requires.tick) refl)
+    (rw (c.follow.ensures.after, ap (λ (s : Fetching). s.bus) reads, c.requires.tick) refl)
 
 pub returns-clause-log : goal.returns-clause-log
 returns-clause-log c before made =
     let reads = operands-read c.args.next.now.timing.now.delays.now.list c.args.front.now c.args.next.now.planned.now.entry c.args.next.now.timing.now.levels c.use_data.new.words c.args.begun.now.words.bus
     c.args.begun.now.formed.p c.use_data.ensures.after c.requires.bus c.requires.tick in
-    noted-asked c.args.next.now.timing.now.delays.now.list c.args.front.now c.args.next.now.planned.now.entry c.args.next.now.timing.now.levels c.args.begun.now.words.bus before c.args.log.now c.use_following.new.log
+    noted-asked c.args.next.now.timing.now.delays.now.list c.args.front.now c.args.next.now.planned.now.entry c.args.next.now.timing.now.levels c.args.begun.now.words.bus before c.args.log.now c.follow.new.log
     c.requires.bus made
     (noted-prepared c.args.next.now.timing.now.delays.now.list c.args.front.now c.args.next.now.planned.now.entry c.args.next.now.timing.now.levels c.args.begun.now.words.bus c.use_data.new.words.bus c.args.begun.now.formed.p
-    c.args.log.now c.use_data.new.log c.use_following.new.log c.requires.bus (ap (λ (s : Fetching). s.bus) reads) c.requires.tick c.use_data.ensures.log
-    c.use_following.ensures.log)
+    c.args.log.now c.use_data.new.log c.follow.new.log c.requires.bus (ap (λ (s : Fetching). s.bus) reads) c.requires.tick c.use_data.ensures.log
+    c.follow.ensures.log)
 
 pub returns-clause-uses : goal.returns-clause-uses
 returns-clause-uses c =
@@ -77,8 +77,9 @@ returns-clause-uses c =
     let reads = operands-read c.args.next.now.timing.now.delays.now.list f c.args.next.now.planned.now.entry c.args.next.now.timing.now.levels c.use_data.new.words c.args.begun.now.words.bus
     c.args.begun.now.formed.p c.use_data.ensures.after c.requires.bus c.requires.tick in
     prepared-used c.args.next.now.timing.now.delays.now.list f c.args.next.now.planned.now.entry c.args.next.now.timing.now.levels c.args.next.now.plan.now.reads c.args.begun.now.words.bus c.use_data.new.words
-    c.args.begun.now.formed.p c.args.uses.now.items c.use_data.new.uses.items c.use_following.new.uses.items c.requires.bus c.requires.tick reads
-    c.use_data.ensures.items c.use_following.ensures.items
+    c.args.begun.now.formed.p c.args.uses.now.items c.use_data.new.uses.items c.follow.new.watch.items c.requires.bus c.requires.tick reads
+    c.use_data.ensures.items
+    (put-following _ _ _ _ c.use_data.new.uses c.follow.new.watch c.follow.ensures.told (omega (arith, c.use_data.ensures.room, c.requires.space)))
 
 pub returns-clause-tight : goal.returns-clause-tight
 returns-clause-tight c =

@@ -4,8 +4,8 @@ use Rattle.st_plain.proofs.uses.use_registers.Goals as goal
 
 pub words-preserved : goal.words-preserved
 words-preserved c = record {
-  uses = register-turn c.words.w c.words.left c.words.uses.items c.note.new.uses.items c.note.ensures.items (omega arith) ∙ c.words.invariant.uses;
-  space = omega (arith, c.note.ensures.room, c.words.invariant.space);
+  uses = register-turn c.words.w c.words.left c.words.uses.items c.note_register.new.uses.items c.note_register.ensures.items (omega arith) ∙ c.words.invariant.uses;
+  space = omega (arith, c.note_register.ensures.room, c.words.invariant.space);
   low = omega (arith, c.words.invariant.low);
 }
 

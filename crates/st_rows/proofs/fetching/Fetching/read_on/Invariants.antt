@@ -3,16 +3,21 @@ use Rattle.st_bits.specs.Storage.{words_of_storage}
 use Rattle.st_rows.specs.Asked.{operands_asked}
 use Rattle.st_rows.specs.Notes.{log_after_reads}
 use Rattle.st_rows.specs.Ranges.{IsReadingWithin}
+use Rattle.st_rows.specs.Supplies.{told}
+use Rattle.st_rows.specs.Uses.{uses, wishes, words_of}
 use Rattle.st_rows.specs.Words.{read_words}
+use Rattle.st_rows.specs.declared.uses.Role.TheVariants.{Operand}
 use Rattle.st_rows.proofs.fetching.Fetching.read_on.Given as goal
 
 -- the words that are left make of it and of the log what all words make of what they were; there is time left for each
 abbrev pub invariant-words : goal.invariant-words
-invariant-words l = record {
+invariant-words g l = record {
   value : read_words l.wanted.delays.now.list l.wanted.past.now l.self l.wanted.tick l.w l.left
       ≡ read_words l.wanted.delays.now.list l.wanted.past.now l.initial.self l.wanted.tick l.fn.run.first l.fn.run.len;
   log : log_after_reads l.wanted.delays.now.list (operands_asked l.wanted.past.now l.wanted.tick l.w l.left) l.self.bus l.log
       ≡ log_after_reads l.wanted.delays.now.list (operands_asked l.wanted.past.now l.wanted.tick l.fn.run.first l.fn.run.len) l.initial.self.bus l.initial.log;
+  told : g.W.Watch.noted (told l.wanted.delays.now.list l.wanted.past.now (uses l.wanted.delays.now.list l.wanted.past.now l.self (wishes Operand l.wanted.tick l.w l.left))) l.watch
+      ≡ g.W.Watch.noted (told l.wanted.delays.now.list l.wanted.past.now (uses l.wanted.delays.now.list l.wanted.past.now l.initial.self (words_of Operand l.wanted.tick l.fn.run))) l.initial.watch;
   room : IsReadingWithin (2 ^ 64 - 512 - 256 * l.left) l.self;
   few : l.left ≤ 16;
   above : 1 ≤ l.left → 32 ≤ l.w;
@@ -20,4 +25,4 @@ invariant-words l = record {
 }
 
 abbrev pub decreases-words : goal.decreases-words
-decreases-words l = l.left
+decreases-words g l = l.left

@@ -8,44 +8,48 @@ use Rattle.st_rows.proofs.front.Front.form.Goals as goal
 use Rattle.st_rows.specs.Words.{bus_sided, side_there}
 
 pub address-a-requires-clause-room : goal.address-a-requires-clause-room
-address-a-requires-clause-room c =
-    let are = delays-are c.args.timing.now.delays.now in
+address-a-requires-clause-room g c =
+    let are = delays-are c.args.next.now.timing.now.delays.now in
     rw c.requires.words
     (fetching-weaker (c.args.self.now.c + 7 * 255 + 6) (c.args.self.now.c + 1791) _ (omega arith)
-    (fetched-within 255 c.args.timing.now.delays.now.list are c.args.self.now c.args.entry.now c.requires.entry c.requires.tight))
+    (fetched-within 255 c.args.next.now.timing.now.delays.now.list are c.args.self.now c.args.next.now.entry.now c.requires.entry c.requires.tight))
 
 pub side-y-requires-clause-room : goal.side-y-requires-clause-room
-side-y-requires-clause-room c =
-    let are = delays-are c.args.timing.now.delays.now in
+side-y-requires-clause-room g c =
+    let are = delays-are c.args.next.now.timing.now.delays.now in
     rw c.requires.words
     (bus-weaker (c.args.self.now.c + 7 * 255 + 6) (2 ^ 64 - 512) _ (omega arith)
-    (fetched-within 255 c.args.timing.now.delays.now.list are c.args.self.now c.args.entry.now c.requires.entry c.requires.tight).bus)
+    (fetched-within 255 c.args.next.now.timing.now.delays.now.list are c.args.self.now c.args.next.now.entry.now c.requires.entry c.requires.tight).bus)
 
 pub side-y-requires-clause-storage : goal.side-y-requires-clause-storage
-side-y-requires-clause-storage c = side-above c.args.entry.now.side _ c.requires.entry.side
+side-y-requires-clause-storage g c = side-above c.args.next.now.entry.now.side _ c.requires.entry.side
 
 pub prepared_at-p-requires-clause-side : goal.prepared_at-p-requires-clause-side
-prepared_at-p-requires-clause-side c =
+prepared_at-p-requires-clause-side g c =
     let f = c.args.self.now in
     let m = f.c + 1792 in
-    let are = delays-are c.args.timing.now.delays.now in
+    let are = delays-are c.args.next.now.timing.now.delays.now in
     let room : IsBusWithin m c.args.words.now.bus = rw c.requires.words
     (bus-weaker (f.c + 7 * 255 + 6) m _ (omega arith)
-    (fetched-within 255 c.args.timing.now.delays.now.list are f c.args.entry.now c.requires.entry c.requires.tight).bus) in
-    let late = side-within 255 c.args.timing.now.delays.now.list are f.past c.args.words.now.bus c.args.entry.now.side c.address-a.result m
+    (fetched-within 255 c.args.next.now.timing.now.delays.now.list are f c.args.next.now.entry.now c.requires.entry c.requires.tight).bus) in
+    let late = side-within 255 c.args.next.now.timing.now.delays.now.list are f.past c.args.words.now.bus c.args.next.now.entry.now.side c.address-a.result m
     (past-weaker f.c m f.past (omega arith) c.requires.tight.done) room c.address-a.ensures.bound in
     rw c.side-y.ensures.value (omega arith)
 
 pub returns-clause-address : goal.returns-clause-address
 unfolding tick_a
-returns-clause-address c =
+returns-clause-address g c =
     c.address-a.ensures.value
-    ∙ ap (λ (s : Fetching). address_tick c.args.self.now c.args.entry.now s.answered s.awaited) c.requires.words
+    ∙ ap (λ (s : Fetching). address_tick c.args.self.now c.args.next.now.entry.now s.answered s.awaited) c.requires.words
 
 pub returns-clause-bus : goal.returns-clause-bus
 unfolding tick_a bus_a bus_sided
-returns-clause-bus c = rw (c.side-y.ensures.after, c.address-a.ensures.value, c.requires.words) refl
+returns-clause-bus g c = rw (c.side-y.ensures.after, c.address-a.ensures.value, c.requires.words) refl
 
 pub returns-clause-tick : goal.returns-clause-tick
 unfolding tick_a tick_y tick_p side_there
-returns-clause-tick c = rw (c.prepared_at-p.ensures, c.side-y.ensures.value, c.address-a.ensures.value, c.requires.words) refl
+returns-clause-tick g c = rw (c.prepared_at-p.ensures, c.side-y.ensures.value, c.address-a.ensures.value, c.requires.words) refl
+
+pub returns-clause-told : goal.returns-clause-told
+unfolding tick_a
+returns-clause-told g c = rw (c.side-y.ensures.told, c.address-a.ensures.value, c.requires.words) refl

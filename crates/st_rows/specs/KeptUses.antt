@@ -1,0 +1,20 @@
+-- A list of words that keeps the first 48 of those that are put behind it.
+use Rattle.std.specs.Prelude.{◌≡◌, refl, List, [], ◌∷◌, ◌++◌, take}
+use Rattle.arrayvec.specs.ArrayVec.{ArrayVec}
+use Rattle.st_rows.specs.declared.uses.Use.{Use}
+
+-- the list with these words behind it
+unfoldable pub uses_with : List Use → ArrayVec Use → ArrayVec Use
+uses_with [] kept = kept
+uses_with (u ∷ us) kept = uses_with us (record { items = take 48 (kept.items ++ u ∷ []) })
+
+pub uses_with_none : (kept : ArrayVec Use) → uses_with [] kept ≡ kept
+unfolding uses_with
+uses_with_none kept = refl
+
+pub uses_with_more : (a b : List Use) (kept : ArrayVec Use) →
+    uses_with b (uses_with a kept) ≡ uses_with (a ++ b) kept
+unfolding uses_with
+uses_with_more [] b kept = refl
+uses_with_more (u ∷ a) b kept =
+    uses_with_more a b (record { items = take 48 (kept.items ++ u ∷ []) })

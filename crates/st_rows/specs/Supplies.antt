@@ -1,0 +1,59 @@
+-- Where the words come from that an entry uses, as who looks on is told.
+use Rattle.std.specs.Prelude.{ℕ, ◌+◌, if◌then◌else◌, List, [], ◌∷◌, map, Option, None, Some}
+use Rattle.std.specs.List.{position}
+use Rattle.st_banks.specs.Bank.{last_of}
+use Rattle.st_rows.specs.BusTimes.{accept_at, answer_at}
+use Rattle.st_rows.specs.Entries.{is_among, latest_done}
+use Rattle.st_rows.specs.Uses.{Use as WordUse}
+use Rattle.st_rows.specs.Words.{is_forwarded}
+use Rattle.st_rows.specs.declared.bus.Bus.{Bus}
+use Rattle.st_rows.specs.declared.past.Past.{Past}
+use Rattle.st_rows.specs.declared.uses.ReadTicks.{ReadTicks}
+use Rattle.st_rows.specs.declared.uses.Supply.{Supply}
+use Rattle.st_rows.specs.declared.uses.Supply.TheVariants.{Read, Held, Forwarded}
+use Rattle.st_rows.specs.declared.uses.Use.{Use}
+
+-- the read of the word w that is wanted from a tick on, on the bus before it
+abbrev pub read_ticks : List ℕ → Bus → ℕ → ℕ → ReadTicks
+read_ticks ds b w want = record {
+  want = want;
+  turn = b.free;
+  free = last_of b.banks.ticks w;
+  accept = accept_at b w want;
+  answer = answer_at ds b w want;
+}
+
+-- an instruction word, given the tick of its answer if it is held
+abbrev pub fetch_supply : Option ℕ → List ℕ → Bus → ℕ → ℕ → Supply
+fetch_supply (Some tick) ds b w want = Held tick
+fetch_supply None ds b w want = Read (read_ticks ds b w want)
+
+-- how many entries before the latest one lies that writes the word w, 0 where none does; they stand
+-- newest first
+abbrev pub one_behind : Option ℕ → ℕ
+one_behind None = 0
+one_behind (Some k) = k + 1
+
+abbrev pub writer_back : List Past → ℕ → ℕ
+writer_back past w = one_behind (position (λ entry. is_among w entry.writes) past)
+
+-- a word of storage that is wanted at a tick: from its latest writer where that is not done by then
+abbrev pub storage_supply : List ℕ → List Past → Bus → ℕ → ℕ → Supply
+storage_supply ds past b w tick =
+    if is_forwarded past w tick
+    then Forwarded (record { back = writer_back past w; done = latest_done past w })
+    else Read (read_ticks ds b w tick)
+
+-- where the word of a use comes from
+abbrev pub supply_told : List ℕ → List Past → WordUse → Supply
+supply_told ds past u =
+    if u.read.fetch then fetch_supply u.unread ds u.bus u.read.w u.read.want
+    else storage_supply ds past u.bus u.read.w u.read.want
+
+abbrev pub use_told : List ℕ → List Past → WordUse → Use
+use_told ds past u =
+    record { role = u.role; word = u.read.w; supply = supply_told ds past u }
+
+-- what is told of the uses of words
+abbrev pub told : List ℕ → List Past → List WordUse → List Use
+told ds past us = map (use_told ds past) us

@@ -1,0 +1,109 @@
+//! Who looks on while the words of an entry are asked for.
+ghost use Rattle.std.specs.Prelude.{◌≡◌, refl, ◌∷◌, ◌++◌, [], List};
+ghost use Rattle.st_rows.specs.Supplies.{writer_back};
+ghost use Rattle.st_rows.specs.KeptUses.{uses_with, uses_with_none, uses_with_more};
+ghost use Rattle.st_rows.specs.declared.uses.Use.{Use as Used};
+ghost use Rattle.st_rows.specs.declared.uses.Supply.TheVariants as from;
+
+use crate::past::LastEntries;
+use crate::uses::{ReadTicks, Role, Supply, Use, Uses, Writer};
+
+/// Who is told of each word that is asked for, in the order in which they are, and where it comes
+/// from.
+pub trait Watch {
+    // What it is once it is told of these words.
+    ghost noted: { List Used → Self → Self };
+
+    /// A word is read.
+    fn read(&mut self, role: Role, w: u32, read: &ReadTicks)
+        ensures { self.new ≡ noted
+            (record { role = role; word = w; supply = from.Read read.now } ∷ []) self.old };
+
+    /// An instruction word is held, and answered at this tick.
+    fn held(&mut self, role: Role, w: u32, answer: u64)
+        ensures { self.new ≡ noted
+            (record { role = role; word = w; supply = from.Held answer } ∷ []) self.old };
+
+    /// A word comes from the latest of the last entries that writes it, which is done at this tick.
+    fn forwarded(&mut self, role: Role, w: u32, past: &LastEntries, done: u64)
+        ensures { self.new ≡ noted (record {
+          role = role;
+          word = w;
+          supply = from.Forwarded (record { back = writer_back past.now w; done = done });
+        } ∷ []) self.old };
+
+    ghost noted_none: { (m : Self) → noted [] m ≡ m };
+
+    ghost noted_more: { (a b : List Used) (m : Self) → noted b (noted a m) ≡ noted (a ++ b) m };
+}
+
+/// Nobody looks on.
+#[derive(Clone, Copy, Debug, Default, PartialEq, Eq)]
+pub struct Nobody;
+
+impl Watch for Nobody {
+    ghost noted = { λ _ m. m };
+
+    ghost noted_none = { λ m. refl };
+
+    ghost noted_more = { λ a b m. refl };
+
+    #[inline(always)]
+    fn read(&mut self, role: Role, w: u32, read: &ReadTicks) {
+        let _ = role;
+        let _ = w;
+        let _ = read;
+    }
+
+    #[inline(always)]
+    fn held(&mut self, role: Role, w: u32, answer: u64) {
+        let _ = role;
+        let _ = w;
+        let _ = answer;
+    }
+
+    #[inline(always)]
+    fn forwarded(&mut self, role: Role, w: u32, past: &LastEntries, done: u64) {
+        let _ = role;
+        let _ = w;
+        let _ = past;
+        let _ = done;
+    }
+}
+
+/// The words are put behind the others.
+impl Watch for Uses {
+    ghost noted = { uses_with };
+
+    ghost noted_none = { uses_with_none };
+
+    ghost noted_more = { uses_with_more };
+
+    #[inline(always)]
+    fn read(&mut self, role: Role, word: u32, read: &ReadTicks) {
+        self.push(Use {
+            role,
+            word,
+            supply: Supply::Read(*read),
+        });
+    }
+
+    #[inline(always)]
+    fn held(&mut self, role: Role, word: u32, answer: u64) {
+        self.push(Use {
+            role,
+            word,
+            supply: Supply::Held(answer),
+        });
+    }
+
+    #[inline(always)]
+    fn forwarded(&mut self, role: Role, word: u32, past: &LastEntries, done: u64) {
+        let back = past.latest_back(word);
+        self.push(Use {
+            role,
+            word,
+            supply: Supply::Forwarded(Writer { back, done }),
+        });
+    }
+}
