@@ -271,8 +271,8 @@ class App {
   leave() {
     const { text } = this.editor;
     session.set(KEYS.now, JSON.stringify({ deck: text.length < MOST_KEPT ? text : '', view: this.view,
-      levels: this.levels, t: this.stepper.wanted ?? this.stepper.t, place: document.body.dataset.place, places: this.lessons.places(),
-      lesson: document.body.classList.contains('lesson') ? this.lessons.at : null }));
+      levels: this.levels, t: this.stepper.wanted ?? this.stepper.t, place: document.body.dataset.place,
+      places: this.lessons.places(), lesson: document.body.classList.contains('lesson') ? this.lessons.at : null }));
   }
 
   // Begins with what this window had, where its deck is the one that is there.
