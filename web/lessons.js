@@ -2,6 +2,7 @@
 // exercises are checked by runs.
 import { h } from './dom.js';
 import { hintOf, judgeDeck, judgePrediction, predicted } from './exercises.js';
+import { addressWith } from './links.js';
 
 export class Lessons {
   // `book` has pages {id, title, lesson, html, decks}, exercises and pictures. `on` is asked: `open(deck, title,
@@ -13,7 +14,7 @@ export class Lessons {
     const options = (isLesson) => pages.filter((page) => page.lesson === isLesson)
       .map((page) => h('option', { value: page.id }, page.title));
     this.choice = h('select', { 'aria-label': 'lesson or page of the manual',
-      onchange: () => this.show(this.choice.value) },
+      onchange: () => this.go(this.choice.value) },
       h('optgroup', { label: 'Lessons' }, options(true)), h('optgroup', { label: 'Manual' }, options(false)));
     this.content = h('article', { class: 'prose', tabindex: '0', 'aria-label': 'the page' });
     const close = h('button', { class: 'quiet', 'aria-label': 'close the lessons', title: 'close',
@@ -29,6 +30,40 @@ export class Lessons {
     const place = part && this.content.querySelector(`[id="${CSS.escape(part)}"]`);
     if (place) place.scrollIntoView();
     return true;
+  }
+
+  // Goes to a page, as an entry of the browser's history: Back leads to the page before, at its place.
+  go(id, part) {
+    if (!this.pages.has(id)) return;
+    history.replaceState({ ...history.state, lesson: this.at, top: this.content.scrollTop }, '');
+    history.pushState({ ...history.state, lesson: id, top: null }, '', addressWith(id));
+    this.show(id, part);
+  }
+
+  // The page that an entry of the history has.
+  back({ lesson, top }) {
+    this.show(lesson);
+    if (typeof top === 'number') this.content.scrollTop = top;
+  }
+
+  // What a reload of the page keeps: of each page that was read its place, and what stands in its fields.
+  places() {
+    if (this.at) {
+      this.left.delete(this.at);
+      this.left.set(this.at, { nodes: [...this.content.childNodes], top: this.content.scrollTop });
+    }
+    const texts = (node) => [...node.querySelectorAll?.('.exercise input') ?? []].map((input) => input.value);
+    return [...this.left].map(([id, { nodes, top }]) => [id, top, nodes.flatMap(texts)]);
+  }
+
+  setPlaces(places) {
+    for (const [id, top, texts] of places) {
+      if (!this.pages.has(id)) continue;
+      this.show(id);
+      this.content.querySelectorAll('.exercise input').forEach((input, k) => { input.value = texts[k] ?? ''; });
+      this.content.scrollTop = top;
+      this.left.set(id, { nodes: [...this.content.childNodes], top });
+    }
   }
 
   // A page that was left is as it was: its place, and what stands in its fields.
@@ -73,7 +108,7 @@ export class Lessons {
     const link = event.target.closest('a[data-page]');
     if (!link) return;
     event.preventDefault();
-    this.show(link.dataset.page, link.dataset.part);
+    this.go(link.dataset.page, link.dataset.part);
   }
 
   // The item of a number in the list behind the heading Exercises.

@@ -34,6 +34,13 @@ export async function unpacked(code, most) {
     .decode(await through(bytes, new DecompressionStream('deflate-raw'), most));
 }
 
+// The address with a page of the lessons in it, or with none; that of a deck stays as it is.
+export function addressWith(lesson) {
+  const [page, hash = ''] = location.href.split('#');
+  if (wordsOf(`#${hash}`).has('d')) return location.href;
+  return lesson ? `${page}#lesson=${lesson.replace(/^lesson-/, '')}` : page;
+}
+
 // The words of an address behind its #, by their names.
 export function wordsOf(hash) {
   return new Map(hash.slice(1).split('&').filter(Boolean).map((word) => {

@@ -12,7 +12,7 @@ import { faultBox, repairs } from './faults.js';
 import { fillPaper } from './paper.js';
 import { MOST_BYTES, bytesOf, linesOf } from './decks.js';
 import { grouped, plural } from './words.js';
-import { packed, unpacked, wordsOf } from './links.js';
+import { addressWith, packed, unpacked, wordsOf } from './links.js';
 import { registerOf } from './contents.js';
 
 const PAUSE = 90;               // milliseconds without a key before a run,
@@ -20,7 +20,8 @@ const A_MOMENT = 1000;          // and one more for so many characters of the de
 const SLOW = 250;               // from so many on it is said that something runs
 const MOST_KEPT = 400000;       // a longer deck is not kept for the next time
 const MOST_LINK = 30000;
-const KEYS = { deck: 'stretch.deck', theme: 'stretch.theme', lesson: 'stretch.lesson' };
+const KEYS = { deck: 'stretch.deck', theme: 'stretch.theme', lesson: 'stretch.lesson', now: 'stretch.now' };
+const VIEWS = ['step', 'report', 'where', 'experiment', 'picture', 'listing', 'object'];
 const LATIN = new TextDecoder('latin1');
 // A deck to begin with.
 const NEW_DECK = '* A NEW DECK\n START   BEW\n         END,START\n';
@@ -28,21 +29,33 @@ const NEW_DECK = '* A NEW DECK\n START   BEW\n         END,START\n';
 const COMPARED = [...[1, 2, 4, 8].map((n) => [`levels ${n}`, plural(n, 'level')]),
   ...[1, 4, 8, 20].map((n) => [`delay ${n}`, `delay ${n}`])];
 
-// What the browser keeps for the next time; where it keeps nothing the page works all the same.
-const store = {
-  get(key) {
-    try {
-      return localStorage.getItem(key);
-    } catch {
-      return null;
-    }
-  },
-  set(key, value) {
-    try {
-      localStorage.setItem(key, value);
-    } catch { /* no room, or not allowed */ }
-  },
-};
+// What the browser keeps; where it keeps nothing the page works all the same.
+function storeOf(name) {
+  return {
+    get(key) {
+      try {
+        return window[name].getItem(key);
+      } catch {
+        return null;
+      }
+    },
+    set(key, value) {
+      try {
+        window[name].setItem(key, value);
+      } catch { /* no room, or not allowed */ }
+    },
+  };
+}
+
+// For the next time, and for a reload of this window.
+const store = storeOf('localStorage');
+const session = storeOf('sessionStorage');
+
+// What this window had before it was loaded anew, or nothing.
+function beforeReload() {
+  if (performance.getEntriesByType('navigation')[0]?.type === 'navigate') return {};
+  return JSON.parse(session.get(KEYS.now) ?? '{}');
+}
 
 // What a deck is called: its first card, where that is a comment.
 function titleOf(lines) {
@@ -133,7 +146,10 @@ class App {
       event.preventDefault();
       this.file(event.dataTransfer.files[0]);
     });
-    addEventListener('hashchange', () => this.fromAddress());
+    // An entry of the history that the page has made itself is no new address.
+    addEventListener('hashchange', () => { if (!('lesson' in (history.state ?? {}))) this.fromAddress(); });
+    addEventListener('popstate', ({ state }) => this.back(state));
+    addEventListener('pagehide', () => this.leave());
     addEventListener('beforeprint', () => this.paper());
   }
 
@@ -189,7 +205,7 @@ class App {
         this.say('This deck is kept. Change it now: both are shown, one above the other.');
       } else this.say();
       this.go();
-    } }, h('option', { value: '' }, 'compare …'), h('option', { value: 'keep' }, 'with this deck, as it is now'),
+    } }, h('option', { value: '' }, 'compare …'), h('option', { value: 'keep' }, 'with this deck'),
     h('optgroup', { label: 'with a machine of' }, COMPARED.map(([value, text]) => h('option', { value }, text))));
     this.stepper.more.append(levels, beside);
   }
@@ -199,8 +215,8 @@ class App {
     const sum = (name) => h('span', {}, `${name} `, h('code', { title: made[name] }, made[name].slice(0, 16)));
     const proved = made.proved ? 'from the programs as they were proved'
       : 'from programs that were not proved (an unproved build)';
-    byId('foot').append(h('span', {}, `stretch ${made.version}, ${proved}`), sum('sources'), sum('page'),
-      h('span', {}, made.kit), h('span', {}, `lowered by ${made.lowering}`));
+    byId('foot').append(h('details', {}, h('summary', {}, `stretch ${made.version}, ${proved}`), sum('sources'),
+      sum('page'), h('span', {}, made.kit), h('span', {}, `lowered by ${made.lowering}`)));
   }
 
   // On a narrow screen one of lesson, deck and result is seen.
@@ -224,12 +240,51 @@ class App {
     byId('level-count').value = String(levels);
   }
 
-  lesson(id, part) {
-    document.body.classList.toggle('lesson', id !== null);
-    byId('show-lessons').setAttribute('aria-pressed', String(id !== null));
-    if (id) this.lessons.show(id, part);
-    else if (document.body.dataset.place === 'lesson') this.place('deck');
+  // Opens a page of the lessons, or closes them. One page behind another is an entry of the browser's history, unless
+  // the address has made one already.
+  lesson(id, part, isEntry = true) {
+    const isOpen = document.body.classList.contains('lesson');
+    this.lessonRoom(id !== null);
+    if (id && isOpen && isEntry && id !== this.lessons.at) this.lessons.go(id, part);
+    else {
+      if (id) this.lessons.show(id, part);
+      history.replaceState({ ...history.state, lesson: id, top: null }, '', addressWith(id));
+    }
+  }
+
+  lessonRoom(isOpen) {
+    document.body.classList.toggle('lesson', isOpen);
+    byId('show-lessons').setAttribute('aria-pressed', String(isOpen));
+    if (!isOpen && document.body.dataset.place === 'lesson') this.place('deck');
     this.editor.measure();
+  }
+
+  // Back and Forward of the browser lead through the pages that were read.
+  back(state) {
+    if (!('lesson' in (state ?? {}))) return;
+    this.leaveLink();
+    this.lessonRoom(state.lesson !== null);
+    if (state.lesson) this.lessons.back(state);
+  }
+
+  // What a reload of this window has again: view, levels and tick of its deck, and the pages that were read.
+  leave() {
+    const { text } = this.editor;
+    session.set(KEYS.now, JSON.stringify({ deck: text.length < MOST_KEPT ? text : '', view: this.view,
+      levels: this.levels, t: this.stepper.wanted ?? this.stepper.t, place: document.body.dataset.place,
+      places: this.lessons.places(), lesson: document.body.classList.contains('lesson') ? this.lessons.at : null }));
+  }
+
+  // Begins with what this window had, where its deck is the one that is there.
+  again({ deck, view, levels, t, place, places = [], lesson }) {
+    if (lesson) this.lessonRoom(true);
+    if (place && (lesson || place !== 'lesson')) this.place(place);
+    this.lessons.setPlaces(places);
+    if (lesson) this.lesson(lesson, undefined, false);
+    if (!deck || deck !== this.editor.text) return;
+    this.setLevels(levels);
+    this.stepper.wanted = t;
+    this.choose(view);
   }
 
   setTheme(theme) {
@@ -269,7 +324,7 @@ class App {
 
   // The address names the deck of a link no more, so that a reload has the deck that is there.
   leaveLink() {
-    if (wordsOf(location.hash).has('d')) history.replaceState(null, '', location.href.split('#')[0]);
+    if (wordsOf(location.hash).has('d')) history.replaceState(history.state, '', location.href.split('#')[0]);
   }
 
   // Another deck takes the place of the one that is there, which can be put back where it was typed.
@@ -472,17 +527,19 @@ class App {
     const [run] = runs;
     const { totals, data } = run;
     const isWait = report.kind === 'WAIT';
+    const heat = new Map();
+    for (const row of run.rows) if (row.card) heat.set(row.card, (heat.get(row.card) ?? 0)
+      + row.c - (row.charges[0]?.from ?? row.c));
+    const beside = [...heat.values()].reduce((all, ticks) => all + ticks, 0);
     const facts = [plural(report.done, 'instruction'), isCut ? null : plural(totals.ticks, 'tick'), this.levels === 4
       ? null : `on ${plural(this.levels, 'level')}`,
       data.interrupts.length ? plural(data.interrupts.length, 'interrupt') : null, totals.dropped
-        ? `${grouped(totals.dropped)} dropped` : null].filter(Boolean);
+        ? `${grouped(totals.dropped)} dropped` : null, isCut || beside >= totals.ticks ? null
+        : `${plural(totals.ticks - beside, 'tick')} of instructions that begin at no card`].filter(Boolean);
     this.state(isWait ? 'good' : 'warn', h('b', {}, isWait ? 'Ended in a wait' : 'Ended by its budget'),
       ` ${facts.join(', ')}`);
     if (isCut) this.say('The run is longer: timetable and sums are of its first rows, the report is of all of it.');
     this.left(run, report.kind === 'BUDGET');
-    const heat = new Map();
-    for (const row of run.rows) if (row.card) heat.set(row.card, (heat.get(row.card) ?? 0)
-      + row.c - (row.charges[0]?.from ?? row.c));
     this.editor.setHeat(heat);
     this.views.fresh();
     this.views.show(this.view);
@@ -527,29 +584,37 @@ class App {
 
   async share() {
     const code = await packed(this.editor.text);
-    const link = `${location.href.split('#')[0]}#d=${code}${this.view === 'step' ? '' : `&v=${this.view}`}`;
+    const { first } = this.stepper;
+    const t = this.stepper.wanted ?? this.stepper.t;
+    const words = [`d=${code}`, this.view !== 'step' && `v=${this.view}`, this.levels !== 4 && `l=${this.levels}`,
+      t !== first && `t=${t}`].filter(Boolean);
+    const link = `${location.href.split('#')[0]}#${words.join('&')}`;
     if (link.length > MOST_LINK) {
       this.say('The deck is too long for a link. Save it as a file, or save this page with the deck in it.');
       return;
     }
-    history.replaceState(null, '', link);
+    history.replaceState(history.state, '', link);
     const field = h('input', { id: 'link', value: link, readonly: true, size: 40,
       'aria-label': 'a link to this deck' });
     let isCopied = true;
     await navigator.clipboard?.writeText(link).catch(() => { isCopied = false; });
     this.say(isCopied && navigator.clipboard ? 'This link is copied; it carries the deck: '
-      : 'This link carries the deck: ', field);
+      : 'This link carries the deck: ', field, location.protocol === 'file:'
+      ? ' It opens on this computer alone. On another one put what begins with #d= behind the address of its page.'
+      : '');
     field.focus();
     field.select();
   }
 
   async fromAddress() {
     const words = wordsOf(location.hash);
-    if (/^[0-9]{1,2}$/.test(words.get('lesson') ?? '')) this.lesson(`lesson-${words.get('lesson')}`);
-    else if (/^[a-z0-9-]{1,40}$/.test(words.get('lesson') ?? '')) this.lesson(words.get('lesson'));
-    if (['step', 'report', 'where', 'experiment', 'picture', 'listing', 'object'].includes(words.get('v'))) this.choose(
-      words.get('v'));
+    const lesson = /^[0-9]{1,2}$/.test(words.get('lesson') ?? '') ? `lesson-${words.get('lesson')}`
+      : words.get('lesson') ?? '';
+    if (/^[a-z0-9-]{1,40}$/.test(lesson)) this.lesson(lesson, undefined, false);
+    if (VIEWS.includes(words.get('v'))) this.choose(words.get('v'));
+    if (/^[1-8]$/.test(words.get('l') ?? '')) this.setLevels(Number(words.get('l')));
     if (!words.has('d')) return false;
+    if (/^\d{1,7}$/.test(words.get('t') ?? '')) this.stepper.wanted = Number(words.get('t'));
     try {
       await this.open(await unpacked(words.get('d'), MOST_BYTES + 1), 'The deck of the link', { isLink: true });
       return true;
@@ -585,12 +650,14 @@ class App {
     if (own) this.kept.opened('The deck of this page', deck);
     clearTimeout(this.timer);
     this.choose('step');
+    this.again(beforeReload());
+    const isPlaced = (this.stepper.wanted ?? null) !== null || wordsOf(location.hash).has('t');
     if (!(await this.fromAddress())) {
       await this.go();
       if (!deck) this.welcome();
     }
     // a first look at the machine at work
-    if (!deck && this.live.made) this.stepper.go(this.live.made.runs[0].fullest());
+    if (!deck && !isPlaced && this.live.made) this.stepper.go(this.live.made.runs[0].fullest());
     document.body.classList.add('ready');
     this.times.opened = performance.now();
   }

@@ -17,6 +17,7 @@ MANUAL = ("web", "page", "quick", "operations", "first-faults", "glossary", "wor
 # A command that only makes a deck, and what a command does with one.
 MAKES = re.compile(r"\(?(cat|sed|printf|echo|tools/deck) ")
 USES = re.compile(r" *\| *(?:\\\n)? *(?:\./(?:stretch|explain|ledger)|tools/\w+)")
+WRITES = re.compile(r"printf '(?:(?! \*\\n)[^'%])*'$")
 READS = re.compile(r"(?:\./(?:stretch \w+|explain[^<|]*|ledger[^<|]*) < "
     r"|tools/(?:delays|page|picture|why|indicators) )(\S+)")
 
@@ -24,6 +25,9 @@ READS = re.compile(r"(?:\./(?:stretch \w+|explain[^<|]*|ledger[^<|]*) < "
 # The file of a deck in a command.
 FILE = re.compile(r"(?<![\w/.])((?:examples/(\w+)/)?[\w-]+\.txt)")
 MOST_CHANGED = 6
+# A paragraph that speaks of a shell may have other words, or none, in the page; they stand in a comment before it.
+INSTEAD = re.compile(r"<!-- in the page:(.*?)-->\n(?:[^\n]+\n)+", re.S)
+ANSWERS = re.compile(r"<p>The answers are <a [^>]*>on a separate page</a>\.</p>")
 
 
 class Failed(Exception):
@@ -58,21 +62,21 @@ class Decks:
         done = subprocess.run(["sh", "-c", head], cwd=self.room, stdout=subprocess.PIPE, stderr=subprocess.DEVNULL,
             check=False)
         text = done.stdout.decode("latin-1")
-        return self.add(text) if done.returncode == 0 and re.search(r"(?m)^.{9} *END *(,|$)", text) else None
-
+        isDeck = re.search(r"(?m)^.{9} *END *(,|$)", text) or WRITES.match(head)
+        return self.add(text) if done.returncode == 0 and isDeck else None
 
     def told(self, command, number):
         """What the deck that a command makes is, beside the one that it is made of."""
         found = FILE.search(command)
         path = self.room / found[1] if found else None
         if path is None or not path.is_file():
-            return "This deck gives:"
+            return ["The deck", "", "```", *self.all[number].splitlines(), "```", "", "gives:"]
         name = f"`{found[2]}`" if found[2] else f"`{found[1]}`"
         levels = levels_of(command)
         if levels:
             name += f" on {levels} level{'s' if levels != '1' else ''}"
         changes = changed(path.read_text(encoding="latin-1").splitlines(), self.all[number].splitlines())
-        return f"The deck {name}{changes} gives:" if changes is not None else "This deck gives:"
+        return [f"The deck {name}{changes} gives:" if changes is not None else "This deck gives:"]
 
 
 def changed(before, after):
@@ -138,7 +142,7 @@ def shell(fence, body, decks, mark):
     made = []
     for (command, written), number in zip(given, numbers):
         if written:
-            made += ["", f"{indent}{decks.told(command, number)}", "", f"{indent}```",
+            made += ["", *(indent + line for line in decks.told(command, number)), "", f"{indent}```",
                 *(indent + line for line in written), f"{indent}```"]
         made += mark(indent, number, view_of(command))
     return made + (folded(indent, [line for line in body if not any(line in written for _, written in given)])
@@ -209,6 +213,10 @@ def button(number, levels, view):
     return f'<button class="open" data-deck="{number}"{more}>Open in the editor</button>'
 
 
+def title_of(name):
+    return (DOCS / f"{name}.md").read_text(encoding="utf-8").split("\n", 1)[0].removeprefix("# ")
+
+
 def linked(made, name, known, pictures):
     """Pictures stand in the page itself; links lead to its own pages, and elsewhere they are text."""
     folder = (DOCS / name).parent
@@ -223,9 +231,13 @@ def linked(made, name, known, pictures):
     def link(found):
         target, _, part = found[1].partition("#")
         key = os.path.normpath(os.path.join(os.path.dirname(name), target))[:-3] if target else name
+        # A link that is named by its file is named by the title of the page here.
+        named = re.fullmatch(r"[\w/-]+\.md", found[2])
         if key not in known:
-            return f"<span>{found[2]}</span>"
-        return f'<a href="#lesson={ident(key).removeprefix("lesson-")}" data-page="{ident(key)}" data-part="{html.escape(part)}">{found[2]}</a>'
+            return f"<span>{f'the page {found[2]} of the repository' if named else found[2]}</span>"
+        shown = html.escape(title_of(key)) if named else found[2]
+        return (f'<a href="#lesson={ident(key).removeprefix("lesson-")}" data-page="{ident(key)}" '
+            f'data-part="{html.escape(part)}">{shown}</a>')
 
     made = re.sub(r'<img src="([^"]+)" alt="([^"]*)" />', picture, made)
     return re.sub(r'<a href="([^"]+)">(.*?)</a>', link, made, flags=re.S)
@@ -235,7 +247,8 @@ def with_decks(name):
     """The text of a page with a mark behind each deck, and its decks."""
     with tempfile.TemporaryDirectory() as folder:
         decks = Decks(room_of(pathlib.Path(folder)))
-        return marked((DOCS / f"{name}.md").read_text(encoding="utf-8"), decks), decks
+        text = INSTEAD.sub(lambda found: found[1].strip() + "\n", (DOCS / f"{name}.md").read_text(encoding="utf-8"))
+        return marked(text, decks), decks
 
 
 def answers(lesson):
@@ -252,8 +265,9 @@ def page(name, known, pictures):
         + button(*found.groups()[1:4]) + (found[5] or ""), done.stdout.decode())
     made = made.replace("<p>@@SHELL@@</p>", '<details class="shell"><summary>in a shell</summary>').replace(
         "<p>@@UNFOLD@@</p>", "</details>")
-    made = re.sub(r"<p>The answers stand <a [^>]*>on a page apart</a>\.</p>",
-        "<p>At each exercise you find its answer, once you have tried it.</p>", made)
+    made, found = ANSWERS.subn("<p>At each exercise you find its answer, once you have tried it.</p>", made)
+    if found != name.startswith("lessons/"):
+        raise Failed(f"{name}: the sentence about its answers is not found as it is known here")
     made = made.replace("<td><code>*", '<td><code class="wraps">*')          # a comment card may be long
     made = linked(made, name, known, pictures)
     made = re.sub(r"<(h[23])>(.*?)</\1>", lambda found: f'<{found[1]} id="{anchor(found[2])}">{found[2]}</{found[1]}>',

@@ -2,7 +2,7 @@
 // drawn.
 import { h, s } from './dom.js';
 import { countWhile } from './read.js';
-import { causeName, plural } from './words.js';
+import { REASONS, causeName, plural } from './words.js';
 
 const LINE = 22;
 const AXIS = 24;
@@ -76,7 +76,7 @@ export class Timetable {
     this.box.addEventListener('pointerup', (event) => {
       const moved = from?.moved;
       from = null;
-      if (!moved) this.click(this.at(event));
+      if (!moved) this.click(this.at(event), event.pointerType === 'touch');
     });
     this.box.addEventListener('pointercancel', () => { from = null; });
     this.box.addEventListener('pointerleave', () => this.app.point(this, null));
@@ -93,9 +93,10 @@ export class Timetable {
     return { line, tick };
   }
 
-  click({ line, tick }) {
+  click({ line, tick }, isTap) {
     if (tick !== null) this.app.go(tick, this.run);
     else if (line) this.app.go(line.entry ? line.entry.p : line.interrupt.tick, this.run);
+    if (line) this.app.pointed(this.run, line, isTap);
   }
 
   // Size and place of the box are kept, so that no step has to ask for a layout.
@@ -239,11 +240,10 @@ export class Timetable {
     const marked = this.app.card !== null && entry.card === this.app.card;
     if (here || marked) labels.push(s('rect', { class: here ? 'here' : 'marked', x: 0, y, width: left - 4,
       height: LINE }));
-    const x = left > 200 ? 96 : 52;
+    const x = 96;
     const text = (entry.text || '').replace(/\s+/g, ' ').slice(0, Math.floor((left - x - 12) / LETTER));
-    if (left > 200) labels.push(s('text', { x: 40, y: y + 15, 'text-anchor': 'end' }, entry.dropped ? 'drop'
-      : String(entry.row)));
-    labels.push(s('text', { x, y: y + 15, 'text-anchor': 'end' }, entry.address),
+    labels.push(s('text', { x: 40, y: y + 15, 'text-anchor': 'end' }, entry.dropped ? 'drop' : String(entry.row)),
+      s('text', { x, y: y + 15, 'text-anchor': 'end' }, entry.address),
       s('text', { x: x + 8, y: y + 15 }, text));
   }
 
@@ -252,7 +252,7 @@ export class Timetable {
     bars.push(s('path', { class: 'event line', d: `M${this.app.left} ${y + 10}H${x}m-5 -4l5 4l-5 4` }));
     const name = interrupt.name ? ` (${interrupt.name})` : '';
     labels.push(s('text', { class: 'event', x: 8, y: y + 15 },
-      `interrupt ${interrupt.indicator}${this.app.left > 200 ? `${name} at ${interrupt.tick}` : name}`));
+      `interrupt ${interrupt.indicator}${this.app.left > 250 ? `${name} at ${interrupt.tick}` : name}`));
   }
 }
 
@@ -302,12 +302,17 @@ export function about(run, { line, tick }) {
   const { entry, interrupt } = line;
   if (interrupt) return [`Interrupt ${interrupt.indicator}${interrupt.name ? ` (${interrupt.name})` : ''} behind `
     + `row ${interrupt.after_row}, tick ${interrupt.tick}`];
-  const what = entry.dropped ? `dropped at ${entry.end}` : `done at ${entry.c}, cost ${entry.cost}`;
+  const what = entry.dropped ? `dropped at ${entry.end}` : `done at ${entry.c}, executes ${plural(entry.cost, 'tick')}`;
   const texts = [`${entry.dropped ? 'Dropped' : `Row ${entry.row}`}: ${entry.address} ${(entry.text || '').trim()}`,
     `address ${entry.a}, prepared ${entry.p}, operands ${entry.r}, ${what}`];
   for (const charge of entry.charges ?? []) texts.push(
-    `${charge.from + 1}-${charge.to} `
+    `${charge.from + 1 === charge.to ? '' : `${charge.from + 1}-`}${charge.to} `
       + `${causeName.get(charge.cause)}${charge.word === undefined ? '' : `, word ${charge.word}`}`);
+  if (entry.because) {
+    const { reason, row } = entry.because;
+    const [text] = REASONS[reason === 'start' ? run.segments[entry.place].reason : reason];
+    texts.push(`kept back: ${text}${row ? ` (row ${row})` : ''}`);
+  }
   for (const use of entry.uses) {
     if (use.how === 'read') texts.push(
       `${use.kind} word ${use.word}: bank ${use.bank}, wanted ${use.want}, accepted ${use.accept}, there `

@@ -10,7 +10,7 @@ import { bankTable, committed, indexTable, interruptLine, levelTable, nextLine, 
   storageTable, waitingLine } from './tables.js';
 
 // How wide the labels of rows are, by how wide the view is.
-const LABELS = [[620, 300], [440, 190], [0, 132]];
+const LABELS = [[620, 300], [440, 214], [0, 164]];
 const LEAST_SCALE = 5;          // a run whose ticks would be narrower is scrolled,
 const OWN_SCALE = 9;            // and its ticks are so wide
 const SCALES = { least: 0.02, most: 60, first: 40 };
@@ -34,7 +34,7 @@ export class Stepper {
   // word that a name stands for, and `nameOf(word)` the name of a word.
   constructor(names, on) {
     Object.assign(this, { names, on, runs: [], tables: [], snaps: [], levels: new Map(), chosen: null, cause: null,
-      card: null, isAnother: false });
+      card: null, isAnother: false, wanted: null, pressed: null });
     Object.assign(this, { t: 0, first: 0, last: 0, timer: null, rate: RATES[1], zoomed: false, left: LABELS[0][1],
       scale: OWN_SCALE });
     this.build();
@@ -51,6 +51,9 @@ export class Stepper {
     this.causesBox = box('causes');              // the page around it says what stands here
     this.tablesBox = box('timetables');
     this.tip = box('tip', { hidden: true });
+    // What the box at the pointer says, of the row of the tick or of one that was pressed: for a finger, and for keys.
+    [this.rowHead, this.rowLines] = [h('summary', { title: 'its ticks and reads (r)' }), h('div', {})];
+    this.rowBox = h('details', { id: 'row-box', ontoggle: () => this.tellRow() }, this.rowHead, this.rowLines);
     this.committedLine = h('p', { id: 'committed' });
     [this.levelsBox, this.wordsBox, this.banksBox, this.storageBox] = [box('levels'), box('words'), box('banks'),
       box('storage')];
@@ -59,7 +62,7 @@ export class Stepper {
     this.controls = h('div', { id: 'controls', role: 'group', 'aria-label': 'steps' }, this.stepButtons(),
       this.until(), this.scaleButtons());
     this.view = h('div', { class: 'stepper' }, this.controls, this.sentence, this.stripBox, this.causesBox,
-      this.notesBox, this.tablesBox, this.key(), this.tip);
+      this.notesBox, this.tablesBox, this.rowBox, this.key(), this.tip);
     addEventListener('keydown', (event) => this.press(event));
   }
 
@@ -140,8 +143,9 @@ export class Stepper {
     Object.assign(this, { runs, snaps, chosen: runs[0], levels: new Map() });
     this.first = Math.min(...runs.map((run) => run.first));
     this.last = Math.max(...runs.map((run) => run.last));
-    this.t = this.isAnother ? this.first : wasLast ? this.last : Math.min(Math.max(this.t, this.first), this.last);
-    this.isAnother = false;
+    const t = this.wanted ?? (this.isAnother ? this.first : wasLast ? this.last : this.t);
+    this.t = Math.min(Math.max(t, this.first), this.last);
+    Object.assign(this, { isAnother: false, wanted: null });
     document.body.classList.toggle('two', runs.length > 1);
     this.notesBox.replaceChildren(...this.notes().map((note) => h('p', {}, note)));
     this.strip = new Strip(runs, this.first, this.last, (t) => this.go(t));
@@ -203,6 +207,27 @@ export class Stepper {
     tip.style.left = `${Math.max(4, Math.min(event.clientX + 14, innerWidth - tip.offsetWidth - 8))}px`;
     const isLow = event.clientY + 18 + tip.offsetHeight > innerHeight;
     tip.style.top = `${isLow ? Math.max(4, event.clientY - tip.offsetHeight - 12) : event.clientY + 18}px`;
+  }
+
+  // A line was pressed; a finger opens the box, since nothing comes under it.
+  pointed(run, line, isTap) {
+    this.pressed = { run, line, t: this.t };
+    if (isTap) this.rowBox.open = true;
+    this.tellRow();
+  }
+
+  tellRow() {
+    const run = this.chosen;
+    if (!run) return;
+    const at = this.tickOf(run);
+    const isPressed = this.pressed?.run === run && this.pressed.t === this.t;
+    const entry = run.charge(at)?.row ?? this.levels.get(run)[0] ?? run.next(at);
+    const line = isPressed ? this.pressed.line : entry && { entry };
+    this.rowBox.hidden = !line;
+    if (!line) return;
+    const [head, ...texts] = about(run, { line, tick: null });
+    put(this.rowHead, [head]);
+    put(this.rowLines, this.rowBox.open ? texts.map((text) => h('div', {}, text)) : []);
   }
 
   // ---- what is chosen
@@ -354,6 +379,7 @@ export class Stepper {
       End: () => this.go(this.last),
       n: () => this.event(true),
       p: () => this.event(false),
+      r: () => { this.rowBox.open = !this.rowBox.open; },
       ' ': () => this.play(),
       '+': () => this.zoom(1.25),
       '-': () => this.zoom(0.8),
@@ -371,8 +397,8 @@ export class Stepper {
     const t = this.tickOf(run);
     const state = run.state(t);
     const levels = this.levels.get(run);
-    const text = `${sentences(run, t).join('. ')}.`;
-    this.sentence.replaceChildren(h('b', { class: 'now' }, `Tick ${t}${run.label ? `, ${run.label}` : ''}`),
+    const text = `${t < this.t ? `It ended at tick ${t}: ` : ''}${sentences(run, t).join('. ')}.`;
+    this.sentence.replaceChildren(h('b', { class: 'now' }, `Tick ${this.t}${run.label ? `, ${run.label}` : ''}`),
       ` ${text}`);
     this.tickInput.value = this.t;
     this.strip.set(this.t, `tick ${this.t}. ${text}`);
@@ -383,6 +409,7 @@ export class Stepper {
     put(this.banksBox, [bankTable(run, t), h('p', {}, waitingLine(run, t))]);
     put(this.storageBox, [printerPaper(run, t), storageTable(run, t, state, (word) => this.on.nameOf?.(word))]);
     this.on.levels?.(levels, run.next(t));
+    this.tellRow();
     for (const table of this.tables) table.later();
   }
 }

@@ -37,7 +37,7 @@ function painted(svg) {
 
 export class Views {
   constructor(app) {
-    Object.assign(this, { app, drawn: new Set(), listed: null, url: null, svg: null, image: null });
+    Object.assign(this, { app, drawn: new Set(), coming: null, listed: null, url: null, svg: null, image: null });
     matchMedia('(prefers-color-scheme: dark)').addEventListener('change', () => this.paint());
   }
 
@@ -56,7 +56,8 @@ export class Views {
     if (!made || this.drawn.has(view)) return;
     this.drawn.add(view);
     try {
-      await this[view](byId(`view-${view}`), made);
+      this.coming = this[view](byId(`view-${view}`), made);
+      await this.coming;
     } catch (error) {
       this.drawn.delete(view);
       if (!(error instanceof Stopped)) throw error;

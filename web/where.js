@@ -1,23 +1,9 @@
 // Where the ticks went: what `./explain` says, as tables and bars.
 import { h, wideTable } from './dom.js';
-import { CAUSES, grouped, plural } from './words.js';
+import { CAUSES, REASONS, grouped, plural } from './words.js';
 import { bar, figures, legend } from './strip.js';
 
 const MOST_PLACES = 60;
-// What kept rows back, and what may help (docs/explain.md).
-const REASONS = {
-  start: ['the run began', 'nothing: the first words have to come'],
-  interrupt: ['first behind an interrupt', 'fewer interrupts, shorter ways back'],
-  wrong_guess: ['first behind a wrong guess', 'turn the branch so that it is mostly not taken, or count by CB'],
-  card: ['first behind a card of the reader', 'ask for fewer cards'],
-  serial: ['it, or the row before, is done alone', 'no registers as words; fewer BB, BE, BEW, EX, T and SWAP'],
-  store: ['a row stored into its words', 'no stores into instructions that come soon'],
-  level: ['no level was free', 'more levels; long operations earlier'],
-  forwarding: ['its index word came from a row that was not done', 'change an index word earlier before it is used'],
-  bus: ['reads of a row before came first', 'fewer operands from storage at a time'],
-  prefetch: ['its word was asked for late', 'faster storage; code and data in other banks'],
-  order: ['it stood behind the row before', 'shorter waits of the rows before it'],
-};
 
 // What a tick of each cause is, and what helps (docs/explain.md).
 const HELPS = {
@@ -100,10 +86,12 @@ function reasonsTable(byReason) {
   const rows = Object.entries(byReason).filter(([, one]) => one.rows).sort(([, a], [, b]) => b.ticks - a.ticks)
     .map(([reason, one]) => h('tr', {},
     h('th', { scope: 'row' }, REASONS[reason][0]), h('td', { class: 'number' }, grouped(one.rows)),
-    h('td', { class: 'number' }, h('b', {}, grouped(one.ticks))), h('td', { class: 'number' }, one.late
-      ? grouped(one.late) : '–'), h('td', { class: 'soft' }, REASONS[reason][1])));
-  return wideTable('reasons', 'What kept rows back, and what may help',
-    ['because', 'rows', 'ticks', 'of them at most for this', 'may help'], rows);
+    h('td', { class: 'number' }, h('b', {}, grouped(one.ticks))), h('td', { class: 'number' }, grouped(one.late)),
+    h('td', { class: 'soft' }, REASONS[reason][1])));
+  return [wideTable('reasons', 'What kept rows back, and what may help',
+    ['because', 'rows', 'ticks', 'so late, at most', 'may help'], rows),
+    h('p', { class: 'soft' }, 'So late, at most: the reason alone made these rows late by no more ticks than these. '
+      + 'Where it is 0, something else kept the same rows back until the same ticks.')];
 }
 
 function meters(caption, names, numbers, whole) {
@@ -118,7 +106,7 @@ export function whereView(box, run, cardOf, { cause, card }) {
   const most = Math.max(1, ...totals.by_address.map((place) => sum(place.by_cause)));
   box.replaceChildren(figures(run), bar(run, totals.ticks, cause), legend([run], cause),
     placesTable(totals.by_address, most, cardOf, card), ...[acrossTable(run.rows)].flat().filter(Boolean),
-    causesTable(totals.by_cause), reasonsTable(totals.by_reason),
+    causesTable(totals.by_cause), ...reasonsTable(totals.by_reason),
     h('div', { class: 'side-by-side' },
       meters('Ticks with so many levels in use', (k) => k, totals.by_levels, totals.ticks),
       meters('Ticks that each bank was busy', (k) => `bank ${k}`, totals.banks.map((bank) => bank.busy),

@@ -54,6 +54,21 @@ export function listed(texts) {
   return texts.length < 2 ? texts.join('') : `${texts.slice(0, -1).join(', ')} and ${texts.at(-1)}`;
 }
 
+// What kept rows back, and what may help (docs/explain.md).
+export const REASONS = {
+  start: ['the run began', 'nothing: the first words have to come'],
+  interrupt: ['first behind an interrupt', 'fewer interrupts, shorter ways back'],
+  wrong_guess: ['first behind a wrong guess', 'turn the branch so that it is mostly not taken, or count by CB'],
+  card: ['first behind a card of the reader', 'ask for fewer cards'],
+  serial: ['it, or the row before, is done alone', 'no registers as words; fewer BB, BE, BEW, EX, T and SWAP'],
+  store: ['a row stored into its words', 'no stores into instructions that come soon'],
+  level: ['no level was free', 'more levels; long operations earlier'],
+  forwarding: ['its index word came from a row that was not done', 'change an index word earlier before it is used'],
+  bus: ['reads of a row before came first', 'fewer operands from storage at a time'],
+  prefetch: ['its word was asked for late', 'faster storage; code and data in other banks'],
+  order: ['it stood behind the row before', 'shorter waits of the rows before it'],
+};
+
 const SERIAL = new Map([
   ['table', 'it is the instruction of an interrupt table'],
   ['execute', 'it executes another one (EX)'],
