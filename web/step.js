@@ -216,6 +216,12 @@ export class Stepper {
     this.tellRow();
   }
 
+  // While one steps on, the box waits.
+  tellRowSoon() {
+    clearTimeout(this.rowTimer);
+    this.rowTimer = setTimeout(() => this.tellRow(), 40);
+  }
+
   tellRow() {
     const run = this.chosen;
     if (!run) return;
@@ -409,7 +415,7 @@ export class Stepper {
     put(this.banksBox, [bankTable(run, t), h('p', {}, waitingLine(run, t))]);
     put(this.storageBox, [printerPaper(run, t), storageTable(run, t, state, (word) => this.on.nameOf?.(word))]);
     this.on.levels?.(levels, run.next(t));
-    this.tellRow();
+    this.tellRowSoon();
     for (const table of this.tables) table.later();
   }
 }
