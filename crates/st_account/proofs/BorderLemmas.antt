@@ -5,10 +5,10 @@ use Rattle.std.proofs.lemmas.List.{length-map}
 use Rattle.st_banks.specs.declared.answers.LastAnswers.{LastAnswers}
 use Rattle.st_state.specs.Machine.{Machine}
 use Rattle.st_exec.specs.Step.{rests, interrupt}
-use Rattle.st_rows.specs.Rows.{opening_front}
-use Rattle.st_rows.specs.declared.front.Front.{Front}
+use Rattle.st_rows.specs.Rows.{opening_issue}
+use Rattle.st_rows.specs.declared.issue.IssueState.{IssueState}
 use Rattle.st_report.specs.Line.{ic_line, end_line as run_end_line, done_line, ticks_line}
-use Rattle.st_run.specs.Moments.{Moment, next_state, has_card, has_waited, ends_segment, next_front}
+use Rattle.st_run.specs.Moments.{Moment, next_state, has_card, has_waited, ends_segment, next_issue}
 use Rattle.st_run.proofs.DoneLemmas.{settled-done}
 use Rattle.st_plain.specs.declared.looking.Ahead.{Ahead}
 use Rattle.st_plain.specs.Looking.{seen_ahead}
@@ -56,8 +56,8 @@ state-words ws k was xs ys s taken done same = ap (λ (ls : List (List ℕ)). ls
 -- the facts after a border, where a segment ends or continues
 pub record IsBorder (ds : List ℕ) (levels : ℕ) (m : Moment) (s : Machine) (l : Last) (found : List Ahead) (held : LastAnswers) (came rested : Bool) : Type 0 where
   pub tick : m.tick ≡ l.tick
-  pub front : m.front ≡ l.front
-  pub missed : m.missed ≡ l.missed
+  pub issue : m.issue ≡ l.issue
+  pub mispredicted : m.mispredicted ≡ l.mispredicted
   pub dropped : ends_segment m ≡ true → found ≡ map (seen_ahead ds levels) m.dropped
   pub banks : ends_segment m ≡ true → held ≡ m.banks
   pub state : next_state m ≡ s
@@ -75,8 +75,8 @@ pub border-of : (ds : List ℕ) (n left : ℕ) (b : Machine) (m : Moment) (a : A
     → IsBehindMoment ds n left b m a xs cards → IsBorder ds n m a.state a.last a.behind.ahead.found.items a.behind.banks a.behind.card a.behind.waited
 border-of ds n left b m a xs cards h = record {
   tick = h.tick;
-  front = h.front;
-  missed = h.missed;
+  issue = h.issue;
+  mispredicted = h.mispredicted;
   dropped = λ on. h.dropped (ends-by left m on);
   banks = λ on. h.banks (ends-by left m on);
   state = ap (λ (c : Scene). c.machine) h.scene;
@@ -86,31 +86,31 @@ border-of ds n left b m a xs cards h = record {
 
 module _ (ds : List ℕ) (levels : ℕ) (m : Moment) (s : Machine) (l : Last) (found : List Ahead) (banks : LastAnswers) (card waited : Bool)
     (is : IsBorder ds levels m s l found banks card waited) where
-  ends-is : (taken : Option ℕ) (ends : Bool) → taken ≡ interrupt s → ends ≡ (l.missed || card || waited || is_some taken) → ends ≡ ends_segment m
+  ends-is : (taken : Option ℕ) (ends : Bool) → taken ≡ interrupt s → ends ≡ (l.mispredicted || card || waited || is_some taken) → ends ≡ ends_segment m
   unfolding ends_segment
   ends-is taken ends is_taken is_ends =
       is_ends
-      ∙ ap (λ b. b || card || waited || is_some taken) (sym is.missed)
-      ∙ ap (λ b. m.missed || b || waited || is_some taken) is.card
-      ∙ ap (λ b. m.missed || has_card m || b || is_some taken) is.waited
-      ∙ ap (λ o. m.missed || has_card m || has_waited m || is_some o) (is_taken ∙ ap interrupt (sym is.state))
+      ∙ ap (λ b. b || card || waited || is_some taken) (sym is.mispredicted)
+      ∙ ap (λ b. m.mispredicted || b || waited || is_some taken) is.card
+      ∙ ap (λ b. m.mispredicted || has_card m || b || is_some taken) is.waited
+      ∙ ap (λ o. m.mispredicted || has_card m || has_waited m || is_some o) (is_taken ∙ ap interrupt (sym is.state))
 
-  module _ (taken : Option ℕ) (ends : Bool) (is_taken : taken ≡ interrupt s) (is_ends : ends ≡ (l.missed || card || waited || is_some taken)) where
+  module _ (taken : Option ℕ) (ends : Bool) (is_taken : taken ≡ interrupt s) (is_ends : ends ≡ (l.mispredicted || card || waited || is_some taken)) where
     e : ends ≡ ends_segment m
     e = ends-is taken ends is_taken is_ends
 
-    pub front-is : (f : Front) → f ≡ (if ends then opening_front banks (l.tick + 1 + length found) else l.front) → f ≡ next_front m
-    unfolding next_front
-    front-is f is_front =
-        is_front
-        ∙ ap (λ b. if b then opening_front banks (l.tick + 1 + length found) else l.front) e
+    pub issue-is : (f : IssueState) → f ≡ (if ends then opening_issue banks (l.tick + 1 + length found) else l.issue) → f ≡ next_issue m
+    unfolding next_issue
+    issue-is f is_issue =
+        is_issue
+        ∙ ap (λ b. if b then opening_issue banks (l.tick + 1 + length found) else l.issue) e
         ∙ choice (ends_segment m) (λ yes.
-        ap (λ b. opening_front b (l.tick + 1 + length found)) (is.banks yes)
-        ∙ ap (λ xs. opening_front m.banks (l.tick + 1 + length xs)) (is.dropped yes)
-        ∙ ap (λ k. opening_front m.banks (l.tick + 1 + k)) (length-map m.dropped (seen_ahead ds levels))
-        ∙ ap (λ t. opening_front m.banks (t + 1 + length m.dropped)) (sym is.tick)) (sym is.front)
+        ap (λ b. opening_issue b (l.tick + 1 + length found)) (is.banks yes)
+        ∙ ap (λ xs. opening_issue m.banks (l.tick + 1 + length xs)) (is.dropped yes)
+        ∙ ap (λ k. opening_issue m.banks (l.tick + 1 + k)) (length-map m.dropped (seen_ahead ds levels))
+        ∙ ap (λ t. opening_issue m.banks (t + 1 + length m.dropped)) (sym is.tick)) (sym is.issue)
       where
-        choice : {x y u v : Front} (b : Bool) → (b ≡ true → x ≡ u) → y ≡ v → (if b then x else y) ≡ (if b then u else v)
+        choice : {x y u v : IssueState} (b : Bool) → (b ≡ true → x ≡ u) → y ≡ v → (if b then x else y) ≡ (if b then u else v)
         choice true one two = one refl
         choice false one two = two
 
@@ -118,18 +118,18 @@ module _ (ds : List ℕ) (levels : ℕ) (m : Moment) (s : Machine) (l : Last) (f
     after-is k begins is_begins = ap (λ b. if b then k + 1 else k) (is_begins ∙ ap (λ b. nat_eq k 0 || b) e)
 
     pub border-lines : (o : Machine → ℕ → Option Origin) (b : Machine) (was : Bool) (old : List ℕ) (ws : List (List ℕ)) (begun : List Ahead) → b.enabled ≡ was → ws ≡ words_behind m
-        → (k n start : ℕ) (begins : Bool) (y : Why) → (k ≢ 0 → old ≡ b.words) → (ends_segment m ≡ true → k ≢ 0 → begun ≡ begun_at ds levels b m) → begins ≡ (nat_eq k 0 || ends) → n ≡ s.done + 1 → start ≡ (next_front m).c
-        → y ≡ (if nat_eq k 0 then Run else why_by taken l.missed)
+        → (k n start : ℕ) (begins : Bool) (y : Why) → (k ≢ 0 → old ≡ b.words) → (ends_segment m ≡ true → k ≢ 0 → begun ≡ begun_at ds levels b m) → begins ≡ (nat_eq k 0 || ends) → n ≡ s.done + 1 → start ≡ (next_issue m).c
+        → y ≡ (if nat_eq k 0 then Run else why_by taken l.mispredicted)
         → (((if ends then segment_end_lines (o s) k l.tick n found begun else []) ++ state_lines ws k was old s taken s.done)
         ++ (if begins then start_line (k + 1) start waited y ∷ [] else [])) ≡ segment_lines o ds levels k b m
     unfolding segment_lines why
     border-lines o b was old ws begun is_was is_printed k n start begins y is_words is_begun is_begins is_n is_start is_why =
         let all = is_begins ∙ ap (λ b. nat_eq k 0 || b) e in
         let number : n ≡ m.scene.machine.done + 1 = is_n ∙ ap (λ d. d + 1) (same-done m s is.state) in
-        let name : y ≡ (if nat_eq k 0 then Run else why_by (interrupt (next_state m)) m.missed) =
+        let name : y ≡ (if nat_eq k 0 then Run else why_by (interrupt (next_state m)) m.mispredicted) =
         is_why
-        ∙ ap (λ i. if nat_eq k 0 then Run else why_by i l.missed) (is_taken ∙ ap interrupt (sym is.state))
-        ∙ ap (λ b. if nat_eq k 0 then Run else why_by (interrupt (next_state m)) b) (sym is.missed) in
+        ∙ ap (λ i. if nat_eq k 0 then Run else why_by i l.mispredicted) (is_taken ∙ ap interrupt (sym is.state))
+        ∙ ap (λ b. if nat_eq k 0 then Run else why_by (interrupt (next_state m)) b) (sym is.mispredicted) in
         let state : state_lines ws k was old s taken s.done ≡ state_lines_at (words_behind m) k b (next_state m) =
         ap (λ xs. state_lines xs k was old s taken s.done) is_printed
         ∙ ap (λ w. state_lines (words_behind m) k w old s taken s.done) (sym is_was)
@@ -152,9 +152,9 @@ module _ (ds : List ℕ) (levels : ℕ) (m : Moment) (s : Machine) (l : Last) (f
         ∙ ap (λ t. ((if ends_segment m then segment_end_lines (o (next_state m)) k m.tick (m.scene.machine.done + 1) (map (seen_ahead ds levels) m.dropped) (begun_at ds levels b m) else []) ++ state_lines_at (words_behind m) k b (next_state m))
         ++ (if nat_eq k 0 || ends_segment m then start_line (k + 1) t waited y ∷ [] else [])) is_start
         ∙ ap (λ w. ((if ends_segment m then segment_end_lines (o (next_state m)) k m.tick (m.scene.machine.done + 1) (map (seen_ahead ds levels) m.dropped) (begun_at ds levels b m) else []) ++ state_lines_at (words_behind m) k b (next_state m))
-        ++ (if nat_eq k 0 || ends_segment m then start_line (k + 1) (next_front m).c w y ∷ [] else [])) is.waited
+        ++ (if nat_eq k 0 || ends_segment m then start_line (k + 1) (next_issue m).c w y ∷ [] else [])) is.waited
         ∙ ap (λ z. ((if ends_segment m then segment_end_lines (o (next_state m)) k m.tick (m.scene.machine.done + 1) (map (seen_ahead ds levels) m.dropped) (begun_at ds levels b m) else []) ++ state_lines_at (words_behind m) k b (next_state m))
-        ++ (if nat_eq k 0 || ends_segment m then start_line (k + 1) (next_front m).c (has_waited m) z ∷ [] else [])) name
+        ++ (if nat_eq k 0 || ends_segment m then start_line (k + 1) (next_issue m).c (has_waited m) z ∷ [] else [])) name
 
 -- ---- the border of an account
 
@@ -169,13 +169,13 @@ module _ (ds : List ℕ) (n left : ℕ) (b : Machine) (m : Moment) (a : Account)
     (border : x ≡ record {
       ends = x.ends;
       begins = x.begins;
-      start = o.last.front.c;
+      start = o.last.issue.c;
       waited = a.behind.waited;
-      why = if nat_eq a.k 0 then Run else why_by (interrupt a.state) a.last.missed;
+      why = if nat_eq a.k 0 then Run else why_by (interrupt a.state) a.last.mispredicted;
       taken = interrupt a.state;
       done = a.state.done;
     })
-    (ends : x.ends ≡ (a.last.missed || a.behind.card || a.behind.waited || is_some (interrupt a.state)))
+    (ends : x.ends ≡ (a.last.mispredicted || a.behind.card || a.behind.waited || is_some (interrupt a.state)))
     (begins : x.begins ≡ (nat_eq a.k 0 || x.ends)) where
   at : IsBorder ds n m a.state a.last a.behind.ahead.found.items a.behind.banks a.behind.card a.behind.waited
   at = border-of ds n left b m a xs cards is
@@ -188,12 +188,12 @@ module _ (ds : List ℕ) (n left : ℕ) (b : Machine) (m : Moment) (a : Account)
       is_number
       ∙ after-is ds n m a.state a.last a.behind.ahead.found.items a.behind.banks a.behind.card a.behind.waited at (interrupt a.state) x.ends refl ends a.k x.begins begins
 
-  pub front-after : o.last.front ≡ (if x.ends then opening_front a.behind.banks (a.last.tick + 1 + length a.behind.ahead.found.items) else a.last.front)
-      → o.last.front ≡ next_front m
-  front-after is_front =
-      front-is ds n m a.state a.last a.behind.ahead.found.items a.behind.banks a.behind.card a.behind.waited at (interrupt a.state) x.ends refl ends o.last.front is_front
+  pub issue-after : o.last.issue ≡ (if x.ends then opening_issue a.behind.banks (a.last.tick + 1 + length a.behind.ahead.found.items) else a.last.issue)
+      → o.last.issue ≡ next_issue m
+  issue-after is_issue =
+      issue-is ds n m a.state a.last a.behind.ahead.found.items a.behind.banks a.behind.card a.behind.waited at (interrupt a.state) x.ends refl ends o.last.issue is_issue
 
-  module _ (last : o.last ≡ record a.last { front = o.last.front; past = o.last.past }) where
+  module _ (last : o.last ≡ record a.last { issue = o.last.issue; past = o.last.past }) where
     -- the lines of the last entry
     module _ (going : run_ends left m ≡ false) (end : Option ℕ) (is_end : end ≡ (if x.ends then Some o.last.tick else None)) where
       until-same : end ≡ segment_end_at left m
@@ -211,15 +211,15 @@ module _ (ds : List ℕ) (n left : ℕ) (b : Machine) (m : Moment) (a : Account)
 
     -- the lines of the border
     pub crossed : (i : ℕ) (found : List Ahead) (printed : List (List ℕ)) → i ≡ o.state.done + 1 → found ≡ o.behind.ahead.found.items → printed ≡ o.behind.printed.items
-        → o.last.front ≡ next_front m
+        → o.last.issue ≡ next_issue m
         → border_text o.origins x a.k o.last.tick i printed o.last.enabled o.words.items o.state found (o.behind.ahead.late ∷ []) ≡ segment_lines (origin_at a.origins) ds n a.k b m
-    crossed i found printed is_i is_found is_printed front =
+    crossed i found printed is_i is_found is_printed issue =
         let opening : Border = record {
           ends = x.ends;
           begins = x.begins;
-          start = o.last.front.c;
+          start = o.last.issue.c;
           waited = a.behind.waited;
-          why = if nat_eq a.k 0 then Run else why_by (interrupt a.state) a.last.missed;
+          why = if nat_eq a.k 0 then Run else why_by (interrupt a.state) a.last.mispredicted;
           taken = interrupt a.state;
           done = a.state.done;
         } in
@@ -228,9 +228,9 @@ module _ (ds : List ℕ) (n left : ℕ) (b : Machine) (m : Moment) (a : Account)
         ∙ ap (λ (l : Last). border_text o.origins opening a.k l.tick i printed l.enabled o.words.items o.state o.behind.ahead.found.items (o.behind.ahead.late ∷ [])) last
         ∙ ap (λ (y : Account). border_text y.origins opening a.k a.last.tick i printed a.last.enabled y.words.items y.state y.behind.ahead.found.items (y.behind.ahead.late ∷ [])) opened
         ∙ border-lines ds n m a.state a.last a.behind.ahead.found.items a.behind.banks a.behind.card a.behind.waited at (interrupt a.state) x.ends refl ends (origin_at a.origins) b a.last.enabled
-        a.words.items printed (a.behind.ahead.late ∷ []) is.was (is_printed ∙ ap (λ (y : Account). y.behind.printed.items) opened ∙ is.printed) a.k i o.last.front.c x.begins
-        (if nat_eq a.k 0 then Run else why_by (interrupt a.state) a.last.missed) is.words (λ on some. is.begun (ends-by left m on) some) begins
-        (is_i ∙ ap (λ (y : Account). y.state.done + 1) opened) (ap (λ (f : Front). f.c) front) refl
+        a.words.items printed (a.behind.ahead.late ∷ []) is.was (is_printed ∙ ap (λ (y : Account). y.behind.printed.items) opened ∙ is.printed) a.k i o.last.issue.c x.begins
+        (if nat_eq a.k 0 then Run else why_by (interrupt a.state) a.last.mispredicted) is.words (λ on some. is.begun (ends-by left m on) some) begins
+        (is_i ∙ ap (λ (y : Account). y.state.done + 1) opened) (ap (λ (f : IssueState). f.c) issue) refl
 
 -- ---- the end of the run
 
@@ -278,7 +278,7 @@ module _ (ds : List ℕ) (n left : ℕ) (b : Machine) (m : Moment) (a : Account)
 
 -- the words of the last entry; none if a segment ends
 pub words-left : (ds : List ℕ) (n left : ℕ) (b : Machine) (m : Moment) (a : Account) (xs : List Signal) (cards : List (List ℕ)) → IsBehindMoment ds n left b m a xs cards
-    → (ends : Bool) (old us new : List Use) → ends ≡ (a.last.missed || a.behind.card || a.behind.waited || is_some (interrupt a.state)) → us ≡ old
+    → (ends : Bool) (old us new : List Use) → ends ≡ (a.last.mispredicted || a.behind.card || a.behind.waited || is_some (interrupt a.state)) → us ≡ old
     → new ≡ (if ends then [] else us) → new ≡ words_before m old
 words-left ds n left b m a xs cards is ends old us new is_ends same is_new =
     is_new
@@ -292,8 +292,8 @@ pub behind-same : (ds : List ℕ) (n left : ℕ) (b : Machine) (m : Moment) (a :
 behind-same ds n left b m a xs cards w is = record {
   scene = is.scene;
   tick = is.tick;
-  front = is.front;
-  missed = is.missed;
+  issue = is.issue;
+  mispredicted = is.mispredicted;
   was = is.was;
   dropped = is.dropped;
   begun = is.begun;

@@ -5,14 +5,14 @@ use Rattle.std.proofs.Common.{◌≡◌, ◌≢◌, ℕ, zero, suc, false, refl,
 use Rattle.st_state.specs.Machine.{Machine}
 use Rattle.st_prep.specs.Plan.{plan}
 use Rattle.st_prep.specs.declared.entries.Prepared.{Prepared}
-use Rattle.st_exec.specs.Completion.{state_after_execution, guess, is_missed}
+use Rattle.st_exec.specs.Completion.{state_after_execution, prediction, is_mispredicted}
 use Rattle.st_exec.specs.Step.{interrupt, step, address}
 use Rattle.st_rows.specs.Notes.{log_after_reads}
 use Rattle.st_rows.specs.Ranges.{AreDelaysUpTo, IsEntryInTime, IsTight}
 use Rattle.st_rows.specs.declared.log.Made.{Made}
-use Rattle.st_rows.specs.Rows.{row_of_entry, front_after_entry, reads_of_entry}
-use Rattle.st_rows.specs.declared.front.EntryTicks.{EntryTicks}
-use Rattle.st_rows.specs.declared.front.Front.{Front}
+use Rattle.st_rows.specs.Rows.{row_of_entry, issue_after_entry, reads_of_entry}
+use Rattle.st_rows.specs.declared.issue.EntryTicks.{EntryTicks}
+use Rattle.st_rows.specs.declared.issue.IssueState.{IssueState}
 use Rattle.st_segment.specs.Entries.{entry}
 use Rattle.st_run.specs.Moments.{Standing, next_row, next_moment}
 use Rattle.st_ledger.specs.declared.charges.Stage.{Stage}
@@ -27,12 +27,12 @@ use Rattle.st_rows.specs.declared.uses.Use.{Use}
 use Rattle.st_plain.specs.declared.known.Known.{Known}
 use Rattle.st_plain.specs.declared.rows.WaitedRow.{WaitedRow}
 use Rattle.st_account.specs.declared.last.Last.{Last}
-use Rattle.st_account.specs.Standing.{guessing, kept_lines, IsLast, IsStanding}
+use Rattle.st_account.specs.Standing.{predicting, kept_lines, IsLast, IsStanding}
 use Rattle.st_lines.specs.EntryLines.{done_entry_lines}
 use Rattle.st_lines.specs.declared.origins.Origin.{Origin}
 use Rattle.st_rows.specs.declared.entry.Entry.{Entry}
 use Rattle.st_reasons.specs.Reasons.{because}
-use Rattle.st_reasons.specs.declared.because.Because.{Because}
+use Rattle.st_reasons.specs.declared.because.StallCause.{StallCause}
 use Rattle.st_account.specs.Text.{formed_at, uses_at, lines_of_entry}
 use Rattle.st_account.proofs.LastLemmas.{next-last}
 
@@ -46,14 +46,14 @@ unfolding kept_lines
 kept-none k l end none = rw none refl
 
 -- the lines of a completed entry, part by part
-abbrev pub told_lines : ℕ → ℕ → Option Origin → EntryTicks → ℕ → Bool → Prepared → Known → ℕ → ℕ → Option ℕ → Because → List Use → List Use → List (List ℕ)
-told_lines i a origin ticks wait missed q known before start end why uses earlier =
-    done_entry_lines (record { n = i; address = a; origin = origin; row = record { ticks = ticks; level_wait = wait }; missed = missed; before = before; start = start; end = end; because = why })
+abbrev pub told_lines : ℕ → ℕ → Option Origin → EntryTicks → ℕ → Bool → Prepared → Known → ℕ → ℕ → Option ℕ → StallCause → List Use → List Use → List (List ℕ)
+told_lines i a origin ticks wait mispredicted q known before start end why uses earlier =
+    done_entry_lines (record { n = i; address = a; origin = origin; row = record { ticks = ticks; level_wait = wait }; mispredicted = mispredicted; before = before; start = start; end = end; because = why })
     q known uses earlier
 
 pub kept-some : (k : ℕ) (l : Last) (end : Option ℕ) → k ≢ 0
     → kept_lines k l end
-    ≡ told_lines l.done.n l.done.address l.done.origin l.done.row.ticks l.done.row.level_wait l.missed l.plan l.done.known l.done.before l.done.start end l.because l.uses.items l.before.items
+    ≡ told_lines l.done.n l.done.address l.done.origin l.done.row.ticks l.done.row.level_wait l.mispredicted l.plan l.done.known l.done.before l.done.start end l.because l.uses.items l.before.items
 unfolding kept_lines done_entry_lines
 kept-some zero l end some = absurd (some refl)
 kept-some (suc k) l end some = rw (not-zero k) refl
@@ -68,7 +68,7 @@ pub kept-row : (k : ℕ) (l : Last) (end : Option ℕ) (us bs : List Use) → k 
       address = l.done.address;
       origin = l.done.origin;
       row = l.done.row;
-      missed = l.missed;
+      mispredicted = l.mispredicted;
       before = l.done.before;
       start = l.done.start;
       end = end;
@@ -80,130 +80,130 @@ unfolding done_entry_lines
 kept-row k l end us bs some used earlier = rw (used, earlier) (sym (kept-some k l end some))
 
 pub row-is : (ds : List ℕ) (n : ℕ) (p : Standing) (s : Machine) (l : Last) (taken : Option ℕ) (r : EntryTicks) → IsStanding p s l → taken ≡ interrupt s
-    → r ≡ row_of_entry ds n l.front (entry taken s) → r ≡ next_row ds n p
+    → r ≡ row_of_entry ds n l.issue (entry taken s) → r ≡ next_row ds n p
 unfolding next_row
 row-is ds n p s l taken r is is_taken is_row =
     is_row
-    ∙ ap (λ t. row_of_entry ds n l.front (entry t s)) is_taken
-    ∙ ap (λ m. row_of_entry ds n l.front (entry (interrupt m) m)) (sym is.machine)
-    ∙ ap (λ f. row_of_entry ds n f (entry (interrupt p.scene.machine) p.scene.machine)) (sym is.front)
+    ∙ ap (λ t. row_of_entry ds n l.issue (entry t s)) is_taken
+    ∙ ap (λ m. row_of_entry ds n l.issue (entry (interrupt m) m)) (sym is.machine)
+    ∙ ap (λ f. row_of_entry ds n f (entry (interrupt p.scene.machine) p.scene.machine)) (sym is.issue)
 
 wait-is : (ds : List ℕ) (n : ℕ) (p : Standing) (s : Machine) (l : Last) (taken : Option ℕ) (d : ℕ) → IsStanding p s l → taken ≡ interrupt s
-    → d ≡ level_wait ds n l.front (entry taken s) → d ≡ level_wait ds n p.front (entry (interrupt p.scene.machine) p.scene.machine)
+    → d ≡ level_wait ds n l.issue (entry taken s) → d ≡ level_wait ds n p.issue (entry (interrupt p.scene.machine) p.scene.machine)
 wait-is ds n p s l taken d is is_taken is_wait =
     is_wait
-    ∙ ap (λ t. level_wait ds n l.front (entry t s)) is_taken
-    ∙ ap (λ m. level_wait ds n l.front (entry (interrupt m) m)) (sym is.machine)
-    ∙ ap (λ f. level_wait ds n f (entry (interrupt p.scene.machine) p.scene.machine)) (sym is.front)
+    ∙ ap (λ t. level_wait ds n l.issue (entry t s)) is_taken
+    ∙ ap (λ m. level_wait ds n l.issue (entry (interrupt m) m)) (sym is.machine)
+    ∙ ap (λ f. level_wait ds n f (entry (interrupt p.scene.machine) p.scene.machine)) (sym is.issue)
 
 pub uses-is : (ds : List ℕ) (n : ℕ) (p : Standing) (s : Machine) (l : Last) (taken : Option ℕ) (us : List Use) → IsStanding p s l → taken ≡ interrupt s
-    → us ≡ uses_of_entry ds n l.front (entry taken s) (side_at taken s) (plan s taken).reads → us ≡ uses_at ds n p
+    → us ≡ uses_of_entry ds n l.issue (entry taken s) (side_at taken s) (plan s taken).reads → us ≡ uses_at ds n p
 unfolding uses_at
 uses-is ds n p s l taken us is is_taken is_uses =
     is_uses
-    ∙ ap (λ t. uses_of_entry ds n l.front (entry t s) (side_at t s) (plan s t).reads) is_taken
-    ∙ ap (λ m. uses_of_entry ds n l.front (entry (interrupt m) m) (side_at (interrupt m) m) (plan m (interrupt m)).reads) (sym is.machine)
+    ∙ ap (λ t. uses_of_entry ds n l.issue (entry t s) (side_at t s) (plan s t).reads) is_taken
+    ∙ ap (λ m. uses_of_entry ds n l.issue (entry (interrupt m) m) (side_at (interrupt m) m) (plan m (interrupt m)).reads) (sym is.machine)
     ∙ ap (λ f. uses_of_entry ds n f (entry (interrupt p.scene.machine) p.scene.machine) (side_at (interrupt p.scene.machine) p.scene.machine)
-    (plan p.scene.machine (interrupt p.scene.machine)).reads) (sym is.front)
+    (plan p.scene.machine (interrupt p.scene.machine)).reads) (sym is.issue)
 
 pub formed-is : (ds : List ℕ) (p : Standing) (s : Machine) (l : Last) (taken : Option ℕ) (us : List Use) → IsStanding p s l → taken ≡ interrupt s
-    → us ≡ formed_uses ds l.front (entry taken s) (side_at taken s) → us ≡ formed_at ds p
+    → us ≡ formed_uses ds l.issue (entry taken s) (side_at taken s) → us ≡ formed_at ds p
 unfolding formed_at
 formed-is ds p s l taken us is is_taken is_uses =
     is_uses
-    ∙ ap (λ t. formed_uses ds l.front (entry t s) (side_at t s)) is_taken
-    ∙ ap (λ m. formed_uses ds l.front (entry (interrupt m) m) (side_at (interrupt m) m)) (sym is.machine)
-    ∙ ap (λ f. formed_uses ds f (entry (interrupt p.scene.machine) p.scene.machine) (side_at (interrupt p.scene.machine) p.scene.machine)) (sym is.front)
+    ∙ ap (λ t. formed_uses ds l.issue (entry t s) (side_at t s)) is_taken
+    ∙ ap (λ m. formed_uses ds l.issue (entry (interrupt m) m) (side_at (interrupt m) m)) (sym is.machine)
+    ∙ ap (λ f. formed_uses ds f (entry (interrupt p.scene.machine) p.scene.machine) (side_at (interrupt p.scene.machine) p.scene.machine)) (sym is.issue)
 
 -- the cause that delayed an entry
-abbrev why_of : Front → Entry → EntryTicks → ℕ → List Use → List Use → Because
+abbrev why_of : IssueState → Entry → EntryTicks → ℕ → List Use → List Use → StallCause
 why_of f e ticks wait words earlier = because f e ticks.a ticks.p wait words earlier
 
-because-is : (ds : List ℕ) (n : ℕ) (p : Standing) (s : Machine) (l : Last) (taken : Option ℕ) (r : WaitedRow) (us bs : List Use) (why : Because) → IsStanding p s l
+because-is : (ds : List ℕ) (n : ℕ) (p : Standing) (s : Machine) (l : Last) (taken : Option ℕ) (r : WaitedRow) (us bs : List Use) (why : StallCause) → IsStanding p s l
     → taken ≡ interrupt s
-    → r.ticks ≡ row_of_entry ds n l.front (entry taken s) → r.level_wait ≡ level_wait ds n l.front (entry taken s)
-    → us ≡ formed_uses ds l.front (entry taken s) (side_at taken s)
-    → why ≡ why_of l.front (entry taken s) r.ticks r.level_wait us bs
-    → why ≡ why_of p.front (entry (interrupt p.scene.machine) p.scene.machine) (next_row ds n p)
-    (level_wait ds n p.front (entry (interrupt p.scene.machine) p.scene.machine)) (formed_at ds p) bs
+    → r.ticks ≡ row_of_entry ds n l.issue (entry taken s) → r.level_wait ≡ level_wait ds n l.issue (entry taken s)
+    → us ≡ formed_uses ds l.issue (entry taken s) (side_at taken s)
+    → why ≡ why_of l.issue (entry taken s) r.ticks r.level_wait us bs
+    → why ≡ why_of p.issue (entry (interrupt p.scene.machine) p.scene.machine) (next_row ds n p)
+    (level_wait ds n p.issue (entry (interrupt p.scene.machine) p.scene.machine)) (formed_at ds p) bs
 because-is ds n p s l taken r us bs why is is_taken is_row is_wait is_uses is_why =
     is_why
-    ∙ ap (λ y. why_of l.front (entry taken s) y r.level_wait us bs) (row-is ds n p s l taken r.ticks is is_taken is_row)
-    ∙ ap (λ y. why_of l.front (entry taken s) (next_row ds n p) y us bs) (wait-is ds n p s l taken r.level_wait is is_taken is_wait)
-    ∙ ap (λ y. why_of l.front (entry taken s) (next_row ds n p) (level_wait ds n p.front (entry (interrupt p.scene.machine) p.scene.machine)) y bs)
+    ∙ ap (λ y. why_of l.issue (entry taken s) y r.level_wait us bs) (row-is ds n p s l taken r.ticks is is_taken is_row)
+    ∙ ap (λ y. why_of l.issue (entry taken s) (next_row ds n p) y us bs) (wait-is ds n p s l taken r.level_wait is is_taken is_wait)
+    ∙ ap (λ y. why_of l.issue (entry taken s) (next_row ds n p) (level_wait ds n p.issue (entry (interrupt p.scene.machine) p.scene.machine)) y bs)
     (formed-is ds p s l taken us is is_taken is_uses)
-    ∙ ap (λ t. why_of l.front (entry t s) (next_row ds n p) (level_wait ds n p.front (entry (interrupt p.scene.machine) p.scene.machine)) (formed_at ds p) bs) is_taken
-    ∙ ap (λ m. why_of l.front (entry (interrupt m) m) (next_row ds n p) (level_wait ds n p.front (entry (interrupt p.scene.machine) p.scene.machine)) (formed_at ds p) bs)
+    ∙ ap (λ t. why_of l.issue (entry t s) (next_row ds n p) (level_wait ds n p.issue (entry (interrupt p.scene.machine) p.scene.machine)) (formed_at ds p) bs) is_taken
+    ∙ ap (λ m. why_of l.issue (entry (interrupt m) m) (next_row ds n p) (level_wait ds n p.issue (entry (interrupt p.scene.machine) p.scene.machine)) (formed_at ds p) bs)
     (sym is.machine)
     ∙ ap (λ f. why_of f (entry (interrupt p.scene.machine) p.scene.machine) (next_row ds n p)
-    (level_wait ds n p.front (entry (interrupt p.scene.machine) p.scene.machine)) (formed_at ds p) bs) (sym is.front)
+    (level_wait ds n p.issue (entry (interrupt p.scene.machine) p.scene.machine)) (formed_at ds p) bs) (sym is.issue)
 
 pub entry-lines : (o : Machine → ℕ → Option Origin) (ds : List ℕ) (n : ℕ) (p : Standing) (end : Option ℕ) (s : Machine) (l : Last) (taken : Option ℕ) (a : ℕ)
     (origin : Option Origin) (r : WaitedRow) (i : ℕ)
-    (missed : Bool) (q : Prepared) (known : Known) (t start : ℕ) (why : Because) (us ws bs : List Use) → IsStanding p s l → taken ≡ interrupt s → a ≡ address s
+    (mispredicted : Bool) (q : Prepared) (known : Known) (t start : ℕ) (why : StallCause) (us ws bs : List Use) → IsStanding p s l → taken ≡ interrupt s → a ≡ address s
     → origin ≡ o s (address s)
-    → r.ticks ≡ row_of_entry ds n l.front (entry taken s) → r.level_wait ≡ level_wait ds n l.front (entry taken s) → i ≡ s.done + 1
-    → missed ≡ is_missed (plan s taken) s → q ≡ plan s taken → known ≡ known_at taken s → t ≡ l.tick → start ≡ l.front.c
-    → us ≡ uses_of_entry ds n l.front (entry taken s) (side_at taken s) (plan s taken).reads
-    → ws ≡ formed_uses ds l.front (entry taken s) (side_at taken s)
-    → why ≡ because l.front (entry taken s) r.ticks.a r.ticks.p r.level_wait ws bs
-    → told_lines i a origin r.ticks r.level_wait missed q known t start end why us bs ≡ lines_of_entry o ds n end bs p
+    → r.ticks ≡ row_of_entry ds n l.issue (entry taken s) → r.level_wait ≡ level_wait ds n l.issue (entry taken s) → i ≡ s.done + 1
+    → mispredicted ≡ is_mispredicted (plan s taken) s → q ≡ plan s taken → known ≡ known_at taken s → t ≡ l.tick → start ≡ l.issue.c
+    → us ≡ uses_of_entry ds n l.issue (entry taken s) (side_at taken s) (plan s taken).reads
+    → ws ≡ formed_uses ds l.issue (entry taken s) (side_at taken s)
+    → why ≡ because l.issue (entry taken s) r.ticks.a r.ticks.p r.level_wait ws bs
+    → told_lines i a origin r.ticks r.level_wait mispredicted q known t start end why us bs ≡ lines_of_entry o ds n end bs p
 unfolding lines_of_entry
-entry-lines o ds n p end s l taken a origin r i missed q known t start why us ws bs is is_taken is_address is_origin is_row is_wait number guessed planned is_known at since is_uses is_words is_why =
+entry-lines o ds n p end s l taken a origin r i mispredicted q known t start why us ws bs is is_taken is_address is_origin is_row is_wait number predicted planned is_known at since is_uses is_words is_why =
     let m = p.scene.machine in
     let e = plan m (interrupt m) in
     let k = known_at (interrupt m) m in
-    let d = level_wait ds n p.front (entry (interrupt m) m) in
-    let w = why_of p.front (entry (interrupt m) m) (next_row ds n p) d (formed_at ds p) bs in
+    let d = level_wait ds n p.issue (entry (interrupt m) m) in
+    let w = why_of p.issue (entry (interrupt m) m) (next_row ds n p) d (formed_at ds p) bs in
     let g = o m (address m) in
-    ap (λ y. told_lines i a origin r.ticks r.level_wait missed q known t start end y us bs)
+    ap (λ y. told_lines i a origin r.ticks r.level_wait mispredicted q known t start end y us bs)
     (because-is ds n p s l taken r ws bs why is is_taken is_row is_wait is_words is_why)
-    ∙ ap (λ y. told_lines i a y r.ticks r.level_wait missed q known t start end w us bs) (is_origin ∙ ap (λ u. o u (address u)) (sym is.machine))
-    ∙ ap (λ y. told_lines i a g y r.level_wait missed q known t start end w us bs) (row-is ds n p s l taken r.ticks is is_taken is_row)
-    ∙ ap (λ y. told_lines i a g (next_row ds n p) y missed q known t start end w us bs) (wait-is ds n p s l taken r.level_wait is is_taken is_wait)
-    ∙ ap (λ y. told_lines y a g (next_row ds n p) d missed q known t start end w us bs) (number ∙ ap (λ (m : Machine). m.done + 1) (sym is.machine))
-    ∙ ap (λ y. told_lines (m.done + 1) y g (next_row ds n p) d missed q known t start end w us bs) (is_address ∙ ap address (sym is.machine))
+    ∙ ap (λ y. told_lines i a y r.ticks r.level_wait mispredicted q known t start end w us bs) (is_origin ∙ ap (λ u. o u (address u)) (sym is.machine))
+    ∙ ap (λ y. told_lines i a g y r.level_wait mispredicted q known t start end w us bs) (row-is ds n p s l taken r.ticks is is_taken is_row)
+    ∙ ap (λ y. told_lines i a g (next_row ds n p) y mispredicted q known t start end w us bs) (wait-is ds n p s l taken r.level_wait is is_taken is_wait)
+    ∙ ap (λ y. told_lines y a g (next_row ds n p) d mispredicted q known t start end w us bs) (number ∙ ap (λ (m : Machine). m.done + 1) (sym is.machine))
+    ∙ ap (λ y. told_lines (m.done + 1) y g (next_row ds n p) d mispredicted q known t start end w us bs) (is_address ∙ ap address (sym is.machine))
     ∙ ap (λ b. told_lines (m.done + 1) (address m) g (next_row ds n p) d b q known t start end w us bs)
-    (guessed ∙ ap (λ t. is_missed (plan s t) s) is_taken ∙ ap (λ u. is_missed (plan u (interrupt u)) u) (sym is.machine))
-    ∙ ap (λ y. told_lines (m.done + 1) (address m) g (next_row ds n p) d (is_missed e m) y known t start end w us bs)
+    (predicted ∙ ap (λ t. is_mispredicted (plan s t) s) is_taken ∙ ap (λ u. is_mispredicted (plan u (interrupt u)) u) (sym is.machine))
+    ∙ ap (λ y. told_lines (m.done + 1) (address m) g (next_row ds n p) d (is_mispredicted e m) y known t start end w us bs)
     (planned ∙ ap (plan s) is_taken ∙ ap (λ u. plan u (interrupt u)) (sym is.machine))
-    ∙ ap (λ y. told_lines (m.done + 1) (address m) g (next_row ds n p) d (is_missed e m) e y t start end w us bs)
+    ∙ ap (λ y. told_lines (m.done + 1) (address m) g (next_row ds n p) d (is_mispredicted e m) e y t start end w us bs)
     (is_known ∙ ap (λ t. known_at t s) is_taken ∙ ap (λ u. known_at (interrupt u) u) (sym is.machine))
-    ∙ ap (λ y. told_lines (m.done + 1) (address m) g (next_row ds n p) d (is_missed e m) e k y start end w us bs) (at ∙ sym is.tick)
-    ∙ ap (λ y. told_lines (m.done + 1) (address m) g (next_row ds n p) d (is_missed e m) e k p.tick y end w us bs) (since ∙ ap (λ (f : Front). f.c) (sym is.front))
-    ∙ ap (λ y. told_lines (m.done + 1) (address m) g (next_row ds n p) d (is_missed e m) e k p.tick p.front.c end w y bs) (uses-is ds n p s l taken us is is_taken is_uses)
+    ∙ ap (λ y. told_lines (m.done + 1) (address m) g (next_row ds n p) d (is_mispredicted e m) e k y start end w us bs) (at ∙ sym is.tick)
+    ∙ ap (λ y. told_lines (m.done + 1) (address m) g (next_row ds n p) d (is_mispredicted e m) e k p.tick y end w us bs) (since ∙ ap (λ (f : IssueState). f.c) (sym is.issue))
+    ∙ ap (λ y. told_lines (m.done + 1) (address m) g (next_row ds n p) d (is_mispredicted e m) e k p.tick p.issue.c end w y bs) (uses-is ds n p s l taken us is is_taken is_uses)
 
 pub entry-sums : (ds : List ℕ) (n : ℕ) (p : Standing) (s : Machine) (l : Last) (taken : Option ℕ) (r : EntryTicks) (stage : Stage) (old new : ℕ)
-    → IsStanding p s l → taken ≡ interrupt s → r ≡ row_of_entry ds n l.front (entry taken s)
-    → new ≡ old + ticks_for stage (charges_behind l.tick (parts_of_row l.front.c r)) → new ≡ old + ticks_for stage (charges_at ds n p)
+    → IsStanding p s l → taken ≡ interrupt s → r ≡ row_of_entry ds n l.issue (entry taken s)
+    → new ≡ old + ticks_for stage (charges_behind l.tick (parts_of_row l.issue.c r)) → new ≡ old + ticks_for stage (charges_at ds n p)
 unfolding charges_at
 entry-sums ds n p s l taken r stage old new is is_taken is_row sum =
     sum
-    ∙ ap (λ x. old + ticks_for stage (charges_behind l.tick (parts_of_row l.front.c x))) (row-is ds n p s l taken r is is_taken is_row)
-    ∙ ap (λ t. old + ticks_for stage (charges_behind t (parts_of_row l.front.c (next_row ds n p)))) (sym is.tick)
-    ∙ ap (λ f. old + ticks_for stage (charges_behind p.tick (parts_of_row f.c (next_row ds n p)))) (sym is.front)
+    ∙ ap (λ x. old + ticks_for stage (charges_behind l.tick (parts_of_row l.issue.c x))) (row-is ds n p s l taken r is is_taken is_row)
+    ∙ ap (λ t. old + ticks_for stage (charges_behind t (parts_of_row l.issue.c (next_row ds n p)))) (sym is.tick)
+    ∙ ap (λ f. old + ticks_for stage (charges_behind p.tick (parts_of_row f.c (next_row ds n p)))) (sym is.issue)
 
-pub entry-within : (ds : List ℕ) (n : ℕ) (s : Machine) (l : Last) (tick : ℕ) (taken : Option ℕ) (r : EntryTicks) (sums : Totals) → l.tick ≤ l.front.c
-    → r ≡ row_of_entry ds n l.front (entry taken s) → tick ≡ r.c → AreWithin (l.tick + all_ticks (charges_behind l.tick (parts_of_row l.front.c r))) sums → AreWithin tick sums
+pub entry-within : (ds : List ℕ) (n : ℕ) (s : Machine) (l : Last) (tick : ℕ) (taken : Option ℕ) (r : EntryTicks) (sums : Totals) → l.tick ≤ l.issue.c
+    → r ≡ row_of_entry ds n l.issue (entry taken s) → tick ≡ r.c → AreWithin (l.tick + all_ticks (charges_behind l.tick (parts_of_row l.issue.c r))) sums → AreWithin tick sums
 entry-within ds n s l tick taken r sums early is at within =
-    let reach : l.tick + all_ticks (charges_behind l.tick (parts_of_row l.front.c r)) ≡ tick =
-    ap (λ x. l.tick + all_ticks (charges_behind l.tick (parts_of_row l.front.c x))) is
-    ∙ row-sum ds n l.tick l.front (entry taken s) early
+    let reach : l.tick + all_ticks (charges_behind l.tick (parts_of_row l.issue.c r)) ≡ tick =
+    ap (λ x. l.tick + all_ticks (charges_behind l.tick (parts_of_row l.issue.c x))) is
+    ∙ row-sum ds n l.tick l.issue (entry taken s) early
     ∙ ap (λ (x : EntryTicks). x.c) (sym is)
     ∙ sym at in
     subst (λ t. AreWithin t sums) reach within
 
-pub entry-last : (ds : List ℕ) → AreDelaysUpTo 255 ds → (n : ℕ) (p : Standing) (s u : Machine) (l k j : Last) (log : List Made) (taken : Option ℕ) (r : EntryTicks) → IsStanding p s l → IsTight 255 l.front
-    → taken ≡ interrupt s → IsEntryInTime (entry taken s) → u ≡ state_after_execution taken s → guessing j.ic u ≡ guess taken s → j.ic < 2 ^ 19
-    → r ≡ row_of_entry ds n l.front (entry taken s) → k.tick ≡ r.c → k.front ≡ front_after_entry ds n l.front (entry taken s)
-    → log ≡ log_after_reads ds (reads_of_entry ds n l.front (entry taken s)) l.front.bus [] → k.past ≡ k.front.past
-    → j ≡ record k { missed = is_missed (plan s taken) s; ic = j.ic; enabled = s.enabled } → IsLast ds n (next_moment ds n p) j log
-entry-last ds are n p s u l k j log taken r is tight is_taken fits made guess_is counter is_row tick front reads past rest =
+pub entry-last : (ds : List ℕ) → AreDelaysUpTo 255 ds → (n : ℕ) (p : Standing) (s u : Machine) (l k j : Last) (log : List Made) (taken : Option ℕ) (r : EntryTicks) → IsStanding p s l → IsTight 255 l.issue
+    → taken ≡ interrupt s → IsEntryInTime (entry taken s) → u ≡ state_after_execution taken s → predicting j.ic u ≡ prediction taken s → j.ic < 2 ^ 19
+    → r ≡ row_of_entry ds n l.issue (entry taken s) → k.tick ≡ r.c → k.issue ≡ issue_after_entry ds n l.issue (entry taken s)
+    → log ≡ log_after_reads ds (reads_of_entry ds n l.issue (entry taken s)) l.issue.bus [] → k.past ≡ k.issue.past
+    → j ≡ record k { mispredicted = is_mispredicted (plan s taken) s; ic = j.ic; enabled = s.enabled } → IsLast ds n (next_moment ds n p) j log
+entry-last ds are n p s u l k j log taken r is tight is_taken fits made prediction_is counter is_row tick issue reads past rest =
     let t = interrupt s in
     next-last ds are n p s u l j log is tight (subst (λ o. IsEntryInTime (entry o s)) is_taken fits) (entry-step s u taken is_taken made)
-    (guess_is ∙ ap (λ o. guess o s) is_taken) counter
-    (ap (λ (x : Last). x.tick) rest ∙ tick ∙ ap (λ (x : EntryTicks). x.c) is_row ∙ ap (λ o. (row_of_entry ds n l.front (entry o s)).c) is_taken)
-    (ap (λ (x : Last). x.front) rest ∙ front ∙ ap (λ o. front_after_entry ds n l.front (entry o s)) is_taken)
-    (ap (λ (x : Last). x.missed) rest ∙ ap (λ o. is_missed (plan s o) s) is_taken)
-    (reads ∙ ap (λ o. log_after_reads ds (reads_of_entry ds n l.front (entry o s)) l.front.bus []) is_taken)
-    (ap (λ (x : Last). x.past) rest ∙ past ∙ ap (λ (x : Last). x.front.past) (sym rest))
+    (prediction_is ∙ ap (λ o. prediction o s) is_taken) counter
+    (ap (λ (x : Last). x.tick) rest ∙ tick ∙ ap (λ (x : EntryTicks). x.c) is_row ∙ ap (λ o. (row_of_entry ds n l.issue (entry o s)).c) is_taken)
+    (ap (λ (x : Last). x.issue) rest ∙ issue ∙ ap (λ o. issue_after_entry ds n l.issue (entry o s)) is_taken)
+    (ap (λ (x : Last). x.mispredicted) rest ∙ ap (λ o. is_mispredicted (plan s o) s) is_taken)
+    (reads ∙ ap (λ o. log_after_reads ds (reads_of_entry ds n l.issue (entry o s)) l.issue.bus []) is_taken)
+    (ap (λ (x : Last). x.past) rest ∙ past ∙ ap (λ (x : Last). x.issue.past) (sym rest))

@@ -3,24 +3,24 @@ use Rattle.std.specs.Prelude.{Bool, if◌then◌else◌, nat_lt, map}
 use Rattle.std.proofs.Common.{◌≡◌, ℕ, zero, suc, ◌^◌, ◌≤◌, ◌<◌, true, false, List, [], ◌∷◌, ◌++◌, length, take, get_or, Option, None, refl, sym, ◌∙◌, ap, subst, arith}
 use Rattle.st_state.specs.Machine.{Machine}
 use Rattle.st_prep.specs.Plan.{plan}
-use Rattle.st_exec.specs.Completion.{state_after_execution, guessed_state, guess, is_missed}
+use Rattle.st_exec.specs.Completion.{state_after_execution, predicted_state, prediction, is_mispredicted}
 use Rattle.st_exec.specs.Step.{interrupt, step}
 use Rattle.std.proofs.lemmas.Bool.Decides.{nat_tests}
 use Rattle.st_rows.specs.BusTimes.{accept_at, Read}
 use Rattle.st_rows.specs.Asked.{formed_asked, prepared_asked, bus_after_reads, made_before}
 use Rattle.st_rows.specs.Notes.{log_after_reads, IsLogged}
 use Rattle.st_rows.specs.Ranges.{AreDelaysUpTo, IsEntryInTime, IsTight}
-use Rattle.st_rows.specs.Rows.{opening_front, tick_a, tick_p, row_of_entry, front_after_entry, reads_of_entry}
+use Rattle.st_rows.specs.Rows.{opening_issue, tick_a, tick_p, row_of_entry, issue_after_entry, reads_of_entry}
 use Rattle.st_rows.specs.declared.log.Made.{Made}
 use Rattle.st_rows.proofs.LogLaws.{logged-noted}
 use Rattle.st_rows.proofs.NoteLemmas.{opened-log}
-use Rattle.st_rows.proofs.Parts.{two-parts, free-formed, front-done}
+use Rattle.st_rows.proofs.Parts.{two-parts, free-formed, issue-done}
 use Rattle.st_rows.proofs.Served.{served-asked, served-formed}
 use Rattle.st_rows.proofs.Tight.{later-r, later-c}
 use Rattle.st_rows.specs.declared.bus.Bus.{Bus}
 use Rattle.st_rows.specs.declared.entry.Entry.{Entry}
-use Rattle.st_rows.specs.declared.front.Front.{Front}
-use Rattle.st_rows.specs.declared.front.EntryTicks.{EntryTicks}
+use Rattle.st_rows.specs.declared.issue.IssueState.{IssueState}
+use Rattle.st_rows.specs.declared.issue.EntryTicks.{EntryTicks}
 use Rattle.st_rows.specs.declared.past.Past.{Past}
 use Rattle.st_segment.specs.Entries.{entry}
 use Rattle.st_segment.specs.Ahead.{Ahead, ahead, prepared_before}
@@ -33,10 +33,10 @@ use Rattle.st_plain.specs.Looking.{seen_ahead}
 use Rattle.st_plain.specs.Uses.{formed_uses}
 use Rattle.st_rows.specs.declared.uses.Use.{Use}
 use Rattle.st_reasons.specs.Reasons.{because}
-use Rattle.st_reasons.specs.declared.because.Because.{Because}
+use Rattle.st_reasons.specs.declared.because.StallCause.{StallCause}
 use Rattle.st_plain.specs.declared.looking.Ahead.{Ahead as Seen}
 use Rattle.st_account.specs.declared.last.Last.{Last}
-use Rattle.st_account.specs.Standing.{guessing, HasReads, IsLast, IsStanding}
+use Rattle.st_account.specs.Standing.{predicting, HasReads, IsLast, IsStanding}
 use Rattle.st_account.proofs.ReadLemmas.{few-prepared}
 
 -- putting the items of a list of eight entries into any list gives the list of eight
@@ -73,27 +73,27 @@ no-reads : (ds : List ℕ) (b : Bus) → bus_after_reads ds [] b ≡ b
 unfolding bus_after_reads
 no-reads ds b = refl
 
-pub start-last : (ds : List ℕ) (n : ℕ) (c : Scene) (l : Last) (log : List Made) → l.tick ≡ 0 → l.front ≡ opening_front idle_banks 0 → l.past ≡ l.front.past → l.missed ≡ false
-    → l.ic ≡ c.machine.ic → l.ic < 2 ^ 19 → log ≡ [] → IsTight 255 l.front → IsLast ds n (moment_at_start c) l log
-start-last ds n c l log tick front past missed ic counter none tight = record {
+pub start-last : (ds : List ℕ) (n : ℕ) (c : Scene) (l : Last) (log : List Made) → l.tick ≡ 0 → l.issue ≡ opening_issue idle_banks 0 → l.past ≡ l.issue.past → l.mispredicted ≡ false
+    → l.ic ≡ c.machine.ic → l.ic < 2 ^ 19 → log ≡ [] → IsTight 255 l.issue → IsLast ds n (moment_at_start c) l log
+start-last ds n c l log tick issue past mispredicted ic counter none tight = record {
   tick = sym tick;
-  front = sym front;
-  missed = sym missed;
+  issue = sym issue;
+  mispredicted = sym mispredicted;
   dropped = rw tick (sym (none-prepared _));
   reads = [];
-  bus = l.front.bus;
+  bus = l.issue.bus;
   has = record {
-    logged = rw none (opened-log ds l.tick l.front.bus);
-    leaves = no-reads ds l.front.bus;
+    logged = rw none (opened-log ds l.tick l.issue.bus);
+    leaves = no-reads ds l.issue.bus;
     first = [];
     rest = [];
     parts = refl;
     few = omega arith;
-    early = rw (no-reads ds l.front.bus, front, tick) (omega arith);
+    early = rw (no-reads ds l.issue.bus, issue, tick) (omega arith);
     near = tight.near;
-    free = rw (front, tick) (omega arith);
+    free = rw (issue, tick) (omega arith);
   };
-  banks = rw (tick, front) (ap (λ (b : Bus). b.banks) (sym (none-made ds _ _)));
+  banks = rw (tick, issue) (ap (λ (b : Bus). b.banks) (sym (none-made ds _ _)));
   past = past;
   counter = counter;
 }
@@ -101,32 +101,32 @@ start-last ds n c l log tick front past missed ic counter none tight = record {
 -- ---- the next entry
 
 -- the predicted state is the completed state except for the instruction counter
-guess-counter : (t : Option ℕ) (s : Machine) (ic : ℕ)
-    → ic ≡ (if (plan s t).serial then (state_after_execution t s).ic else (plan s t).following) → guessing ic (state_after_execution t s) ≡ guess t s
-unfolding guessed_state
-guess-counter t s ic is = by_test (plan s t).serial (state_after_execution t s) ic (plan s t).following is
+prediction-counter : (t : Option ℕ) (s : Machine) (ic : ℕ)
+    → ic ≡ (if (plan s t).serial then (state_after_execution t s).ic else (plan s t).following) → predicting ic (state_after_execution t s) ≡ prediction t s
+unfolding predicted_state
+prediction-counter t s ic is = by_test (plan s t).serial (state_after_execution t s) ic (plan s t).following is
   where
     by_test : (b : Bool) (u : Machine) (ic following : ℕ) → ic ≡ (if b then u.ic else following)
-        → guessing ic u ≡ (if b then u else record u { ic = following })
+        → predicting ic u ≡ (if b then u else record u { ic = following })
     by_test true u ic following is = rw is refl
     by_test false u ic following is = rw is refl
 
-pub guess-is : (t : Option ℕ) (s u : Machine) (ic : ℕ) → u ≡ state_after_execution t s → ic ≡ (if (plan s t).serial then u.ic else (plan s t).following)
-    → guessing ic u ≡ guess t s
-guess-is t s u ic made is =
-    ap (guessing ic) made ∙ guess-counter t s ic (is ∙ ap (λ v. if (plan s t).serial then v.ic else (plan s t).following) made)
+pub prediction-is : (t : Option ℕ) (s u : Machine) (ic : ℕ) → u ≡ state_after_execution t s → ic ≡ (if (plan s t).serial then u.ic else (plan s t).following)
+    → predicting ic u ≡ prediction t s
+prediction-is t s u ic made is =
+    ap (predicting ic) made ∙ prediction-counter t s ic (is ∙ ap (λ v. if (plan s t).serial then v.ic else (plan s t).following) made)
 
 -- the reads of the last completed entry
-pub has-reads : (ds : List ℕ) → AreDelaysUpTo 255 ds → (n : ℕ) (f g : Front) (e : Entry) (log : List Made) (t : ℕ) → IsEntryInTime e → IsTight 255 f → t ≡ (row_of_entry ds n f e).c
-    → g ≡ front_after_entry ds n f e → log ≡ log_after_reads ds (reads_of_entry ds n f e) f.bus [] → HasReads ds t (reads_of_entry ds n f e) f.bus g.bus log
+pub has-reads : (ds : List ℕ) → AreDelaysUpTo 255 ds → (n : ℕ) (f g : IssueState) (e : Entry) (log : List Made) (t : ℕ) → IsEntryInTime e → IsTight 255 f → t ≡ (row_of_entry ds n f e).c
+    → g ≡ issue_after_entry ds n f e → log ≡ log_after_reads ds (reads_of_entry ds n f e) f.bus [] → HasReads ds t (reads_of_entry ds n f e) f.bus g.bus log
 unfolding row_of_entry
 has-reads ds are n f g e log t range tight at behind is =
-    let free : f.bus.free ≤ t = omega (arith, at, front-done 255 ds are n f e range tight) in
+    let free : f.bus.free ≤ t = omega (arith, at, issue-done 255 ds are n f e range tight) in
     let formed = ap (λ (b : Bus). b.free) (served-formed ds f e) in
     record {
       logged = subst (λ (l : List Made). IsLogged ds t (reads_of_entry ds n f e) f.bus l) (sym is)
           (rw (no-reads ds f.bus) at (logged-noted ds t [] (reads_of_entry ds n f e) f.bus [] (opened-log ds t f.bus)));
-      leaves = served-asked ds n f e ∙ ap (λ (h : Front). h.bus) (sym behind);
+      leaves = served-asked ds n f e ∙ ap (λ (h : IssueState). h.bus) (sym behind);
       first = formed_asked ds f e;
       rest = prepared_asked ds n f e;
       parts = two-parts ds n f e;
@@ -136,36 +136,36 @@ has-reads ds are n f g e log t range tight at behind is =
       free = free;
     }
 
-pub next-last : (ds : List ℕ) (are : AreDelaysUpTo 255 ds) (n : ℕ) (p : Standing) (s u : Machine) (l k : Last) (log : List Made) → IsStanding p s l → IsTight 255 l.front
+pub next-last : (ds : List ℕ) (are : AreDelaysUpTo 255 ds) (n : ℕ) (p : Standing) (s u : Machine) (l k : Last) (log : List Made) → IsStanding p s l → IsTight 255 l.issue
     → IsEntryInTime (entry (interrupt s) s)
-    → u ≡ step s → guessing k.ic u ≡ guess (interrupt s) s → k.ic < 2 ^ 19
-    → k.tick ≡ (row_of_entry ds n l.front (entry (interrupt s) s)).c → k.front ≡ front_after_entry ds n l.front (entry (interrupt s) s)
-    → k.missed ≡ is_missed (plan s (interrupt s)) s → log ≡ log_after_reads ds (reads_of_entry ds n l.front (entry (interrupt s) s)) l.front.bus []
-    → k.past ≡ k.front.past → IsLast ds n (next_moment ds n p) k log
+    → u ≡ step s → predicting k.ic u ≡ prediction (interrupt s) s → k.ic < 2 ^ 19
+    → k.tick ≡ (row_of_entry ds n l.issue (entry (interrupt s) s)).c → k.issue ≡ issue_after_entry ds n l.issue (entry (interrupt s) s)
+    → k.mispredicted ≡ is_mispredicted (plan s (interrupt s)) s → log ≡ log_after_reads ds (reads_of_entry ds n l.issue (entry (interrupt s) s)) l.issue.bus []
+    → k.past ≡ k.issue.past → IsLast ds n (next_moment ds n p) k log
 unfolding next_moment next_row
-next-last ds are n p s u l k log is tight fits made guess_is counter tick front missed reads past =
+next-last ds are n p s u l k log is tight fits made prediction_is counter tick issue mispredicted reads past =
     let e = entry (interrupt s) s in
     let machine = is.machine in
     record {
-      tick = rw (machine, is.front) (sym tick);
-      front = rw (machine, is.front) (sym front);
-      missed = rw machine (sym missed);
-      dropped = rw (machine, is.front, tick, front, sym made, guess_is) refl;
-      reads = reads_of_entry ds n l.front e;
-      bus = l.front.bus;
-      has = has-reads ds are n l.front k.front e log k.tick fits tight tick front reads;
-      banks = rw (machine, is.front, tick, front, sym made, guess_is) refl;
+      tick = rw (machine, is.issue) (sym tick);
+      issue = rw (machine, is.issue) (sym issue);
+      mispredicted = rw machine (sym mispredicted);
+      dropped = rw (machine, is.issue, tick, issue, sym made, prediction_is) refl;
+      reads = reads_of_entry ds n l.issue e;
+      bus = l.issue.bus;
+      has = has-reads ds are n l.issue k.issue e log k.tick fits tight tick issue reads;
+      banks = rw (machine, is.issue, tick, issue, sym made, prediction_is) refl;
       past = past;
       counter = counter;
     }
 
 -- ---- entries that ran ahead
 
-ahead-few : (ds : List ℕ) (n k : ℕ) (t : Option ℕ) (s : Machine) (f : Front) → length (ahead ds n k t s f) ≤ k
+ahead-few : (ds : List ℕ) (n k : ℕ) (t : Option ℕ) (s : Machine) (f : IssueState) → length (ahead ds n k t s f) ≤ k
 unfolding ahead
 ahead-few ds n zero t s f = omega arith
 ahead-few ds n (suc k) t s f =
-    let rest = ahead-few ds n k None (guess t s) (front_after_entry ds n f (entry t s)) in
+    let rest = ahead-few ds n k None (prediction t s) (issue_after_entry ds n f (entry t s)) in
     omega arith
 
 prepared-few : (t : ℕ) (xs : List Ahead) → length (prepared_before t xs) ≤ length xs
@@ -175,21 +175,21 @@ prepared-few t (a ∷ rest) =
     let few = prepared-few t rest in
     of_choice (λ xs. length xs ≤ suc (length rest)) (nat_lt a.row.p t) (a ∷ prepared_before t rest) [] (omega arith) (omega arith)
 
-pub few-found : (ds : List ℕ) (n t k : ℕ) (s : Machine) (f : Front) (old new : List Seen) → length old ≡ 0 → k ≤ 8
+pub few-found : (ds : List ℕ) (n t k : ℕ) (s : Machine) (f : IssueState) (old new : List Seen) → length old ≡ 0 → k ≤ 8
     → new ≡ old ++ map (seen_ahead ds n) (prepared_before t (ahead ds n k None s f)) → length new ≤ 8
 few-found ds n t k s f old new none few is =
     let found = prepared_before t (ahead ds n k None s f) in
     omega (arith, ap length is ∙ length-append old (map (seen_ahead ds n) found), length-map found (seen_ahead ds n), none, few, prepared-few t (ahead ds n k None s f), ahead-few ds n k None s f)
 
 -- the last entries after one more entry
-pub past-kept : (ds : List ℕ) (n : ℕ) (f : Front) (e : Entry) (r : EntryTicks) (old new : List Past) (g : Front) → old ≡ f.past → r ≡ row_of_entry ds n f e
-    → new ≡ record { c = r.c; writes = e.writes } ∷ take 7 old → g ≡ front_after_entry ds n f e → new ≡ g.past
-unfolding row_of_entry front_after_entry
+pub past-kept : (ds : List ℕ) (n : ℕ) (f : IssueState) (e : Entry) (r : EntryTicks) (old new : List Past) (g : IssueState) → old ≡ f.past → r ≡ row_of_entry ds n f e
+    → new ≡ record { c = r.c; writes = e.writes } ∷ take 7 old → g ≡ issue_after_entry ds n f e → new ≡ g.past
+unfolding row_of_entry issue_after_entry
 past-kept ds n f e r old new g same is kept behind = rw (behind, kept, is, same) refl
 
 -- the cause that delayed the entry, by its row
-pub because-made : (ds : List ℕ) (n : ℕ) (f : Front) (e x : Entry) (side s : Option ℕ) (row : EntryTicks) (a p wait : ℕ) (none begun us bs cs : List Use)
-    (why : Because) → none ≡ [] → begun ≡ none ++ formed_uses ds f e side → us ≡ begun → bs ≡ cs → e ≡ x → side ≡ s → row ≡ row_of_entry ds n f e
+pub because-made : (ds : List ℕ) (n : ℕ) (f : IssueState) (e x : Entry) (side s : Option ℕ) (row : EntryTicks) (a p wait : ℕ) (none begun us bs cs : List Use)
+    (why : StallCause) → none ≡ [] → begun ≡ none ++ formed_uses ds f e side → us ≡ begun → bs ≡ cs → e ≡ x → side ≡ s → row ≡ row_of_entry ds n f e
     → a ≡ tick_a ds f e → p ≡ tick_p ds n f e → why ≡ because f e a p wait us bs → why ≡ because f x row.a row.p wait (formed_uses ds f x s) cs
 unfolding row_of_entry
 because-made ds n f e x side s row a p wait none begun us bs cs why is_none is_begun same_uses same_before same_entry same_side is_row is_a is_p is_why =

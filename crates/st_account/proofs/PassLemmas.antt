@@ -5,7 +5,7 @@ use Rattle.st_bits.specs.declared.limits.TheConstants.{WORDS}
 use Rattle.st_banks.specs.declared.answers.LastAnswers.{LastAnswers}
 use Rattle.st_card.specs.declared.control_cards.Signal.{Signal}
 use Rattle.st_state.specs.Machine.{Machine, word}
-use Rattle.st_exec.specs.Completion.{guess}
+use Rattle.st_exec.specs.Completion.{prediction}
 use Rattle.st_exec.specs.Step.{rests, interrupt}
 use Rattle.st_rows.specs.Asked.{made_before}
 use Rattle.st_segment.specs.Ahead.{ahead, prepared_before, reads_before}
@@ -19,7 +19,7 @@ use Rattle.st_plain.specs.declared.looking.Ahead.{Ahead as Seen}
 use Rattle.st_account.specs.declared.account.Account.{Account}
 use Rattle.st_account.specs.declared.last.Last.{Last}
 use Rattle.st_account.specs.Settling.{at_hand, words_printed}
-use Rattle.st_account.specs.Standing.{guessing, still_by, IsAt}
+use Rattle.st_account.specs.Standing.{predicting, still_by, IsAt}
 use Rattle.st_account.specs.Text.{words_behind, begun_at, segment_ends}
 use Rattle.st_account.proofs.LeftLemmas.{area, between-left}
 use Rattle.st_account.proofs.RunLemmas.{end-looks}
@@ -70,36 +70,36 @@ module _ (ds : List ℕ) (n : ℕ) (b : Machine) (m : Moment) (a : Account) (xs 
         ∙ ap (λ (c : Scene). word c.machine v) after
 
   -- if a segment ends, the entries that ran ahead were determined
-  module _ (left : ℕ) (still looks : Bool) (is_still : still ≡ still_by a.state a.last.missed xs) (is_looks : looks ≡ (nat_eq left 0 || not still))
+  module _ (left : ℕ) (still looks : Bool) (is_still : still ≡ still_by a.state a.last.mispredicted xs) (is_looks : looks ≡ (nat_eq left 0 || not still))
       (ends : segment_ends left m ≡ true) where
     asked : looks ≡ true
-    asked = end-looks left a.state xs cards m a.last.missed still looks h.scene h.hand.missed is_still is_looks ends
+    asked = end-looks left a.state xs cards m a.last.mispredicted still looks h.scene h.hand.mispredicted is_still is_looks ends
 
     pub dropped-is : (found : List Seen)
-        → (looks ≡ true → found ≡ map (seen_ahead ds n) (prepared_before a.last.tick (ahead ds n n None (guessing a.last.ic a.state) a.last.front)))
+        → (looks ≡ true → found ≡ map (seen_ahead ds n) (prepared_before a.last.tick (ahead ds n n None (predicting a.last.ic a.state) a.last.issue)))
         → found ≡ map (seen_ahead ds n) m.dropped
     dropped-is found seen =
         seen asked
-        ∙ ap (λ (c : Scene). map (seen_ahead ds n) (prepared_before a.last.tick (ahead ds n n None (guessing a.last.ic c.machine) a.last.front))) (sym h.scene)
+        ∙ ap (λ (c : Scene). map (seen_ahead ds n) (prepared_before a.last.tick (ahead ds n n None (predicting a.last.ic c.machine) a.last.issue))) (sym h.scene)
         ∙ ap (map (seen_ahead ds n)) (sym h.hand.dropped)
 
     pub banks-is : (banks : LastAnswers) → (looks ≡ true → banks ≡ (made_before ds a.last.tick
-        (h.hand.reads ++ reads_before ds n a.last.tick (ahead ds n (suc n) None (guessing a.last.ic a.state) a.last.front)) h.hand.bus).banks)
+        (h.hand.reads ++ reads_before ds n a.last.tick (ahead ds n (suc n) None (predicting a.last.ic a.state) a.last.issue)) h.hand.bus).banks)
         → banks ≡ m.banks
     banks-is banks held =
         held asked
         ∙ ap (λ (c : Scene). (made_before ds a.last.tick
-        (h.hand.reads ++ reads_before ds n a.last.tick (ahead ds n (suc n) None (guessing a.last.ic c.machine) a.last.front)) h.hand.bus).banks) (sym h.scene)
+        (h.hand.reads ++ reads_before ds n a.last.tick (ahead ds n (suc n) None (predicting a.last.ic c.machine) a.last.issue)) h.hand.bus).banks) (sym h.scene)
         ∙ sym h.hand.banks
 
     -- the entry that had begun
     pub begun-is : (begun : List Seen)
-        → (looks ≡ true → begun ≡ map (seen_ahead ds n) (first_late a.last.tick (ahead ds n (suc n) None (guessing a.last.ic a.state) a.last.front)))
+        → (looks ≡ true → begun ≡ map (seen_ahead ds n) (first_late a.last.tick (ahead ds n (suc n) None (predicting a.last.ic a.state) a.last.issue)))
         → a.k ≢ 0 → begun ≡ begun_at ds n b m
     unfolding begun_at
     begun-is begun found some =
         found asked
-        ∙ ap (λ (c : Scene). map (seen_ahead ds n) (first_late a.last.tick (ahead ds n (suc n) None (guessing a.last.ic c.machine) a.last.front))) (sym h.scene)
-        ∙ ap (λ u. map (seen_ahead ds n) (first_late a.last.tick (ahead ds n (suc n) None u a.last.front))) (h.guessed some)
-        ∙ ap (λ t. map (seen_ahead ds n) (first_late t (ahead ds n (suc n) None (guess (interrupt b) b) a.last.front))) (sym h.hand.tick)
-        ∙ ap (λ f. map (seen_ahead ds n) (first_late m.tick (ahead ds n (suc n) None (guess (interrupt b) b) f))) (sym h.hand.front)
+        ∙ ap (λ (c : Scene). map (seen_ahead ds n) (first_late a.last.tick (ahead ds n (suc n) None (predicting a.last.ic c.machine) a.last.issue))) (sym h.scene)
+        ∙ ap (λ u. map (seen_ahead ds n) (first_late a.last.tick (ahead ds n (suc n) None u a.last.issue))) (h.predicted some)
+        ∙ ap (λ t. map (seen_ahead ds n) (first_late t (ahead ds n (suc n) None (prediction (interrupt b) b) a.last.issue))) (sym h.hand.tick)
+        ∙ ap (λ f. map (seen_ahead ds n) (first_late m.tick (ahead ds n (suc n) None (prediction (interrupt b) b) f))) (sym h.hand.issue)

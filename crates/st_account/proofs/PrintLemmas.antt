@@ -1,7 +1,7 @@
 -- Lemmas on the output that is printed between two entries.
 use Rattle.std.proofs.Common.{◌≡◌, ℕ, List, [], ◌∷◌, None, Some, sym, ap}
 use Rattle.st_run.specs.Run.{PlainEvent}
-use Rattle.st_run.specs.Outside.{ArePrinted}
+use Rattle.st_run.specs.ExternalEvents.{ArePrinted}
 use Rattle.st_account.specs.Settling.{words_printed}
 
 pub none-printed : (es : List PlainEvent) → ArePrinted None es → [] ≡ words_printed es

@@ -7,17 +7,17 @@ use Rattle.std.proofs.lemmas.List.{append-nil}
 use Rattle.std.proofs.lemmas.List.Elements.{All-weaker}
 use Rattle.st_banks.specs.declared.answers.LastAnswers.{LastAnswers}
 use Rattle.st_state.specs.Machine.{Machine, IsMachine}
-use Rattle.st_exec.specs.Completion.{guess}
+use Rattle.st_exec.specs.Completion.{prediction}
 use Rattle.st_rows.specs.Asked.{formed_asked, prepared_asked, fetches_asked, following_asked, bus_after_reads, made_before, side_count, words_asked}
 use Rattle.st_rows.specs.BusTimes.{Read}
 use Rattle.st_rows.specs.Notes.{log_after_reads, notes_of_reads, answers_left, AreEarly, IsLogged}
 use Rattle.st_rows.specs.Ranges.{AreDelaysUpTo, IsEntryInTime, IsTight}
-use Rattle.st_rows.specs.Rows.{row_of_entry, front_after_entry, wanted_from, tick_a, tick_p, bus_a, operands, reads_of_entry}
+use Rattle.st_rows.specs.Rows.{row_of_entry, issue_after_entry, wanted_from, tick_a, tick_p, bus_a, operands, reads_of_entry}
 use Rattle.st_rows.specs.Words.{fetch_words}
 use Rattle.st_rows.specs.declared.bus.Bus.{Bus}
 use Rattle.st_rows.specs.declared.entry.Entry.{Entry}
 use Rattle.st_rows.specs.declared.fetching.Fetching.{Fetching}
-use Rattle.st_rows.specs.declared.front.Front.{Front}
+use Rattle.st_rows.specs.declared.issue.IssueState.{IssueState}
 use Rattle.st_rows.specs.declared.log.Made.{Made}
 use Rattle.st_rows.proofs.LogLaws.{undone_is_made_before, few_are_undone, logged-noted}
 use Rattle.st_rows.proofs.MadeLemmas.{made-more}
@@ -27,14 +27,14 @@ use Rattle.st_rows.proofs.Tight.{tight-after}
 use Rattle.st_segment.specs.Entries.{entry}
 use Rattle.st_segment.specs.Ahead.{ahead, reads_before}
 use Rattle.st_segment.proofs.EntryRanges.{entry-ranges}
-use Rattle.st_segment.proofs.GuessLemmas.{guess-machine}
+use Rattle.st_segment.proofs.GuessLemmas.{prediction-machine}
 use Rattle.st_plain.specs.Looking.{reads_up_to}
 use Rattle.st_plain.proofs.LookLemmas.{row-p}
 use Rattle.st_account.specs.Standing.{HasReads}
 
 -- ---- the number of reads of an entry in each part
 
-pub few-prepared : (ds : List ℕ) (n : ℕ) (f : Front) (e : Entry) → IsEntryInTime e → length (prepared_asked ds n f e) ≤ 34
+pub few-prepared : (ds : List ℕ) (n : ℕ) (f : IssueState) (e : Entry) → IsEntryInTime e → length (prepared_asked ds n f e) ≤ 34
 few-prepared ds n f e range =
     let p = tick_p ds n f e in
     simp length-append
@@ -51,7 +51,7 @@ at-most-one : (side : Option ℕ) → side_count side ≤ 1
 at-most-one None = omega arith
 at-most-one (Some w) = omega arith
 
-few-formed : (ds : List ℕ) (f : Front) (e : Entry) → IsEntryInTime e → length (formed_asked ds f e) ≤ 5
+few-formed : (ds : List ℕ) (f : IssueState) (e : Entry) → IsEntryInTime e → length (formed_asked ds f e) ≤ 5
 unfolding fetches_asked words_asked fetch_words
 few-formed ds f e range =
     let start : Fetching = record { bus = f.bus; answered = 0; awaited = 0 } in
@@ -78,7 +78,7 @@ late-by a t is = grind (arith, nat_tests)
 -- ---- reads that are omitted are wanted too late
 
 module _ (ds : List ℕ) (n t : ℕ) where
-  made-next : (f : Front) (e : Entry) (xs : List Read) (b : Bus) (rest few : List Read) (c : Bool) → nat_lt (row_of_entry ds n f e).p t ≡ c
+  made-next : (f : IssueState) (e : Entry) (xs : List Read) (b : Bus) (rest few : List Read) (c : Bool) → nat_lt (row_of_entry ds n f e).p t ≡ c
       → made_before ds t ((xs ++ reads_of_entry ds n f e) ++ rest) b ≡ made_before ds t ((xs ++ reads_of_entry ds n f e) ++ few) b
       → made_before ds t (xs ++ (reads_of_entry ds n f e ++ (if c then rest else []))) b
       ≡ made_before ds t (xs ++ (if c then reads_of_entry ds n f e ++ few else formed_asked ds f e)) b
@@ -96,15 +96,15 @@ module _ (ds : List ℕ) (n t : ℕ) where
       (All-weaker (λ (r : Read). r.want ≡ tick_p ds n f e) (λ (r : Read). t ≤ r.want) (λ r h. omega (arith, h, late, row-p ds n f e)) behind
       (at-prepared ds n f e))
 
-  made-looked : (k : ℕ) (s : Machine) (f : Front) (xs : List Read) (b : Bus)
+  made-looked : (k : ℕ) (s : Machine) (f : IssueState) (xs : List Read) (b : Bus)
       → made_before ds t (xs ++ reads_before ds n t (ahead ds n k None s f)) b ≡ made_before ds t (xs ++ reads_up_to ds n t (ahead ds n k None s f)) b
   unfolding ahead reads_before reads_up_to
   made-looked zero s f xs b = refl
   made-looked (suc k) s f xs b =
       let e = entry None s in
-      let list = ahead ds n k None (guess None s) (front_after_entry ds n f e) in
+      let list = ahead ds n k None (prediction None s) (issue_after_entry ds n f e) in
       made-next f e xs b (reads_before ds n t list) (reads_up_to ds n t list) (nat_lt (row_of_entry ds n f e).p t) refl
-      (made-looked k (guess None s) (front_after_entry ds n f e) (xs ++ reads_of_entry ds n f e) b)
+      (made-looked k (prediction None s) (issue_after_entry ds n f e) (xs ++ reads_of_entry ds n f e) b)
 
 -- ---- few of the other reads are accepted at the tick or later
 
@@ -118,7 +118,7 @@ record AreFew (ds : List ℕ) (t : ℕ) (reads : List Read) (b : Bus) : Type 0 w
   free : (bus_after_reads ds first b).free ≤ t
 
 module _ (ds : List ℕ) (are : AreDelaysUpTo 255 ds) (n t : ℕ) (b : Bus) where
-  few-next : (f : Front) (e : Entry) (xs first rest more : List Read) (c : Bool) → IsEntryInTime e → nat_lt (row_of_entry ds n f e).p t ≡ c
+  few-next : (f : IssueState) (e : Entry) (xs first rest more : List Read) (c : Bool) → IsEntryInTime e → nat_lt (row_of_entry ds n f e).p t ≡ c
       → xs ≡ first ++ rest → length rest ≤ 34 → (bus_after_reads ds first b).free ≤ t
       → ((row_of_entry ds n f e).p < t → AreFew ds t ((xs ++ reads_of_entry ds n f e) ++ more) b)
       → AreFew ds t (xs ++ (if c then reads_of_entry ds n f e ++ more else formed_asked ds f e)) b
@@ -134,7 +134,7 @@ module _ (ds : List ℕ) (are : AreDelaysUpTo 255 ds) (n t : ℕ) (b : Bus) wher
         free = free;
       }
 
-  few-looked : (k : ℕ) (s : Machine) (f : Front) (xs first rest : List Read) → IsMachine s → IsTight 255 f → bus_after_reads ds xs b ≡ f.bus
+  few-looked : (k : ℕ) (s : Machine) (f : IssueState) (xs first rest : List Read) → IsMachine s → IsTight 255 f → bus_after_reads ds xs b ≡ f.bus
       → xs ≡ first ++ rest → length rest ≤ 34 → (bus_after_reads ds first b).free ≤ t → AreFew ds t (xs ++ reads_up_to ds n t (ahead ds n k None s f)) b
   unfolding ahead reads_up_to
   few-looked zero s f xs first rest m tight is parts few free = record {
@@ -146,7 +146,7 @@ module _ (ds : List ℕ) (are : AreDelaysUpTo 255 ds) (n t : ℕ) (b : Bus) wher
   }
   few-looked (suc k) s f xs first rest m tight is parts few free =
       let e = entry None s in
-      let f' = front_after_entry ds n f e in
+      let f' = issue_after_entry ds n f e in
       let range = entry-ranges None s m tt in
       let formed = formed_asked ds f e in
       let behind = prepared_asked ds n f e in
@@ -154,16 +154,16 @@ module _ (ds : List ℕ) (are : AreDelaysUpTo 255 ds) (n t : ℕ) (b : Bus) wher
       served-append ds xs formed b ∙ ap (bus_after_reads ds formed) is ∙ served-formed ds f e in
       let after_bus : bus_after_reads ds (xs ++ reads_of_entry ds n f e) b ≡ f'.bus =
       served-append ds xs (reads_of_entry ds n f e) b ∙ ap (bus_after_reads ds (reads_of_entry ds n f e)) is ∙ served-asked ds n f e in
-      few-next f e xs first rest (reads_up_to ds n t (ahead ds n k None (guess None s) f')) (nat_lt (row_of_entry ds n f e).p t) range refl parts few free
+      few-next f e xs first rest (reads_up_to ds n t (ahead ds n k None (prediction None s) f')) (nat_lt (row_of_entry ds n f e).p t) range refl parts few free
       (λ early.
-      few-looked k (guess None s) f' (xs ++ reads_of_entry ds n f e) (xs ++ formed) behind (guess-machine None s m tt)
+      few-looked k (prediction None s) f' (xs ++ reads_of_entry ds n f e) (xs ++ formed) behind (prediction-machine None s m tt)
       (tight-after 255 ds are n f e range tight) after_bus
       (ap (λ reads. xs ++ reads) (two-parts ds n f e) ∙ sym (append_assoc xs formed behind)) (few-prepared ds n f e range)
       (omega (arith, ap (λ (c : Bus). c.free) bus, free-formed 255 ds are n f e range tight, early, row-p ds n f e)))
 
 -- ---- the banks, where the segment ends
 
-module _ (ds : List ℕ) (are : AreDelaysUpTo 255 ds) (n t : ℕ) (s : Machine) (m : IsMachine s) (f : Front) (tight : IsTight 255 f) (reads : List Read)
+module _ (ds : List ℕ) (are : AreDelaysUpTo 255 ds) (n t : ℕ) (s : Machine) (m : IsMachine s) (f : IssueState) (tight : IsTight 255 f) (reads : List Read)
     (start : Bus) (log : List Made) (has : HasReads ds t reads start f.bus log) where
   ahead_reads : List Read
   ahead_reads = reads_up_to ds n t (ahead ds n (suc n) None s f)
@@ -216,15 +216,15 @@ module _ (ds : List ℕ) (are : AreDelaysUpTo 255 ds) (n t : ℕ) (s : Machine) 
         (made_before ds t all_reads start).banks.ticks bounds.0.banks)
 
 -- the banks for an equal state and an equal front
-module _ (ds : List ℕ) (are : AreDelaysUpTo 255 ds) (n t : ℕ) (s u : Machine) (f g : Front) (m : IsMachine u) (tight : IsTight 255 f) (state : u ≡ s) (front : g ≡ f)
+module _ (ds : List ℕ) (are : AreDelaysUpTo 255 ds) (n t : ℕ) (s u : Machine) (f g : IssueState) (m : IsMachine u) (tight : IsTight 255 f) (state : u ≡ s) (issue : g ≡ f)
     (reads : List Read) (start : Bus) (log new : List Made) (bus : Bus) (banks : LastAnswers) (has : HasReads ds t reads start f.bus log)
     (logs : new ≡ log_after_reads ds (reads_up_to ds n t (ahead ds n (suc n) None u g)) g.bus log)
     (serves : bus ≡ bus_after_reads ds (reads_up_to ds n t (ahead ds n (suc n) None u g)) g.bus) (is : banks.ticks ≡ answers_left t new bus.banks.ticks) where
   logs_at : new ≡ log_after_reads ds (reads_up_to ds n t (ahead ds n (suc n) None u f)) f.bus log
-  logs_at = logs ∙ ap (λ (h : Front). log_after_reads ds (reads_up_to ds n t (ahead ds n (suc n) None u h)) h.bus log) front
+  logs_at = logs ∙ ap (λ (h : IssueState). log_after_reads ds (reads_up_to ds n t (ahead ds n (suc n) None u h)) h.bus log) issue
 
   serves_at : bus ≡ bus_after_reads ds (reads_up_to ds n t (ahead ds n (suc n) None u f)) f.bus
-  serves_at = serves ∙ ap (λ (h : Front). bus_after_reads ds (reads_up_to ds n t (ahead ds n (suc n) None u h)) h.bus) front
+  serves_at = serves ∙ ap (λ (h : IssueState). bus_after_reads ds (reads_up_to ds n t (ahead ds n (suc n) None u h)) h.bus) issue
 
   pub banks-behind : banks ≡ (made_before ds t (reads ++ reads_before ds n t (ahead ds n (suc n) None s f)) start).banks
   banks-behind =

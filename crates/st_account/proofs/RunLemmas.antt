@@ -9,12 +9,12 @@ use Rattle.st_exec.specs.Step.{rests, step, interrupt}
 use Rattle.st_card.specs.declared.control_cards.Signal.{Signal}
 use Rattle.st_run.specs.Run.{Transition, uneventful, interlude, scene_after_step, with_due_signals, with_due_orders}
 use Rattle.st_state.specs.Orders.{is_due}
-use Rattle.st_run.specs.Outside.{signal_due}
+use Rattle.st_run.specs.ExternalEvents.{signal_due}
 use Rattle.st_run.proofs.QuietLemmas.{none-due, none-comes}
 use Rattle.st_run.specs.Moments.{Moment, Standing, next_scene, next_state, standing_at, next_row, next_moment, has_card, has_waited, ends_segment}
 use Rattle.st_run.proofs.Bounds.{HasTime}
 use Rattle.st_run.proofs.DoneLemmas.{settled-done}
-use Rattle.st_rows.specs.Rows.{row_of_entry, front_after_entry}
+use Rattle.st_rows.specs.Rows.{row_of_entry, issue_after_entry}
 use Rattle.st_ledger.specs.declared.charges.Stage.{Stage}
 use Rattle.st_ledger.specs.Charges.{ticks_for}
 use Rattle.st_ledger.specs.Ledger.{entries_from, charges_at, all_charges}
@@ -106,9 +106,9 @@ module _ (m : Moment) (s t : Machine) (xs ys : List Signal) (ps qs : List (List 
 
 -- ---- no event comes
 
-module _ (s : Machine) (missed : Bool) (xs : List Signal) (still : still_by s missed xs ≡ true) where
+module _ (s : Machine) (mispredicted : Bool) (xs : List Signal) (still : still_by s mispredicted xs ≡ true) where
   record Parts : Type 0 where
-    right : missed ≡ false
+    right : mispredicted ≡ false
     no_signal : signal_due s.done xs ≡ false
     reader_free : s.reader ≡ None
     printer_free : s.printer ≡ None
@@ -123,7 +123,7 @@ module _ (s : Machine) (missed : Bool) (xs : List Signal) (still : still_by s mi
       let d = and_parts _ _ c.0 in
       let e = and_parts _ _ d.0 in
       record {
-        right = not-true missed e.0;
+        right = not-true mispredicted e.0;
         no_signal = not-true (signal_due s.done xs) e.1;
         reader_free = none-is s.reader d.1;
         printer_free = none-is s.printer c.1;
@@ -150,7 +150,7 @@ module _ (s : Machine) (missed : Bool) (xs : List Signal) (still : still_by s mi
     pub interlude-still : interlude (at_hand s xs cards) ≡ uneventful (at_hand s xs cards)
     interlude-still = none-comes (at_hand s xs cards) parts.no_signal reader printer awake
 
-  module _ (m : Moment) (cards : List (List ℕ)) (scene : m.scene ≡ at_hand s xs cards) (guessed : m.missed ≡ missed) where
+  module _ (m : Moment) (cards : List (List ℕ)) (scene : m.scene ≡ at_hand s xs cards) (predicted : m.mispredicted ≡ mispredicted) where
     same : next_scene m ≡ at_hand s xs cards
     same = ap (λ c. (interlude c).scene) scene ∙ ap (λ (r : Transition). r.scene) (interlude-still cards)
 
@@ -173,23 +173,23 @@ module _ (s : Machine) (missed : Bool) (xs : List Signal) (still : still_by s mi
 
     pub no-end : ends_segment m ≡ false
     unfolding ends_segment
-    no-end = rw (guessed, parts.right, no_card, no_wait, no_interrupt) refl
+    no-end = rw (predicted, parts.right, no_card, no_wait, no_interrupt) refl
 
 -- if a segment ends, the entries that ran ahead are determined
-pub end-looks : (left : ℕ) (s : Machine) (xs : List Signal) (cards : List (List ℕ)) (m : Moment) (missed still looks : Bool)
-    → m.scene ≡ at_hand s xs cards → m.missed ≡ missed
-    → still ≡ still_by s missed xs → looks ≡ (nat_eq left 0 || not still) → segment_ends left m ≡ true → looks ≡ true
-end-looks left s xs cards m missed true looks scene guessed is_still is_looks ends =
+pub end-looks : (left : ℕ) (s : Machine) (xs : List Signal) (cards : List (List ℕ)) (m : Moment) (mispredicted still looks : Bool)
+    → m.scene ≡ at_hand s xs cards → m.mispredicted ≡ mispredicted
+    → still ≡ still_by s mispredicted xs → looks ≡ (nat_eq left 0 || not still) → segment_ends left m ≡ true → looks ≡ true
+end-looks left s xs cards m mispredicted true looks scene predicted is_still is_looks ends =
     is_looks
-    ∙ by_test (nat_eq left 0) (rests (next_state m)) (ends_segment m) (going-still s missed xs (sym is_still) m cards scene guessed)
-    (no-end s missed xs (sym is_still) m cards scene guessed) ends
+    ∙ by_test (nat_eq left 0) (rests (next_state m)) (ends_segment m) (going-still s mispredicted xs (sym is_still) m cards scene predicted)
+    (no-end s mispredicted xs (sym is_still) m cards scene predicted) ends
   where
     by_test : (a b c : Bool) → b ≡ false → c ≡ false → ((a || b) || c) ≡ true → (a || false) ≡ true
     by_test true b c going none some = refl
     by_test false true c going none some = absurd (cc)
     by_test false false true going none some = absurd (cc)
     by_test false false false going none some = some
-end-looks left s xs cards m missed false looks scene guessed is_still is_looks ends = is_looks ∙ or-true (nat_eq left 0)
+end-looks left s xs cards m mispredicted false looks scene predicted is_still is_looks ends = is_looks ∙ or-true (nat_eq left 0)
   where
     or-true : (b : Bool) → (b || true) ≡ true
     or-true true = refl
@@ -202,8 +202,8 @@ unfolding next_moment
 next-stepped ds n m t u ys qs scene made = ap scene_after_step scene ∙ ap (λ w. at_hand w ys qs) (sym made)
 
 -- the front of a moment is that of the entry that completed then
-pub next-at : (ds : List ℕ) (n : ℕ) (p : Standing) → (next_moment ds n p).front.c ≡ (next_moment ds n p).tick
-unfolding next_moment next_row row_of_entry front_after_entry
+pub next-at : (ds : List ℕ) (n : ℕ) (p : Standing) → (next_moment ds n p).issue.c ≡ (next_moment ds n p).tick
+unfolding next_moment next_row row_of_entry issue_after_entry
 next-at ds n p = refl
 
 -- no tick is too late

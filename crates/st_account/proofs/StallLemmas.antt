@@ -7,7 +7,7 @@ use Rattle.std.proofs.lemmas.List.Elements.{All-nil}
 use Rattle.st_state.specs.Machine.{Machine}
 use Rattle.st_exec.specs.Step.{interrupt}
 use Rattle.st_rows.specs.Rows.{row_of_entry}
-use Rattle.st_rows.specs.declared.front.EntryTicks.{EntryTicks}
+use Rattle.st_rows.specs.declared.issue.EntryTicks.{EntryTicks}
 use Rattle.st_segment.specs.Entries.{entry}
 use Rattle.st_run.specs.Moments.{Standing, next_row}
 use Rattle.st_ledger.specs.Charges.{parts_of_row, charges_behind, all_ticks}
@@ -79,7 +79,7 @@ waiting-none l sums none tick unused before done start ticks = record {
 }
 
 -- the waits do not depend on the front of the next entry
-pub waiting-same : (l k : Last) (t u : WaitTotals) → k ≡ record l { front = k.front; past = k.past } → u ≡ t → IsWaiting l t → IsWaiting k u
+pub waiting-same : (l k : Last) (t u : WaitTotals) → k ≡ record l { issue = k.issue; past = k.past } → u ≡ t → IsWaiting l t → IsWaiting k u
 waiting-same l k t u same is h =
     subst (λ x. IsWaiting x u) (sym same) (record {
       uses = h.uses;
@@ -88,7 +88,7 @@ waiting-same l k t u same is h =
       within = subst (AreWaitsWithin l.done.before) (sym is) h.within;
     })
 
-kept-stalled-same : (r : Stage) (s : Stall) (k : ℕ) (l j : Last) → j ≡ record l { front = j.front; past = j.past } → kept_stalled r s k j ≡ kept_stalled r s k l
+kept-stalled-same : (r : Stage) (s : Stall) (k : ℕ) (l j : Last) → j ≡ record l { issue = j.issue; past = j.past } → kept_stalled r s k j ≡ kept_stalled r s k l
 unfolding kept_stalled
 kept-stalled-same r s k l j same = ap (kept_stalled r s k) same
 
@@ -113,7 +113,7 @@ adds-some k l us bs old new some reach used earlier is = record {
 }
 
 -- the totals of waits do not depend on the front of the next entry
-pub adds-same : (k : ℕ) (l o : Last) (t u new : WaitTotals) → o ≡ record l { front = o.front; past = o.past } → t ≡ u
+pub adds-same : (k : ℕ) (l o : Last) (t u new : WaitTotals) → o ≡ record l { issue = o.issue; past = o.past } → t ≡ u
     → AddsKeptWaits k o t new → AddsKeptWaits k l u new
 adds-same k l o t u new same is h = record {
   within = subst (λ (x : Last). AreWaitsWithin x.tick new) same h.within;
@@ -125,18 +125,18 @@ adds-same k l o t u new same is h = record {
 
 -- ---- the next entry
 
-pub row-reach : (ds : List ℕ) (n : ℕ) (s : Machine) (l : Last) (tick before start : ℕ) (taken : Option ℕ) (r : EntryTicks) → l.tick ≤ l.front.c → before ≡ l.tick
-    → start ≡ l.front.c → r ≡ row_of_entry ds n l.front (entry taken s) → tick ≡ r.c → before + all_ticks (charges_behind before (parts_of_row start r)) ≡ tick
+pub row-reach : (ds : List ℕ) (n : ℕ) (s : Machine) (l : Last) (tick before start : ℕ) (taken : Option ℕ) (r : EntryTicks) → l.tick ≤ l.issue.c → before ≡ l.tick
+    → start ≡ l.issue.c → r ≡ row_of_entry ds n l.issue (entry taken s) → tick ≡ r.c → before + all_ticks (charges_behind before (parts_of_row start r)) ≡ tick
 row-reach ds n s l tick before start taken r early since opened is at =
     ap (λ t. t + all_ticks (charges_behind t (parts_of_row start r))) since
     ∙ ap (λ t. l.tick + all_ticks (charges_behind l.tick (parts_of_row t r))) opened
-    ∙ ap (λ x. l.tick + all_ticks (charges_behind l.tick (parts_of_row l.front.c x))) is
-    ∙ row-sum ds n l.tick l.front (entry taken s) early
+    ∙ ap (λ x. l.tick + all_ticks (charges_behind l.tick (parts_of_row l.issue.c x))) is
+    ∙ row-sum ds n l.tick l.issue (entry taken s) early
     ∙ ap (λ (x : EntryTicks). x.c) (sym is)
     ∙ sym at
 
 pub row-stalled : (ds : List ℕ) (n : ℕ) (p : Standing) (s : Machine) (l : Last) (taken : Option ℕ) (r : EntryTicks) (before start : ℕ) (us bs old : List Use) (stage : Stage)
-    (why : Stall) → IsStanding p s l → taken ≡ interrupt s → r ≡ row_of_entry ds n l.front (entry taken s) → before ≡ l.tick → start ≡ l.front.c
+    (why : Stall) → IsStanding p s l → taken ≡ interrupt s → r ≡ row_of_entry ds n l.issue (entry taken s) → before ≡ l.tick → start ≡ l.issue.c
     → us ≡ uses_at ds n p → bs ≡ old
     → row_stalled stage why us bs (charges_behind before (parts_of_row start r)) ≡ row_stalled stage why (uses_at ds n p) old (charges_at ds n p)
 unfolding charges_at
@@ -145,7 +145,7 @@ row-stalled ds n p s l taken r before start us bs old stage why is is_taken is_r
     ∙ ap (λ xs. row_stalled stage why (uses_at ds n p) xs (charges_behind before (parts_of_row start r))) earlier
     ∙ ap (λ x. row_stalled stage why (uses_at ds n p) old (charges_behind before (parts_of_row start x))) (row-is ds n p s l taken r is is_taken is_row)
     ∙ ap (λ t. row_stalled stage why (uses_at ds n p) old (charges_behind t (parts_of_row start (next_row ds n p)))) (since ∙ sym is.tick)
-    ∙ ap (λ t. row_stalled stage why (uses_at ds n p) old (charges_behind p.tick (parts_of_row t (next_row ds n p)))) (opened ∙ ap (λ f. f.c) (sym is.front))
+    ∙ ap (λ t. row_stalled stage why (uses_at ds n p) old (charges_behind p.tick (parts_of_row t (next_row ds n p)))) (opened ∙ ap (λ f. f.c) (sym is.issue))
 
 -- the words of the last entry, none if a segment ends, are in time
 pub words-read : (ends : Bool) (old us new : List Use) → us ≡ old → new ≡ (if ends then [] else us) → All IsReadInTime old → All IsReadInTime new

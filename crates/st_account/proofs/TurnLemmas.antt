@@ -10,15 +10,15 @@ use Rattle.st_io.proofs.Progress.{LinesSoFar, lines_none}
 use Rattle.st_bits.specs.Storage.{words_of_storage}
 use Rattle.st_state.specs.Machine.{Machine, IsMachine, word}
 use Rattle.st_exec.specs.Ahead.{IsNotAmong}
-use Rattle.st_exec.specs.Completion.{guess}
+use Rattle.st_exec.specs.Completion.{prediction}
 use Rattle.st_exec.specs.Step.{rests, step, interrupt}
 use Rattle.st_rows.specs.Ranges.{AreDelaysUpTo, IsTight}
-use Rattle.st_rows.specs.Rows.{opening_front}
+use Rattle.st_rows.specs.Rows.{opening_issue}
 use Rattle.st_run.specs.Run.{Scene}
 use Rattle.st_run.specs.Reached.{IsCard}
-use Rattle.st_run.specs.Outside.{Coming}
+use Rattle.st_run.specs.ExternalEvents.{PendingEvents}
 use Rattle.st_banks.specs.Bank.{idle_banks}
-use Rattle.st_run.specs.Moments.{Moment, Standing, moment_at_start, next_state, next_front, standing_at, next_moment}
+use Rattle.st_run.specs.Moments.{Moment, Standing, moment_at_start, next_state, next_issue, standing_at, next_moment}
 use Rattle.st_exec.proofs.StepLemmas.{step-done}
 use Rattle.st_run.proofs.DoneLemmas.{settled-done}
 use Rattle.st_run.proofs.Bounds.{IsMoment, HasTime, start-is, next-is, next-time}
@@ -32,7 +32,7 @@ use Rattle.st_account.specs.Settling.{at_hand}
 use Rattle.st_reasons.specs.Sums.{AreWaitsWithin, is_parted, waited_at, row_stalled}
 use Rattle.st_reasons.specs.declared.sums.WaitTotals.{WaitTotals}
 use Rattle.st_reasons.specs.declared.waits.Stall.{Stall}
-use Rattle.st_account.specs.Standing.{guessing, kept_lines, kept_stalled, IsWaiting, IsLast, IsStanding, IsAt, IsBehindMoment}
+use Rattle.st_account.specs.Standing.{predicting, kept_lines, kept_stalled, IsWaiting, IsLast, IsStanding, IsAt, IsBehindMoment}
 use Rattle.st_account.specs.Text.{run_ends, segment_end_at, segment_lines, segment_after, uses_at, words_before, lines_of_entry, last_lines, lines_from, stalled_from}
 use Rattle.st_lines.specs.Origins.{origin_at}
 use Rattle.st_lines.specs.declared.origins.Origins.{Origins}
@@ -50,7 +50,7 @@ pub record IsRunning (s t : OutputState) (all : List (List ℕ)) (ds : List ℕ)
   pub b : Machine
   pub at : IsAt ds n b m a rest cards
   pub bounds : IsMoment 255 n m
-  pub meets : m.front.c ≡ m.tick
+  pub meets : m.issue.c ≡ m.tick
   pub time : HasTime (64 * (255 + 4)) m.tick m.scene.machine
   pub so_far : LinesSoFar s t all (kept_lines a.k a.last (segment_end_at left m) ++ lines_from (origin_at a.origins) ds n left a.k b a.last.uses.items m)
   pub number : a.k ≤ m.scene.machine.done
@@ -70,13 +70,13 @@ next-done ds n m = step-done (next_state m) ∙ ap (λ d. d + 1) (settled-done m
 
 pub run-starts : (s : OutputState) (ds : List ℕ) (n budget : ℕ) (state : Machine) (signals : List Signal) (cards : List (List ℕ)) (table : Origins) (a : Account)
     → length a.words.items ≡ words_of_storage → AreDelaysUpTo 255 ds → n ≤ 8 → IsMachine state → All IsCard cards → state.done ≡ 0 → budget ≤ MOST_INSTRUCTIONS
-    → AreWithin 0 a.sums → a.state ≡ state → a.origins ≡ table → a.k ≡ 0 → a.last.tick ≡ 0 → a.last.front ≡ opening_front idle_banks 0
-    → a.last.past ≡ a.last.front.past → a.last.missed ≡ false → a.last.ic ≡ state.ic → a.last.enabled ≡ state.enabled → a.last.ic < 2 ^ 19 → a.log ≡ []
-    → IsTight 255 a.last.front → a.last.uses.items ≡ [] → IsWaiting a.last a.waiting.totals → AreWaitsWithin 0 a.waiting.totals
+    → AreWithin 0 a.sums → a.state ≡ state → a.origins ≡ table → a.k ≡ 0 → a.last.tick ≡ 0 → a.last.issue ≡ opening_issue idle_banks 0
+    → a.last.past ≡ a.last.issue.past → a.last.mispredicted ≡ false → a.last.ic ≡ state.ic → a.last.enabled ≡ state.enabled → a.last.ic < 2 ^ 19 → a.log ≡ []
+    → IsTight 255 a.last.issue → a.last.uses.items ≡ [] → IsWaiting a.last a.waiting.totals → AreWaitsWithin 0 a.waiting.totals
     → IsRunning s s (lines_from (origin_at table) ds n budget 0 state [] (moment_at_start (at_hand state signals cards))) ds n
     (λ x. ticks_for x (all_charges ds n (entries_from ds n budget (moment_at_start (at_hand state signals cards)))))
     (λ r z. stalled_from r z ds n budget [] (moment_at_start (at_hand state signals cards))) a signals cards budget
-run-starts s ds n budget state signals cards table a size are few machine each fresh limit none is same_table number tick front past missed ic enabled counter empty tight unused waiting unwaited =
+run-starts s ds n budget state signals cards table a size are few machine each fresh limit none is same_table number tick issue past mispredicted ic enabled counter empty tight unused waiting unwaited =
     let c = at_hand state signals cards in
     let m = moment_at_start c in
     let all = lines_from (origin_at table) ds n budget 0 state [] m in
@@ -86,9 +86,9 @@ run-starts s ds n budget state signals cards table a size are few machine each f
       at = record {
         scene = ap (λ u. at_hand u signals cards) (sym is);
         each = each;
-        hand = start-last ds n c a.last a.log tick front past missed ic counter empty tight;
+        hand = start-last ds n c a.last a.log tick issue past mispredicted ic counter empty tight;
         was = sym enabled;
-        guessed = λ some. absurd (some number);
+        predicted = λ some. absurd (some number);
         words = λ some. absurd (some number);
         unwritten = λ some. absurd (some number);
       };
@@ -115,11 +115,11 @@ run-starts s ds n budget state signals cards table a size are few machine each f
     }
 
 -- the invariant after the signals and the budget have been taken from the controls
-pub run-taken : (s t : OutputState) (all : List (List ℕ)) (ds : List ℕ) (n : ℕ) (total : Stage → ℕ) (waited : Stage → Stall → ℕ) (a : Account) (x : Coming)
+pub run-taken : (s t : OutputState) (all : List (List ℕ)) (ds : List ℕ) (n : ℕ) (total : Stage → ℕ) (waited : Stage → Stall → ℕ) (a : Account) (x : PendingEvents)
     (xs ys : List Signal) (cards : List (List ℕ)) (left budget : ℕ) → x ≡ record { signals = xs; cards = cards } → xs ≡ ys → left ≡ budget
     → IsRunning s t all ds n total waited a ys cards budget → IsRunning s t all ds n total waited a x.signals x.cards left
 run-taken s t all ds n total waited a x xs ys cards left budget came is same h =
-    subst (λ (y : Coming). IsRunning s t all ds n total waited a y.signals y.cards left) (sym came)
+    subst (λ (y : PendingEvents). IsRunning s t all ds n total waited a y.signals y.cards left) (sym came)
     (subst (λ zs. IsRunning s t all ds n total waited a zs cards left) (sym is) (subst (λ k. IsRunning s t all ds n total waited a ys cards k) (sym same) h))
 
 -- ---- the state at the head of the loop
@@ -202,10 +202,10 @@ module _ (s t : OutputState) (all : List (List ℕ)) (ds : List ℕ) (n : ℕ) (
       crossing-fails u e r f w =
           border-fails (origin_at a.origins) ds n left a.k h.b a.last.uses.items h.m s t all (kept_lines a.k a.last (segment_end_at left h.m)) h.so_far some on u e r f (crossed u (Err e) w)
 
-      module _ (c : Account) (number : c.k ≡ segment_after a'.k h.m) (front : c.last.front ≡ next_front h.m) (tick : c.last.tick ≡ a'.last.tick)
+      module _ (c : Account) (number : c.k ≡ segment_after a'.k h.m) (issue : c.last.issue ≡ next_issue h.m) (tick : c.last.tick ≡ a'.last.tick)
           (state : c.state ≡ a'.state) (table : c.origins ≡ a'.origins) where
         pub stands : IsStanding (standing_at h.m) c.state c.last
-        stands = record { machine = next ∙ sym state; tick = behind.tick ∙ sym tick; front = sym front }
+        stands = record { machine = next ∙ sym state; tick = behind.tick ∙ sym tick; issue = sym issue }
 
         after : c.k ≡ segment_after a.k h.m
         after = number ∙ ap (λ k. segment_after k h.m) segment
@@ -216,7 +216,7 @@ module _ (s t : OutputState) (all : List (List ℕ)) (ds : List ℕ) (n : ℕ) (
             → ((p : Standing) (end : Option ℕ) → c.k ≢ 0 → IsStanding p c.state c.last → kept_lines d.k d.last end ≡ lines_of_entry (origin_at c.origins) ds n end c.last.uses.items p)
             → d.state ≡ step c.state → ((p : Standing) → IsStanding p c.state c.last → IsLast ds n (next_moment ds n p) d.last d.log)
             → ((p : Standing) (x : Stage) → IsStanding p c.state c.last → sum_at x d.sums ≡ sum_at x c.sums + ticks_for x (charges_at ds n p))
-            → AreWithin d.last.tick d.sums → d.last.enabled ≡ c.state.enabled → guessing d.last.ic d.state ≡ guess (interrupt c.state) c.state
+            → AreWithin d.last.tick d.sums → d.last.enabled ≡ c.state.enabled → predicting d.last.ic d.state ≡ prediction (interrupt c.state) c.state
             → ((w : ℕ) → 32 ≤ w → IsNotAmong w d.last.plan.writes → word d.state w ≡ word c.state w) → d.words.items ≡ c.words.items → d.origins ≡ c.origins → d.k ≡ c.k
             → c.last.uses.items ≡ words_before h.m a'.last.uses.items → ((p : Standing) → IsStanding p c.state c.last → d.last.uses.items ≡ uses_at ds n p)
             → IsWaiting d.last d.waiting.totals
@@ -225,7 +225,7 @@ module _ (s t : OutputState) (all : List (List ℕ)) (ds : List ℕ) (n : ℕ) (
             → kept_stalled r z d.k d.last ≡ row_stalled r z (uses_at ds n p) c.last.uses.items (charges_at ds n p))
             → d.waiting.totals ≡ c.waiting.totals
             → IsRunning s u all ds n total waited d ys cards' (left - 1)
-        goes u x d writes words sums size are few entry made hand added within enabled guessed unwritten kept_words kept_table segment' earlier used waits_new told kept totals =
+        goes u x d writes words sums size are few entry made hand added within enabled predicted unwritten kept_words kept_table segment' earlier used waits_new told kept totals =
             let m' = next_moment ds n (standing_at h.m) in
             let bounds = next-is 255 n ds are few h.m h.bounds in
             let more = next-done ds n h.m in
@@ -245,7 +245,7 @@ module _ (s t : OutputState) (all : List (List ℕ)) (ds : List ℕ) (n : ℕ) (
                 each = bounds.scene.cards;
                 hand = hand (standing_at h.m) stands;
                 was = ap (λ (u : Machine). u.enabled) here ∙ sym enabled;
-                guessed = λ later. ap (λ (c : Scene). guessing d.last.ic c.machine) scene ∙ guessed ∙ ap (λ u. guess (interrupt u) u) (sym here);
+                predicted = λ later. ap (λ (c : Scene). predicting d.last.ic c.machine) scene ∙ predicted ∙ ap (λ u. prediction (interrupt u) u) (sym here);
                 words = λ later. stored;
                 unwritten = λ later w above among. unwritten w above among ∙ ap (λ (u : Machine). word u w) (sym here);
               };

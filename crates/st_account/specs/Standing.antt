@@ -4,7 +4,7 @@ use Rattle.std.specs.Prelude.{ℕ, suc, ◌+◌, ◌≡◌, ◌≢◌, ◌<◌, 
 use Rattle.st_bits.specs.declared.limits.TheConstants.{MOST_DELAY}
 use Rattle.st_state.specs.Machine.{Machine, word}
 use Rattle.st_exec.specs.Ahead.{IsNotAmong}
-use Rattle.st_exec.specs.Completion.{guess}
+use Rattle.st_exec.specs.Completion.{prediction}
 use Rattle.st_rows.specs.Asked.{bus_after_reads, made_before}
 use Rattle.st_rows.specs.BusTimes.{Read}
 use Rattle.st_rows.specs.Notes.{IsLogged}
@@ -14,7 +14,7 @@ use Rattle.st_rows.specs.declared.log.Made.{Made}
 use Rattle.st_segment.specs.Ahead.{ahead, prepared_before, reads_before}
 use Rattle.st_exec.specs.Step.{interrupt}
 use Rattle.st_card.specs.declared.control_cards.Signal.{Signal}
-use Rattle.st_run.specs.Outside.{signal_due}
+use Rattle.st_run.specs.ExternalEvents.{signal_due}
 use Rattle.st_run.specs.Moments.{Moment, Standing, next_scene, has_card, has_waited}
 use Rattle.st_run.specs.Reached.{IsCard}
 use Rattle.st_ledger.specs.Charges.{parts_of_row, charges_behind, all_ticks}
@@ -33,8 +33,8 @@ use Rattle.st_account.specs.Settling.{at_hand}
 use Rattle.st_account.specs.Text.{begun_at, words_behind, segment_ends}
 
 -- the state from which predicted steps continue: its instruction counter is that of the prediction
-abbrev pub guessing : ℕ → Machine → Machine
-guessing ic s = record s { ic = ic }
+abbrev pub predicting : ℕ → Machine → Machine
+predicting ic s = record s { ic = ic }
 
 -- The log has these reads, which were made from the bus `start` on and leave the bus `bus`; all
 -- except the last few of them are accepted before tick t.
@@ -54,17 +54,17 @@ pub record HasReads (ds : List ℕ) (t : ℕ) (reads : List Read) (start bus : B
 -- the values that determine the entries that run ahead and the reads that are made
 pub record IsLast (ds : List ℕ) (n : ℕ) (m : Moment) (l : Last) (log : List Made) : Type 0 where
   pub tick : m.tick ≡ l.tick
-  pub front : m.front ≡ l.front
-  pub missed : m.missed ≡ l.missed
+  pub issue : m.issue ≡ l.issue
+  pub mispredicted : m.mispredicted ≡ l.mispredicted
   pub dropped : m.dropped ≡ prepared_before l.tick (ahead ds n n None
-      (guessing l.ic m.scene.machine) l.front)
+      (predicting l.ic m.scene.machine) l.issue)
   pub reads : List Read
   pub bus : Bus
-  pub has : HasReads ds l.tick reads bus l.front.bus log
+  pub has : HasReads ds l.tick reads bus l.issue.bus log
   pub banks : m.banks ≡ (made_before ds l.tick
       (reads ++ reads_before ds n l.tick
-      (ahead ds n (suc n) None (guessing l.ic m.scene.machine) l.front)) bus).banks
-  pub past : l.past ≡ l.front.past
+      (ahead ds n (suc n) None (predicting l.ic m.scene.machine) l.issue)) bus).banks
+  pub past : l.past ≡ l.issue.past
   pub counter : l.ic < 2 ^ 19
 
 -- the next entry is executed in this state, and the facts have the tick of the last entry and the
@@ -72,7 +72,7 @@ pub record IsLast (ds : List ℕ) (n : ℕ) (m : Moment) (l : Last) (log : List 
 pub record IsStanding (p : Standing) (s : Machine) (l : Last) : Type 0 where
   pub machine : p.scene.machine ≡ s
   pub tick : p.tick ≡ l.tick
-  pub front : p.front ≡ l.front
+  pub issue : p.issue ≡ l.issue
 
 -- the lines of the last completed entry, in segment k, which ends at tick `end` or continues; none
 -- before the first entry
@@ -84,7 +84,7 @@ kept_lines k l end =
       address = l.done.address;
       origin = l.done.origin;
       row = l.done.row;
-      missed = l.missed;
+      mispredicted = l.mispredicted;
       before = l.done.before;
       start = l.done.start;
       end = end;
@@ -124,7 +124,7 @@ pub record IsAt (ds : List ℕ) (n : ℕ) (b : Machine) (m : Moment) (a : Accoun
   pub each : All IsCard m.scene.cards
   pub hand : IsLast ds n m a.last a.log
   pub was : b.enabled ≡ a.last.enabled
-  pub guessed : a.k ≢ 0 → guessing a.last.ic m.scene.machine ≡ guess (interrupt b) b
+  pub predicted : a.k ≢ 0 → predicting a.last.ic m.scene.machine ≡ prediction (interrupt b) b
   pub words : a.k ≢ 0 → a.words.items ≡ b.words
   pub unwritten : a.k ≢ 0 → (w : ℕ) → 32 ≤ w → IsNotAmong w a.last.plan.writes →
       word a.state w ≡ word b w
@@ -135,8 +135,8 @@ pub record IsBehindMoment (ds : List ℕ) (n left : ℕ) (b : Machine) (m : Mome
     (xs : List Signal) (cards : List (List ℕ)) : Type 0 where
   pub scene : next_scene m ≡ at_hand a.state xs cards
   pub tick : m.tick ≡ a.last.tick
-  pub front : m.front ≡ a.last.front
-  pub missed : m.missed ≡ a.last.missed
+  pub issue : m.issue ≡ a.last.issue
+  pub mispredicted : m.mispredicted ≡ a.last.mispredicted
   pub was : b.enabled ≡ a.last.enabled
   pub dropped : segment_ends left m ≡ true →
       a.behind.ahead.found.items ≡ map (seen_ahead ds n) m.dropped
@@ -151,6 +151,6 @@ pub record IsBehindMoment (ds : List ℕ) (n left : ℕ) (b : Machine) (m : Mome
 -- whether the prediction was right and no event comes: no signal is due, no device has an order,
 -- the machine does not wait, and no interrupt is taken
 abbrev pub still_by : Machine → Bool → List Signal → Bool
-still_by s missed xs =
-    not missed && not (signal_due s.done xs) && is_none s.reader && is_none s.printer
+still_by s mispredicted xs =
+    not mispredicted && not (signal_due s.done xs) && is_none s.reader && is_none s.printer
     && not s.waiting && is_none (interrupt s)

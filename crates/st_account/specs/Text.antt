@@ -5,12 +5,12 @@
 use Rattle.std.specs.Prelude.{ℕ, zero, suc, ◌+◌, Bool, true, false, ◌||◌, nat_eq, if◌then◌else◌, List, [], ◌∷◌, ◌++◌, Option, None, Some, map}
 use Rattle.st_state.specs.Machine.{Machine}
 use Rattle.st_prep.specs.Plan.{plan}
-use Rattle.st_exec.specs.Completion.{guess, is_missed}
+use Rattle.st_exec.specs.Completion.{prediction, is_mispredicted}
 use Rattle.st_exec.specs.Step.{rests, interrupt, address}
 use Rattle.st_segment.specs.Ahead.{ahead}
 use Rattle.st_segment.specs.Entries.{entry}
 use Rattle.st_run.specs.Run.{Scene, interlude}
-use Rattle.st_run.specs.Moments.{Moment, Standing, moment_at_start, next_state, has_waited, ends_segment, next_front, standing_at, next_row, next_moment}
+use Rattle.st_run.specs.Moments.{Moment, Standing, moment_at_start, next_state, has_waited, ends_segment, next_issue, standing_at, next_row, next_moment}
 use Rattle.st_report.specs.Line.{end_line as run_end_line, done_line, ticks_line}
 use Rattle.st_ledger.specs.declared.charges.Charge.{Charge}
 use Rattle.st_ledger.specs.declared.charges.Stage.{Stage}
@@ -30,7 +30,7 @@ use Rattle.st_lines.specs.WaitLines.{wait_sum_lines}
 use Rattle.st_lines.specs.BorderLines.{segment_end_lines, marks_lines, state_lines, machine_lines}
 use Rattle.st_lines.specs.declared.origins.Origin.{Origin}
 use Rattle.st_lines.specs.declared.lines.Why.{Why}
-use Rattle.st_lines.specs.declared.lines.Why.TheVariants.{Run, Interrupt, Missed, Card}
+use Rattle.st_lines.specs.declared.lines.Why.TheVariants.{Run, Interrupt, Mispredicted, Card}
 use Rattle.st_account.specs.Settling.{words_printed}
 
 -- ---- the end of a segment
@@ -40,7 +40,7 @@ use Rattle.st_account.specs.Settling.{words_printed}
 unfoldable pub begun_at : List ℕ → ℕ → Machine → Moment → List Ahead
 begun_at ds n b m =
     map (seen_ahead ds n)
-    (first_late m.tick (ahead ds n (suc n) None (guess (interrupt b) b) m.front))
+    (first_late m.tick (ahead ds n (suc n) None (prediction (interrupt b) b) m.issue))
 
 -- the lines of the end of a segment at a moment
 abbrev pub end_lines_at : (Machine → ℕ → Option Origin) → List ℕ → ℕ → ℕ → Machine → Moment →
@@ -73,16 +73,16 @@ begins_segment k m = nat_eq k 0 || ends_segment m
 -- why a segment begins, except at the start of the run: by an interrupt, a misprediction, or else a
 -- card
 abbrev pub why_by : Option ℕ → Bool → Why
-why_by (Some i) missed = Interrupt i
-why_by None true = Missed
+why_by (Some i) mispredicted = Interrupt i
+why_by None true = Mispredicted
 why_by None false = Card
 
 unfoldable pub why : ℕ → Moment → Why
-why k m = if nat_eq k 0 then Run else why_by (interrupt (next_state m)) m.missed
+why k m = if nat_eq k 0 then Run else why_by (interrupt (next_state m)) m.mispredicted
 
 abbrev pub segment_start_lines : ℕ → Moment → List (List ℕ)
 segment_start_lines k m =
-    if begins_segment k m then start_line (k + 1) (next_front m).c (has_waited m) (why k m) ∷ []
+    if begins_segment k m then start_line (k + 1) (next_issue m).c (has_waited m) (why k m) ∷ []
     else []
 
 -- the number of the segment of the next entry
@@ -102,13 +102,13 @@ segment_lines o ds n k b m =
 unfoldable pub formed_at : List ℕ → Standing → List Use
 formed_at ds p =
     let s = p.scene.machine in
-    formed_uses ds p.front (entry (interrupt s) s) (side_at (interrupt s) s)
+    formed_uses ds p.issue (entry (interrupt s) s) (side_at (interrupt s) s)
 
 -- all words that the next entry uses
 unfoldable pub uses_at : List ℕ → ℕ → Standing → List Use
 uses_at ds n p =
     let s = p.scene.machine in
-    uses_of_entry ds n p.front (entry (interrupt s) s) (side_at (interrupt s) s)
+    uses_of_entry ds n p.issue (entry (interrupt s) s) (side_at (interrupt s) s)
     (plan s (interrupt s)).reads
 
 -- the words that the previous entry in the segment uses; none before the first entry of a segment
@@ -127,13 +127,13 @@ lines_of_entry o ds n end before p =
       n = s.done + 1;
       address = address s;
       origin = o s (address s);
-      row = record { ticks = next_row ds n p; level_wait = level_wait ds n p.front x };
-      missed = is_missed e s;
+      row = record { ticks = next_row ds n p; level_wait = level_wait ds n p.issue x };
+      mispredicted = is_mispredicted e s;
       before = p.tick;
-      start = p.front.c;
+      start = p.issue.c;
       end = end;
-      because = because p.front x (next_row ds n p).a (next_row ds n p).p
-          (level_wait ds n p.front x) (formed_at ds p) before;
+      because = because p.issue x (next_row ds n p).a (next_row ds n p).p
+          (level_wait ds n p.issue x) (formed_at ds p) before;
     }) e (known_at (interrupt s) s) (uses_at ds n p) before
 
 -- ---- the end

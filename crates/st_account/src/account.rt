@@ -5,7 +5,7 @@ ghost use Rattle.st_bits.specs.Storage.{words_of_storage};
 ghost use Rattle.st_banks.specs.declared.answers.TheConstants.{BANKS};
 ghost use Rattle.st_card.specs.declared.control_cards.Signal.{Signal as SignalOf};
 ghost use Rattle.st_exec.specs.Ahead.{IsNotAmong};
-ghost use Rattle.st_exec.specs.Completion.{guess as guess_of};
+ghost use Rattle.st_exec.specs.Completion.{prediction as prediction_of};
 ghost use Rattle.st_exec.specs.Step.{step as step_of, interrupt as interrupt_of, rests};
 ghost use Rattle.st_io.specs.Lines.{WritesLines};
 ghost use Rattle.st_ledger.specs.Charges.{ticks_for};
@@ -22,13 +22,13 @@ ghost use Rattle.st_reasons.specs.declared.waits.Stall.{Stall};
 ghost use Rattle.st_rows.specs.Asked.{made_before};
 ghost use Rattle.st_rows.specs.BusTimes.{Read};
 ghost use Rattle.st_rows.specs.Ranges.{IsTight};
-ghost use Rattle.st_rows.specs.Rows.{opening_front};
+ghost use Rattle.st_rows.specs.Rows.{opening_issue};
 ghost use Rattle.st_rows.specs.declared.bus.Bus.{Bus as BusOf};
-ghost use Rattle.st_run.specs.Moments.{Moment, Standing, next_front, next_moment};
+ghost use Rattle.st_run.specs.Moments.{Moment, Standing, next_issue, next_moment};
 ghost use Rattle.st_segment.specs.Ahead.{ahead, prepared_before, reads_before};
 ghost use Rattle.st_state.specs.Machine.{Machine, IsMachine, word};
 ghost use Rattle.st_account.specs.Text.{why_by, run_ends, segment_end_at, segment_after, segment_lines, uses_at, words_before, lines_of_entry, last_lines};
-ghost use Rattle.st_account.specs.Standing.{guessing, kept_lines, kept_stalled, IsWaiting, AddsKeptWaits, HasReads, IsLast, IsStanding, IsAt, IsBehindMoment};
+ghost use Rattle.st_account.specs.Standing.{predicting, kept_lines, kept_stalled, IsWaiting, AddsKeptWaits, HasReads, IsLast, IsStanding, IsAt, IsBehindMoment};
 
 use crate::behind::{Behind, look_behind, nothing_came};
 use crate::last::{Last, at_start, clear_if, open_if};
@@ -47,7 +47,7 @@ use st_lines::{
 };
 use st_reasons::{WaitTotals, Waits};
 use st_rows::{Log, Timing};
-use st_run::Coming;
+use st_run::PendingEvents;
 use st_state::{State, counter_in, done_in, is_enabled};
 
 /// The ledger of a run so far. The lines of the last completed entry, and of the events after it,
@@ -97,7 +97,7 @@ fn write_row<K: Sink>(
         address: last.done.address,
         origin: last.done.origin,
         row: last.done.row,
-        missed: last.missed,
+        mispredicted: last.mispredicted,
         before: last.done.before,
         start: last.done.start,
         end,
@@ -124,14 +124,14 @@ impl Account {
 
         // No tick has passed.
         ensures tick { result.last.tick ≡ 0 }
-        ensures front { result.last.front
-            ≡ opening_front (record { ticks = replicate BANKS 0 }) 0 }
-        ensures past { result.last.past ≡ result.last.front.past }
-        ensures missed { result.last.missed ≡ false }
+        ensures issue { result.last.issue
+            ≡ opening_issue (record { ticks = replicate BANKS 0 }) 0 }
+        ensures past { result.last.past ≡ result.last.issue.past }
+        ensures mispredicted { result.last.mispredicted ≡ false }
         ensures counter { result.last.ic ≡ state.ic }
         ensures below { result.last.ic < 2 ^ 19 }
         ensures enabled { result.last.enabled ≡ state.enabled }
-        ensures tight { IsTight MOST_DELAY result.last.front }
+        ensures tight { IsTight MOST_DELAY result.last.issue }
         ensures log { result.log ≡ [] }
 
         // No row has been written.
@@ -163,32 +163,32 @@ impl Account {
     // Determines the entries that ran ahead of the last entry, if `looks` is set.
     fn look_if(&mut self, timing: &Timing<'_>, looks: bool)
         requires few { self.old.state.done + 8 < 2 ^ 63 }
-        requires tight { IsTight MOST_DELAY self.old.last.front }
-        requires early { self.old.last.front.c ≤ 2 ^ 63 }
-        requires order { self.old.last.tick ≤ self.old.last.front.c }
-        requires past { self.old.last.past ≡ self.old.last.front.past }
+        requires tight { IsTight MOST_DELAY self.old.last.issue }
+        requires early { self.old.last.issue.c ≤ 2 ^ 63 }
+        requires order { self.old.last.tick ≤ self.old.last.issue.c }
+        requires past { self.old.last.past ≡ self.old.last.issue.past }
         requires counter { self.old.last.ic < 2 ^ 19 }
 
         ensures state { self.new.state ≡ self.old.state }
         ensures found { looks ≡ true → self.new.behind.ahead.found.items
             ≡ map (seen_ahead timing.now.delays.now.list timing.now.levels) (prepared_before
             self.old.last.tick (ahead timing.now.delays.now.list timing.now.levels
-            timing.now.levels None (guessing self.old.last.ic self.old.state)
-            self.old.last.front)) }
+            timing.now.levels None (predicting self.old.last.ic self.old.state)
+            self.old.last.issue)) }
         ensures begun { looks ≡ true → self.new.behind.ahead.late ∷ []
             ≡ map (seen_ahead timing.now.delays.now.list timing.now.levels) (first_late
             self.old.last.tick (ahead timing.now.delays.now.list timing.now.levels
-            (suc timing.now.levels) None (guessing self.old.last.ic self.old.state)
-            self.old.last.front)) }
+            (suc timing.now.levels) None (predicting self.old.last.ic self.old.state)
+            self.old.last.issue)) }
         ensures banks { (reads : List Read) (bus : BusOf) → looks ≡ true → HasReads
-            timing.now.delays.now.list self.old.last.tick reads bus self.old.last.front.bus
+            timing.now.delays.now.list self.old.last.tick reads bus self.old.last.issue.bus
             self.old.log →
             self.new.behind.banks ≡ (made_before timing.now.delays.now.list self.old.last.tick
             (reads ++ reads_before timing.now.delays.now.list timing.now.levels self.old.last.tick
             (ahead timing.now.delays.now.list timing.now.levels (suc timing.now.levels) None
-            (guessing self.old.last.ic self.old.state) self.old.last.front)) bus).banks }
+            (predicting self.old.last.ic self.old.state) self.old.last.issue)) bus).banks }
         ensures soon { (reads : List Read) (bus : BusOf) → HasReads timing.now.delays.now.list
-            self.old.last.tick reads bus self.old.last.front.bus self.old.log →
+            self.old.last.tick reads bus self.old.last.issue.bus self.old.log →
             All (λ t. t ≤ self.old.last.tick + MOST_DELAY) self.new.behind.banks.ticks }
         ensures few { length self.new.behind.ahead.found.items ≤ 8 }
         ensures rest { self.new ≡ record self.old {
@@ -213,22 +213,22 @@ impl Account {
 
     /// Applies the events after the last entry: the signals and cards in `coming` that are due, and
     /// the end of a wait. `left` is the number of entries that may still complete.
-    pub fn pass(&mut self, timing: &Timing<'_>, left: u64, coming: &mut Coming<'_>)
+    pub fn take_events(&mut self, timing: &Timing<'_>, left: u64, pending: &mut PendingEvents<'_>)
         requires few { self.old.state.done + 8 < 2 ^ 63 }
-        requires tight { IsTight MOST_DELAY self.old.last.front }
-        requires early { self.old.last.front.c ≤ 2 ^ 63 }
-        requires order { self.old.last.tick ≤ self.old.last.front.c }
-        requires past { self.old.last.past ≡ self.old.last.front.past }
+        requires tight { IsTight MOST_DELAY self.old.last.issue }
+        requires early { self.old.last.issue.c ≤ 2 ^ 63 }
+        requires order { self.old.last.tick ≤ self.old.last.issue.c }
+        requires past { self.old.last.past ≡ self.old.last.issue.past }
         requires counter { self.old.last.ic < 2 ^ 19 }
 
         ensures came { (b : Machine) (m : Moment) →
-            IsAt timing.now.delays.now.list timing.now.levels b m self.old coming.old.signals
-            coming.old.cards →
+            IsAt timing.now.delays.now.list timing.now.levels b m self.old pending.old.signals
+            pending.old.cards →
             IsBehindMoment timing.now.delays.now.list timing.now.levels left b m self.new
-            coming.new.signals coming.new.cards }
+            pending.new.signals pending.new.cards }
         ensures soon { (b : Machine) (m : Moment) →
-            IsAt timing.now.delays.now.list timing.now.levels b m self.old coming.old.signals
-            coming.old.cards →
+            IsAt timing.now.delays.now.list timing.now.levels b m self.old pending.old.signals
+            pending.old.cards →
             All (λ t. t ≤ self.old.last.tick + MOST_DELAY) self.new.behind.banks.ticks }
         ensures few { length self.new.behind.ahead.found.items ≤ 8 }
         ensures rest { self.new ≡ record self.old {
@@ -237,10 +237,10 @@ impl Account {
           behind = self.new.behind;
         } }
     {
-        let still = is_still(&self.state, self.last.missed, coming.signals());
+        let still = is_still(&self.state, self.last.mispredicted, pending.signals());
         self.look_if(timing, is_end_near(left, still));
         self.behind.may = changeable(&self.last.plan, &self.state);
-        let came = settle(still, &mut self.state, coming, &mut self.behind.printed);
+        let came = settle(still, &mut self.state, pending, &mut self.behind.printed);
         self.behind.card = came.card;
         self.behind.waited = came.waited;
     }
@@ -254,48 +254,48 @@ impl Account {
 
     // The border between the last entry and the next one; afterwards the front and the segment are
     // those of the next entry.
-    fn open(&mut self) -> Border
+    fn enter_next(&mut self) -> Border
         requires number { self.old.k ≤ MOST_INSTRUCTIONS }
         requires early { self.old.last.tick ≤ 2 ^ 62 }
         requires dropped { length self.old.behind.ahead.found.items ≤ 8 }
         requires soon { All (λ t. t ≤ self.old.last.tick + MOST_DELAY) self.old.behind.banks.ticks }
-        requires past { self.old.last.past ≡ self.old.last.front.past }
-        requires tight { IsTight MOST_DELAY self.old.last.front }
-        requires done { self.old.last.front.c ≡ self.old.last.tick }
+        requires past { self.old.last.past ≡ self.old.last.issue.past }
+        requires tight { IsTight MOST_DELAY self.old.last.issue }
+        requires done { self.old.last.issue.c ≡ self.old.last.tick }
 
         ensures border { result ≡ record {
           ends = result.ends;
           begins = result.begins;
-          start = self.new.last.front.c;
+          start = self.new.last.issue.c;
           waited = self.old.behind.waited;
           why = if nat_eq self.old.k 0 then RunBegins
-              else why_by (interrupt_of self.old.state) self.old.last.missed;
+              else why_by (interrupt_of self.old.state) self.old.last.mispredicted;
           taken = interrupt_of self.old.state;
           done = self.old.state.done;
         } }
-        ensures ends { result.ends ≡ (self.old.last.missed || self.old.behind.card
+        ensures ends { result.ends ≡ (self.old.last.mispredicted || self.old.behind.card
             || self.old.behind.waited || is_some (interrupt_of self.old.state)) }
         ensures begins { result.begins ≡ (nat_eq self.old.k 0 || result.ends) }
 
-        ensures front { self.new.last.front ≡ (if result.ends then opening_front
+        ensures issue { self.new.last.issue ≡ (if result.ends then opening_issue
             self.old.behind.banks
             (self.old.last.tick + 1 + length self.old.behind.ahead.found.items)
-            else self.old.last.front) }
-        ensures past { self.new.last.past ≡ self.new.last.front.past }
-        ensures tight { IsTight MOST_DELAY self.new.last.front }
-        ensures order { self.new.last.tick ≤ self.new.last.front.c }
-        ensures bound { self.new.last.front.c ≤ self.new.last.tick + 9 }
+            else self.old.last.issue) }
+        ensures past { self.new.last.past ≡ self.new.last.issue.past }
+        ensures tight { IsTight MOST_DELAY self.new.last.issue }
+        ensures order { self.new.last.tick ≤ self.new.last.issue.c }
+        ensures bound { self.new.last.issue.c ≤ self.new.last.tick + 9 }
         ensures segment { self.new.k ≡ (if result.begins then self.old.k + 1 else self.old.k) }
         ensures last { self.new.last ≡ record self.old.last {
-          front = self.new.last.front;
+          issue = self.new.last.issue;
           past = self.new.last.past;
         } }
         ensures rest { self.new ≡ record self.old { last = self.new.last; k = self.new.k } }
     {
         let taken = interrupt(&self.state);
-        let missed = self.last.missed;
+        let mispredicted = self.last.mispredicted;
         let k = self.k;
-        let ends = is_end(missed, self.behind.card, self.behind.waited, taken);
+        let ends = is_end(mispredicted, self.behind.card, self.behind.waited, taken);
         let begins = either(k == 0, ends);
         open_if(
             ends,
@@ -307,9 +307,9 @@ impl Account {
         Border {
             ends,
             begins,
-            start: self.last.front.c,
+            start: self.last.issue.c,
             waited: self.behind.waited,
-            why: why_of(k == 0, taken, missed),
+            why: why_of(k == 0, taken, mispredicted),
             taken,
             done: done_in(&self.state),
         }
@@ -318,15 +318,15 @@ impl Account {
     /// Writes the lines of the last entry and of the events after it, with the end and the start of
     /// a segment if there are any. Afterwards the front and the segment are those of the next
     /// entry.
-    pub fn cross<K: Sink>(&mut self, out: &mut K) -> Result<(), Failed>
+    pub fn write_to_next<K: Sink>(&mut self, out: &mut K) -> Result<(), Failed>
         requires few { self.old.state.done ≤ MOST_INSTRUCTIONS }
         requires number { self.old.k ≤ MOST_INSTRUCTIONS }
         requires early { self.old.last.tick ≤ 2 ^ 62 }
         requires dropped { length self.old.behind.ahead.found.items ≤ 8 }
         requires soon { All (λ t. t ≤ self.old.last.tick + MOST_DELAY) self.old.behind.banks.ticks }
-        requires past { self.old.last.past ≡ self.old.last.front.past }
-        requires tight { IsTight MOST_DELAY self.old.last.front }
-        requires done { self.old.last.front.c ≡ self.old.last.tick }
+        requires past { self.old.last.past ≡ self.old.last.issue.past }
+        requires tight { IsTight MOST_DELAY self.old.last.issue }
+        requires done { self.old.last.issue.c ≡ self.old.last.tick }
         requires size { length self.old.words.items ≡ words_of_storage }
         requires left { IsCopyBehind self.old.k self.old.behind.may self.old.words.items
             self.old.state }
@@ -342,15 +342,15 @@ impl Account {
             (xs : List SignalOf) (cards : List (List ℕ)) →
             IsBehindMoment ds n left b m self.old xs cards →
             self.new.k ≡ segment_after self.old.k m }
-        ensures front { (ds : List ℕ) (n left : ℕ) (b : Machine) (m : Moment)
+        ensures issue { (ds : List ℕ) (n left : ℕ) (b : Machine) (m : Moment)
             (xs : List SignalOf) (cards : List (List ℕ)) →
             IsBehindMoment ds n left b m self.old xs cards → run_ends left m ≡ false →
-            self.new.last.front ≡ next_front m }
-        ensures past { self.new.last.past ≡ self.new.last.front.past }
+            self.new.last.issue ≡ next_issue m }
+        ensures past { self.new.last.past ≡ self.new.last.issue.past }
         ensures tick { self.new.last.tick ≡ self.old.last.tick }
-        ensures tight { IsTight MOST_DELAY self.new.last.front }
-        ensures order { self.new.last.tick ≤ self.new.last.front.c }
-        ensures bound { self.new.last.front.c ≤ self.new.last.tick + 9 }
+        ensures tight { IsTight MOST_DELAY self.new.last.issue }
+        ensures order { self.new.last.tick ≤ self.new.last.issue.c }
+        ensures bound { self.new.last.issue.c ≤ self.new.last.tick + 9 }
         ensures words { IsOk result → self.new.words.items ≡ self.old.state.words }
         ensures size { IsOk result → length self.new.words.items ≡ words_of_storage }
         ensures state { self.new.state ≡ self.old.state }
@@ -365,7 +365,7 @@ impl Account {
             self.old.waiting.totals self.new.waiting.totals }
     {
         let k = self.k;
-        let border = self.open();
+        let border = self.enter_next();
         let end = end_of(border.ends, self.last.tick);
         write_row(out, &self.last, k, end, &mut self.waiting)?;
         clear_if(border.ends, &mut self.last.uses);
@@ -451,10 +451,10 @@ impl Account {
     /// Executes the next entry, whose lines are then to be written.
     pub fn step(&mut self, timing: &Timing<'_>)
         requires few { self.old.state.done < MOST_INSTRUCTIONS }
-        requires tight { IsTight MOST_DELAY self.old.last.front }
-        requires early { self.old.last.front.c ≤ 2 ^ 63 }
-        requires order { self.old.last.tick ≤ self.old.last.front.c }
-        requires past { self.old.last.past ≡ self.old.last.front.past }
+        requires tight { IsTight MOST_DELAY self.old.last.issue }
+        requires early { self.old.last.issue.c ≤ 2 ^ 63 }
+        requires order { self.old.last.tick ≤ self.old.last.issue.c }
+        requires past { self.old.last.past ≡ self.old.last.issue.past }
         requires within { AreWithin self.old.last.tick self.old.sums }
         requires read { All IsReadInTime self.old.last.uses.items }
         requires waits { AreWaitsWithin self.old.last.tick self.old.waiting.totals }
@@ -482,8 +482,8 @@ impl Account {
             + ticks_for s (charges_at timing.now.delays.now.list timing.now.levels p) }
         ensures within { AreWithin self.new.last.tick self.new.sums }
         ensures enabled { self.new.last.enabled ≡ self.old.state.enabled }
-        ensures guess { guessing self.new.last.ic self.new.state
-            ≡ guess_of (interrupt_of self.old.state) self.old.state }
+        ensures prediction { predicting self.new.last.ic self.new.state
+            ≡ prediction_of (interrupt_of self.old.state) self.old.state }
         ensures left { (w : ℕ) → 32 ≤ w → IsNotAmong w self.new.last.plan.writes →
             word self.new.state w ≡ word self.old.state w }
         ensures words { self.new.words.items ≡ self.old.words.items }
@@ -492,7 +492,7 @@ impl Account {
     {
         let taken = interrupt(&self.state);
         let before = self.last.tick;
-        let start = self.last.front.c;
+        let start = self.last.issue.c;
         let address = next_address(&self.state);
         self.last.done.n = row_number(&self.state);
         self.last.done.address = address;

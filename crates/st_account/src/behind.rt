@@ -7,9 +7,9 @@ ghost use Rattle.st_rows.specs.Ranges.{IsTight};
 ghost use Rattle.st_segment.specs.Ahead.{ahead, prepared_before, reads_before};
 ghost use Rattle.st_rows.specs.declared.bus.Bus.{Bus as BusOf};
 ghost use Rattle.st_plain.specs.Looking.{seen_ahead, first_late};
-ghost use Rattle.st_account.specs.Standing.{guessing, HasReads};
+ghost use Rattle.st_account.specs.Standing.{predicting, HasReads};
 
-use crate::last::{Last, front_of};
+use crate::last::{Last, issue_of};
 use st_banks::LastAnswers;
 use st_lines::{Changeable, Printed};
 use st_plain::{FoundAhead, Reach, look};
@@ -59,10 +59,10 @@ pub(crate) fn look_behind(
     behind: &mut Behind,
 )
     requires few { state.old.done + 8 < 2 ^ 63 }
-    requires tight { IsTight MOST_DELAY last.now.front }
-    requires early { last.now.front.c ≤ 2 ^ 63 }
-    requires order { last.now.tick ≤ last.now.front.c }
-    requires past { last.now.past ≡ last.now.front.past }
+    requires tight { IsTight MOST_DELAY last.now.issue }
+    requires early { last.now.issue.c ≤ 2 ^ 63 }
+    requires order { last.now.tick ≤ last.now.issue.c }
+    requires past { last.now.past ≡ last.now.issue.past }
     requires counter { last.now.ic < 2 ^ 19 }
     requires none { length behind.old.ahead.found.items ≡ 0 }
 
@@ -70,34 +70,34 @@ pub(crate) fn look_behind(
     ensures found { behind.new.ahead.found.items
         ≡ map (seen_ahead timing.now.delays.now.list timing.now.levels) (prepared_before
         last.now.tick (ahead timing.now.delays.now.list timing.now.levels timing.now.levels None
-        (guessing last.now.ic state.old) last.now.front)) }
+        (predicting last.now.ic state.old) last.now.issue)) }
     ensures begun { behind.new.ahead.late ∷ []
         ≡ map (seen_ahead timing.now.delays.now.list timing.now.levels) (first_late last.now.tick
         (ahead timing.now.delays.now.list timing.now.levels (suc timing.now.levels) None
-        (guessing last.now.ic state.old) last.now.front)) }
+        (predicting last.now.ic state.old) last.now.issue)) }
     ensures banks { (reads : List Read) (bus : BusOf) →
-        HasReads timing.now.delays.now.list last.now.tick reads bus last.now.front.bus log.old →
+        HasReads timing.now.delays.now.list last.now.tick reads bus last.now.issue.bus log.old →
         behind.new.banks ≡ (made_before timing.now.delays.now.list last.now.tick
         (reads ++ reads_before timing.now.delays.now.list timing.now.levels last.now.tick
         (ahead timing.now.delays.now.list timing.now.levels (suc timing.now.levels) None
-        (guessing last.now.ic state.old) last.now.front)) bus).banks }
+        (predicting last.now.ic state.old) last.now.issue)) bus).banks }
     ensures soon { (reads : List Read) (bus : BusOf) →
-        HasReads timing.now.delays.now.list last.now.tick reads bus last.now.front.bus log.old →
+        HasReads timing.now.delays.now.list last.now.tick reads bus last.now.issue.bus log.old →
         All (λ t. t ≤ last.now.tick + MOST_DELAY) behind.new.banks.ticks }
     ensures few { length behind.new.ahead.found.items ≤ 8 }
 {
     let ic = state.ic;
     let tick = last.tick;
-    let mut front = front_of(last);
+    let mut issue = issue_of(last);
     state.ic = last.ic;
     let reach = Reach {
         timing,
         more: timing.levels,
         tick,
     };
-    look(state, &mut front, &reach, log, &mut behind.ahead);
+    look(state, &mut issue, &reach, log, &mut behind.ahead);
     state.ic = ic;
-    let mut banks = front.bus.banks;
+    let mut banks = issue.bus.banks;
     log.undo(&mut banks, tick);
     behind.banks = banks;
 }

@@ -3,14 +3,14 @@ ghost use Rattle.std.specs.Prelude.{◌≡◌, ◌+◌, ◌≤◌, ◌^◌, if�
 ghost use Rattle.st_bits.specs.declared.limits.TheConstants.{MOST_DELAY};
 ghost use Rattle.st_banks.specs.declared.answers.TheConstants.{BANKS};
 ghost use Rattle.st_rows.specs.Ranges.{IsTight};
-ghost use Rattle.st_rows.specs.Rows.{opening_front};
+ghost use Rattle.st_rows.specs.Rows.{opening_issue};
 
 use st_banks::LastAnswers;
 use st_lines::Origin;
 use st_plain::{Known, WaitedRow};
 use st_prep::Prepared;
-use st_reasons::Because;
-use st_rows::{Front, LastEntries, Past, Uses};
+use st_reasons::StallCause;
+use st_rows::{IssueState, LastEntries, Past, Uses};
 
 /// The facts about a completed entry, except its preparation.
 #[derive(Clone, Copy, Debug, Default, PartialEq, Eq)]
@@ -36,11 +36,11 @@ pub(crate) struct Last {
     /// The tick at which the entry completed; 0 before the first entry.
     pub tick: u64,
     /// The front from which the row of the next entry is computed, if the segment continues.
-    pub front: Front,
+    pub issue: IssueState,
     /// The last eight entries of the front, newest first.
     pub past: [Past; 8],
     /// Whether the entry was mispredicted, so that the entries that ran ahead of it were wrong.
-    pub missed: bool,
+    pub mispredicted: bool,
     /// The instruction counter by the prediction.
     pub ic: u32,
     /// Whether interrupts were enabled before the entry.
@@ -54,7 +54,7 @@ pub(crate) struct Last {
     /// The words that the previous entry in the segment uses.
     pub before: Uses,
     /// The cause that delayed the entry.
-    pub because: Because,
+    pub because: StallCause,
 }
 
 // A list of eight entries in the form that a front has, newest first.
@@ -74,16 +74,16 @@ fn entries_of(past: &[Past; 8]) -> LastEntries
 }
 
 /// The front after the last entry, as a copy.
-pub(crate) fn front_of(last: &Last) -> Front
-    requires { last.now.past ≡ last.now.front.past }
-    ensures { result ≡ last.now.front }
+pub(crate) fn issue_of(last: &Last) -> IssueState
+    requires { last.now.past ≡ last.now.issue.past }
+    ensures { result ≡ last.now.issue }
 {
-    let front = &last.front;
-    Front {
-        bus: front.bus,
-        p: front.p,
-        c: front.c,
-        serial: front.serial,
+    let issue = &last.issue;
+    IssueState {
+        bus: issue.bus,
+        p: issue.p,
+        c: issue.c,
+        serial: issue.serial,
         past: entries_of(&last.past),
     }
 }
@@ -92,13 +92,13 @@ pub(crate) fn front_of(last: &Last) -> Front
 /// are enabled.
 pub(crate) fn at_start(ic: u32, enabled: bool) -> Last
     ensures tick { result.tick ≡ 0 }
-    ensures front { result.front ≡ opening_front (record { ticks = replicate BANKS 0 }) 0 }
-    ensures past { result.past ≡ result.front.past }
+    ensures issue { result.issue ≡ opening_issue (record { ticks = replicate BANKS 0 }) 0 }
+    ensures past { result.past ≡ result.issue.past }
 
-    ensures missed { result.missed ≡ false }
+    ensures mispredicted { result.mispredicted ≡ false }
     ensures counter { result.ic ≡ ic }
     ensures enabled { result.enabled ≡ enabled }
-    ensures tight { IsTight MOST_DELAY result.front }
+    ensures tight { IsTight MOST_DELAY result.issue }
     ensures uses { result.uses.items ≡ [] }
     ensures before { result.before.items ≡ [] }
     ensures done { result.done.before ≡ 0 }
@@ -108,16 +108,16 @@ pub(crate) fn at_start(ic: u32, enabled: bool) -> Last
     let banks = LastAnswers::new();
     Last {
         tick: 0,
-        front: Front::new(banks, 0),
+        issue: IssueState::new(banks, 0),
         past: [Past::default(); 8],
-        missed: false,
+        mispredicted: false,
         ic,
         enabled,
         plan: Prepared::default(),
         done: DoneEntry::default(),
         uses: Uses::new(),
         before: Uses::new(),
-        because: Because::Start(0),
+        because: StallCause::Start(0),
     }
 }
 
@@ -127,16 +127,16 @@ pub(crate) fn open_segment(last: &mut Last, banks: LastAnswers, dropped: u64)
     requires early { last.old.tick ≤ 2 ^ 62 }
     requires soon { All (λ t. t ≤ last.old.tick + MOST_DELAY) banks.ticks }
 
-    ensures front { last.new.front ≡ opening_front banks (last.old.tick + 1 + dropped) }
-    ensures past { last.new.past ≡ last.new.front.past }
-    ensures tight { IsTight MOST_DELAY last.new.front }
+    ensures issue { last.new.issue ≡ opening_issue banks (last.old.tick + 1 + dropped) }
+    ensures past { last.new.past ≡ last.new.issue.past }
+    ensures tight { IsTight MOST_DELAY last.new.issue }
     ensures rest { last.new ≡ record last.old {
-      front = last.new.front;
+      issue = last.new.issue;
       past = last.new.past;
     } }
 {
     let start = last.tick + 1 + dropped;
-    last.front = Front::new(banks, start);
+    last.issue = IssueState::new(banks, start);
     last.past = [Past::default(); 8];
 }
 
@@ -145,20 +145,20 @@ pub(crate) fn open_if(ends: bool, last: &mut Last, banks: LastAnswers, dropped: 
     requires dropped { dropped ≤ 8 }
     requires early { last.old.tick ≤ 2 ^ 62 }
     requires soon { All (λ t. t ≤ last.old.tick + MOST_DELAY) banks.ticks }
-    requires past { last.old.past ≡ last.old.front.past }
-    requires tight { IsTight MOST_DELAY last.old.front }
-    requires done { last.old.front.c ≡ last.old.tick }
+    requires past { last.old.past ≡ last.old.issue.past }
+    requires tight { IsTight MOST_DELAY last.old.issue }
+    requires done { last.old.issue.c ≡ last.old.tick }
 
-    ensures front { last.new.front
-        ≡ (if ends then opening_front banks (last.old.tick + 1 + dropped) else last.old.front) }
-    ensures past { last.new.past ≡ last.new.front.past }
-    ensures tight { IsTight MOST_DELAY last.new.front }
+    ensures issue { last.new.issue
+        ≡ (if ends then opening_issue banks (last.old.tick + 1 + dropped) else last.old.issue) }
+    ensures past { last.new.past ≡ last.new.issue.past }
+    ensures tight { IsTight MOST_DELAY last.new.issue }
     ensures rest { last.new ≡ record last.old {
-      front = last.new.front;
+      issue = last.new.issue;
       past = last.new.past;
     } }
-    ensures order { last.new.tick ≤ last.new.front.c }
-    ensures bound { last.new.front.c ≤ last.new.tick + 9 }
+    ensures order { last.new.tick ≤ last.new.issue.c }
+    ensures bound { last.new.issue.c ≤ last.new.tick + 9 }
 {
     if ends {
         open_segment(last, banks, dropped);

@@ -26,7 +26,7 @@ use st_ledger::{Totals, write_sums};
 use st_lines::{Origins, write_machine, write_wait_sums};
 use st_reasons::WaitTotals;
 use st_rows::Timing;
-use st_run::Coming;
+use st_run::PendingEvents;
 use st_state::State;
 
 /// A run that is ready to be written: the machine is in its initial state.
@@ -86,17 +86,17 @@ fn write_run<K: Sink>(
         levels: levels as usize,
     };
     let mut account = Account::new(state, words, origins);
-    let mut coming = Coming::new(controls.signals(), cards);
+    let mut pending = PendingEvents::new(controls.signals(), cards);
     let mut left = controls.budget();
     'entries: loop {
-        account.pass(&timing, left, &mut coming);
+        account.take_events(&timing, left, &mut pending);
         if account.is_over(left) {
             let written = account.finish(out);
             *sums = account.sums;
             *waits = account.waiting.totals;
             return written;
         }
-        account.cross(out)?;
+        account.write_to_next(out)?;
         account.step(&timing);
         left -= 1;
     }

@@ -1,13 +1,13 @@
 //! Applies the events between two entries.
 ghost use Rattle.std.specs.Prelude.{◌≡◌, Bool, true, nat_lt, length};
 ghost use Rattle.st_exec.specs.Step.{rests};
-ghost use Rattle.st_run.specs.Outside.{scene_at};
+ghost use Rattle.st_run.specs.ExternalEvents.{scene_at};
 ghost use Rattle.st_run.specs.Run.{with_due_signals, with_due_orders, interlude};
 ghost use Rattle.st_account.specs.Settling.{words_printed};
 ghost use Rattle.st_account.specs.Standing.{still_by};
 
 use st_lines::Printed;
-use st_run::Coming;
+use st_run::PendingEvents;
 use st_run::between::{Interlude, between};
 use st_state::State;
 
@@ -17,19 +17,19 @@ use st_state::State;
 pub(crate) fn settle(
     still: bool,
     state: &mut State,
-    coming: &mut Coming<'_>,
+    pending: &mut PendingEvents<'_>,
     printed: &mut Printed,
 ) -> Interlude
     requires { still ≡ true →
-        (missed : Bool) × (still_by state.old missed coming.old.signals ≡ true) }
+        (mispredicted : Bool) × (still_by state.old mispredicted pending.old.signals ≡ true) }
 
-    ensures came { scene_at state.new coming.new
-        ≡ (interlude (scene_at state.old coming.old)).scene }
+    ensures came { scene_at state.new pending.new
+        ≡ (interlude (scene_at state.old pending.old)).scene }
     ensures printed { printed.new.items
-        ≡ words_printed (interlude (scene_at state.old coming.old)).happened }
-    ensures card { result.card ≡ nat_lt (length coming.new.cards) (length coming.old.cards) }
+        ≡ words_printed (interlude (scene_at state.old pending.old)).happened }
+    ensures card { result.card ≡ nat_lt (length pending.new.cards) (length pending.old.cards) }
     ensures waited { result.waited ≡ rests (with_due_orders (with_due_signals
-        (scene_at state.old coming.old))).scene.machine }
+        (scene_at state.old pending.old))).scene.machine }
 {
     printed.clear();
     if still {
@@ -39,7 +39,7 @@ pub(crate) fn settle(
             words: None,
         };
     }
-    let came = between(state, coming);
+    let came = between(state, pending);
     if let Some(words) = came.words {
         printed.push(words);
     }

@@ -4,22 +4,22 @@ ghost use Rattle.st_bits.specs.Indicators.{IsIndicatorIfAny};
 ghost use Rattle.st_bits.specs.declared.limits.TheConstants.{MOST_DELAY, MOST_INSTRUCTIONS};
 ghost use Rattle.st_prep.specs.Plan.{plan as plan_of};
 ghost use Rattle.st_prep.specs.Ranges.{IsPrepared};
-ghost use Rattle.st_exec.specs.Completion.{state_after_execution, guess as guess_of, is_missed as is_missed_of};
+ghost use Rattle.st_exec.specs.Completion.{state_after_execution, prediction as prediction_of, is_mispredicted as is_mispredicted_of};
 ghost use Rattle.st_plain.specs.Looking.{known_at, level_wait, side_at};
 ghost use Rattle.st_plain.specs.Uses.{formed_uses, uses_of_entry};
 ghost use Rattle.st_reasons.specs.Reasons.{because as because_of};
 ghost use Rattle.st_rows.specs.Notes.{log_after_reads};
 ghost use Rattle.st_rows.specs.Ranges.{IsTight};
-ghost use Rattle.st_rows.specs.Rows.{row_of_entry as row_of, front_after_entry as after_of, reads_of_entry as asked_of};
+ghost use Rattle.st_rows.specs.Rows.{row_of_entry as row_of, issue_after_entry as after_of, reads_of_entry as asked_of};
 ghost use Rattle.st_segment.specs.Entries.{entry as entry_of};
 ghost use Rattle.st_account.specs.Text.{why_by};
-ghost use Rattle.st_account.specs.Standing.{guessing, still_by};
+ghost use Rattle.st_account.specs.Standing.{predicting, still_by};
 ghost use Rattle.st_lines.specs.declared.lines.Why.TheVariants.{Run as RunBegins};
 ghost use Rattle.st_state.specs.Machine.{IsMachine};
 
 use crate::last::Last;
 use st_card::Signal;
-use st_exec::{complete_in, interrupt, is_missed};
+use st_exec::{complete_in, interrupt, is_mispredicted};
 use st_lines::{Changeable, Why};
 use st_plain::{Begun, NextEntry, WaitedRow, begin, finish, plan_entry, put_past};
 use st_prep::Prepared;
@@ -30,23 +30,23 @@ use st_state::{State, is_enabled};
 
 /// Why a segment begins: the run begins, an interrupt is taken, an entry was mispredicted, or a
 /// card was read, the first that applies.
-pub(crate) fn why_of(first: bool, taken: Option<u8>, missed: bool) -> Why
-    ensures { result ≡ (if first then RunBegins else why_by taken missed) }
+pub(crate) fn why_of(first: bool, taken: Option<u8>, mispredicted: bool) -> Why
+    ensures { result ≡ (if first then RunBegins else why_by taken mispredicted) }
 {
     if first {
         return Why::Run;
     }
     match taken {
         Some(i) => Why::Interrupt(i),
-        None => { if missed { Why::Missed } else { Why::Card } }
+        None => { if mispredicted { Why::Mispredicted } else { Why::Card } }
     }
 }
 
 /// Whether a segment ends.
-pub(crate) fn is_end(missed: bool, card: bool, waited: bool, taken: Option<u8>) -> bool
-    ensures { result ≡ (missed || card || waited || is_some taken) }
+pub(crate) fn is_end(mispredicted: bool, card: bool, waited: bool, taken: Option<u8>) -> bool
+    ensures { result ≡ (mispredicted || card || waited || is_some taken) }
 {
-    missed || card || waited || taken.is_some()
+    mispredicted || card || waited || taken.is_some()
 }
 
 /// The tick at which a segment ends, if it does.
@@ -57,12 +57,12 @@ pub(crate) fn end_of(ends: bool, tick: u64) -> Option<u64>
 }
 
 /// Whether no event comes between the last entry and the next one, and the prediction was right.
-pub(crate) fn is_still(state: &State, missed: bool, signals: &[Signal]) -> bool
-    ensures { result ≡ still_by state.now missed signals.now }
+pub(crate) fn is_still(state: &State, mispredicted: bool, signals: &[Signal]) -> bool
+    ensures { result ≡ still_by state.now mispredicted signals.now }
 {
     let taken = interrupt(state);
     let signal = is_signal_due(signals, state.done);
-    !missed
+    !mispredicted
         && !signal
         && reader_is_free(state)
         && printer_is_free(state)
@@ -87,32 +87,32 @@ pub(crate) fn count_on(
     log: &mut Log,
 )
     requires indicator { IsIndicatorIfAny taken }
-    requires tight { IsTight MOST_DELAY last.old.front }
-    requires early { last.old.front.c ≤ 2 ^ 63 }
-    requires past { last.old.past ≡ last.old.front.past }
+    requires tight { IsTight MOST_DELAY last.old.issue }
+    requires early { last.old.issue.c ≤ 2 ^ 63 }
+    requires past { last.old.past ≡ last.old.issue.past }
 
     ensures plan { last.new.plan ≡ plan_of state.now taken }
     ensures prepared { IsPrepared last.new.plan }
     ensures row { last.new.done.row.ticks ≡ row_of timing.now.delays.now.list timing.now.levels
-        last.old.front (entry_of taken state.now) }
+        last.old.issue (entry_of taken state.now) }
     ensures wait { last.new.done.row.level_wait
-        ≡ level_wait timing.now.delays.now.list timing.now.levels last.old.front
+        ≡ level_wait timing.now.delays.now.list timing.now.levels last.old.issue
         (entry_of taken state.now) }
     ensures known { last.new.done.known ≡ known_at taken state.now }
     ensures uses { last.new.uses.items ≡ uses_of_entry timing.now.delays.now.list timing.now.levels
-        last.old.front (entry_of taken state.now) (side_at taken state.now)
+        last.old.issue (entry_of taken state.now) (side_at taken state.now)
         (plan_of state.now taken).reads }
     ensures earlier { last.new.before.items ≡ last.old.uses.items }
-    ensures because { last.new.because ≡ because_of last.old.front (entry_of taken state.now)
+    ensures because { last.new.because ≡ because_of last.old.issue (entry_of taken state.now)
         last.new.done.row.ticks.a last.new.done.row.ticks.p last.new.done.row.level_wait
-        (formed_uses timing.now.delays.now.list last.old.front (entry_of taken state.now)
+        (formed_uses timing.now.delays.now.list last.old.issue (entry_of taken state.now)
         (side_at taken state.now)) last.old.uses.items }
-    ensures front { last.new.front ≡ after_of timing.now.delays.now.list timing.now.levels
-        last.old.front (entry_of taken state.now) }
+    ensures issue { last.new.issue ≡ after_of timing.now.delays.now.list timing.now.levels
+        last.old.issue (entry_of taken state.now) }
     ensures log { log.new ≡ log_after_reads timing.now.delays.now.list
-        (asked_of timing.now.delays.now.list timing.now.levels last.old.front
-        (entry_of taken state.now)) last.old.front.bus [] }
-    ensures past { last.new.past ≡ last.new.front.past }
+        (asked_of timing.now.delays.now.list timing.now.levels last.old.issue
+        (entry_of taken state.now)) last.old.issue.bus [] }
+    ensures past { last.new.past ≡ last.new.issue.past }
     ensures tick { last.new.tick ≡ last.new.done.row.ticks.c }
     ensures number { last.new.done.n ≡ last.old.done.n }
     ensures address { last.new.done.address ≡ last.old.done.address }
@@ -130,16 +130,16 @@ pub(crate) fn count_on(
         planned: &planned,
         timing,
     };
-    begin(&mut begun, &last.front, &next, log, &mut last.uses);
+    begin(&mut begun, &last.issue, &next, log, &mut last.uses);
     last.because = find_reason(
-        &last.front,
+        &last.issue,
         &planned.entry,
         &begun,
         last.uses.as_slice(),
         last.before.as_slice(),
     );
     let level_wait = begun.level_wait;
-    let ticks = finish(&mut last.front, &next, &mut begun, log, &mut last.uses);
+    let ticks = finish(&mut last.issue, &next, &mut begun, log, &mut last.uses);
     put_past(
         &mut last.past,
         Past {
@@ -153,7 +153,7 @@ pub(crate) fn count_on(
 }
 
 // The instruction counter by the prediction of a completed entry with the preparation `p`.
-fn guessed_counter(p: &Prepared, state: &State) -> u32
+fn predicted_counter(p: &Prepared, state: &State) -> u32
     requires counter { p.now.following < 2 ^ 19 }
     ensures value { result ≡ (if p.now.serial then state.now.ic else p.now.following) }
     ensures below { result < 2 ^ 19 }
@@ -168,18 +168,18 @@ pub(crate) fn execute(state: &mut State, taken: Option<u8>, last: &mut Last)
     requires few { state.old.done < 2 ^ 63 }
 
     ensures state { state.new ≡ state_after_execution taken state.old }
-    ensures guess { guessing last.new.ic state.new ≡ guess_of taken state.old }
+    ensures prediction { predicting last.new.ic state.new ≡ prediction_of taken state.old }
     ensures counter { last.new.ic < 2 ^ 19 }
     ensures rest { last.new ≡ record last.old {
-      missed = is_missed_of (plan_of state.old taken) state.old;
+      mispredicted = is_mispredicted_of (plan_of state.old taken) state.old;
       ic = last.new.ic;
       enabled = state.old.enabled;
     } }
 {
     last.enabled = is_enabled(state);
-    last.missed = is_missed(&last.plan, state);
+    last.mispredicted = is_mispredicted(&last.plan, state);
     complete_in(&last.plan, state);
-    last.ic = guessed_counter(&last.plan, state);
+    last.ic = predicted_counter(&last.plan, state);
 }
 
 /// The number of the next row.

@@ -12,8 +12,8 @@ use Rattle.st_ahead.specs.Calls.{machine_after_segment, read_in_by}
 use Rattle.st_prep.specs.Fetch.{index_words, place_of}
 use Rattle.st_exec.specs.Transfer.{all_stored, read_in}
 use Rattle.st_exec.proofs.Unchanged.{stored-other}
-use Rattle.st_rows.specs.Rows.{opening_front}
-use Rattle.st_rows.specs.declared.front.Front.{Front}
+use Rattle.st_rows.specs.Rows.{opening_issue}
+use Rattle.st_rows.specs.declared.issue.IssueState.{IssueState}
 use Rattle.st_ahead.specs.Forecast.{LookaheadView, IsOpened}
 use Rattle.st_ahead.specs.Inside.{answers_before, overlap_of, IsBetween, IsInside}
 use Rattle.st_ahead.proofs.Standing.{inside-fresh}
@@ -73,7 +73,7 @@ read-below s w card above =
 
 -- ---- all of it
 
-card-opened : (s u : Machine) (f : Front) (v : LookaheadView) → AreAlikeBelow s u → IsOpened None s f v → IsOpened None u f v
+card-opened : (s u : Machine) (f : IssueState) (v : LookaheadView) → AreAlikeBelow s u → IsOpened None s f v → IsOpened None u f v
 unfolding place_of
 card-opened s u f v alike o = assumption (o.index ∙ sym (index-below s u alike), o.place ∙ ap (λ h. place-at h) (sym alike.ic))
   where
@@ -90,7 +90,7 @@ card-hazard_free halt n ds s u (Some i) b now true true true v is ends done m al
 card-hazard_free halt n ds s u None b now true true true v is ends done m alike =
     let between : IsBetween now None s v = is.lookahead in
     inside-fresh halt true n ds u b now v is.some is.few is.in_time
-    (assumption (card-opened s u (opening_front (answers_before now v) v.front.c) v (alike between.machine) between.opened)) (λ e. absurd (cc e)) (is.done refl).1
+    (assumption (card-opened s u (opening_issue (answers_before now v) v.issue.c) v (alike between.machine) between.opened)) (λ e. absurd (cc e)) (is.done refl).1
 
 pub card-inside : (halt : Bool) (n : ℕ) (ds : List ℕ) (s u : Machine) (t b : Option ℕ) (now : ℕ) (owed over fresh : Bool) (v : LookaheadView) (order : Option Order) (card : List ℕ)
     → IsInside (overlap_of n ds s t b now owed over halt fresh v) fresh v → over ≡ true → fresh ≡ true → order ≡ s.reader → IsSome order

@@ -4,13 +4,13 @@ use Rattle.std.proofs.Common.{◌≡◌, ℕ, zero, suc, ◌+◌, ◌<◌, ◌�
 use Rattle.std.proofs.lemmas.List.{get_or-take}
 use Rattle.std.proofs.lemmas.List.Elements.{All-head}
 use Rattle.st_state.specs.Machine.{Machine}
-use Rattle.st_exec.specs.Completion.{guess}
+use Rattle.st_exec.specs.Completion.{prediction}
 use Rattle.st_rows.specs.Asked.{fetches_asked, side_asked, formed_asked, words_asked}
 use Rattle.st_rows.specs.Entries.{no_runs}
 use Rattle.st_rows.specs.Ranges.{AreDelaysUpTo, IsEntryInTime}
-use Rattle.st_rows.specs.Rows.{row_of_entry, front_after_entry, preparation_tick, address_tick, done_before, tick_a, tick_p, tick_c}
+use Rattle.st_rows.specs.Rows.{row_of_entry, issue_after_entry, preparation_tick, address_tick, done_before, tick_a, tick_p, tick_c}
 use Rattle.st_rows.specs.declared.entry.Entry.{Entry}
-use Rattle.st_rows.specs.declared.front.Front.{Front}
+use Rattle.st_rows.specs.declared.issue.IssueState.{IssueState}
 use Rattle.st_rows.specs.declared.past.Past.{Past}
 use Rattle.st_rows.proofs.MadeLemmas.{before-cases}
 use Rattle.st_ring.specs.declared.level.Level.{Level}
@@ -24,7 +24,7 @@ use Rattle.st_ring.specs.declared.plans.PlannedRow.{PlannedRow}
 use Rattle.st_next.specs.Known.{IsStateBefore}
 use Rattle.st_next.specs.Words.{asked_so_far}
 use Rattle.st_next.specs.Progress.{IsPlanned, reads_so_far}
-use Rattle.st_next.specs.declared.next.Next.{Next}
+use Rattle.st_next.specs.declared.fetch_unit.FetchUnit.{FetchUnit}
 use Rattle.st_ahead.specs.Forecast.{LookaheadView, IsNextIf, count, is_open}
 use Rattle.st_ahead.specs.Going.{IsGoing, BecomesLevel}
 use Rattle.st_ahead.proofs.Further.{going-late, next-known}
@@ -32,52 +32,52 @@ use Rattle.st_rows.specs.Words.{fetch_words}
 
 -- ---- the ticks of a row
 
-pub done-behind : (ds : List ℕ) (n : ℕ) (f : Front) (e : Entry) → IsEntryInTime e → f.c < (row_of_entry ds n f e).c
+pub done-behind : (ds : List ℕ) (n : ℕ) (f : IssueState) (e : Entry) → IsEntryInTime e → f.c < (row_of_entry ds n f e).c
 unfolding row_of_entry tick_c
 done-behind ds n f e range = omega (arith, range.costs.0)
 
-alone-behind : (ds : List ℕ) (n : ℕ) (f : Front) (e : Entry) → e.serial ≡ true → f.c < tick_p ds n f e
+alone-behind : (ds : List ℕ) (n : ℕ) (f : IssueState) (e : Entry) → e.serial ≡ true → f.c < tick_p ds n f e
 unfolding tick_p preparation_tick tick_a address_tick
 alone-behind ds n f e alone = rw alone (omega arith)
 
-levels-behind : (ds : List ℕ) (n : ℕ) (f : Front) (e : Entry) → done_before n f.past < tick_p ds n f e
+levels-behind : (ds : List ℕ) (n : ℕ) (f : IssueState) (e : Entry) → done_before n f.past < tick_p ds n f e
 unfolding tick_p preparation_tick
 levels-behind ds n f e = omega arith
 
-pub front-before : (ds : List ℕ) (n : ℕ) (f : Front) (e : Entry) → f.p < tick_p ds n f e
+pub issue-before : (ds : List ℕ) (n : ℕ) (f : IssueState) (e : Entry) → f.p < tick_p ds n f e
 unfolding tick_p preparation_tick tick_a address_tick
-front-before ds n f e = omega arith
+issue-before ds n f e = omega arith
 
-pub row-p : (ds : List ℕ) (n : ℕ) (f : Front) (e : Entry) → (row_of_entry ds n f e).p ≡ tick_p ds n f e
+pub row-p : (ds : List ℕ) (n : ℕ) (f : IssueState) (e : Entry) → (row_of_entry ds n f e).p ≡ tick_p ds n f e
 unfolding row_of_entry
 row-p ds n f e = refl
 
-pub after-p : (ds : List ℕ) (n : ℕ) (f : Front) (e : Entry) → (front_after_entry ds n f e).p ≡ tick_p ds n f e
-unfolding front_after_entry
+pub after-p : (ds : List ℕ) (n : ℕ) (f : IssueState) (e : Entry) → (issue_after_entry ds n f e).p ≡ tick_p ds n f e
+unfolding issue_after_entry
 after-p ds n f e = refl
 
 -- ---- what the last front keeps of the levels
 
 module _ (ds : List ℕ) (n tick : ℕ) where
   -- an older entry lies behind all levels
-  past-behind : (j : ℕ) (d : Past) (t : Option ℕ) (s : Machine) (f last : Front) (ring : List Level) (plans : List PlannedRow)
+  past-behind : (j : ℕ) (d : Past) (t : Option ℕ) (s : Machine) (f last : IssueState) (ring : List Level) (plans : List PlannedRow)
       → AreLevels ds n tick t s f last ring plans → length ring + j < 8 → get_or last.past (length ring + j) d ≡ get_or f.past j d
-  unfolding AreLevels front_after_entry
+  unfolding AreLevels issue_after_entry
   past-behind j d t s f last [] [] h few =
       let place : length {A = Level} [] + j ≡ j = omega arith in
-      ap (λ i. get_or last.past i d) place ∙ ap (λ (g : Front). get_or g.past j d) h
+      ap (λ i. get_or last.past i d) place ∙ ap (λ (g : IssueState). get_or g.past j d) h
   past-behind j d t s f last [] (q ∷ qs) h few = absurd h
   past-behind j d t s f last (level ∷ levels) [] h few = absurd h
   past-behind j d t s f last (level ∷ levels) (q ∷ qs) h few =
       let place : suc (length levels) + j ≡ length levels + suc j = omega arith in
       ap (λ i. get_or last.past i d) place
-      ∙ past-behind (suc j) d None (guess t s) (front_after_entry ds n f (entry t s)) last levels qs h.1 (omega arith)
+      ∙ past-behind (suc j) d None (prediction t s) (issue_after_entry ds n f (entry t s)) last levels qs h.1 (omega arith)
       ∙ get_or-take 7 f.past j d (omega arith)
 
   -- the oldest of n levels is the entry n before the next one
-  pub full-behind : (now : ℕ) (t : Option ℕ) (s : Machine) (f last : Front) (ring : List Level) (plans : List PlannedRow)
+  pub full-behind : (now : ℕ) (t : Option ℕ) (s : Machine) (f last : IssueState) (ring : List Level) (plans : List PlannedRow)
       → AreLevels ds n tick t s f last ring plans → All (λ q. now < q.c) plans → 1 ≤ n → n ≤ 8 → length ring ≡ n → now < done_before n last.past
-  unfolding AreLevels front_after_entry row_of_entry
+  unfolding AreLevels issue_after_entry row_of_entry
   full-behind now t s f last [] plans h late some most full = let no : ⊥ = omega (arith, some, full) in absurd no
   full-behind now t s f last (level ∷ levels) [] h late some most full = absurd h
   full-behind now t s f last (level ∷ levels) (q ∷ qs) h late some most full =
@@ -86,17 +86,17 @@ module _ (ds : List ℕ) (n tick : ℕ) where
       let here : now < q.c = All-head (λ (x : PlannedRow). now < x.c) q qs late in
       let is : q.c ≡ tick_c ds n f e = h.0.c in
       let place : n - 1 ≡ length levels + 0 = omega (arith, full) in
-      let kept = past-behind 0 none None (guess t s) (front_after_entry ds n f e) last levels qs h.1 (omega (arith, full, most)) in
+      let kept = past-behind 0 none None (prediction t s) (issue_after_entry ds n f e) last levels qs h.1 (omega (arith, full, most)) in
       let c : done_before n last.past ≡ tick_c ds n f e = ap (λ i. (get_or last.past i none).c) place ∙ ap (λ (x : Past). x.c) kept in
       omega (arith, here, is, c)
 
 -- ---- the reads of the next entry up to its operands
 
-formed-fetches : (ds : List ℕ) (f : Front) (e : Entry) → asked_so_far ds f e.own e.target ≡ fetches_asked ds f e
+formed-fetches : (ds : List ℕ) (f : IssueState) (e : Entry) → asked_so_far ds f e.own e.target ≡ fetches_asked ds f e
 unfolding fetches_asked words_asked fetch_words
 formed-fetches ds f e = refl
 
-pub reads-formed : (ds : List ℕ) (n : ℕ) (k : Option ℕ) (u : Machine) (f : Front) (next : Next) → IsPlanned ds n k u f next
+pub reads-formed : (ds : List ℕ) (n : ℕ) (k : Option ℕ) (u : Machine) (f : IssueState) (next : FetchUnit) → IsPlanned ds n k u f next
     → next.planned ≡ true → reads_so_far ds f next ≡ formed_asked ds f (entry k u)
 reads-formed ds n k u f next is planned =
     let e = entry k u in
@@ -114,25 +114,25 @@ pub planned-open : (b : Bool) (ds : List ℕ) (n rest : ℕ) (t : Option ℕ) (s
 planned-open true ds n rest t s v is planned = refl
 planned-open false ds n rest t s v is planned = let unplanned : v.next.planned ≡ false = is.0 in absurd (cc (planned, unplanned))
 
-none-guessed : (k : ℕ) (t : Option ℕ) (s : Machine) → k ≡ 0 → guesses k t s ≡ s
+none-predicted : (k : ℕ) (t : Option ℕ) (s : Machine) → k ≡ 0 → guesses k t s ≡ s
 unfolding guesses
-none-guessed zero t s none = refl
-none-guessed (suc k) t s none = absurd (cc none)
+none-predicted zero t s none = refl
+none-predicted (suc k) t s none = absurd (cc none)
 
-pub becomes-level : (ds : List ℕ) (n now : ℕ) (t : Option ℕ) (s : Machine) (f : Front) (v : LookaheadView) → 1 ≤ n → n ≤ 8 → AreDelaysUpTo 255 ds
+pub becomes-level : (ds : List ℕ) (n now : ℕ) (t : Option ℕ) (s : Machine) (f : IssueState) (v : LookaheadView) → 1 ≤ n → n ≤ 8 → AreDelaysUpTo 255 ds
     → count v ≤ n → now < 2 ^ 63 → IsGoing ds n now (now + 1) t s f v → v.next.planned ≡ true → v.next.formed.p ≡ now
-    → RunAhead (count v) t s → IsStateBefore now v.front.past v.levels.x s (guesses (count v) t s) → BecomesLevel ds n now t s f v
+    → RunAhead (count v) t s → IsStateBefore now v.issue.past v.levels.x s (guesses (count v) t s) → BecomesLevel ds n now t s f v
 becomes-level ds n now t s f v some most are few early is planned due run before =
     let k = table_behind (count v) t in
     let u = guesses (count v) t s in
     let e = entry k u in
     let opened : is_open v ≡ true = planned-open (is_open v) ds n (now + 1) t s v is.next planned in
     let next = (next-known ds n now (now + 1) t s f v is opened).0 in
-    let all : IsPlanned ds n k u v.front v.next = next.planned planned in
+    let all : IsPlanned ds n k u v.issue v.next = next.planned planned in
     let indicator = behind-indicator (count v) t is.indicator in
     let range : IsEntryInTime e = entry-ranges k u before.machine indicator in
-    let p : tick_p ds n v.front e ≡ now = sym all.tick ∙ due in
-    let late : 1 ≤ count v → now < v.front.c = going-late ds n now (now + 1) (λ g x r. done-behind ds n g x r) t s f v is in
+    let p : tick_p ds n v.issue e ≡ now = sym all.tick ∙ due in
+    let late : 1 ≤ count v → now < v.issue.c = going-late ds n now (now + 1) (λ g x r. done-behind ds n g x r) t s f v is in
     record {
       run = run;
       before = before;
@@ -140,11 +140,11 @@ becomes-level ds n now t s f v some most are few early is planned due run before
       indicator = indicator;
       range = subst (λ (x : Entry). IsEntryInTime x) (sym all.entry) range;
       alone = λ serial.
-          let c : v.front.c < tick_p ds n v.front e = alone-behind ds n v.front e (sym (ap (λ (x : Entry). x.serial) all.entry) ∙ serial) in
-          none-guessed (count v) t s (no-levels (count v) now v.front.c late (omega (arith, c, p)));
+          let c : v.issue.c < tick_p ds n v.issue e = alone-behind ds n v.issue e (sym (ap (λ (x : Entry). x.serial) all.entry) ∙ serial) in
+          none-predicted (count v) t s (no-levels (count v) now v.issue.c late (omega (arith, c, p)));
       room = not-full (count v) few (λ full.
-          let c : now < done_before n v.front.past = full-behind ds n now now t s f v.front v.levels.ring v.levels.plans is.ahead.levels is.not_done some most full in
-          let before_p : done_before n v.front.past < tick_p ds n v.front e = levels-behind ds n v.front e in
+          let c : now < done_before n v.issue.past = full-behind ds n now now t s f v.issue v.levels.ring v.levels.plans is.ahead.levels is.not_done some most full in
+          let before_p : done_before n v.issue.past < tick_p ds n v.issue e = levels-behind ds n v.issue e in
           omega (arith, c, before_p, p));
       early = omega (arith, is.early, few, most, early);
     }

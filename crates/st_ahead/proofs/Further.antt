@@ -11,7 +11,7 @@ use Rattle.st_rows.specs.Rows.{row_of_entry, tick_a}
 use Rattle.st_rows.specs.declared.bus.Bus.{Bus}
 use Rattle.st_rows.specs.declared.entry.Entry.{Entry}
 use Rattle.st_rows.specs.declared.fetching.Fetching.{Fetching}
-use Rattle.st_rows.specs.declared.front.Front.{Front}
+use Rattle.st_rows.specs.declared.issue.IssueState.{IssueState}
 use Rattle.st_rows.specs.declared.log.Made.{Made}
 use Rattle.st_rows.proofs.LogLaws.{logged-noted}
 use Rattle.st_rows.proofs.Parts.{a-p}
@@ -25,9 +25,9 @@ use Rattle.st_ring.specs.declared.plans.PlannedRow.{PlannedRow}
 use Rattle.st_ring.proofs.LevelLemmas.{levels-beside}
 use Rattle.st_ring.proofs.OrderLemmas.{done-order}
 use Rattle.st_next.specs.Known.{IsStateBefore}
-use Rattle.st_next.specs.Going.{IsFrontInTime, GoesOnTo, IsReadFurther}
+use Rattle.st_next.specs.Going.{IsIssueInTime, GoesOnTo, IsReadFurther}
 use Rattle.st_next.specs.Progress.{IsNext, IsPlanned, IsKnown, Rests, reads_so_far}
-use Rattle.st_next.specs.declared.next.Next.{Next}
+use Rattle.st_next.specs.declared.fetch_unit.FetchUnit.{FetchUnit}
 use Rattle.st_next.proofs.Resting.{address-late}
 use Rattle.st_next.proofs.Starting.{new-reads}
 use Rattle.st_next.proofs.Whole.{served-so-far}
@@ -37,7 +37,7 @@ use Rattle.st_ahead.proofs.Served.{served-ahead}
 
 -- ---- what rests up to a tick rests up to an earlier one
 
-rests-sooner : (now sooner : ℕ) (t : Option ℕ) (u : Machine) (f : Front) (next : Next) → sooner ≤ now → Rests now t u f next → Rests sooner t u f next
+rests-sooner : (now sooner : ℕ) (t : Option ℕ) (u : Machine) (f : IssueState) (next : FetchUnit) → sooner ≤ now → Rests now t u f next → Rests sooner t u f next
 rests-sooner now sooner t u f next early rests = λ un. elim (rests un) [
   | inl late ↦ inl (omega (arith, early, late))
   | inr is ↦ inr (is.0, is.1, is.2, omega (arith, early, is.3))
@@ -46,7 +46,7 @@ rests-sooner now sooner t u f next early rests = λ un. elim (rests un) [
 pub next-sooner : (b : Bool) (ds : List ℕ) (n now sooner : ℕ) (t : Option ℕ) (s : Machine) (v : LookaheadView) → sooner ≤ now
     → IsNextIf b ds n now t s v → IsNextIf b ds n sooner t s v
 next-sooner true ds n now sooner t s v early is =
-    (is.0, rests-sooner now sooner (table_behind (count v) t) (guesses (count v) t s) v.front v.next early is.1)
+    (is.0, rests-sooner now sooner (table_behind (count v) t) (guesses (count v) t s) v.issue v.next early is.1)
 next-sooner false ds n now sooner t s v early is = is
 
 -- ---- it is planned already
@@ -56,7 +56,7 @@ pub next-planned : (b : Bool) (ds : List ℕ) (n now later : ℕ) (t : Option �
 next-planned true ds n now later t s v planned is = (is.0, λ un. absurd (cc (planned, un)))
 next-planned false ds n now later t s v planned is = is
 
-pub going-planned : (ds : List ℕ) (n now rest later : ℕ) (t : Option ℕ) (s : Machine) (f : Front) (v : LookaheadView) → v.next.planned ≡ true
+pub going-planned : (ds : List ℕ) (n now rest later : ℕ) (t : Option ℕ) (s : Machine) (f : IssueState) (v : LookaheadView) → v.next.planned ≡ true
     → IsGoing ds n now rest t s f v → IsGoing ds n now later t s f v
 going-planned ds n now rest later t s f v planned is = assumption (next-planned (is_open v) ds n rest later t s v planned is.next)
 
@@ -67,14 +67,14 @@ closed-on : (b : Bool) (ds : List ℕ) (n now later : ℕ) (t : Option ℕ) (s :
 closed-on true ds n now later t s v closed is = absurd (cc closed)
 closed-on false ds n now later t s v closed is = is
 
-pub going-closed : (ds : List ℕ) (n now rest later : ℕ) (t : Option ℕ) (s : Machine) (f : Front) (v : LookaheadView) → is_open v ≡ false
+pub going-closed : (ds : List ℕ) (n now rest later : ℕ) (t : Option ℕ) (s : Machine) (f : IssueState) (v : LookaheadView) → is_open v ≡ false
     → IsGoing ds n now rest t s f v → IsGoing ds n now later t s f v
 going-closed ds n now rest later t s f v closed is = assumption (closed-on (is_open v) ds n rest later t s v closed is.next)
 
 -- and nothing is asked for
-pub going-still : (ds : List ℕ) (n now rest later : ℕ) (t : Option ℕ) (s : Machine) (f : Front) (v : LookaheadView) (next : Next) (log : List Made)
+pub going-still : (ds : List ℕ) (n now rest later : ℕ) (t : Option ℕ) (s : Machine) (f : IssueState) (v : LookaheadView) (next : FetchUnit) (log : List Made)
     → next ≡ v.next → log ≡ v.log → is_open v ≡ false → IsGoing ds n now rest t s f v
-    → IsGoing ds n now later t s f (record { levels = v.levels; front = v.front; log = log; next = next })
+    → IsGoing ds n now later t s f (record { levels = v.levels; issue = v.issue; log = log; next = next })
 going-still ds n now rest later t s f v next log same kept closed is = rw (same, kept) (going-closed ds n now rest later t s f v closed is)
 
 -- where it waits for less than the completion of the oldest level, the youngest one is not done alone
@@ -94,7 +94,7 @@ some-by (suc k) e = omega arith
 
 -- ---- the youngest level is not done
 
-pub youngest-late : (now : ℕ) (f last : Front) (plans : List PlannedRow) → All (λ q. now < q.c) plans
+pub youngest-late : (now : ℕ) (f last : IssueState) (plans : List PlannedRow) → All (λ q. now < q.c) plans
     → All (λ q. (f.c < q.c) × (q.c ≤ last.c)) plans → 1 ≤ length plans → now < last.c
 youngest-late now f last [] late order some = absurd (omega arith)
 youngest-late now f last (q ∷ qs) late order some =
@@ -102,21 +102,21 @@ youngest-late now f last (q ∷ qs) late order some =
     let before : (f.c < q.c) × (q.c ≤ last.c) = All-head (λ (x : PlannedRow). (f.c < x.c) × (x.c ≤ last.c)) q qs order in
     omega (arith, before.1)
 
-pub going-late : (ds : List ℕ) (n now rest : ℕ) → ((g : Front) (e : Entry) → IsEntryInTime e → g.c < (row_of_entry ds n g e).c)
-    → (t : Option ℕ) (s : Machine) (f : Front) (v : LookaheadView) → IsGoing ds n now rest t s f v → 1 ≤ count v → now < v.front.c
+pub going-late : (ds : List ℕ) (n now rest : ℕ) → ((g : IssueState) (e : Entry) → IsEntryInTime e → g.c < (row_of_entry ds n g e).c)
+    → (t : Option ℕ) (s : Machine) (f : IssueState) (v : LookaheadView) → IsGoing ds n now rest t s f v → 1 ≤ count v → now < v.issue.c
 going-late ds n now rest later t s f v is some =
-    let beside = levels-beside ds n now t s f v.front v.levels.ring v.levels.plans is.ahead.levels in
-    let order = done-order ds n now later entry-ranges f.c t s f v.front v.levels.ring v.levels.plans is.machine is.indicator is.ahead.levels (omega arith) in
-    youngest-late now f v.front v.levels.plans is.not_done order (omega (arith, beside, some))
+    let beside = levels-beside ds n now t s f v.issue v.levels.ring v.levels.plans is.ahead.levels in
+    let order = done-order ds n now later entry-ranges f.c t s f v.issue v.levels.ring v.levels.plans is.machine is.indicator is.ahead.levels (omega arith) in
+    youngest-late now f v.issue v.levels.plans is.not_done order (omega (arith, beside, some))
 
-pub next-known : (ds : List ℕ) (n now rest : ℕ) (t : Option ℕ) (s : Machine) (f : Front) (v : LookaheadView) → IsGoing ds n now rest t s f v
-    → is_open v ≡ true → IsNext ds n (table_behind (count v) t) (guesses (count v) t s) v.front v.next
-    × Rests rest (table_behind (count v) t) (guesses (count v) t s) v.front v.next
+pub next-known : (ds : List ℕ) (n now rest : ℕ) (t : Option ℕ) (s : Machine) (f : IssueState) (v : LookaheadView) → IsGoing ds n now rest t s f v
+    → is_open v ≡ true → IsNext ds n (table_behind (count v) t) (guesses (count v) t s) v.issue v.next
+    × Rests rest (table_behind (count v) t) (guesses (count v) t s) v.issue v.next
 next-known ds n now rest t s f v is opened = subst (λ (b : Bool). IsNextIf b ds n rest t s v) opened is.next
 
-pub known : (ds : List ℕ) (n now rest done : ℕ) (t : Option ℕ) (s : Machine) (f : Front) (v : LookaheadView) → IsGoing ds n now rest t s f v
-    → is_open v ≡ true → IsStateBefore done v.front.past v.levels.x s (guesses (count v) t s)
-    → IsKnown ds n done v.front v.levels.x s v.next
+pub known : (ds : List ℕ) (n now rest done : ℕ) (t : Option ℕ) (s : Machine) (f : IssueState) (v : LookaheadView) → IsGoing ds n now rest t s f v
+    → is_open v ≡ true → IsStateBefore done v.issue.past v.levels.x s (guesses (count v) t s)
+    → IsKnown ds n done v.issue v.levels.x s v.next
 known ds n now rest done t s f v is opened before = record {
   table = table_behind (count v) t;
   state = guesses (count v) t s;
@@ -125,26 +125,26 @@ known ds n now rest done t s f v is opened before = record {
   is_next = (next-known ds n now rest t s f v is opened).0;
 }
 
-pub going-front : (ds : List ℕ) (n now rest : ℕ) (t : Option ℕ) (s : Machine) (f : Front) (v : LookaheadView) → IsGoing ds n now rest t s f v
-    → n ≤ 8 → count v ≤ n → now < 2 ^ 63 → IsFrontInTime v.front
-going-front ds n now rest t s f v is most few early =
-    let early : v.front.c ≤ 2 ^ 63 + 2 ^ 20 = omega (arith, is.early) in
+pub going-issue : (ds : List ℕ) (n now rest : ℕ) (t : Option ℕ) (s : Machine) (f : IssueState) (v : LookaheadView) → IsGoing ds n now rest t s f v
+    → n ≤ 8 → count v ≤ n → now < 2 ^ 63 → IsIssueInTime v.issue
+going-issue ds n now rest t s f v is most few early =
+    let early : v.issue.c ≤ 2 ^ 63 + 2 ^ 20 = omega (arith, is.early) in
     assumption
 
 -- ---- the bus behind all reads is that of the next entry's words
 
 bus-next : (b : Bool) (ds : List ℕ) (n now : ℕ) (t : Option ℕ) (s : Machine) (v : LookaheadView) → IsNextIf b ds n now t s v
-    → bus_after_reads ds (reads_so_far ds v.front v.next) v.front.bus ≡ v.next.words.bus
+    → bus_after_reads ds (reads_so_far ds v.issue v.next) v.issue.bus ≡ v.next.words.bus
 unfolding bus_after_reads
-bus-next true ds n now t s v is = served-so-far ds n (table_behind (count v) t) (guesses (count v) t s) v.front v.next is.0
+bus-next true ds n now t s v is = served-so-far ds n (table_behind (count v) t) (guesses (count v) t s) v.issue v.next is.0
 bus-next false ds n now t s v is =
-    ap (λ reads. bus_after_reads ds reads v.front.bus) (new-reads ds v.front v.next is.1 is.2 is.0) ∙ ap (λ (w : Fetching). w.bus) (sym is.3)
+    ap (λ reads. bus_after_reads ds reads v.issue.bus) (new-reads ds v.issue v.next is.1 is.2 is.0) ∙ ap (λ (w : Fetching). w.bus) (sym is.3)
 
-pub bus-ahead : (ds : List ℕ) (n tick now : ℕ) (t : Option ℕ) (s : Machine) (f : Front) (v : LookaheadView) → IsNextIf (is_open v) ds n now t s v
-    → AreAhead ds n tick t s f v.front v.levels → bus_after_reads ds (reads_ahead ds n t s f v) f.bus ≡ v.next.words.bus
+pub bus-ahead : (ds : List ℕ) (n tick now : ℕ) (t : Option ℕ) (s : Machine) (f : IssueState) (v : LookaheadView) → IsNextIf (is_open v) ds n now t s v
+    → AreAhead ds n tick t s f v.issue v.levels → bus_after_reads ds (reads_ahead ds n t s f v) f.bus ≡ v.next.words.bus
 bus-ahead ds n tick now t s f v is ahead =
-    served-append ds (asked_ahead ds n (count v) t s f) (reads_so_far ds v.front v.next) f.bus
-    ∙ ap (bus_after_reads ds (reads_so_far ds v.front v.next)) (served-ahead ds n tick t s f v.front v.levels.ring v.levels.plans ahead.levels)
+    served-append ds (asked_ahead ds n (count v) t s f) (reads_so_far ds v.issue v.next) f.bus
+    ∙ ap (bus_after_reads ds (reads_so_far ds v.issue v.next)) (served-ahead ds n tick t s f v.issue v.levels.ring v.levels.plans ahead.levels)
     ∙ bus-next (is_open v) ds n now t s v is
 
 -- more reads are noted
@@ -160,17 +160,17 @@ logged-more ds now before so_far after added b d log new is bus kept h =
 
 -- ---- it is known further
 
-pub known-further : (ds : List ℕ) (n now later : ℕ) (t : Option ℕ) (s : Machine) (f : Front) (v : LookaheadView) (next : Next) (log : List Made)
-    → is_open v ≡ true → v.next.planned ≡ false → IsStateBefore (later - 1) v.front.past v.levels.x s (guesses (count v) t s)
-    → GoesOnTo ds n (later - 1) v.front v.levels.x s v.next next later → IsReadFurther ds v.front v.next next v.log log
+pub known-further : (ds : List ℕ) (n now later : ℕ) (t : Option ℕ) (s : Machine) (f : IssueState) (v : LookaheadView) (next : FetchUnit) (log : List Made)
+    → is_open v ≡ true → v.next.planned ≡ false → IsStateBefore (later - 1) v.issue.past v.levels.x s (guesses (count v) t s)
+    → GoesOnTo ds n (later - 1) v.issue v.levels.x s v.next next later → IsReadFurther ds v.issue v.next next v.log log
     → IsGoing ds n now now t s f v
-    → IsGoing ds n now later t s f (record { levels = v.levels; front = v.front; log = log; next = next })
+    → IsGoing ds n now later t s f (record { levels = v.levels; issue = v.issue; log = log; next = next })
 known-further ds n now later t s f v next log opened un before goes more is =
     let k = table_behind (count v) t in
     let u = guesses (count v) t s in
     let old = next-known ds n now now t s f v is opened in
     let new = goes.each k u (behind-indicator (count v) t is.indicator) before old.0 in
-    let a : now < tick_a ds v.front (entry k u) = address-late ds now k u v.front v.next old.0.read_on un old.1 in
+    let a : now < tick_a ds v.issue (entry k u) = address-late ds now k u v.issue v.next old.0.read_on un old.1 in
     record {
       machine = is.machine;
       indicator = is.indicator;
@@ -182,12 +182,12 @@ known-further ds n now later t s f v next log opened un before goes more is =
       start = is.start;
       early = is.early;
       next =
-          subst (λ (b : Bool). IsNextIf b ds n later t s (record { levels = v.levels; front = v.front; log = log; next = next }))
+          subst (λ (b : Bool). IsNextIf b ds n later t s (record { levels = v.levels; issue = v.issue; log = log; next = next }))
           (sym opened) new;
       late = λ planned.
-          let all : IsPlanned ds n k u v.front next = new.0.planned planned in
-          omega (arith, a, a-p ds n v.front (entry k u), all.tick);
+          let all : IsPlanned ds n k u v.issue next = new.0.planned planned in
+          omega (arith, a, a-p ds n v.issue (entry k u), all.tick);
       logged =
-          logged-more ds f.bus.free (asked_ahead ds n (count v) t s f) (reads_so_far ds v.front v.next) (reads_so_far ds v.front next) more.added
+          logged-more ds f.bus.free (asked_ahead ds n (count v) t s f) (reads_so_far ds v.issue v.next) (reads_so_far ds v.issue next) more.added
           f.bus v.next.words.bus v.log log more.so_far (bus-ahead ds n now now t s f v is.next is.ahead) more.kept is.logged;
     }

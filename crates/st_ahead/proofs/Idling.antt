@@ -6,7 +6,7 @@ use Rattle.std.proofs.lemmas.Bool.Decides.{nat_tests}
 use Rattle.st_state.specs.Machine.{Machine}
 use Rattle.st_exec.specs.Step.{interrupt, rests}
 use Rattle.st_rows.specs.Rows.{row_of_entry}
-use Rattle.st_rows.specs.declared.front.Front.{Front}
+use Rattle.st_rows.specs.declared.issue.IssueState.{IssueState}
 use Rattle.st_segment.specs.Entries.{entry}
 use Rattle.st_ahead.specs.Overlap.{Overlap, state_ahead, oldest_row, interrupt_due}
 use Rattle.st_ahead.specs.Calls.{is_done, machine_after_completion, machine_after_tick, machine_after_pass, settled_by, answer_by, machine_after_settling, answer}
@@ -22,7 +22,7 @@ passed-none count m = record { each = λ i before. absurd (omega (arith, before)
 
 -- ---- a machine between two ticks, of which no interrupt is due and which is not at rest
 
-module _ (ds : List ℕ) (n : ℕ) (s : Machine) (t : Option ℕ) (f : Front) (due : (if is_none t then interrupt s else None) ≡ None) (awake : rests s ≡ false) where
+module _ (ds : List ℕ) (n : ℕ) (s : Machine) (t : Option ℕ) (f : IssueState) (due : (if is_none t then interrupt s else None) ≡ None) (awake : rests s ≡ false) where
   abbrev hazard_free : ℕ → Overlap
   hazard_free now = overlap false ds n s t None f now false false None
 
@@ -66,7 +66,7 @@ goes-by None false None m e = refl
 
 pub goes-passed : (m : Overlap) → answer m ≡ Goes → machine_after_settling m ≡ machine_after_pass m
 unfolding answer machine_after_settling
-goes-passed m e = goes-by (interrupt_due m) (rests m.state) m.missed m e
+goes-passed m e = goes-by (interrupt_due m) (rests m.state) m.mispredicted m e
 
 pub late-ticked : (m : Overlap) → is_done m ≡ false → machine_after_tick m ≡ record m { owed = true; closing = None }
 unfolding machine_after_tick

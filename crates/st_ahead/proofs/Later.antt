@@ -5,18 +5,18 @@ use Rattle.std.proofs.lemmas.Bool.{lt-ltb, le-ltb}
 use Rattle.std.proofs.lemmas.List.{append-nil}
 use Rattle.std.proofs.lemmas.List.Elements.{All-append, All-weaker, All-head, All-tail}
 use Rattle.st_state.specs.Machine.{Machine, IsMachine}
-use Rattle.st_exec.specs.Completion.{guess}
+use Rattle.st_exec.specs.Completion.{prediction}
 use Rattle.st_rows.specs.Asked.{fetches_asked, words_asked, side_asked, side_count, following_asked, formed_asked, prepared_asked, data_of, bus_after_reads, made_before}
 use Rattle.st_rows.specs.BusTimes.{Read}
 use Rattle.st_rows.specs.Notes.{notes_of_reads, answers_left, AreEarly}
 use Rattle.st_rows.specs.Ranges.{AreDelaysUpTo, IsEntryInTime, IsNear, IsTight}
-use Rattle.st_rows.specs.Rows.{row_of_entry, front_after_entry, wanted_from, tick_a, tick_p, operands, reads_of_entry}
+use Rattle.st_rows.specs.Rows.{row_of_entry, issue_after_entry, wanted_from, tick_a, tick_p, operands, reads_of_entry}
 use Rattle.st_rows.specs.Words.{fetch_words, fetch_word}
 use Rattle.st_rows.specs.declared.bus.Bus.{Bus}
 use Rattle.st_rows.specs.declared.entry.WordRun.{WordRun}
 use Rattle.st_rows.specs.declared.fetching.Fetching.{Fetching}
 use Rattle.st_rows.specs.declared.entry.Entry.{Entry}
-use Rattle.st_rows.specs.declared.front.Front.{Front}
+use Rattle.st_rows.specs.declared.issue.IssueState.{IssueState}
 use Rattle.st_rows.proofs.LogLaws.{undone_is_made_before, few_are_undone, logs_go_on}
 use Rattle.st_rows.proofs.MadeLemmas.{made-more}
 use Rattle.st_rows.proofs.Parts.{asked-parts, two-parts, at-prepared, free-formed}
@@ -27,13 +27,13 @@ use Rattle.st_segment.specs.Entries.{entry}
 use Rattle.st_segment.specs.Guesses.{guesses, table_behind}
 use Rattle.st_segment.specs.Ahead.{ahead, reads_before}
 use Rattle.st_segment.proofs.EntryRanges.{entry-ranges}
-use Rattle.st_segment.proofs.GuessLemmas.{guess-machine, behind-none}
+use Rattle.st_segment.proofs.GuessLemmas.{prediction-machine, behind-none}
 use Rattle.st_ring.specs.Levels.{AreLevels}
 use Rattle.st_ring.specs.declared.plans.PlannedRow.{PlannedRow}
 use Rattle.st_ring.proofs.LevelLemmas.{levels-beside}
 use Rattle.st_next.specs.Words.{asked_so_far}
 use Rattle.st_next.specs.Progress.{IsNext, IsPlanned, Rests, reads_so_far}
-use Rattle.st_next.specs.declared.next.Next.{Next}
+use Rattle.st_next.specs.declared.fetch_unit.FetchUnit.{FetchUnit}
 use Rattle.st_next.proofs.Resting.{address-late, rest-left}
 use Rattle.st_ahead.specs.Forecast.{LookaheadView, IsOutlook, IsNextIf, count, is_open, asked_ahead}
 use Rattle.st_ahead.proofs.Further.{bus-ahead, some-by}
@@ -45,13 +45,13 @@ none = record { first = 0; len = 0 }
 
 -- the ticks of rows in their order, and when their reads are wanted
 pub record AreOrdered (ds : List ℕ) (n : ℕ) : Type 0 where
-  pub alone : (f : Front) (e : Entry) → (e.serial || f.serial) ≡ true → f.c < (row_of_entry ds n f e).a
-  pub prepared : (f : Front) (e : Entry) → (row_of_entry ds n f e).a < (row_of_entry ds n f e).p
-  pub fetches : (f : Front) (e : Entry) → All (λ (r : Read). wanted_from f ≤ r.want) (fetches_asked ds f e)
-  pub behind : (f : Front) (e : Entry) → All (λ (r : Read). tick_a ds f e ≤ r.want) (data_of ds n f e)
+  pub alone : (f : IssueState) (e : Entry) → (e.serial || f.serial) ≡ true → f.c < (row_of_entry ds n f e).a
+  pub prepared : (f : IssueState) (e : Entry) → (row_of_entry ds n f e).a < (row_of_entry ds n f e).p
+  pub fetches : (f : IssueState) (e : Entry) → All (λ (r : Read). wanted_from f ≤ r.want) (fetches_asked ds f e)
+  pub behind : (f : IssueState) (e : Entry) → All (λ (r : Read). tick_a ds f e ≤ r.want) (data_of ds n f e)
 
 -- the entry e behind the front f, of which so much is asked for
-pub record IsLater (ds : List ℕ) (n now : ℕ) (f : Front) (e : Entry) (next : Next) : Type 0 where
+pub record IsLater (ds : List ℕ) (n now : ℕ) (f : IssueState) (e : Entry) (next : FetchUnit) : Type 0 where
   pub rest : List Read
   pub reads : reads_of_entry ds n f e ≡ reads_so_far ds f next ++ rest
   pub late : All (λ (r : Read). now ≤ r.want) rest
@@ -60,11 +60,11 @@ pub record IsLater (ds : List ℕ) (n now : ℕ) (f : Front) (e : Entry) (next :
 module _ (ds : List ℕ) (n now : ℕ) (ordered : AreOrdered ds n) where
   -- ---- it is planned
 
-  all-fetched : (f : Front) (e : Entry) → asked_so_far ds f e.own e.target ≡ fetches_asked ds f e
+  all-fetched : (f : IssueState) (e : Entry) → asked_so_far ds f e.own e.target ≡ fetches_asked ds f e
   unfolding fetches_asked words_asked fetch_words
   all-fetched f e = refl
 
-  planned-later : (t : Option ℕ) (u : Machine) (f : Front) (next : Next) → IsPlanned ds n t u f next → next.planned ≡ true
+  planned-later : (t : Option ℕ) (u : Machine) (f : IssueState) (next : FetchUnit) → IsPlanned ds n t u f next → next.planned ≡ true
       → now ≤ next.formed.p → IsLater ds n now f (entry t u) next
   unfolding row_of_entry
   planned-later t u f next is planned late =
@@ -86,7 +86,7 @@ module _ (ds : List ℕ) (n now : ℕ) (ordered : AreOrdered ds n) where
 
   -- ---- it is not
 
-  behind-fetches : (f : Front) (e : Entry) (next : Next) (rest : List Read) → next.planned ≡ false
+  behind-fetches : (f : IssueState) (e : Entry) (next : FetchUnit) (rest : List Read) → next.planned ≡ false
       → fetches_asked ds f e ≡ asked_so_far ds f next.entry.own next.entry.target ++ rest → All (λ (r : Read). now ≤ r.want) rest
       → now ≤ tick_a ds f e → IsLater ds n now f e next
   unfolding row_of_entry
@@ -108,14 +108,14 @@ module _ (ds : List ℕ) (n now : ℕ) (ordered : AreOrdered ds n) where
         prepared = omega arith;
       }
 
-  unplanned-later : (t : Option ℕ) (u : Machine) (f : Front) (next : Next) → IsNext ds n t u f next → next.planned ≡ false
+  unplanned-later : (t : Option ℕ) (u : Machine) (f : IssueState) (next : FetchUnit) → IsNext ds n t u f next → next.planned ≡ false
       → Rests now t u f next → IsLater ds n now f (entry t u) next
   unplanned-later t u f next is unplanned rests =
       let left = rest-left ds now t u f next is.read_on unplanned rests in
       let a : now < tick_a ds f (entry t u) = address-late ds now t u f next is.read_on unplanned rests in
       behind-fetches f (entry t u) next left.rest unplanned left.reads left.late (omega arith)
 
-  next-later : (t : Option ℕ) (u : Machine) (f : Front) (next : Next) → IsNext ds n t u f next → Rests now t u f next
+  next-later : (t : Option ℕ) (u : Machine) (f : IssueState) (next : FetchUnit) → IsNext ds n t u f next → Rests now t u f next
       → (next.planned ≡ true → now ≤ next.formed.p) → IsLater ds n now f (entry t u) next
   next-later t u f next is rests late = by-planned next.planned refl
     where
@@ -125,7 +125,7 @@ module _ (ds : List ℕ) (n now : ℕ) (ordered : AreOrdered ds n) where
 
   -- ---- behind a level that is done alone
 
-  alone-later : (e : Entry) (f : Front) (next : Next) → next.planned ≡ false → next.entry.own ≡ none → next.entry.target ≡ none
+  alone-later : (e : Entry) (f : IssueState) (next : FetchUnit) → next.planned ≡ false → next.entry.own ≡ none → next.entry.target ≡ none
       → f.serial ≡ true → now ≤ f.c → IsLater ds n now f e next
   unfolding row_of_entry fetches_asked words_asked fetch_words reads_of uses wishes fetch_word
   alone-later e f next unplanned no_own no_target serial late =
@@ -147,7 +147,7 @@ module _ (ds : List ℕ) (n now : ℕ) (ordered : AreOrdered ds n) where
 -- ---- behind levels
 
 -- the youngest level is not done by the tick
-last-done : (tick : ℕ) (f last : Front) (plans : List PlannedRow) → All (λ q. tick < q.c) plans
+last-done : (tick : ℕ) (f last : IssueState) (plans : List PlannedRow) → All (λ q. tick < q.c) plans
     → All (λ q. (f.c < q.c) × (q.c ≤ last.c)) plans → 1 ≤ length plans → tick < last.c
 last-done tick f last [] late order some = absurd (omega arith)
 last-done tick f last (q ∷ qs) late order some =
@@ -160,20 +160,20 @@ closed-by true b e = absurd (cc e)
 closed-by false true e = (refl, refl)
 closed-by false false e = absurd (cc e)
 
-pub lookahead-later : (ds : List ℕ) (n tick now : ℕ) (t : Option ℕ) (s : Machine) (f : Front) (v : LookaheadView) → AreOrdered ds n
-    → now ≤ tick + 1 → IsOutlook ds n tick now t s f v → All (λ q. (f.c < q.c) × (q.c ≤ v.front.c)) v.levels.plans
-    → IsLater ds n now v.front (entry (table_behind (count v) t) (guesses (count v) t s)) v.next
+pub lookahead-later : (ds : List ℕ) (n tick now : ℕ) (t : Option ℕ) (s : Machine) (f : IssueState) (v : LookaheadView) → AreOrdered ds n
+    → now ≤ tick + 1 → IsOutlook ds n tick now t s f v → All (λ q. (f.c < q.c) × (q.c ≤ v.issue.c)) v.levels.plans
+    → IsLater ds n now v.issue (entry (table_behind (count v) t) (guesses (count v) t s)) v.next
 lookahead-later ds n tick now t s f v ordered soon is order = by-open (is_open v) refl is.next
   where
     by-open : (b : Bool) → is_open v ≡ b → IsNextIf b ds n now t s v
-        → IsLater ds n now v.front (entry (table_behind (count v) t) (guesses (count v) t s)) v.next
+        → IsLater ds n now v.issue (entry (table_behind (count v) t) (guesses (count v) t s)) v.next
     by-open true e next =
-        next-later ds n now ordered (table_behind (count v) t) (guesses (count v) t s) v.front v.next next.0 next.1 is.late
+        next-later ds n now ordered (table_behind (count v) t) (guesses (count v) t s) v.issue v.next next.0 next.1 is.late
     by-open false e next =
-        let closed = closed-by (count v == 0) v.front.serial e in
-        let beside = levels-beside ds n tick t s f v.front v.levels.ring v.levels.plans is.ahead.levels in
-        let c : tick < v.front.c = last-done tick f v.front v.levels.plans is.not_done order (omega (arith, beside, some-by (count v) closed.0)) in
-        alone-later ds n now ordered (entry (table_behind (count v) t) (guesses (count v) t s)) v.front v.next
+        let closed = closed-by (count v == 0) v.issue.serial e in
+        let beside = levels-beside ds n tick t s f v.issue v.levels.ring v.levels.plans is.ahead.levels in
+        let c : tick < v.issue.c = last-done tick f v.issue v.levels.plans is.not_done order (omega (arith, beside, some-by (count v) closed.0)) in
+        alone-later ds n now ordered (entry (table_behind (count v) t) (guesses (count v) t s)) v.issue v.next
         next.0 next.1 next.2 closed.1 (omega arith)
 
 -- ---- the reads before the tick
@@ -186,18 +186,18 @@ more-behind : (b : Bool) (reads more : List Read) → b ≡ true → reads ++ (i
 more-behind true reads more e = refl
 more-behind false reads more e = absurd (cc e)
 
-levels-reads : (ds : List ℕ) (n tick now m : ℕ) (t k : Option ℕ) (s u : Machine) (f last : Front) (ring : List Level)
+levels-reads : (ds : List ℕ) (n tick now m : ℕ) (t k : Option ℕ) (s u : Machine) (f last : IssueState) (ring : List Level)
     (plans : List PlannedRow) → AreLevels ds n tick t s f last ring plans → All (λ level. level.p < now) ring
     → k ≡ table_behind (length ring) t → u ≡ guesses (length ring) t s → now ≤ (row_of_entry ds n last (entry k u)).p → length ring < m
     → reads_before ds n now (ahead ds n m t s f) ≡ asked_ahead ds n (length ring) t s f ++ reads_of_entry ds n last (entry k u)
 unfolding AreLevels guesses ahead reads_before
 levels-reads ds n tick now zero t k s u f last ring plans h each table state late more = absurd (omega arith)
 levels-reads ds n tick now (suc m) t k s u f last [] [] h each table state late more =
-    let front : last ≡ f = h in
+    let issue : last ≡ f = h in
     let same : entry k u ≡ entry t s = ap₂ entry table state in
-    let p : (row_of_entry ds n last (entry k u)).p ≡ (row_of_entry ds n f (entry t s)).p = ap₂ (λ g e. (row_of_entry ds n g e).p) front same in
+    let p : (row_of_entry ds n last (entry k u)).p ≡ (row_of_entry ds n f (entry t s)).p = ap₂ (λ g e. (row_of_entry ds n g e).p) issue same in
     nothing-more _ (reads_of_entry ds n f (entry t s)) _ (le-ltb (row_of_entry ds n f (entry t s)).p now (omega arith))
-    ∙ ap₂ (λ g e. reads_of_entry ds n g e) (sym front) (sym same)
+    ∙ ap₂ (λ g e. reads_of_entry ds n g e) (sym issue) (sym same)
 levels-reads ds n tick now (suc m) t k s u f last [] (q ∷ qs) h each table state late more = absurd h
 levels-reads ds n tick now (suc m) t k s u f last (level ∷ levels) [] h each table state late more = absurd h
 levels-reads ds n tick now (suc m) t k s u f last (level ∷ levels) (q ∷ qs) h each table state late more =
@@ -205,12 +205,12 @@ levels-reads ds n tick now (suc m) t k s u f last (level ∷ levels) (q ∷ qs) 
     let is : level.p ≡ (row_of_entry ds n f (entry t s)).p = h.0.p in
     more-behind _ (reads_of_entry ds n f (entry t s)) _ (lt-ltb (row_of_entry ds n f (entry t s)).p now (omega arith))
     ∙ ap (λ reads. reads_of_entry ds n f (entry t s) ++ reads)
-    (levels-reads ds n tick now m None k (guess t s) u (front_after_entry ds n f (entry t s)) last levels qs h.1
+    (levels-reads ds n tick now m None k (prediction t s) u (issue_after_entry ds n f (entry t s)) last levels qs h.1
     (All-tail (λ (x : Level). x.p < now) level levels each) (table ∙ sym (behind-none (length levels))) state late (omega arith))
-    ∙ sym (append_assoc (reads_of_entry ds n f (entry t s)) (asked_ahead ds n (length levels) None (guess t s) (front_after_entry ds n f (entry t s))) (reads_of_entry ds n last (entry k u)))
+    ∙ sym (append_assoc (reads_of_entry ds n f (entry t s)) (asked_ahead ds n (length levels) None (prediction t s) (issue_after_entry ds n f (entry t s))) (reads_of_entry ds n last (entry k u)))
 
 -- the oldest level is prepared
-oldest-prepared : (ds : List ℕ) (n tick now : ℕ) (t : Option ℕ) (s : Machine) (f last : Front) (ring : List Level) (plans : List PlannedRow)
+oldest-prepared : (ds : List ℕ) (n tick now : ℕ) (t : Option ℕ) (s : Machine) (f last : IssueState) (ring : List Level) (plans : List PlannedRow)
     → AreLevels ds n tick t s f last ring plans → All (λ level. level.p < now) ring → 1 ≤ length ring
     → (row_of_entry ds n f (entry t s)).p < now
 unfolding AreLevels
@@ -223,7 +223,7 @@ oldest-prepared ds n tick now t s f last (level ∷ levels) (q ∷ qs) h each so
 
 -- ---- at most 39 reads are accepted at the tick at which the oldest level is done, or later
 
-few-prepared : (ds : List ℕ) (n : ℕ) (f : Front) (e : Entry) → IsEntryInTime e → length (prepared_asked ds n f e) ≤ 34
+few-prepared : (ds : List ℕ) (n : ℕ) (f : IssueState) (e : Entry) → IsEntryInTime e → length (prepared_asked ds n f e) ≤ 34
 few-prepared ds n f e range =
     let p = tick_p ds n f e in
     simp length-append
@@ -236,7 +236,7 @@ few-prepared ds n f e range =
       range.two_few,
     ))
 
-few-so-far : (ds : List ℕ) (f : Front) (next : Next) → length (reads_so_far ds f next) ≤ next.entry.own.len + next.entry.target.len + 1
+few-so-far : (ds : List ℕ) (f : IssueState) (next : FetchUnit) → length (reads_so_far ds f next) ≤ next.entry.own.len + next.entry.target.len + 1
 unfolding fetches_asked words_asked fetch_words
 few-so-far ds f next =
     let start : Fetching = record { bus = f.bus; answered = 0; awaited = 0 } in
@@ -258,11 +258,11 @@ few-so-far ds f next =
     few-if false = omega arith
 
 few-next : (b : Bool) (ds : List ℕ) (n now : ℕ) (t : Option ℕ) (s : Machine) (v : LookaheadView) → IsNextIf b ds n now t s v
-    → IsEntryInTime (entry (table_behind (count v) t) (guesses (count v) t s)) → length (reads_so_far ds v.front v.next) ≤ 5
+    → IsEntryInTime (entry (table_behind (count v) t) (guesses (count v) t s)) → length (reads_so_far ds v.issue v.next) ≤ 5
 few-next true ds n now t s v is range =
     omega (
       arith,
-      few-so-far ds v.front v.next,
+      few-so-far ds v.issue v.next,
       is.0.read_on.first.own_start.few,
       is.0.read_on.first.target_start.few,
       range.own_few,
@@ -271,7 +271,7 @@ few-next true ds n now t s v is range =
 few-next false ds n now t s v is range =
     omega (
       arith,
-      few-so-far ds v.front v.next,
+      few-so-far ds v.issue v.next,
       ap (λ (r : WordRun). r.len) is.1,
       ap (λ (r : WordRun). r.len) is.2,
     )
@@ -284,7 +284,7 @@ record AreFew (ds : List ℕ) (now : ℕ) (reads : List Read) (b : Bus) : Type 0
   few : length rest ≤ 64
   free : (bus_after_reads ds first b).free ≤ now
 
-few-ahead : (ds : List ℕ) (n tick now : ℕ) (t : Option ℕ) (s : Machine) (f last : Front) (ring : List Level) (plans : List PlannedRow) (more : List Read)
+few-ahead : (ds : List ℕ) (n tick now : ℕ) (t : Option ℕ) (s : Machine) (f last : IssueState) (ring : List Level) (plans : List PlannedRow) (more : List Read)
     → AreDelaysUpTo 255 ds → IsMachine s → IfSome t (λ i. i < 64) → IsTight 255 f → AreLevels ds n tick t s f last ring plans
     → All (λ level. level.p < now) ring → 1 ≤ length ring → length more ≤ 5 → AreFew ds now (asked_ahead ds n (length ring) t s f ++ more) f.bus
 unfolding AreLevels row_of_entry ahead
@@ -307,14 +307,14 @@ few-ahead ds n tick now t s f last (level ∷ []) (q ∷ qs) more are m some tig
 few-ahead ds n tick now t s f last (level ∷ second ∷ levels) (q ∷ qs) more are m some tight h each one few =
     let e = entry t s in
     let range = entry-ranges t s m some in
-    let f' = front_after_entry ds n f e in
-    let rest = few-ahead ds n tick now None (guess t s) f' last (second ∷ levels) qs more are (guess-machine t s m some) tt
+    let f' = issue_after_entry ds n f e in
+    let rest = few-ahead ds n tick now None (prediction t s) f' last (second ∷ levels) qs more are (prediction-machine t s m some) tt
     (tight-after 255 ds are n f e range tight) h.1 (All-tail (λ (x : Level). x.p < now) level (second ∷ levels) each) (omega arith) few in
     record {
       first = reads_of_entry ds n f e ++ rest.first;
       rest = rest.rest;
       parts =
-          append_assoc (reads_of_entry ds n f e) (asked_ahead ds n (length (second ∷ levels)) None (guess t s) f') more
+          append_assoc (reads_of_entry ds n f e) (asked_ahead ds n (length (second ∷ levels)) None (prediction t s) f') more
           ∙ ap (λ reads. reads_of_entry ds n f e ++ reads) rest.parts
           ∙ sym (append_assoc (reads_of_entry ds n f e) rest.first rest.rest);
       few = rest.few;
@@ -326,33 +326,33 @@ few-ahead ds n tick now t s f last (level ∷ second ∷ levels) (q ∷ qs) more
           );
     }
 
-pub banks-left : (ds : List ℕ) (n tick now : ℕ) (t : Option ℕ) (s : Machine) (f : Front) (v : LookaheadView) → AreOrdered ds n → AreDelaysUpTo 255 ds
+pub banks-left : (ds : List ℕ) (n tick now : ℕ) (t : Option ℕ) (s : Machine) (f : IssueState) (v : LookaheadView) → AreOrdered ds n → AreDelaysUpTo 255 ds
     → now ≤ tick + 1 → count v ≤ n → 1 ≤ count v → IsOutlook ds n tick now t s f v
-    → All (λ q. (f.c < q.c) × (q.c ≤ v.front.c)) v.levels.plans → f.bus.free ≤ now
+    → All (λ q. (f.c < q.c) × (q.c ≤ v.issue.c)) v.levels.plans → f.bus.free ≤ now
     → IsEntryInTime (entry (table_behind (count v) t) (guesses (count v) t s))
     → (made_before ds now (reads_of_entry ds n f (entry t s)
-    ++ reads_before ds n now (ahead ds n (suc n) None (guess t s) (front_after_entry ds n f (entry t s)))) f.bus).banks.ticks
+    ++ reads_before ds n now (ahead ds n (suc n) None (prediction t s) (issue_after_entry ds n f (entry t s)))) f.bus).banks.ticks
     ≡ answers_left now v.log v.next.words.bus.banks.ticks
 unfolding ahead reads_before
 banks-left ds n tick now t s f v ordered are soon few some is order free range =
     let k = table_behind (count v) t in
     let u = guesses (count v) t s in
     let later = lookahead-later ds n tick now t s f v ordered soon is order in
-    let first : (row_of_entry ds n f (entry t s)).p < now = oldest-prepared ds n tick now t s f v.front v.levels.ring v.levels.plans is.ahead.levels is.prepared some in
+    let first : (row_of_entry ds n f (entry t s)).p < now = oldest-prepared ds n tick now t s f v.issue v.levels.ring v.levels.plans is.ahead.levels is.prepared some in
     let made = asked_ahead ds n (count v) t s f in
-    let so_far = reads_so_far ds v.front v.next in
+    let so_far = reads_so_far ds v.issue v.next in
     let reads = made ++ so_far in
     let all : made_before ds now (reads_of_entry ds n f (entry t s)
-    ++ reads_before ds n now (ahead ds n (suc n) None (guess t s) (front_after_entry ds n f (entry t s)))) f.bus ≡ made_before ds now reads f.bus =
+    ++ reads_before ds n now (ahead ds n (suc n) None (prediction t s) (issue_after_entry ds n f (entry t s)))) f.bus ≡ made_before ds now reads f.bus =
     ap (λ reads. made_before ds now reads f.bus)
     (sym (more-behind _ (reads_of_entry ds n f (entry t s)) _ (lt-ltb (row_of_entry ds n f (entry t s)).p now first))
-    ∙ levels-reads ds n tick now (suc (suc n)) t k s u f v.front v.levels.ring v.levels.plans is.ahead.levels is.prepared refl refl
+    ∙ levels-reads ds n tick now (suc (suc n)) t k s u f v.issue v.levels.ring v.levels.plans is.ahead.levels is.prepared refl refl
     later.prepared (omega arith)
     ∙ ap (λ reads. made ++ reads) later.reads
     ∙ sym (append_assoc made so_far later.rest))
     ∙ made-more ds now reads later.rest f.bus later.late in
     let log = logs_go_on.later ds f.bus.free now reads f.bus v.log free is.logged in
-    let split = few-ahead ds n tick now t s f v.front v.levels.ring v.levels.plans so_far are is.machine is.indicator is.oldest is.ahead.levels is.prepared some
+    let split = few-ahead ds n tick now t s f v.issue v.levels.ring v.levels.plans so_far are is.machine is.indicator is.oldest is.ahead.levels is.prepared some
     (few-next (is_open v) ds n now t s v is.next range) in
     ap (λ (b : Bus). b.banks.ticks) all
     ∙ sym (undone_is_made_before ds now reads f.bus v.log log (λ older early.

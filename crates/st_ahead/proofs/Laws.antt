@@ -24,8 +24,8 @@ use Rattle.st_rows.proofs.Laws.{buses_are_free_in_time, reads_are_wanted_in_time
 
 pub open_levels_run_ahead : OpenLevelsRunAhead
 open_levels_run_ahead = λ ds n now t s f v is early late opened.
-    levels-run ds n now t s f v.front v.levels.ring v.levels.plans is.levels opened (λ two.
-    levels_that_are_not_done_run_ahead ds n now (now + 1) t s f v.front v.levels is
+    levels-run ds n now t s f v.issue v.levels.ring v.levels.plans is.levels opened (λ two.
+    levels_that_are_not_done_run_ahead ds n now (now + 1) t s f v.issue v.levels is
     early (All-weaker (λ (q : PlannedRow). now < q.c) (λ q. now + 1 ≤ q.c) (λ q h. omega arith) v.levels.plans late) two)
 
 pub next_entries_are_known : NextEntriesAreKnown
@@ -35,7 +35,7 @@ next_entries_are_known = λ ds n tick now t s f v m i is late few run. record {
   origin = guesses_leave_the_rest.low (count v) t s 2 m i run (omega arith);
   bounds = guesses_leave_the_rest.low (count v) t s 3 m i run (omega arith);
   enabled = guesses_leave_the_rest.enabled (count v) t s m i run;
-  storage = λ w above done. writers_are_seen.words ds n tick now w t s f v.front v.levels m i is late few above done;
+  storage = λ w above done. writers_are_seen.words ds n tick now w t s f v.issue v.levels m i is late few above done;
 }
 
 pub planned_entries_become_levels : PlannedEntriesBecomeLevels
@@ -61,7 +61,7 @@ instruction_words_are_those_of_the_run = record {
       let u = guesses (count v) t s in
       let words = words-entry v.next.entry.own v.next.entry.target (entry k u) next.read_on.first
       (entry-ranges k u before.machine (behind-indicator (count v) t is.indicator)) in
-      contents-same ds now v.front v.levels.x s u v.next.entry.own v.next.entry.target before words
+      contents-same ds now v.issue v.levels.x s u v.next.entry.own v.next.entry.target before words
       (subst (λ (a : ℕ). a ≤ now) next.read_on.awaited done);
   fetched = λ ds n tick now t s f v lookahead planned.
       let opened = planned-open (is_open v) ds n now t s v lookahead.outlook.next planned in
@@ -91,9 +91,9 @@ lookaheads_are_levels = λ ds n tick now t s f v some most are soon few is.
       fetches = reads_are_wanted_in_time.fetches ds;
       behind = reads_are_wanted_in_time.«data» ds n;
     } in
-    let order = levels_come_in_order.completed ds n tick t s f v.front v.levels is.outlook.machine is.outlook.indicator is.outlook.ahead in
+    let order = levels_come_in_order.completed ds n tick t s f v.issue v.levels is.outlook.machine is.outlook.indicator is.outlook.ahead in
     let later = lookahead-later ds n tick now t s f v ordered soon (outlook-of ds n tick now t s f v is) order in
-    (levels_are_the_entries_ahead.prepared ds n tick now n t s f v.front v.levels is.outlook.ahead is.outlook.prepared later.prepared few).0
+    (levels_are_the_entries_ahead.prepared ds n tick now n t s f v.issue v.levels is.outlook.ahead is.outlook.prepared later.prepared few).0
 
 pub the_banks_are_left : TheBanksAreLeft
 unfolding row_of_entry
@@ -104,7 +104,7 @@ the_banks_are_left = λ ds n tick now t s f v some most are next few first is do
       fetches = reads_are_wanted_in_time.fetches ds;
       behind = reads_are_wanted_in_time.«data» ds n;
     } in
-    let order = levels_come_in_order.completed ds n tick t s f v.front v.levels is.machine is.indicator is.ahead in
+    let order = levels_come_in_order.completed ds n tick t s f v.issue v.levels is.machine is.indicator is.ahead in
     let range = entries_are_in_range.ranges t s is.machine is.indicator in
     let free : f.bus.free ≤ tick_c ds n f (entry t s) =
     (buses_are_free_in_time.done 255 n ds f (entry t s) are range is.oldest).0 in

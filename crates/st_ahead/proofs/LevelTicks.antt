@@ -3,46 +3,46 @@ use Rattle.std.proofs.Common.{◌≡◌, ℕ, zero, suc, ◌+◌, ◌*◌, ◌<�
 use Rattle.std.specs.Prelude.{All, IfSome}
 use Rattle.std.proofs.lemmas.List.Elements.{All-nil, All-cons, All-head, All-tail}
 use Rattle.st_state.specs.Machine.{Machine, IsMachine}
-use Rattle.st_exec.specs.Completion.{guess}
+use Rattle.st_exec.specs.Completion.{prediction}
 use Rattle.st_rows.specs.Ranges.{AreDelaysUpTo, IsTight}
-use Rattle.st_rows.specs.Rows.{row_of_entry, front_after_entry, tick_c}
-use Rattle.st_rows.specs.declared.front.Front.{Front}
+use Rattle.st_rows.specs.Rows.{row_of_entry, issue_after_entry, tick_c}
+use Rattle.st_rows.specs.declared.issue.IssueState.{IssueState}
 use Rattle.st_rows.proofs.Stages.{c-within}
 use Rattle.st_rows.proofs.Tight.{tight-after}
 use Rattle.st_ring.specs.declared.level.Level.{Level}
-use Rattle.st_segment.specs.Ahead.{front_behind}
+use Rattle.st_segment.specs.Ahead.{issue_behind}
 use Rattle.st_segment.specs.Entries.{entry}
 use Rattle.st_segment.proofs.EntryRanges.{entry-ranges}
-use Rattle.st_segment.proofs.GuessLemmas.{guess-machine}
+use Rattle.st_segment.proofs.GuessLemmas.{prediction-machine}
 use Rattle.st_ring.specs.Levels.{AreLevels}
 use Rattle.st_ring.specs.declared.plans.PlannedRow.{PlannedRow}
-use Rattle.st_ring.proofs.LevelLemmas.{levels-front}
+use Rattle.st_ring.proofs.LevelLemmas.{levels-issue}
 use Rattle.st_ring.proofs.OrderLemmas.{after-c}
 
 module _ (ds : List ℕ) (n : ℕ) where
   -- ---- one entry
 
-  pub done-later : (t : Option ℕ) (s : Machine) (f : Front) → IsMachine s → IfSome t (λ i. i < 64) → f.c < (row_of_entry ds n f (entry t s)).c
+  pub done-later : (t : Option ℕ) (s : Machine) (f : IssueState) → IsMachine s → IfSome t (λ i. i < 64) → f.c < (row_of_entry ds n f (entry t s)).c
   unfolding row_of_entry tick_c
   done-later t s f m some = omega (arith, (entry-ranges t s m some).costs.0)
 
   -- ---- the front behind several
 
-  behind-later : (k : ℕ) (t : Option ℕ) (s : Machine) (f : Front) → IsMachine s → IfSome t (λ i. i < 64)
-      → f.c + k ≤ (front_behind ds n k t s f).c
-  unfolding front_behind
+  behind-later : (k : ℕ) (t : Option ℕ) (s : Machine) (f : IssueState) → IsMachine s → IfSome t (λ i. i < 64)
+      → f.c + k ≤ (issue_behind ds n k t s f).c
+  unfolding issue_behind
   behind-later zero t s f m some = omega arith
   behind-later (suc k) t s f m some =
       omega (
         arith,
         after-c ds n f (entry t s),
         done-later t s f m some,
-        behind-later k None (guess t s) (front_after_entry ds n f (entry t s)) (guess-machine t s m some) tt,
+        behind-later k None (prediction t s) (issue_after_entry ds n f (entry t s)) (prediction-machine t s m some) tt,
       )
 
-  pub behind-soon : (k : ℕ) (t : Option ℕ) (s : Machine) (f : Front) → AreDelaysUpTo 255 ds → IsMachine s → IfSome t (λ i. i < 64) → IsTight 255 f
-      → (front_behind ds n k t s f).c ≤ f.c + 16576 * k
-  unfolding front_behind front_after_entry
+  pub behind-soon : (k : ℕ) (t : Option ℕ) (s : Machine) (f : IssueState) → AreDelaysUpTo 255 ds → IsMachine s → IfSome t (λ i. i < 64) → IsTight 255 f
+      → (issue_behind ds n k t s f).c ≤ f.c + 16576 * k
+  unfolding issue_behind issue_after_entry
   behind-soon zero t s f are m some tight = omega arith
   behind-soon (suc k) t s f are m some tight =
       let e = entry t s in
@@ -50,45 +50,45 @@ module _ (ds : List ℕ) (n : ℕ) where
       omega (
         arith,
         c-within 255 ds are f e range tight n,
-        behind-soon k None (guess t s) (front_after_entry ds n f e) are (guess-machine t s m some) tt (tight-after 255 ds are n f e range tight),
+        behind-soon k None (prediction t s) (issue_after_entry ds n f e) are (prediction-machine t s m some) tt (tight-after 255 ds are n f e range tight),
       )
 
-  same-place : (j k : ℕ) (t : Option ℕ) (s : Machine) (f : Front) → IsMachine s → IfSome t (λ i. i < 64)
-      → front_behind ds n j t s f ≡ front_behind ds n k t s f → j ≡ k
-  unfolding front_behind
+  same-place : (j k : ℕ) (t : Option ℕ) (s : Machine) (f : IssueState) → IsMachine s → IfSome t (λ i. i < 64)
+      → issue_behind ds n j t s f ≡ issue_behind ds n k t s f → j ≡ k
+  unfolding issue_behind
   same-place zero zero t s f m some same = refl
   same-place zero (suc k) t s f m some same =
-      let c = ap (λ (g : Front). g.c) same in
+      let c = ap (λ (g : IssueState). g.c) same in
       absurd (omega (
         arith,
         c,
         after-c ds n f (entry t s),
         done-later t s f m some,
-        behind-later k None (guess t s) (front_after_entry ds n f (entry t s)) (guess-machine t s m some) tt,
+        behind-later k None (prediction t s) (issue_after_entry ds n f (entry t s)) (prediction-machine t s m some) tt,
       ))
   same-place (suc j) zero t s f m some same =
-      let c = ap (λ (g : Front). g.c) same in
+      let c = ap (λ (g : IssueState). g.c) same in
       absurd (omega (
         arith,
         c,
         after-c ds n f (entry t s),
         done-later t s f m some,
-        behind-later j None (guess t s) (front_after_entry ds n f (entry t s)) (guess-machine t s m some) tt,
+        behind-later j None (prediction t s) (issue_after_entry ds n f (entry t s)) (prediction-machine t s m some) tt,
       ))
   same-place (suc j) (suc k) t s f m some same =
-      ap suc (same-place j k None (guess t s) (front_after_entry ds n f (entry t s)) (guess-machine t s m some) tt same)
+      ap suc (same-place j k None (prediction t s) (issue_after_entry ds n f (entry t s)) (prediction-machine t s m some) tt same)
 
   -- ---- levels between two fronts, whatever operands they have
 
   module _ (a b : ℕ) where
-    pub same-count : (t : Option ℕ) (s : Machine) (f last : Front) (ring more : List Level) (plans rows : List PlannedRow) → IsMachine s
+    pub same-count : (t : Option ℕ) (s : Machine) (f last : IssueState) (ring more : List Level) (plans rows : List PlannedRow) → IsMachine s
         → IfSome t (λ i. i < 64) → AreLevels ds n a t s f last ring plans → AreLevels ds n b t s f last more rows
         → length more ≡ length ring
     same-count t s f last ring more plans rows m some g h =
         same-place (length more) (length ring) t s f m some
-        (sym (levels-front ds n b t s f last more rows h) ∙ levels-front ds n a t s f last ring plans g)
+        (sym (levels-issue ds n b t s f last more rows h) ∙ levels-issue ds n a t s f last ring plans g)
 
-    pub prepared-still : (now : ℕ) (t : Option ℕ) (s : Machine) (f last : Front) (ring more : List Level) (plans rows : List PlannedRow)
+    pub prepared-still : (now : ℕ) (t : Option ℕ) (s : Machine) (f last : IssueState) (ring more : List Level) (plans rows : List PlannedRow)
         → AreLevels ds n a t s f last ring plans → AreLevels ds n b t s f last more rows → length more ≡ length ring
         → All (λ level. level.p < now) ring → All (λ level. level.p < now) more
     unfolding AreLevels
@@ -101,19 +101,19 @@ module _ (ds : List ℕ) (n : ℕ) where
         let one : l.p ≡ (row_of_entry ds n f (entry t s)).p = g.0.p in
         let two : x.p ≡ (row_of_entry ds n f (entry t s)).p = h.0.p in
         All-cons (λ (level : Level). level.p < now) x xs (omega arith)
-        (prepared-still now None (guess t s) (front_after_entry ds n f (entry t s)) last ls xs qs rs g.1 h.1 (omega (arith, same))
+        (prepared-still now None (prediction t s) (issue_after_entry ds n f (entry t s)) last ls xs qs rs g.1 h.1 (omega (arith, same))
         (All-tail (λ (level : Level). level.p < now) l ls each))
 
   -- ---- where the first of them is done later, all are
 
-  pub done-after : (tick now : ℕ) (t : Option ℕ) (s : Machine) (f last : Front) (ring : List Level) (plans : List PlannedRow) → IsMachine s
+  pub done-after : (tick now : ℕ) (t : Option ℕ) (s : Machine) (f last : IssueState) (ring : List Level) (plans : List PlannedRow) → IsMachine s
       → IfSome t (λ i. i < 64) → AreLevels ds n tick t s f last ring plans → now < (row_of_entry ds n f (entry t s)).c → All (λ q. now < q.c) plans
   unfolding AreLevels
   done-after tick now t s f last ring [] m some h late = All-nil (λ (q : PlannedRow). now < q.c)
   done-after tick now t s f last [] (q ∷ qs) m some h late = absurd h
   done-after tick now t s f last (level ∷ levels) (q ∷ qs) m some h late =
       let c : q.c ≡ (row_of_entry ds n f (entry t s)).c = h.0.c in
-      let machine = guess-machine t s m some in
+      let machine = prediction-machine t s m some in
       All-cons (λ (r : PlannedRow). now < r.c) q qs (omega arith)
-      (done-after tick now None (guess t s) (front_after_entry ds n f (entry t s)) last levels qs machine tt h.1
-      (omega (arith, after-c ds n f (entry t s), done-later None (guess t s) (front_after_entry ds n f (entry t s)) machine tt)))
+      (done-after tick now None (prediction t s) (issue_after_entry ds n f (entry t s)) last levels qs machine tt h.1
+      (omega (arith, after-c ds n f (entry t s), done-later None (prediction t s) (issue_after_entry ds n f (entry t s)) machine tt)))

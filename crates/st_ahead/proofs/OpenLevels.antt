@@ -4,8 +4,8 @@ use Rattle.std.proofs.Common.{◌≡◌, ℕ, ◌≤◌, ◌||◌, ◌==◌, Lis
 use Rattle.std.proofs.lemmas.Bool.{not-true}
 use Rattle.st_state.specs.Machine.{Machine}
 use Rattle.st_prep.specs.Plan.{plan}
-use Rattle.st_rows.specs.Rows.{front_after_entry}
-use Rattle.st_rows.specs.declared.front.Front.{Front}
+use Rattle.st_rows.specs.Rows.{issue_after_entry}
+use Rattle.st_rows.specs.declared.issue.IssueState.{IssueState}
 use Rattle.st_ring.specs.declared.level.Level.{Level}
 use Rattle.st_segment.specs.Entries.{entry}
 use Rattle.st_segment.specs.Alone.{RunAhead}
@@ -13,15 +13,15 @@ use Rattle.st_ring.specs.Levels.{AreLevels}
 use Rattle.st_ring.specs.declared.plans.PlannedRow.{PlannedRow}
 
 -- of one level the front behind it tells whether it is done alone
-one-level : (ds : List ℕ) (n tick : ℕ) (t : Option ℕ) (s : Machine) (f last : Front) (level : Level) (plans : List PlannedRow)
+one-level : (ds : List ℕ) (n tick : ℕ) (t : Option ℕ) (s : Machine) (f last : IssueState) (level : Level) (plans : List PlannedRow)
     → AreLevels ds n tick t s f last (level ∷ []) plans → last.serial ≡ false → (plan s t).serial ≡ false
-unfolding AreLevels front_after_entry entry
+unfolding AreLevels issue_after_entry entry
 one-level ds n tick t s f last level [] h alone = absurd h
-one-level ds n tick t s f last level (q ∷ []) h alone = sym (ap (λ (g : Front). g.serial) h.1) ∙ alone
+one-level ds n tick t s f last level (q ∷ []) h alone = sym (ap (λ (g : IssueState). g.serial) h.1) ∙ alone
 one-level ds n tick t s f last level (q ∷ r ∷ qs) h alone = absurd h.1
 
 -- several levels run ahead, and one does where the front behind it says so
-pub levels-run : (ds : List ℕ) (n tick : ℕ) (t : Option ℕ) (s : Machine) (f last : Front) (ring : List Level) (plans : List PlannedRow)
+pub levels-run : (ds : List ℕ) (n tick : ℕ) (t : Option ℕ) (s : Machine) (f last : IssueState) (ring : List Level) (plans : List PlannedRow)
     → AreLevels ds n tick t s f last ring plans → ((length ring == 0) || not last.serial) ≡ true
     → (2 ≤ length ring → RunAhead (length ring) t s) → RunAhead (length ring) t s
 unfolding RunAhead

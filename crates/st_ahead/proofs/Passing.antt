@@ -69,7 +69,7 @@ ticked-owed m = by (is_done m)
     by true = refl
     by false = refl
 
-pub goes-answers : (m : Overlap) → interrupt_due m ≡ None → rests m.state ≡ false → m.missed ≡ None → answer m ≡ Goes
+pub goes-answers : (m : Overlap) → interrupt_due m ≡ None → rests m.state ≡ false → m.mispredicted ≡ None → answer m ≡ Goes
 unfolding answer
 goes-answers m due awake right = rw (due, awake, right) refl
 

@@ -12,9 +12,9 @@ use Rattle.st_rows.specs.Asked.{formed_asked, prepared_asked}
 use Rattle.st_rows.specs.BusTimes.{Read}
 use Rattle.st_rows.specs.Notes.{log_after_reads, IsLogged}
 use Rattle.st_rows.specs.Ranges.{IsTight}
-use Rattle.st_rows.specs.Rows.{front_after_entry, wanted_from, tick_p, reads_of_entry}
+use Rattle.st_rows.specs.Rows.{issue_after_entry, wanted_from, tick_p, reads_of_entry}
 use Rattle.st_rows.specs.declared.entry.Entry.{Entry}
-use Rattle.st_rows.specs.declared.front.Front.{Front}
+use Rattle.st_rows.specs.declared.issue.IssueState.{IssueState}
 use Rattle.st_rows.proofs.Parts.{two-parts}
 use Rattle.st_ring.specs.declared.level.Level.{Level}
 use Rattle.st_segment.specs.Entries.{entry}
@@ -46,17 +46,17 @@ wanted-alone : (alone : Bool) (p c : ℕ) → alone ≡ false → (if alone then
 wanted-alone false p c is = refl
 wanted-alone true p c is = absurd (cc is)
 
-module _ (ds : List ℕ) (n now : ℕ) (t : Option ℕ) (s : Machine) (f : Front) (v w : LookaheadView) where
+module _ (ds : List ℕ) (n now : ℕ) (t : Option ℕ) (s : Machine) (f : IssueState) (v w : LookaheadView) where
   abbrev k : Option ℕ
   k = table_behind (count v) t
 
   abbrev u : Machine
   u = guesses (count v) t s
 
-  next-pushed : (p : Prepared) → p ≡ plan u k → count w ≡ suc (count v) → w.front.serial ≡ p.serial → w.front.p ≡ now
+  next-pushed : (p : Prepared) → p ≡ plan u k → count w ≡ suc (count v) → w.issue.serial ≡ p.serial → w.issue.p ≡ now
       → w.next.place ≡ record { counter = p.following; address = p.following; table = None }
       → w.next.planned ≡ false → w.next.entry.own ≡ record { first = 0; len = 0 } → w.next.entry.target ≡ record { first = 0; len = 0 }
-      → w.next.words ≡ record { bus = w.front.bus; answered = 0; awaited = 0 }
+      → w.next.words ≡ record { bus = w.issue.bus; answered = 0; awaited = 0 }
       → ((plan u k).serial ≡ false → (guesses (suc (count v)) t s).ic ≡ (plan u k).following)
       → IsNextIf (is_open w) ds n now t s w
   next-pushed p is counted serial ticked place unplanned own target words counter = by-open (is_open w) refl
@@ -64,37 +64,37 @@ module _ (ds : List ℕ) (n now : ℕ) (t : Option ℕ) (s : Machine) (f : Front
       by-open : (b : Bool) → is_open w ≡ b → IsNextIf b ds n now t s w
       by-open false opened = (unplanned, own, target, words)
       by-open true opened =
-          let alone : w.front.serial ≡ false =
-          open-pushed (count w == 0) w.front.serial true (differs (count w) 0 (λ none. omega (arith, none, counted))) opened in
+          let alone : w.issue.serial ≡ false =
+          open-pushed (count w == 0) w.issue.serial true (differs (count w) 0 (λ none. omega (arith, none, counted))) opened in
           let free : (plan u k).serial ≡ false = sym (ap (λ (x : Prepared). x.serial) is) ∙ sym serial ∙ alone in
           let table : table_behind (count w) t ≡ None = ap (λ j. table_behind j t) counted in
           let ic : (guesses (count w) t s).ic ≡ p.following =
           ap (λ j. (guesses j t s).ic) counted ∙ counter free ∙ sym (ap (λ (x : Prepared). x.following) is) in
-          let from : wanted_from w.front ≡ w.front.p = wanted-alone w.front.serial w.front.p w.front.c alone in (
-            new-next ds n (table_behind (count w) t) (guesses (count w) t s) w.front w.next
+          let from : wanted_from w.issue ≡ w.issue.p = wanted-alone w.issue.serial w.issue.p w.issue.c alone in (
+            new-next ds n (table_behind (count w) t) (guesses (count w) t s) w.issue w.next
                 (place ∙ place-behind (table_behind (count w) t) (guesses (count w) t s) p.following table ic) own target words unplanned,
-            new-rests now (table_behind (count w) t) (guesses (count w) t s) w.front w.next unplanned (omega (arith, from, ticked)),
+            new-rests now (table_behind (count w) t) (guesses (count w) t s) w.issue w.next unplanned (omega (arith, from, ticked)),
           )
 
   -- ---- all of it
 
   logged-pushed : IsGoing ds n now (now + 1) t s f v → BecomesLevel ds n now t s f v → v.next.planned ≡ true
-      → count w ≡ suc (count v) → reads_so_far ds w.front w.next ≡ []
-      → w.log ≡ log_after_reads ds (prepared_asked ds n v.front v.next.entry) v.next.words.bus v.log
+      → count w ≡ suc (count v) → reads_so_far ds w.issue w.next ≡ []
+      → w.log ≡ log_after_reads ds (prepared_asked ds n v.issue v.next.entry) v.next.words.bus v.log
       → IsLogged ds f.bus.free (reads_ahead ds n t s f w) f.bus w.log
   logged-pushed is becomes planned counted none kept =
       let x = v.next.entry in
       let so_far = asked_ahead ds n (count v) t s f in
-      let added = prepared_asked ds n v.front x in
-      let formed : reads_so_far ds v.front v.next ≡ formed_asked ds v.front x =
-      reads-formed ds n k u v.front v.next (becomes.is_next.planned planned) planned ∙ ap (formed_asked ds v.front) (sym (becomes.is_next.planned planned).entry) in
-      let parts : reads_of_entry ds n v.front x ≡ reads_so_far ds v.front v.next ++ added =
-      two-parts ds n v.front x ∙ ap (λ l. l ++ added) (sym formed) in
-      let logged = logged-more ds f.bus.free so_far (reads_so_far ds v.front v.next) (reads_of_entry ds n v.front x) added f.bus v.next.words.bus v.log w.log parts
+      let added = prepared_asked ds n v.issue x in
+      let formed : reads_so_far ds v.issue v.next ≡ formed_asked ds v.issue x =
+      reads-formed ds n k u v.issue v.next (becomes.is_next.planned planned) planned ∙ ap (formed_asked ds v.issue) (sym (becomes.is_next.planned planned).entry) in
+      let parts : reads_of_entry ds n v.issue x ≡ reads_so_far ds v.issue v.next ++ added =
+      two-parts ds n v.issue x ∙ ap (λ l. l ++ added) (sym formed) in
+      let logged = logged-more ds f.bus.free so_far (reads_so_far ds v.issue v.next) (reads_of_entry ds n v.issue x) added f.bus v.next.words.bus v.log w.log parts
       (bus-ahead ds n now (now + 1) t s f v is.next is.ahead) kept is.logged in
-      let list : so_far ++ reads_of_entry ds n v.front x ≡ reads_ahead ds n t s f w =
-      ap (λ y. so_far ++ reads_of_entry ds n v.front y) (becomes.is_next.planned planned).entry
-      ∙ sym (asked-more ds n now t k s u f v.front v.levels.ring v.levels.plans refl refl is.ahead.levels)
+      let list : so_far ++ reads_of_entry ds n v.issue x ≡ reads_ahead ds n t s f w =
+      ap (λ y. so_far ++ reads_of_entry ds n v.issue y) (becomes.is_next.planned planned).entry
+      ∙ sym (asked-more ds n now t k s u f v.issue v.levels.ring v.levels.plans refl refl is.ahead.levels)
       ∙ ap (λ j. asked_ahead ds n j t s f) (sym counted)
       ∙ sym (append-nil (asked_ahead ds n (count w) t s f))
       ∙ ap (λ l. asked_ahead ds n (count w) t s f ++ l) (sym none) in
@@ -103,20 +103,20 @@ module _ (ds : List ℕ) (n now : ℕ) (t : Option ℕ) (s : Machine) (f : Front
   pub going-pushed : (level : Level) (p : Prepared) → IsGoing ds n now (now + 1) t s f v → BecomesLevel ds n now t s f v
       → v.next.planned ≡ true → v.next.formed.p ≡ now
       → w.levels.ring ≡ v.levels.ring ++ level ∷ [] → level.p ≡ now → AreNotDone now w.levels
-      → AreAhead ds n now t s f w.front w.levels → w.front ≡ front_after_entry ds n v.front v.next.entry → IsTight 255 w.front → w.front.c ≤ v.front.c + 16576
+      → AreAhead ds n now t s f w.issue w.levels → w.issue ≡ issue_after_entry ds n v.issue v.next.entry → IsTight 255 w.issue → w.issue.c ≤ v.issue.c + 16576
       → p ≡ plan u k
       → w.next.place ≡ record { counter = p.following; address = p.following; table = None }
       → w.next.planned ≡ false → w.next.entry.own ≡ record { first = 0; len = 0 } → w.next.entry.target ≡ record { first = 0; len = 0 }
-      → w.next.words ≡ record { bus = w.front.bus; answered = 0; awaited = 0 }
-      → w.log ≡ log_after_reads ds (prepared_asked ds n v.front v.next.entry) v.next.words.bus v.log
+      → w.next.words ≡ record { bus = w.issue.bus; answered = 0; awaited = 0 }
+      → w.log ≡ log_after_reads ds (prepared_asked ds n v.issue v.next.entry) v.next.words.bus v.log
       → ((plan u k).serial ≡ false → (guesses (suc (count v)) t s).ic ≡ (plan u k).following)
       → IsGoing ds n now now t s f w
-  unfolding front_after_entry entry
-  going-pushed level p is becomes planned due ring level_p not_done ahead front tight bound plan_is place unplanned own target words kept counter =
+  unfolding issue_after_entry entry
+  going-pushed level p is becomes planned due ring level_p not_done ahead issue tight bound plan_is place unplanned own target words kept counter =
       let counted : count w ≡ suc (count v) = ap length ring ∙ length-more v.levels.ring level in
-      let ticked : w.front.p ≡ now = ap (λ (g : Front). g.p) front ∙ ap (tick_p ds n v.front) (becomes.is_next.planned planned).entry ∙ sym (becomes.is_next.planned planned).tick ∙ due in
-      let serial : w.front.serial ≡ p.serial =
-      ap (λ (g : Front). g.serial) front ∙ ap (λ (x : Entry). x.serial) (becomes.is_next.planned planned).entry ∙ sym (ap (λ (x : Prepared). x.serial) plan_is) in
+      let ticked : w.issue.p ≡ now = ap (λ (g : IssueState). g.p) issue ∙ ap (tick_p ds n v.issue) (becomes.is_next.planned planned).entry ∙ sym (becomes.is_next.planned planned).tick ∙ due in
+      let serial : w.issue.serial ≡ p.serial =
+      ap (λ (g : IssueState). g.serial) issue ∙ ap (λ (x : Entry). x.serial) (becomes.is_next.planned planned).entry ∙ sym (ap (λ (x : Prepared). x.serial) plan_is) in
       record {
         machine = is.machine;
         indicator = is.indicator;
@@ -132,7 +132,7 @@ module _ (ds : List ℕ) (n now : ℕ) (t : Option ℕ) (s : Machine) (f : Front
         early = omega (arith, bound, is.early, counted);
         next = next-pushed p plan_is counted serial ticked place unplanned own target words counter;
         late = λ is_planned. absurd (cc (is_planned, unplanned));
-        logged = logged-pushed is becomes planned counted (new-reads ds w.front w.next own target unplanned) kept;
+        logged = logged-pushed is becomes planned counted (new-reads ds w.issue w.next own target unplanned) kept;
       }
     where
       length-more : (l : List Level) (x : Level) → length (l ++ x ∷ []) ≡ suc (length l)

@@ -7,12 +7,12 @@ use Rattle.std.proofs.lemmas.List.{append-nil}
 use Rattle.std.proofs.lemmas.List.Elements.{All-weaker}
 use Rattle.st_state.specs.Machine.{Machine, IsMachine}
 use Rattle.st_prep.specs.Plan.{plan}
-use Rattle.st_exec.specs.Completion.{state_after_execution, guess, is_missed}
+use Rattle.st_exec.specs.Completion.{state_after_execution, prediction, is_mispredicted}
 use Rattle.st_exec.specs.Step.{interrupt, rests}
 use Rattle.st_rows.specs.Asked.{made_before}
 use Rattle.st_rows.specs.Rows.{reads_of_entry}
-use Rattle.st_rows.specs.Rows.{row_of_entry, front_after_entry}
-use Rattle.st_rows.specs.declared.front.Front.{Front}
+use Rattle.st_rows.specs.Rows.{row_of_entry, issue_after_entry}
+use Rattle.st_rows.specs.declared.issue.IssueState.{IssueState}
 use Rattle.st_ring.specs.declared.level.Level.{Level}
 use Rattle.st_segment.specs.Ahead.{ahead, reads_before}
 use Rattle.st_segment.specs.Entries.{entry}
@@ -40,7 +40,7 @@ use Rattle.st_rows.specs.Ranges.{most_ticks_of_entry}
 
 -- ---- an entry is done at a tick
 
-module _ (ds : List ℕ) (n now : ℕ) (t : Option ℕ) (s : Machine) (f : Front) (due : (row_of_entry ds n f (entry t s)).c ≡ now) where
+module _ (ds : List ℕ) (n now : ℕ) (t : Option ℕ) (s : Machine) (f : IssueState) (due : (row_of_entry ds n f (entry t s)).c ≡ now) where
   abbrev before : Overlap
   before = machine_between_ticks ds n s t f now
 
@@ -52,17 +52,17 @@ module _ (ds : List ℕ) (n now : ℕ) (t : Option ℕ) (s : Machine) (f : Front
   unfolding machine_after_tick
   ticked-done = cond-true _ _ _ is-due
 
-  module _ (right : is_missed (plan s t) s ≡ false) (none : interrupt (state_after_execution t s) ≡ None) (awake : rests (state_after_execution t s) ≡ false) where
+  module _ (right : is_mispredicted (plan s t) s ≡ false) (none : interrupt (state_after_execution t s) ≡ None) (awake : rests (state_after_execution t s) ≡ false) where
     goes-done : answer (machine_after_tick before) ≡ Goes
     unfolding machine_after_completion state_ahead
     goes-done = ap {A = Overlap} answer ticked-done ∙ goes-answers (machine_after_completion before) none awake (rw right refl)
 
-    next-done : machine_after_settling (machine_after_tick before) ≡ machine_between_ticks ds n (state_after_execution t s) None (front_after_entry ds n f (entry t s)) (now + 1)
+    next-done : machine_after_settling (machine_after_tick before) ≡ machine_between_ticks ds n (state_after_execution t s) None (issue_after_entry ds n f (entry t s)) (now + 1)
     unfolding machine_after_completion state_ahead
     next-done = goes-passed (machine_after_tick before) goes-done ∙ ap {A = Overlap} machine_after_pass ticked-done
 
     pub one-passed : (count : ℕ) → may_come_from_outside count (state_after_execution t s) ≡ false
-        → ArePassed count 1 before (machine_between_ticks ds n (state_after_execution t s) None (front_after_entry ds n f (entry t s)) (now + 1))
+        → ArePassed count 1 before (machine_between_ticks ds n (state_after_execution t s) None (issue_after_entry ds n f (entry t s)) (now + 1))
     unfolding machine_after_completion state_ahead
     one-passed count nothing =
         passed-one count before _ (record {
@@ -78,8 +78,8 @@ goes-parts None behind true m goes = absurd (cc goes)
 goes-parts None (Some h) false m goes = absurd (cc goes)
 goes-parts None None false m goes = (refl, refl, refl)
 
-pub stopped-comes : (ds : List ℕ) (n count now : ℕ) (t : Option ℕ) (s : Machine) (f : Front) → (row_of_entry ds n f (entry t s)).c ≡ now
-    → (may_come_from_outside count (state_after_execution t s) ≡ false → (if is_missed (plan s t) s then Some (plan s t).following else None) ≡ None
+pub stopped-comes : (ds : List ℕ) (n count now : ℕ) (t : Option ℕ) (s : Machine) (f : IssueState) → (row_of_entry ds n f (entry t s)).c ≡ now
+    → (may_come_from_outside count (state_after_execution t s) ≡ false → (if is_mispredicted (plan s t) s then Some (plan s t).following else None) ≡ None
     → interrupt (state_after_execution t s) ≡ None → rests (state_after_execution t s) ≡ false → ⊥)
     → answer (machine_after_tick (machine_between_ticks ds n s t f now)) ≡ Goes → may_come_from_outside count (machine_after_tick (machine_between_ticks ds n s t f now)).state ≡ true
 unfolding answer machine_after_completion state_ahead
@@ -87,12 +87,12 @@ stopped-comes ds n count now t s f due stops goes =
     let m = machine_after_completion (machine_between_ticks ds n s t f now) in
     let same = ticked-done ds n now t s f due in
     let goes_on : answer m ≡ Goes = ap {A = Overlap} answer (sym same) ∙ goes in
-    let parts = goes-parts (interrupt_due m) m.missed (rests m.state) m goes_on in
+    let parts = goes-parts (interrupt_due m) m.mispredicted (rests m.state) m goes_on in
     ap {A = Overlap} (λ m. may_come_from_outside count m.state) same ∙ true_from_ne_false (may_come_from_outside count (state_after_execution t s)) (λ nothing. stops nothing parts.2 parts.0 parts.1)
 
 -- ---- ticks at which none is
 
-move : (ds : List ℕ) (n count k j now to at : ℕ) (t x : Option ℕ) (s u : Machine) (f g : Front) → k ≡ j → to ≡ at
+move : (ds : List ℕ) (n count k j now to at : ℕ) (t x : Option ℕ) (s u : Machine) (f g : IssueState) → k ≡ j → to ≡ at
     → ArePassed count k (machine_between_ticks ds n s t f now) (machine_between_ticks ds n u x g to) → ArePassed count j (machine_between_ticks ds n s t f now) (machine_between_ticks ds n u x g at)
 move ds n count k j now to at t x s u f g same there are =
     subst (λ (i : ℕ). ArePassed count j (machine_between_ticks ds n s t f now) (machine_between_ticks ds n u x g i)) there
@@ -100,35 +100,35 @@ move ds n count k j now to at t x s u f g same there are =
 
 -- from the tick `now` on all ticks are passed up to a tick, `last` at the latest; v runs ahead of
 -- the state u, and k says whether its next entry is a table instruction
-pub record IsRunning (ds : List ℕ) (n count last now : ℕ) (t : Option ℕ) (s : Machine) (f : Front)
+pub record IsRunning (ds : List ℕ) (n count last now : ℕ) (t : Option ℕ) (s : Machine) (f : IssueState)
     (k : Option ℕ) (u : Machine) (v : LookaheadView) : Type 0 where
   pub tick : ℕ
-  pub front : Front
+  pub issue : IssueState
   pub passed : ArePassed count (tick + 1 - now) (machine_between_ticks ds n s t f now)
-      (machine_between_ticks ds n u k front (tick + 1))
+      (machine_between_ticks ds n u k issue (tick + 1))
   pub behind : now ≤ tick + 1
   pub soon : tick ≤ last
   pub awake : IsAwake k u
-  pub going : IsGoing ds n tick tick k u front v
+  pub going : IsGoing ds n tick tick k u issue v
 
-pub running-idle : (ds : List ℕ) (n count last now to : ℕ) (t k : Option ℕ) (s u : Machine) (f : Front) (v : LookaheadView)
-    (is : IsRunning ds n count last now t s f k u v) → is.tick < to → to ≤ (row_of_entry ds n is.front (entry k u)).c
-    → ArePassed count (to - now) (machine_between_ticks ds n s t f now) (machine_between_ticks ds n u k is.front to)
+pub running-idle : (ds : List ℕ) (n count last now to : ℕ) (t k : Option ℕ) (s u : Machine) (f : IssueState) (v : LookaheadView)
+    (is : IsRunning ds n count last now t s f k u v) → is.tick < to → to ≤ (row_of_entry ds n is.issue (entry k u)).c
+    → ArePassed count (to - now) (machine_between_ticks ds n s t f now) (machine_between_ticks ds n u k is.issue to)
 running-idle ds n count last now to t k s u f v is later soon =
-    let idle = are-idle ds n u k is.front is.awake.due is.awake.goes (to - (is.tick + 1)) (is.tick + 1) (omega (arith, later, soon)) in
-    move ds n count _ _ now _ _ t k s u f is.front (omega (arith, later, is.behind)) (omega (arith, later))
+    let idle = are-idle ds n u k is.issue is.awake.due is.awake.goes (to - (is.tick + 1)) (is.tick + 1) (omega (arith, later, soon)) in
+    move ds n count _ _ now _ _ t k s u f is.issue (omega (arith, later, is.behind)) (omega (arith, later))
     (passed-join count (is.tick + 1 - now) (to - (is.tick + 1)) _ _ _ is.passed (passed-any count (to - (is.tick + 1)) _ _ idle))
 
 -- no entry is done in them
-pub rows-idle : (ds : List ℕ) (n count last now to : ℕ) (t k : Option ℕ) (s u : Machine) (f : Front) (v : LookaheadView)
-    (is : IsRunning ds n count last now t s f k u v) → is.tick < to → to ≤ (row_of_entry ds n is.front (entry k u)).c
+pub rows-idle : (ds : List ℕ) (n count last now to : ℕ) (t k : Option ℕ) (s u : Machine) (f : IssueState) (v : LookaheadView)
+    (is : IsRunning ds n count last now t s f k u v) → is.tick < to → to ≤ (row_of_entry ds n is.issue (entry k u)).c
     → rows_in_ticks (is.tick + 1 - now) (machine_between_ticks ds n s t f now) ≡ rows_in_ticks (to - now) (machine_between_ticks ds n s t f now)
 rows-idle ds n count last now to t k s u f v is later soon =
     let start = machine_between_ticks ds n s t f now in
     let j = is.tick + 1 - now in
     let i = to - (is.tick + 1) in
     let same : to - now ≡ j + i = omega (arith, later, is.behind) in
-    let idle = are-idle ds n u k is.front is.awake.due is.awake.goes i (is.tick + 1) (omega (arith, later, soon)) in
+    let idle = are-idle ds n u k is.issue is.awake.due is.awake.goes i (is.tick + 1) (omega (arith, later, soon)) in
     let all : rows_in_ticks (to - now) start ≡ rows_in_ticks j start =
     ap {A = ℕ} (λ x. rows_in_ticks x start) same
     ∙ rows-join j i start
@@ -139,7 +139,7 @@ rows-idle ds n count last now to t k s u f v is later soon =
 
 -- ---- it starts
 
-start-by : (ds : List ℕ) (n count now : ℕ) (t : Option ℕ) (s : Machine) (f : Front) → IsMachine s → IfSome t (λ i. i < 64) → IsAwake t s
+start-by : (ds : List ℕ) (n count now : ℕ) (t : Option ℕ) (s : Machine) (f : IssueState) → IsMachine s → IfSome t (λ i. i < 64) → IsAwake t s
     → ArePassed count (now - 1 + 1 - now) (machine_between_ticks ds n s t f now) (machine_between_ticks ds n s t f (now - 1 + 1))
 start-by ds n count zero t s f m some awake =
     move ds n count _ _ 0 _ _ t t s s f f (omega arith) (omega arith)
@@ -147,11 +147,11 @@ start-by ds n count zero t s f m some awake =
 start-by ds n count (suc now) t s f m some awake =
     move ds n count 0 _ (suc now) (suc now) _ t t s s f f (omega arith) (omega arith) (passed-none count (machine_between_ticks ds n s t f (suc now)))
 
-pub running-starts : (ds : List ℕ) (n count last now : ℕ) (t : Option ℕ) (s : Machine) (f : Front) (v : LookaheadView)
+pub running-starts : (ds : List ℕ) (n count last now : ℕ) (t : Option ℕ) (s : Machine) (f : IssueState) (v : LookaheadView)
     → GoesFrom ds n last now t s f v → IsRunning ds n count last now t s f t s v
 running-starts ds n count last now t s f v is = record {
   tick = now - 1;
-  front = f;
+  issue = f;
   passed = start-by ds n count now t s f is.lookahead.outlook.machine is.lookahead.outlook.indicator is.awake;
   behind = omega arith;
   soon = omega (arith, is.soon);
@@ -160,12 +160,12 @@ running-starts ds n count last now t s f v is = record {
 }
 
 -- so it runs, and of the entries that are done the rows wait
-pub record IsNoting (ds : List ℕ) (n count last now : ℕ) (t : Option ℕ) (s : Machine) (f : Front) (k : Option ℕ) (u : Machine) (v : LookaheadView)
+pub record IsNoting (ds : List ℕ) (n count last now : ℕ) (t : Option ℕ) (s : Machine) (f : IssueState) (k : Option ℕ) (u : Machine) (v : LookaheadView)
     (old new : Queue) : Type 0 where
   pub run : IsRunning ds n count last now t s f k u v
   pub noted : new ≡ queue_with (rows_in_ticks (run.tick + 1 - now) (machine_between_ticks ds n s t f now)) old
 
-pub noting-starts : (ds : List ℕ) (n count last now : ℕ) (t : Option ℕ) (s : Machine) (f : Front) (v : LookaheadView) (q : Queue)
+pub noting-starts : (ds : List ℕ) (n count last now : ℕ) (t : Option ℕ) (s : Machine) (f : IssueState) (v : LookaheadView) (q : Queue)
     → GoesFrom ds n last now t s f v → IsNoting ds n count last now t s f t s v q q
 unfolding running-starts
 noting-starts ds n count last now t s f v q is = record {
@@ -176,57 +176,57 @@ noting-starts ds n count last now t s f v q is = record {
 
 -- ---- behind an entry that is done it goes on
 
-going-done : (ds : List ℕ) (n due : ℕ) (s : Machine) (f : Front) (v : LookaheadView) → f.c ≡ due → IsOutlook ds n (due - 1) due None s f v
+going-done : (ds : List ℕ) (n due : ℕ) (s : Machine) (f : IssueState) (v : LookaheadView) → f.c ≡ due → IsOutlook ds n (due - 1) due None s f v
     → IsGoing ds n due due None s f v
 going-done ds n due s f v at is =
-    let ahead_ = ahead-rests (due - 1) due (omega arith) ds n None s f v.front v.levels is.ahead in
+    let ahead_ = ahead-rests (due - 1) due (omega arith) ds n None s f v.issue v.levels is.ahead in
     let start : f.c ≤ (due + 1) + 9 = omega (arith, is.start) in
-    let early : v.front.c ≤ (due + 1) + 9 + most_ticks_of_entry * count v = omega (arith, is.early) in
-    assumption (All-weaker (λ (x : Level). x.p < due) (λ x. x.p < due + 1) (λ x h. omega (arith, h)) v.levels.ring is.prepared, done-after ds n due due None s f v.front v.levels.ring v.levels.plans is.machine tt ahead_.levels (omega (arith, at, done-later ds n None s f is.machine tt)))
+    let early : v.issue.c ≤ (due + 1) + 9 + most_ticks_of_entry * count v = omega (arith, is.early) in
+    assumption (All-weaker (λ (x : Level). x.p < due) (λ x. x.p < due + 1) (λ x h. omega (arith, h)) v.levels.ring is.prepared, done-after ds n due due None s f v.issue v.levels.ring v.levels.plans is.machine tt ahead_.levels (omega (arith, at, done-later ds n None s f is.machine tt)))
 
-missed-none : (b : Bool) (h : ℕ) → (if b then Some h else None) ≡ None → b ≡ false
-missed-none true h e = absurd (cc e)
-missed-none false h e = refl
+mispredicted-none : (b : Bool) (h : ℕ) → (if b then Some h else None) ≡ None → b ≡ false
+mispredicted-none true h e = absurd (cc e)
+mispredicted-none false h e = refl
 
-module _ (ds : List ℕ) (n count last now due : ℕ) (t k : Option ℕ) (s u x : Machine) (f : Front) (v w new : LookaheadView) (done : Completed)
-    (is : IsRunning ds n count last now t s f k u v) (at : IsDueAt ds n is.tick last k u is.front w due)
-    (state : x ≡ state_after_execution k u) (told : IsCompleted ds n k u is.front done) where
-  pub running-on : IsOutlook ds n (due - 1) due None (guess k u) (front_after_entry ds n is.front (entry k u)) new
-      → may_come_from_outside count x ≡ false → done.missed ≡ None → interrupt x ≡ None → rests x ≡ false
-      → (is_missed (plan u k) u ≡ false → guess k u ≡ state_after_execution k u)
+module _ (ds : List ℕ) (n count last now due : ℕ) (t k : Option ℕ) (s u x : Machine) (f : IssueState) (v w new : LookaheadView) (done : Completed)
+    (is : IsRunning ds n count last now t s f k u v) (at : IsDueAt ds n is.tick last k u is.issue w due)
+    (state : x ≡ state_after_execution k u) (told : IsCompleted ds n k u is.issue done) where
+  pub running-on : IsOutlook ds n (due - 1) due None (prediction k u) (issue_after_entry ds n is.issue (entry k u)) new
+      → may_come_from_outside count x ≡ false → done.mispredicted ≡ None → interrupt x ≡ None → rests x ≡ false
+      → (is_mispredicted (plan u k) u ≡ false → prediction k u ≡ state_after_execution k u)
       → IsRunning ds n count last now t s f None x new
-  running-on out nothing missed none awake guessed =
-      let right : is_missed (plan u k) u ≡ false = missed-none (is_missed (plan u k) u) (plan u k).following (sym told.missed ∙ missed) in
-      let front = front_after_entry ds n is.front (entry k u) in
-      let c : front.c ≡ due = after-c ds n is.front (entry k u) ∙ at.row_is in
-      let same : guess k u ≡ x = guessed right ∙ sym state in
-      let outlook = subst (λ (m : Machine). IsOutlook ds n (due - 1) due None m front new) same out in
-      let one = one-passed ds n due k u is.front at.row_is right (ap {A = Machine} interrupt (sym state) ∙ none) (ap {A = Machine} rests (sym state) ∙ awake) count
+  running-on out nothing mispredicted none awake predicted =
+      let right : is_mispredicted (plan u k) u ≡ false = mispredicted-none (is_mispredicted (plan u k) u) (plan u k).following (sym told.mispredicted ∙ mispredicted) in
+      let issue = issue_after_entry ds n is.issue (entry k u) in
+      let c : issue.c ≡ due = after-c ds n is.issue (entry k u) ∙ at.row_is in
+      let same : prediction k u ≡ x = predicted right ∙ sym state in
+      let outlook = subst (λ (m : Machine). IsOutlook ds n (due - 1) due None m issue new) same out in
+      let one = one-passed ds n due k u is.issue at.row_is right (ap {A = Machine} interrupt (sym state) ∙ none) (ap {A = Machine} rests (sym state) ∙ awake) count
       (ap {A = Machine} (may_come_from_outside count) (sym state) ∙ nothing) in
       let idle = running-idle ds n count last now due t k s u f v is at.later (omega (arith, at.row_is)) in
       record {
         tick = due;
-        front = front;
+        issue = issue;
         passed =
-            subst (λ (m : Machine). ArePassed count (due + 1 - now) (machine_between_ticks ds n s t f now) (machine_between_ticks ds n m None front (due + 1))) (sym state)
-            (move ds n count _ _ now _ _ t None s (state_after_execution k u) f front (omega (arith, at.later, is.behind)) refl
+            subst (λ (m : Machine). ArePassed count (due + 1 - now) (machine_between_ticks ds n s t f now) (machine_between_ticks ds n m None issue (due + 1))) (sym state)
+            (move ds n count _ _ now _ _ t None s (state_after_execution k u) f issue (omega (arith, at.later, is.behind)) refl
             (passed-join count (due - now) 1 _ _ _ idle one));
         behind = omega (arith, at.later, is.behind);
         soon = at.soon;
         awake = record { due = none; goes = awake };
-        going = going-done ds n due x front new c outlook;
+        going = going-done ds n due x issue new c outlook;
       }
 
-pub row-between : (n : ℕ) (ds : List ℕ) (s u : Machine) (t : Option ℕ) (f : Front) (tick number : ℕ) (done : Completed)
+pub row-between : (n : ℕ) (ds : List ℕ) (s u : Machine) (t : Option ℕ) (f : IssueState) (tick number : ℕ) (done : Completed)
     → number ≡ s.done + 1 → done.address ≡ (plan s t).place.address → done.p ≡ (row_of_entry ds n f (entry t s)).p → done.r ≡ (row_of_entry ds n f (entry t s)).r
     → told number done.address done.p done.r tick ≡ row_done (machine_between_ticks ds n s t f tick)
 unfolding state_ahead oldest_row
 row-between n ds s u t f tick number done counted address p r =
     same-row number done.address done.p done.r tick _ _ _ _ counted address p r
 
-module _ (ds : List ℕ) (n count last now due : ℕ) (t k : Option ℕ) (s u x : Machine) (f : Front) (v w new : LookaheadView) (done : Completed)
-    (is : IsRunning ds n count last now t s f k u v) (at : IsDueAt ds n is.tick last k u is.front w due)
-    (told_of : IsCompleted ds n k u is.front done) (counted : x.done ≡ u.done + 1) where
+module _ (ds : List ℕ) (n count last now due : ℕ) (t k : Option ℕ) (s u x : Machine) (f : IssueState) (v w new : LookaheadView) (done : Completed)
+    (is : IsRunning ds n count last now t s f k u v) (at : IsDueAt ds n is.tick last k u is.issue w due)
+    (told_of : IsCompleted ds n k u is.issue done) (counted : x.done ≡ u.done + 1) where
   abbrev start : Overlap
   start = machine_between_ticks ds n s t f now
 
@@ -235,12 +235,12 @@ module _ (ds : List ℕ) (n count last now due : ℕ) (t k : Option ℕ) (s u x 
 
   rows-on : rows_in_ticks (is.tick + 1 - now) start ++ row ∷ [] ≡ rows_in_ticks (due + 1 - now) start
   rows-on =
-      let here = machine_between_ticks ds n u k is.front due in
+      let here = machine_between_ticks ds n u k is.issue due in
       let idle = running-idle ds n count last now due t k s u f v is at.later (omega (arith, at.row_is)) in
       let same : due + 1 - now ≡ (due - now) + 1 = omega (arith, at.later, is.behind) in
       let last_row : row ∷ [] ≡ rows_in_ticks 1 here =
-      ap {A = Row} (λ y. y ∷ []) (row-between n ds u x k is.front due x.done done counted told_of.address told_of.p told_of.r)
-      ∙ sym (row-one here (is-due ds n due k u is.front at.row_is)) in
+      ap {A = Row} (λ y. y ∷ []) (row-between n ds u x k is.issue due x.done done counted told_of.address told_of.p told_of.r)
+      ∙ sym (row-one here (is-due ds n due k u is.issue at.row_is)) in
       let all : rows_in_ticks (due + 1 - now) start ≡ rows_in_ticks (is.tick + 1 - now) start ++ row ∷ [] =
       ap {A = ℕ} (λ i. rows_in_ticks i start) same
       ∙ rows-join (due - now) 1 start
@@ -257,17 +257,17 @@ module _ (ds : List ℕ) (n count last now due : ℕ) (t k : Option ℕ) (s u x 
       ∙ queue-both (rows_in_ticks (is.tick + 1 - now) start) (row ∷ []) old
       ∙ ap {A = List Row} (λ xs. queue_with xs old) rows-on
 
-module _ (ds : List ℕ) (n count last now due : ℕ) (t k : Option ℕ) (s u x : Machine) (f : Front) (v w new : LookaheadView) (done : Completed) (old mid : Queue)
-    (is : IsNoting ds n count last now t s f k u v old mid) (at : IsDueAt ds n is.run.tick last k u is.run.front w due)
-    (state : x ≡ state_after_execution k u) (told_of : IsCompleted ds n k u is.run.front done) where
-  pub noting-on : IsOutlook ds n (due - 1) due None (guess k u) (front_after_entry ds n is.run.front (entry k u)) new
-      → may_come_from_outside count x ≡ false → done.missed ≡ None → interrupt x ≡ None → rests x ≡ false
-      → (is_missed (plan u k) u ≡ false → guess k u ≡ state_after_execution k u) → x.done ≡ u.done + 1
+module _ (ds : List ℕ) (n count last now due : ℕ) (t k : Option ℕ) (s u x : Machine) (f : IssueState) (v w new : LookaheadView) (done : Completed) (old mid : Queue)
+    (is : IsNoting ds n count last now t s f k u v old mid) (at : IsDueAt ds n is.run.tick last k u is.run.issue w due)
+    (state : x ≡ state_after_execution k u) (told_of : IsCompleted ds n k u is.run.issue done) where
+  pub noting-on : IsOutlook ds n (due - 1) due None (prediction k u) (issue_after_entry ds n is.run.issue (entry k u)) new
+      → may_come_from_outside count x ≡ false → done.mispredicted ≡ None → interrupt x ≡ None → rests x ≡ false
+      → (is_mispredicted (plan u k) u ≡ false → prediction k u ≡ state_after_execution k u) → x.done ≡ u.done + 1
       → (later : Queue) {row : Row} → later ≡ queue_with (row ∷ []) mid → row ≡ told x.done done.address done.p done.r due
       → IsNoting ds n count last now t s f None x new old later
   unfolding running-on
-  noting-on out nothing missed none awake guessed counted later {row} waits same = record {
-    run = running-on ds n count last now due t k s u x f v w new done is.run at state told_of out nothing missed none awake guessed;
+  noting-on out nothing mispredicted none awake predicted counted later {row} waits same = record {
+    run = running-on ds n count last now due t k s u x f v w new done is.run at state told_of out nothing mispredicted none awake predicted;
     noted =
         waits
         ∙ ap {A = Row} (λ y. queue_with (y ∷ []) mid) same
@@ -276,19 +276,19 @@ module _ (ds : List ℕ) (n count last now due : ℕ) (t k : Option ℕ) (s u x 
 
 -- ---- it ends
 
-pub running-ends : (ds : List ℕ) (n count last now : ℕ) (t k : Option ℕ) (s u : Machine) (f : Front) (v w : LookaheadView)
-    (is : IsRunning ds n count last now t s f k u v) → last < (row_of_entry ds n is.front (entry k u)).c → IsLookahead ds n last (last + 1) k u is.front w
+pub running-ends : (ds : List ℕ) (n count last now : ℕ) (t k : Option ℕ) (s u : Machine) (f : IssueState) (v w : LookaheadView)
+    (is : IsRunning ds n count last now t s f k u v) → last < (row_of_entry ds n is.issue (entry k u)).c → IsLookahead ds n last (last + 1) k u is.issue w
     → HasPassed ds n count last now t s f k u w
 running-ends ds n count last now t k s u f v w is late lookahead = record {
-  front = is.front;
+  issue = is.issue;
   passed = running-idle ds n count last now (last + 1) t k s u f v is (omega (arith, is.soon)) (omega (arith, late));
   awake = is.awake;
   lookahead = lookahead;
 }
 
 -- the answers of the banks at the end of a segment
-pub banks-between : (ds : List ℕ) (n now : ℕ) (t : Option ℕ) (s : Machine) (f : Front) (v : LookaheadView)
-    → (made_before ds now (reads_of_entry ds n f (entry t s) ++ reads_before ds n now (ahead ds n (suc n) None (guess t s) (front_after_entry ds n f (entry t s)))) f.bus).banks.ticks
+pub banks-between : (ds : List ℕ) (n now : ℕ) (t : Option ℕ) (s : Machine) (f : IssueState) (v : LookaheadView)
+    → (made_before ds now (reads_of_entry ds n f (entry t s) ++ reads_before ds n now (ahead ds n (suc n) None (prediction t s) (issue_after_entry ds n f (entry t s)))) f.bus).banks.ticks
     ≡ (answers_before now v).ticks
     → banks_at_its_end (machine_between_ticks ds n s t f now) ≡ answers_before now v
 unfolding state_ahead banks_at_its_end

@@ -2,11 +2,11 @@
 use Rattle.std.proofs.Common.{◌≡◌, ℕ, suc, List, [], ◌∷◌, ◌++◌, append_assoc, length, Option, None, sym, ◌∙◌, ap, ap₂}
 use Rattle.std.proofs.lemmas.List.{append-nil}
 use Rattle.st_state.specs.Machine.{Machine}
-use Rattle.st_exec.specs.Completion.{guess}
+use Rattle.st_exec.specs.Completion.{prediction}
 use Rattle.st_rows.specs.Asked.{bus_after_reads}
 use Rattle.st_rows.specs.Rows.{reads_of_entry}
-use Rattle.st_rows.specs.Rows.{front_after_entry}
-use Rattle.st_rows.specs.declared.front.Front.{Front}
+use Rattle.st_rows.specs.Rows.{issue_after_entry}
+use Rattle.st_rows.specs.declared.issue.IssueState.{IssueState}
 use Rattle.st_rows.proofs.Served.{served-append, served-asked}
 use Rattle.st_ring.specs.declared.level.Level.{Level}
 use Rattle.st_segment.specs.Ahead.{ahead}
@@ -18,19 +18,19 @@ use Rattle.st_ring.specs.declared.plans.PlannedRow.{PlannedRow}
 use Rattle.st_ahead.specs.Forecast.{asked_ahead}
 
 module _ (ds : List ℕ) (n tick : ℕ) where
-  pub served-ahead : (t : Option ℕ) (s : Machine) (f last : Front) (ring : List Level) (plans : List PlannedRow)
+  pub served-ahead : (t : Option ℕ) (s : Machine) (f last : IssueState) (ring : List Level) (plans : List PlannedRow)
       → AreLevels ds n tick t s f last ring plans → bus_after_reads ds (asked_ahead ds n (length ring) t s f) f.bus ≡ last.bus
   unfolding AreLevels bus_after_reads ahead
-  served-ahead t s f last [] [] h = ap (λ (g : Front). g.bus) (sym h)
+  served-ahead t s f last [] [] h = ap (λ (g : IssueState). g.bus) (sym h)
   served-ahead t s f last [] (q ∷ qs) h = absurd h
   served-ahead t s f last (level ∷ levels) [] h = absurd h
   served-ahead t s f last (level ∷ levels) (q ∷ qs) h =
-      let rest = asked_ahead ds n (length levels) None (guess t s) (front_after_entry ds n f (entry t s)) in
+      let rest = asked_ahead ds n (length levels) None (prediction t s) (issue_after_entry ds n f (entry t s)) in
       served-append ds (reads_of_entry ds n f (entry t s)) rest f.bus
       ∙ ap (bus_after_reads ds rest) (served-asked ds n f (entry t s))
-      ∙ served-ahead None (guess t s) (front_after_entry ds n f (entry t s)) last levels qs h.1
+      ∙ served-ahead None (prediction t s) (issue_after_entry ds n f (entry t s)) last levels qs h.1
 
-  pub asked-more : (t k : Option ℕ) (s u : Machine) (f last : Front) (ring : List Level) (plans : List PlannedRow)
+  pub asked-more : (t k : Option ℕ) (s u : Machine) (f last : IssueState) (ring : List Level) (plans : List PlannedRow)
       → k ≡ table_behind (length ring) t → u ≡ guesses (length ring) t s → AreLevels ds n tick t s f last ring plans
       → asked_ahead ds n (suc (length ring)) t s f ≡ asked_ahead ds n (length ring) t s f ++ reads_of_entry ds n last (entry k u)
   unfolding AreLevels guesses ahead
@@ -41,5 +41,5 @@ module _ (ds : List ℕ) (n tick : ℕ) where
   asked-more t k s u f last (level ∷ levels) (q ∷ qs) table state h =
       let first = reads_of_entry ds n f (entry t s) in
       ap (λ reads. first ++ reads)
-      (asked-more None k (guess t s) u (front_after_entry ds n f (entry t s)) last levels qs (table ∙ sym (behind-none (length levels))) state h.1)
-      ∙ sym (append_assoc first (asked_ahead ds n (length levels) None (guess t s) (front_after_entry ds n f (entry t s))) (reads_of_entry ds n last (entry k u)))
+      (asked-more None k (prediction t s) u (issue_after_entry ds n f (entry t s)) last levels qs (table ∙ sym (behind-none (length levels))) state h.1)
+      ∙ sym (append_assoc first (asked_ahead ds n (length levels) None (prediction t s) (issue_after_entry ds n f (entry t s))) (reads_of_entry ds n last (entry k u)))

@@ -11,10 +11,10 @@ use Rattle.st_exec.specs.Step.{interrupt, rests}
 use Rattle.st_banks.specs.Bank.{idle_banks}
 use Rattle.st_banks.specs.declared.answers.LastAnswers.{LastAnswers}
 use Rattle.st_banks.specs.declared.answers.TheConstants.{BANKS}
-use Rattle.st_rows.specs.Rows.{opening_front}
-use Rattle.st_rows.specs.declared.front.Front.{Front}
+use Rattle.st_rows.specs.Rows.{opening_issue}
+use Rattle.st_rows.specs.declared.issue.IssueState.{IssueState}
 use Rattle.st_ring.specs.declared.level.Level.{Level}
-use Rattle.st_ring.specs.Levels.{oldest_front}
+use Rattle.st_ring.specs.Levels.{oldest_issue}
 use Rattle.st_segment.specs.Ahead.{ahead, prepared_before}
 use Rattle.st_ring.proofs.LevelLemmas.{length-ahead}
 use Rattle.st_ahead.specs.Overlap.{Overlap, state_ahead, with_counter, levels_of, interrupt_due}
@@ -23,9 +23,9 @@ use Rattle.st_ahead.specs.Forecast.{LookaheadView, IsLookahead, IsOpened, count,
 use Rattle.st_ahead.specs.Going.{IsGoing}
 use Rattle.st_ahead.specs.Inside.{overlap_of, answers_before, IsBetween, IsInside, IsInTime, IsLookaheadOf}
 use Rattle.st_ahead.proofs.Openings.{opening-lookahead}
-use Rattle.st_ahead.specs.declared.events.Settled.TheVariants.{Goes, Interrupt, Missed, Waits}
+use Rattle.st_ahead.specs.declared.events.Settled.TheVariants.{Goes, Interrupt, Mispredicted, Waits}
 use Rattle.st_ahead.proofs.Further.{next-sooner}
-use Rattle.st_ahead.proofs.Standing.{opened-answers, opened-front, same-fields, inside-fresh, inside-between}
+use Rattle.st_ahead.proofs.Standing.{opened-answers, opened-issue, same-fields, inside-fresh, inside-between}
 use Rattle.st_rows.specs.Ranges.{most_ticks_of_entry}
 
 -- ---- what is due where no entry was done
@@ -101,47 +101,47 @@ pub settled-waits : (m : Overlap) → interrupt_due m ≡ None → rests m.state
 unfolding machine_after_settling
 settled-waits m due waits = rw (due, waits) refl
 
-answer-by-missed : (p : Option ℕ) (m : Overlap) → is_some p ≡ true → Missed (drop_count m) ≡ answer_by None false p m
-answer-by-missed (Some h) m e = refl
-answer-by-missed None m e = absurd (cc e)
+answer-by-mispredicted : (p : Option ℕ) (m : Overlap) → is_some p ≡ true → Mispredicted (drop_count m) ≡ answer_by None false p m
+answer-by-mispredicted (Some h) m e = refl
+answer-by-mispredicted None m e = absurd (cc e)
 
-settled-by-missed : (p : Option ℕ) (m : Overlap) → is_some p ≡ true → machine_after_pass (machine_after_segment m) ≡ settled_by None false p m
-settled-by-missed (Some h) m e = refl
-settled-by-missed None m e = absurd (cc e)
+settled-by-mispredicted : (p : Option ℕ) (m : Overlap) → is_some p ≡ true → machine_after_pass (machine_after_segment m) ≡ settled_by None false p m
+settled-by-mispredicted (Some h) m e = refl
+settled-by-mispredicted None m e = absurd (cc e)
 
-pub answer-missed : (m : Overlap) (d : ℕ) → d ≡ drop_count m → interrupt_due m ≡ None → rests m.state ≡ false → is_some m.missed ≡ true → Missed d ≡ answer m
+pub answer-mispredicted : (m : Overlap) (d : ℕ) → d ≡ drop_count m → interrupt_due m ≡ None → rests m.state ≡ false → is_some m.mispredicted ≡ true → Mispredicted d ≡ answer m
 unfolding answer
-answer-missed m d count due goes missed = rw (due, goes, count) (answer-by-missed m.missed m missed)
+answer-mispredicted m d count due goes mispredicted = rw (due, goes, count) (answer-by-mispredicted m.mispredicted m mispredicted)
 
-pub settled-missed : (m x : Overlap) → interrupt_due m ≡ None → rests m.state ≡ false → is_some m.missed ≡ true → x ≡ machine_after_pass (machine_after_segment m) → x ≡ machine_after_settling m
+pub settled-mispredicted : (m x : Overlap) → interrupt_due m ≡ None → rests m.state ≡ false → is_some m.mispredicted ≡ true → x ≡ machine_after_pass (machine_after_segment m) → x ≡ machine_after_settling m
 unfolding machine_after_settling
-settled-missed m x due goes missed is = rw (due, goes) (is ∙ settled-by-missed m.missed m missed)
+settled-mispredicted m x due goes mispredicted is = rw (due, goes) (is ∙ settled-by-mispredicted m.mispredicted m mispredicted)
 
 pub none-behind : (p : Option ℕ) → is_some p ≡ false → p ≡ None
 none-behind None e = refl
 none-behind (Some h) e = absurd (cc e)
 
-pub answer-goes : (m : Overlap) → interrupt_due m ≡ None → rests m.state ≡ false → m.missed ≡ None → Goes ≡ answer m
+pub answer-goes : (m : Overlap) → interrupt_due m ≡ None → rests m.state ≡ false → m.mispredicted ≡ None → Goes ≡ answer m
 unfolding answer
 answer-goes m due goes right = rw (due, goes, right) refl
 
-pub settled-goes : (m x : Overlap) → interrupt_due m ≡ None → rests m.state ≡ false → m.missed ≡ None → x ≡ machine_after_pass m → x ≡ machine_after_settling m
+pub settled-goes : (m x : Overlap) → interrupt_due m ≡ None → rests m.state ≡ false → m.mispredicted ≡ None → x ≡ machine_after_pass m → x ≡ machine_after_settling m
 unfolding machine_after_settling
 settled-goes m x due goes right is = rw (due, goes, right) is
 
 -- ---- the levels that are dropped
 
 pub levels-counted : (halt : Bool) (n : ℕ) (ds : List ℕ) (s : Machine) (t b : Option ℕ) (now : ℕ) (fresh : Bool) (v : LookaheadView)
-    → prepared_before now (ahead ds n n t (with_counter b s) (oldest_front v.levels.plans v.front)) ≡ ahead ds n (count v) t (with_counter b s) (oldest_front v.levels.plans v.front)
+    → prepared_before now (ahead ds n n t (with_counter b s) (oldest_issue v.levels.plans v.issue)) ≡ ahead ds n (count v) t (with_counter b s) (oldest_issue v.levels.plans v.issue)
     → length (levels_of (overlap_of n ds s t b now true false halt fresh v)) ≡ count v
 unfolding levels_of state_ahead
 levels-counted halt n ds s t b now fresh v levels =
-    ap length levels ∙ length-ahead ds n (count v) t (with_counter b s) (oldest_front v.levels.plans v.front)
+    ap length levels ∙ length-ahead ds n (count v) t (with_counter b s) (oldest_issue v.levels.plans v.issue)
 
 pub end-hazard_free : (halt : Bool) (n : ℕ) (ds : List ℕ) (s : Machine) (b : Option ℕ) (now : ℕ) (v w : LookaheadView)
     → IsInside (overlap_of n ds s None b now true false halt true v) true v → IsMachine s → count v ≤ n
     → length (levels_of (overlap_of n ds s None b now true false halt true v)) ≡ count v
-    → IsOpened None s (opening_front (answers_before now v) (now + 1 + count v)) w
+    → IsOpened None s (opening_issue (answers_before now v) (now + 1 + count v)) w
     → All (λ x. x ≤ now + 1 + count v + 255) (answers_before now v).ticks
     → IsInside (overlap_of n ds s None b now true true halt true w) true w
     × (count v ≡ drop_count (overlap_of n ds s None b now true false halt true v))
@@ -149,15 +149,15 @@ pub end-hazard_free : (halt : Bool) (n : ℕ) (ds : List ℕ) (s : Machine) (b :
 unfolding drop_count machine_after_segment
 end-hazard_free halt n ds s b now v w is m most levels opened early =
     let banks : answers_before now w ≡ answers_before now v = opened-answers now None s (answers_before now v) (now + 1 + count v) w opened in
-    let start : w.front.c ≡ now + 1 + count v = ap (λ (f : Front). f.c) opened.front in
+    let start : w.issue.c ≡ now + 1 + count v = ap (λ (f : IssueState). f.c) opened.issue in
     let few : n ≤ 8 = is.few in
-    let front = opened-front None s (opening_front (answers_before now v) (now + 1 + count v)) w opened in
+    let issue = opened-issue None s (opening_issue (answers_before now v) (now + 1 + count v)) w opened in
     let between : IsBetween now None s w = record {
       machine = m;
       opened =
-          subst (λ (x : LastAnswers). IsOpened None s (opening_front x w.front.c) w) (sym banks)
-          (subst (λ (x : ℕ). IsOpened None s (opening_front (answers_before now v) x) w) (sym start) opened);
-      banks = subst (λ (x : LastAnswers). All (λ y. y ≤ w.front.c + 255) x.ticks) (sym banks)
+          subst (λ (x : LastAnswers). IsOpened None s (opening_issue x w.issue.c) w) (sym banks)
+          (subst (λ (x : ℕ). IsOpened None s (opening_issue (answers_before now v) x) w) (sym start) opened);
+      banks = subst (λ (x : LastAnswers). All (λ y. y ≤ w.issue.c + 255) x.ticks) (sym banks)
           (subst (λ (x : ℕ). All (λ y. y ≤ x + 255) (answers_before now v).ticks) (sym start) early);
       later = omega (arith, start);
       soon = omega (arith, start, most, few);
@@ -165,7 +165,7 @@ end-hazard_free halt n ds s b now v w is m most levels opened early =
       inside-fresh halt true n ds s b now w is.some few is.in_time between (λ e. absurd (cc e))
           (subst (λ (x : LastAnswers). All (λ y. y ≤ now + 255) x.ticks) (sym banks) (is.done refl).1),
       sym levels,
-      same-fields halt ds n s s None b b _ _ now true true _ _ refl refl (front ∙ ap (λ k. opening_front (answers_before now v) (now + 1 + k)) (sym levels)) (ap Some banks),
+      same-fields halt ds n s s None b b _ _ now true true _ _ refl refl (issue ∙ ap (λ k. opening_issue (answers_before now v) (now + 1 + k)) (sym levels)) (ap Some banks),
     )
 
 -- where the segment has ended already
@@ -178,9 +178,9 @@ end-again halt n ds s t b now owed false fresh v e = absurd (cc e)
 
 pub end-first : (halt : Bool) (n : ℕ) (ds : List ℕ) (s : Machine) (t b : Option ℕ) (now : ℕ) (owed over fresh : Bool) (v w : LookaheadView)
     → IsInside (overlap_of n ds s t b now owed over halt fresh v) fresh v → IsMachine s → owed ≡ true → over ≡ false → fresh ≡ true → count v ≤ n
-    → (IsLookahead ds n now now t (with_counter b s) (oldest_front v.levels.plans v.front) v
-    → prepared_before now (ahead ds n n t (with_counter b s) (oldest_front v.levels.plans v.front)) ≡ ahead ds n (count v) t (with_counter b s) (oldest_front v.levels.plans v.front))
-    → (IsLookahead ds n now now t (with_counter b s) (oldest_front v.levels.plans v.front) v → IsOpened None s (opening_front (answers_before now v) (now + 1 + count v)) w)
+    → (IsLookahead ds n now now t (with_counter b s) (oldest_issue v.levels.plans v.issue) v
+    → prepared_before now (ahead ds n n t (with_counter b s) (oldest_issue v.levels.plans v.issue)) ≡ ahead ds n (count v) t (with_counter b s) (oldest_issue v.levels.plans v.issue))
+    → (IsLookahead ds n now now t (with_counter b s) (oldest_issue v.levels.plans v.issue) v → IsOpened None s (opening_issue (answers_before now v) (now + 1 + count v)) w)
     → All (λ x. x ≤ now + 1 + count v + 255) (answers_before now v).ticks
     → IsInside (overlap_of n ds s t b now owed true halt fresh w) fresh w
     × (count v ≡ drop_count (overlap_of n ds s t b now owed over halt fresh v))
@@ -197,23 +197,23 @@ end-first halt n ds s None b now true false true v w is m owes ends done most le
 given-hazard_free : (halt : Bool) (n : ℕ) (ds : List ℕ) (s : Machine) (t b : Option ℕ) (now : ℕ) (v w : LookaheadView)
     → IsInside (overlap_of n ds s t b now true false halt false v) false v → IsMachine s → count v ≤ n
     → length (levels_of (overlap_of n ds s t b now true false halt false v)) ≡ count v
-    → IsOpened t s (opening_front idle_banks (now + 1 + count v)) w
+    → IsOpened t s (opening_issue idle_banks (now + 1 + count v)) w
     → IsInside (overlap_of n ds s t b now true true halt false w) false w
     × (count v ≡ drop_count (overlap_of n ds s t b now true false halt false v))
     × (overlap_of n ds s t b now true true halt false w ≡ machine_after_segment (overlap_of n ds s t b now true false halt false v))
 unfolding drop_count machine_after_segment
 given-hazard_free halt n ds s t b now v w is m most levels opened =
     let banks : answers_before now w ≡ idle_banks = opened-answers now t s idle_banks (now + 1 + count v) w opened in
-    let start : w.front.c ≡ now + 1 + count v = ap (λ (f : Front). f.c) opened.front in
+    let start : w.issue.c ≡ now + 1 + count v = ap (λ (f : IssueState). f.c) opened.issue in
     let few : n ≤ 8 = is.few in
-    let front = opened-front t s (opening_front idle_banks (now + 1 + count v)) w opened in
+    let issue = opened-issue t s (opening_issue idle_banks (now + 1 + count v)) w opened in
     let between : IsBetween now t s w = record {
       machine = m;
       opened =
-          subst (λ (x : LastAnswers). IsOpened t s (opening_front x w.front.c) w) (sym banks)
-          (subst (λ (x : ℕ). IsOpened t s (opening_front idle_banks x) w) (sym start) opened);
-      banks = subst (λ (x : LastAnswers). All (λ y. y ≤ w.front.c + 255) x.ticks) (sym banks)
-          (All-replicate (λ (y : ℕ). y ≤ w.front.c + 255) BANKS 0 (omega arith));
+          subst (λ (x : LastAnswers). IsOpened t s (opening_issue x w.issue.c) w) (sym banks)
+          (subst (λ (x : ℕ). IsOpened t s (opening_issue idle_banks x) w) (sym start) opened);
+      banks = subst (λ (x : LastAnswers). All (λ y. y ≤ w.issue.c + 255) x.ticks) (sym banks)
+          (All-replicate (λ (y : ℕ). y ≤ w.issue.c + 255) BANKS 0 (omega arith));
       later = omega (arith, start);
       soon = omega (arith, start, most, few);
     } in (
@@ -229,15 +229,15 @@ given-hazard_free halt n ds s t b now v w is m most levels opened =
         unstarted = λ e. absurd (cc e);
       },
       sym levels,
-      same-fields halt ds n s s t b b _ _ now true true None None refl refl (front ∙ ap (λ k. opening_front idle_banks (now + 1 + k)) (sym levels)) refl,
+      same-fields halt ds n s s t b b _ _ now true true None None refl refl (issue ∙ ap (λ k. opening_issue idle_banks (now + 1 + k)) (sym levels)) refl,
     )
 
 pub given-up : (halt : Bool) (n : ℕ) (ds : List ℕ) (s : Machine) (t b : Option ℕ) (now : ℕ) (owed over fresh : Bool) (v w : LookaheadView)
     → IsInside (overlap_of n ds s t b now owed over halt fresh v) fresh v → IsMachine s → owed ≡ true → over ≡ false
     → (overlap_of n ds s t b now owed over halt fresh v).closing ≡ None → count v ≤ n
-    → (IsLookahead ds n now now t (with_counter b s) (oldest_front v.levels.plans v.front) v
-    → prepared_before now (ahead ds n n t (with_counter b s) (oldest_front v.levels.plans v.front)) ≡ ahead ds n (count v) t (with_counter b s) (oldest_front v.levels.plans v.front))
-    → (IsLookahead ds n now now t (with_counter b s) (oldest_front v.levels.plans v.front) v → IsOpened t s (opening_front idle_banks (now + 1 + count v)) w)
+    → (IsLookahead ds n now now t (with_counter b s) (oldest_issue v.levels.plans v.issue) v
+    → prepared_before now (ahead ds n n t (with_counter b s) (oldest_issue v.levels.plans v.issue)) ≡ ahead ds n (count v) t (with_counter b s) (oldest_issue v.levels.plans v.issue))
+    → (IsLookahead ds n now now t (with_counter b s) (oldest_issue v.levels.plans v.issue) v → IsOpened t s (opening_issue idle_banks (now + 1 + count v)) w)
     → IsInside (overlap_of n ds s t b now owed true halt fresh w) fresh w
     × (count v ≡ drop_count (overlap_of n ds s t b now owed over halt fresh v))
     × (overlap_of n ds s t b now owed true halt fresh w ≡ machine_after_segment (overlap_of n ds s t b now owed over halt fresh v))
@@ -256,8 +256,8 @@ giving-up halt n ds s t b now true over fresh v is owes = (is.in_time, is.indica
 
 -- what the end of one asks for
 pub record IsEnding (n : ℕ) (ds : List ℕ) (s : Machine) (t b : Option ℕ) (now : ℕ) (v : LookaheadView) : Type 0 where
-  pub lookahead : IsLookahead ds n now now t (with_counter b s) (oldest_front v.levels.plans v.front) v
-  pub done : (oldest_front v.levels.plans v.front).c ≡ now
+  pub lookahead : IsLookahead ds n now now t (with_counter b s) (oldest_issue v.levels.plans v.issue) v
+  pub done : (oldest_issue v.levels.plans v.issue).c ≡ now
   pub early : now < 2 ^ 63
 
 pub ending : (halt : Bool) (n : ℕ) (ds : List ℕ) (s : Machine) (t b : Option ℕ) (now : ℕ) (owed over fresh : Bool) (v : LookaheadView)
@@ -313,11 +313,11 @@ pass-inside halt n ds s t b now false over fresh v is off owes ends due goes = a
 pass-inside halt n ds s t b now true false fresh v is off owes ends due goes = absurd (cc ends)
 pass-inside halt n ds s t b now true true fresh v is off owes ends due goes =
     let between : IsBetween now t s v = is.lookahead in
-    let later : now + 1 ≤ v.front.c = between.later in
-    let soon : v.front.c ≤ now + 1 + 9 = omega (arith, between.soon) in
-    let lookahead = opening-lookahead ds n now (now + 1) v.front.c t s (answers_before now v) v between.opened between.machine is.indicator between.banks later soon in (
+    let later : now + 1 ≤ v.issue.c = between.later in
+    let soon : v.issue.c ≤ now + 1 + 9 = omega (arith, between.soon) in
+    let lookahead = opening-lookahead ds n now (now + 1) v.issue.c t s (answers_before now v) v between.opened between.machine is.indicator between.banks later soon in (
       inside-between halt n ds s t now v is.some is.few off is.in_time
-          (subst (λ (f : Front). IsLookahead ds n now (now + 1) t s f v) (sym (opened-front t s (opening_front (answers_before now v) v.front.c) v between.opened)) lookahead) is.indicator due goes,
+          (subst (λ (f : IssueState). IsLookahead ds n now (now + 1) t s f v) (sym (opened-issue t s (opening_issue (answers_before now v) v.issue.c) v between.opened)) lookahead) is.indicator due goes,
       refl,
     )
 
@@ -344,12 +344,12 @@ interrupt-inside halt n ds s b now true true fresh v i is off owes ends few due 
     let w = record v { next = record v.next { place = place_of s (Some i) } } in
     let between : IsBetween now None s v = is.lookahead in
     let o = between.opened in
-    let opened : IsOpened (Some i) s (opening_front (answers_before now v) v.front.c) w = assumption in
-    let later : now + 1 ≤ v.front.c = between.later in
-    let soon : v.front.c ≤ now + 1 + 9 = omega (arith, between.soon) in
-    let lookahead = opening-lookahead ds n now (now + 1) v.front.c (Some i) s (answers_before now v) w opened between.machine few between.banks later soon in (
+    let opened : IsOpened (Some i) s (opening_issue (answers_before now v) v.issue.c) w = assumption in
+    let later : now + 1 ≤ v.issue.c = between.later in
+    let soon : v.issue.c ≤ now + 1 + 9 = omega (arith, between.soon) in
+    let lookahead = opening-lookahead ds n now (now + 1) v.issue.c (Some i) s (answers_before now v) w opened between.machine few between.banks later soon in (
       inside-between halt n ds s (Some i) now w is.some is.few off is.in_time
-          (subst (λ (f : Front). IsLookahead ds n now (now + 1) (Some i) s f w) (sym (opened-front (Some i) s (opening_front (answers_before now v) v.front.c) w opened)) lookahead)
+          (subst (λ (f : IssueState). IsLookahead ds n now (now + 1) (Some i) s f w) (sym (opened-issue (Some i) s (opening_issue (answers_before now v) v.issue.c) w opened)) lookahead)
           few refl (rest-not s.waiting (pending s) i (pending-of s.enabled (pending s) i due)),
       refl,
     )
@@ -369,27 +369,27 @@ interrupt-taken halt n ds s None b now owed over fresh v w i none is off owes en
 
 -- ---- what runs ahead goes on
 
-pub lookahead-goes : (ds : List ℕ) (n now : ℕ) (t : Option ℕ) (s : Machine) (f : Front) (v : LookaheadView) → IsLookahead ds n now now t s f v
+pub lookahead-goes : (ds : List ℕ) (n now : ℕ) (t : Option ℕ) (s : Machine) (f : IssueState) (v : LookaheadView) → IsLookahead ds n now now t s f v
     → IsGoing ds n now now t s f v
 lookahead-goes ds n now t s f v lookahead =
     let is = lookahead.outlook in
     let start : f.c ≤ (now + 1) + 9 = omega (arith, is.start) in
-    let early : v.front.c ≤ (now + 1) + 9 + most_ticks_of_entry * count v = omega (arith, is.early) in
+    let early : v.issue.c ≤ (now + 1) + 9 + most_ticks_of_entry * count v = omega (arith, is.early) in
     assumption (All-weaker (λ (level : Level). level.p < now) (λ level. level.p < now + 1) (λ level h. omega arith) v.levels.ring is.prepared)
 
 -- the same before a tick that is not made
-pub lookahead-runs : (ds : List ℕ) (n now : ℕ) (t : Option ℕ) (s : Machine) (f : Front) (v : LookaheadView) → IsLookahead ds n (now - 1) now t s f v
+pub lookahead-runs : (ds : List ℕ) (n now : ℕ) (t : Option ℕ) (s : Machine) (f : IssueState) (v : LookaheadView) → IsLookahead ds n (now - 1) now t s f v
     → IsGoing ds n (now - 1) (now - 1) t s f v
 lookahead-runs ds n now t s f v lookahead =
     let is = lookahead.outlook in
     let start : f.c ≤ (now - 1 + 1) + 9 = omega (arith, is.start) in
-    let early : v.front.c ≤ (now - 1 + 1) + 9 + most_ticks_of_entry * count v = omega (arith, is.early) in
+    let early : v.issue.c ≤ (now - 1 + 1) + 9 + most_ticks_of_entry * count v = omega (arith, is.early) in
     let late : v.next.planned ≡ true → (now - 1) ≤ v.next.formed.p = λ planned. omega (arith, is.late planned) in
     assumption (All-weaker (λ (level : Level). level.p < now) (λ level. level.p < now - 1 + 1) (λ level h. omega (arith, h)) v.levels.ring is.prepared, next-sooner (is_open v) ds n now (now - 1) t s v (omega arith) is.next)
 
 pub going-lookahead : (halt : Bool) (n : ℕ) (ds : List ℕ) (s : Machine) (t b : Option ℕ) (now : ℕ) (owed over fresh : Bool) (v : LookaheadView)
     → IsInside (overlap_of n ds s t b now owed over halt fresh v) fresh v → owed ≡ true → over ≡ false → b ≡ None
-    → IsLookahead ds n now now t s (oldest_front v.levels.plans v.front) v × (now < 2 ^ 63)
+    → IsLookahead ds n now now t s (oldest_issue v.levels.plans v.issue) v × (now < 2 ^ 63)
 unfolding state_ahead
 going-lookahead halt n ds s t b now false over fresh v is owes ends right = absurd (cc owes)
 going-lookahead halt n ds s t b now true true fresh v is owes ends right = absurd (cc ends)
@@ -399,17 +399,17 @@ going-lookahead halt n ds s t None now true false fresh v is owes ends right = (
 pub go-inside : (halt : Bool) (n : ℕ) (ds : List ℕ) (s : Machine) (t b : Option ℕ) (now : ℕ) (owed over fresh : Bool) (v w : LookaheadView)
     → IsInside (overlap_of n ds s t b now owed over halt fresh v) fresh v → halt ≡ false → owed ≡ true → over ≡ false → b ≡ None
     → interrupt_due (overlap_of n ds s t b now owed over halt fresh v) ≡ None → rests s ≡ false
-    → IsLookahead ds n now (now + 1) t s (oldest_front v.levels.plans v.front) w
-    → oldest_front w.levels.plans w.front ≡ oldest_front v.levels.plans v.front
+    → IsLookahead ds n now (now + 1) t s (oldest_issue v.levels.plans v.issue) w
+    → oldest_issue w.levels.plans w.issue ≡ oldest_issue v.levels.plans v.issue
     → IsInside (overlap_of n ds s t b (now + 1) false over halt false w) false w
     × (overlap_of n ds s t b (now + 1) false over halt false w ≡ machine_after_pass (overlap_of n ds s t b now owed over halt fresh v))
 unfolding state_ahead
-go-inside halt n ds s t b now false over fresh v w is off owes ends right due goes lookahead front = absurd (cc owes)
-go-inside halt n ds s t b now true true fresh v w is off owes ends right due goes lookahead front = absurd (cc ends)
-go-inside halt n ds s t (Some h) now true false fresh v w is off owes ends right due goes lookahead front = absurd (cc right)
-go-inside halt n ds s t None now true false fresh v w is off owes ends right due goes lookahead front = (
-  inside-between halt n ds s t now w is.some is.few off is.in_time (subst (λ (f : Front). IsLookahead ds n now (now + 1) t s f w) (sym front) lookahead) is.indicator due goes,
-  same-fields halt ds n s s t None None _ _ (now + 1) false false None None refl refl front refl,
+go-inside halt n ds s t b now false over fresh v w is off owes ends right due goes lookahead issue = absurd (cc owes)
+go-inside halt n ds s t b now true true fresh v w is off owes ends right due goes lookahead issue = absurd (cc ends)
+go-inside halt n ds s t (Some h) now true false fresh v w is off owes ends right due goes lookahead issue = absurd (cc right)
+go-inside halt n ds s t None now true false fresh v w is off owes ends right due goes lookahead issue = (
+  inside-between halt n ds s t now w is.some is.few off is.in_time (subst (λ (f : IssueState). IsLookahead ds n now (now + 1) t s f w) (sym issue) lookahead) is.indicator due goes,
+  same-fields halt ds n s s t None None _ _ (now + 1) false false None None refl refl issue refl,
 )
 
 -- where no entry was done at a tick, nothing closes at it
@@ -428,11 +428,11 @@ both-none (Some h) d none = absurd (cc none)
 both-none None (Some i) none = absurd (cc none)
 both-none None None none = (refl, refl)
 
-pub goes-yes : (m : Overlap) (ends waits : Bool) → ends ≡ (is_some m.missed || is_some (interrupt_due m)) → ends ≡ false
-    → waits ≡ rests m.state → not waits ≡ true → (interrupt_due m ≡ None) × (rests m.state ≡ false) × (m.missed ≡ None)
+pub goes-yes : (m : Overlap) (ends waits : Bool) → ends ≡ (is_some m.mispredicted || is_some (interrupt_due m)) → ends ≡ false
+    → waits ≡ rests m.state → not waits ≡ true → (interrupt_due m ≡ None) × (rests m.state ≡ false) × (m.mispredicted ≡ None)
 goes-yes m ends true is none by goes = absurd (cc goes)
 goes-yes m ends false is none by goes =
-    let both = both-none m.missed (interrupt_due m) (sym is ∙ none) in
+    let both = both-none m.mispredicted (interrupt_due m) (sym is ∙ none) in
     (both.0, sym by, both.1)
 
 some-first : (b d r : Bool) → (b || d) ≡ true → (b || d || r) ≡ true
@@ -445,21 +445,21 @@ some-last true d r some = refl
 some-last false true r some = refl
 some-last false false r some = some
 
-pub goes-not : (m : Overlap) (ends : Bool) → ends ≡ (is_some m.missed || is_some (interrupt_due m)) → ends ≡ true
-    → (is_some m.missed || is_some (interrupt_due m) || rests m.state) ≡ true
-goes-not m ends is some = some-first (is_some m.missed) (is_some (interrupt_due m)) (rests m.state) (sym is ∙ some)
+pub goes-not : (m : Overlap) (ends : Bool) → ends ≡ (is_some m.mispredicted || is_some (interrupt_due m)) → ends ≡ true
+    → (is_some m.mispredicted || is_some (interrupt_due m) || rests m.state) ≡ true
+goes-not m ends is some = some-first (is_some m.mispredicted) (is_some (interrupt_due m)) (rests m.state) (sym is ∙ some)
 
 pub goes-no : (m : Overlap) (waits : Bool) → waits ≡ rests m.state → not waits ≡ false
-    → (is_some m.missed || is_some (interrupt_due m) || rests m.state) ≡ true
-goes-no m true by waits = some-last (is_some m.missed) (is_some (interrupt_due m)) (rests m.state) (sym by)
+    → (is_some m.mispredicted || is_some (interrupt_due m) || rests m.state) ≡ true
+goes-no m true by waits = some-last (is_some m.mispredicted) (is_some (interrupt_due m)) (rests m.state) (sym by)
 goes-no m false by waits = absurd (cc waits)
 
-missed-by : (b : Bool) (d : Option ℕ) (r : Bool) → d ≡ None → r ≡ false → (b || is_some d || r) ≡ true → b ≡ true
-missed-by true d r none goes some = refl
-missed-by false (Some i) r none goes some = absurd (cc none)
-missed-by false None true none goes some = absurd (cc goes)
-missed-by false None false none goes some = absurd (cc some)
+mispredicted-by : (b : Bool) (d : Option ℕ) (r : Bool) → d ≡ None → r ≡ false → (b || is_some d || r) ≡ true → b ≡ true
+mispredicted-by true d r none goes some = refl
+mispredicted-by false (Some i) r none goes some = absurd (cc none)
+mispredicted-by false None true none goes some = absurd (cc goes)
+mispredicted-by false None false none goes some = absurd (cc some)
 
-pub misled : (m : Overlap) → interrupt_due m ≡ None → rests m.state ≡ false
-    → (is_some m.missed || is_some (interrupt_due m) || rests m.state) ≡ true → is_some m.missed ≡ true
-misled m none goes some = missed-by (is_some m.missed) (interrupt_due m) (rests m.state) none goes some
+pub mispredicted : (m : Overlap) → interrupt_due m ≡ None → rests m.state ≡ false
+    → (is_some m.mispredicted || is_some (interrupt_due m) || rests m.state) ≡ true → is_some m.mispredicted ≡ true
+mispredicted m none goes some = mispredicted-by (is_some m.mispredicted) (interrupt_due m) (rests m.state) none goes some

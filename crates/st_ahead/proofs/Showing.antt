@@ -3,14 +3,14 @@ use Rattle.std.specs.Prelude.{if◌then◌else◌, ◌-◌}
 use Rattle.std.specs.List.{AllZip}
 use Rattle.std.proofs.Common.{◌≡◌, ℕ, ◌+◌, ◌≤◌, Bool, true, false, List, [], ◌∷◌, length, Option, None, sym, subst, ◌∙◌, ap, arith}
 use Rattle.st_state.specs.Machine.{Machine}
-use Rattle.st_exec.specs.Completion.{guess}
-use Rattle.st_rows.specs.Rows.{opening_front, front_after_entry}
-use Rattle.st_rows.specs.declared.front.Front.{Front}
+use Rattle.st_exec.specs.Completion.{prediction}
+use Rattle.st_rows.specs.Rows.{opening_issue, issue_after_entry}
+use Rattle.st_rows.specs.declared.issue.IssueState.{IssueState}
 use Rattle.st_ring.specs.declared.level.Level.{Level}
 use Rattle.st_segment.specs.Entries.{entry}
 use Rattle.st_segment.specs.Ahead.{Ahead, ahead, prepared_before}
 use Rattle.st_segment.specs.Guesses.{split_words}
-use Rattle.st_ring.specs.Levels.{oldest_front, AreLevels, AreFull}
+use Rattle.st_ring.specs.Levels.{oldest_issue, AreLevels, AreFull}
 use Rattle.st_ring.specs.declared.plans.PlannedRow.{PlannedRow}
 use Rattle.st_ring.proofs.LevelLemmas.{length-ahead}
 use Rattle.st_ahead.specs.Overlap.{Overlap, state_ahead, levels_of, last_tick_made}
@@ -18,22 +18,22 @@ use Rattle.st_ahead.specs.Shown.{IsLevelOf, AreLevelsOf, lent_index_words}
 use Rattle.st_ahead.specs.Forecast.{LookaheadView, IsLookahead, count}
 use Rattle.st_ahead.specs.Inside.{answers_before, overlap_of, IsBetween, IsInside}
 use Rattle.st_ahead.proofs.Openings.{opening-lookahead}
-use Rattle.st_ahead.proofs.Standing.{opened-front}
+use Rattle.st_ahead.proofs.Standing.{opened-issue}
 
 -- ---- what runs ahead, at each moment
 
 -- it is there also where a segment has ended
 pub lookahead-inside : (halt : Bool) (n : ℕ) (ds : List ℕ) (s : Machine) (t b : Option ℕ) (now : ℕ) (owed over fresh : Bool) (v : LookaheadView)
     → IsInside (overlap_of n ds s t b now owed over halt fresh v) fresh v
-    → IsLookahead ds n (last_tick_made (overlap_of n ds s t b now owed over halt fresh v)) now t (state_ahead (overlap_of n ds s t b now owed over halt fresh v)) (oldest_front v.levels.plans v.front) v
+    → IsLookahead ds n (last_tick_made (overlap_of n ds s t b now owed over halt fresh v)) now t (state_ahead (overlap_of n ds s t b now owed over halt fresh v)) (oldest_issue v.levels.plans v.issue) v
 unfolding state_ahead
 lookahead-inside halt n ds s t b now owed false fresh v is = is.lookahead
 lookahead-inside halt n ds s t b now owed true fresh v is =
     let between : IsBetween now t s v = is.lookahead in
-    let later : now + 1 ≤ v.front.c = between.later in
+    let later : now + 1 ≤ v.issue.c = between.later in
     let tick = last_tick_made (overlap_of n ds s t b now owed true halt fresh v) in
-    let lookahead = opening-lookahead ds n tick now v.front.c t s (answers_before now v) v between.opened between.machine is.indicator between.banks (omega (arith, later)) between.soon in
-    subst (λ (f : Front). IsLookahead ds n tick now t s f v) (sym (opened-front t s (opening_front (answers_before now v) v.front.c) v between.opened)) lookahead
+    let lookahead = opening-lookahead ds n tick now v.issue.c t s (answers_before now v) v between.opened between.machine is.indicator between.banks (omega (arith, later)) between.soon in
+    subst (λ (f : IssueState). IsLookahead ds n tick now t s f v) (sym (opened-issue t s (opening_issue (answers_before now v) v.issue.c) v between.opened)) lookahead
 
 pub soon-last : (owed : Bool) (now : ℕ) → now ≤ (if owed then now else now - 1) + 1
 soon-last true now = omega arith
@@ -41,7 +41,7 @@ soon-last false now = omega arith
 
 -- ---- levels
 
-pub levels-zip : (ds : List ℕ) (n tick : ℕ) (t : Option ℕ) (s : Machine) (f last : Front) (ring : List Level) (plans : List PlannedRow)
+pub levels-zip : (ds : List ℕ) (n tick : ℕ) (t : Option ℕ) (s : Machine) (f last : IssueState) (ring : List Level) (plans : List PlannedRow)
     → AreLevels ds n tick t s f last ring plans → AreFull ds n tick t s f ring → AllZip (IsLevelOf ds n tick) ring (ahead ds n (length ring) t s f)
 unfolding AreLevels AreFull ahead
 levels-zip ds n tick t s f last [] [] is full = tt
@@ -49,16 +49,16 @@ levels-zip ds n tick t s f last [] (q ∷ qs) is full = absurd is
 levels-zip ds n tick t s f last (level ∷ levels) [] is full = absurd is
 levels-zip ds n tick t s f last (level ∷ levels) (q ∷ qs) is full = (
   record { prepared = is.0.prepared; p = is.0.p; have = full.0 },
-  levels-zip ds n tick None (guess t s) (front_after_entry ds n f (entry t s)) last levels qs is.1 full.1,
+  levels-zip ds n tick None (prediction t s) (issue_after_entry ds n f (entry t s)) last levels qs is.1 full.1,
 )
 
 -- the levels are those that a machine stands for
 pub record IsShowing (m : Overlap) (v : LookaheadView) : Type 0 where
-  pub lookahead : IsLookahead m.delays m.levels (last_tick_made m) m.now m.taken (state_ahead m) m.front v
-  pub levels : levels_of m ≡ ahead m.delays m.levels (count v) m.taken (state_ahead m) m.front
+  pub lookahead : IsLookahead m.delays m.levels (last_tick_made m) m.now m.taken (state_ahead m) m.issue v
+  pub levels : levels_of m ≡ ahead m.delays m.levels (count v) m.taken (state_ahead m) m.issue
 
-pub showing : (m : Overlap) (v : LookaheadView) → IsLookahead m.delays m.levels (last_tick_made m) m.now m.taken (state_ahead m) m.front v
-    → prepared_before m.now (ahead m.delays m.levels m.levels m.taken (state_ahead m) m.front) ≡ ahead m.delays m.levels (count v) m.taken (state_ahead m) m.front
+pub showing : (m : Overlap) (v : LookaheadView) → IsLookahead m.delays m.levels (last_tick_made m) m.now m.taken (state_ahead m) m.issue v
+    → prepared_before m.now (ahead m.delays m.levels m.levels m.taken (state_ahead m) m.issue) ≡ ahead m.delays m.levels (count v) m.taken (state_ahead m) m.issue
     → IsShowing m v
 unfolding levels_of
 showing m v lookahead levels = record { lookahead = lookahead; levels = levels }
@@ -66,10 +66,10 @@ showing m v lookahead levels = record { lookahead = lookahead; levels = levels }
 pub showing-ring : (m : Overlap) (v : LookaheadView) → IsShowing m v → AreLevelsOf m v.levels.ring
 showing-ring m v is =
     subst (λ (levels : List Ahead). AllZip (IsLevelOf m.delays m.levels (last_tick_made m)) v.levels.ring levels) (sym is.levels)
-    (levels-zip m.delays m.levels (last_tick_made m) m.taken (state_ahead m) m.front v.front v.levels.ring v.levels.plans is.lookahead.outlook.ahead.levels is.lookahead.full)
+    (levels-zip m.delays m.levels (last_tick_made m) m.taken (state_ahead m) m.issue v.issue v.levels.ring v.levels.plans is.lookahead.outlook.ahead.levels is.lookahead.full)
 
 pub showing-count : (m : Overlap) (v : LookaheadView) → IsShowing m v → length (levels_of m) ≡ count v
-showing-count m v is = ap length is.levels ∙ length-ahead m.delays m.levels (count v) m.taken (state_ahead m) m.front
+showing-count m v is = ap length is.levels ∙ length-ahead m.delays m.levels (count v) m.taken (state_ahead m) m.issue
 
 pub showing-index : (m : Overlap) (v : LookaheadView) → IsShowing m v → v.levels.x ≡ lent_index_words m
 unfolding lent_index_words

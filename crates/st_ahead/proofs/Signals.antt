@@ -6,9 +6,9 @@ use Rattle.st_banks.specs.declared.answers.LastAnswers.{LastAnswers}
 use Rattle.st_state.specs.Machine.{Machine, IsMachine}
 use Rattle.st_state.specs.Interrupts.{pending}
 use Rattle.st_prep.specs.BesideOrders.{AreAlikeBesideOrders}
-use Rattle.st_rows.specs.Rows.{opening_front}
-use Rattle.st_rows.specs.declared.front.Front.{Front}
-use Rattle.st_ring.specs.Levels.{oldest_front, AreNotDone}
+use Rattle.st_rows.specs.Rows.{opening_issue}
+use Rattle.st_rows.specs.declared.issue.IssueState.{IssueState}
+use Rattle.st_ring.specs.Levels.{oldest_issue, AreNotDone}
 use Rattle.st_ahead.specs.Overlap.{state_ahead, with_counter}
 use Rattle.st_ahead.specs.Forecast.{LookaheadView, IsLookahead}
 use Rattle.st_ahead.specs.Inside.{answers_before, overlap_of, IsBetween, IsInside}
@@ -28,7 +28,7 @@ counted-machine (Some h) s u was is = assumption
 -- ---- all of it
 
 abbrev LooksAhead : List ℕ → ℕ → ℕ → LookaheadView → Type 0
-LooksAhead ds n now v = (x y : Machine) (f : Front) → IsLookahead ds n now now None x f v → AreNotDone now v.levels → f.c ≡ now
+LooksAhead ds n now v = (x y : Machine) (f : IssueState) → IsLookahead ds n now now None x f v → AreNotDone now v.levels → f.c ≡ now
     → IsMachine y → AreAlikeBesideOrders x y → IsLookahead ds n now now None y f v
 
 before-first : (halt : Bool) (n : ℕ) (ds : List ℕ) (s u : Machine) (t b : Option ℕ) (now : ℕ) (over fresh : Bool) (v : LookaheadView)
@@ -40,7 +40,7 @@ before-first halt n ds s u t b now false true v is start m alike on = absurd (cc
 before-first halt n ds s u t (Some h) now false false v is start m alike on = absurd (cc ((is.quiet refl).2))
 before-first halt n ds s u (Some i) None now false false v is start m alike on = absurd (cc ((is.unstarted refl start).2))
 before-first halt n ds s u None None now false false v is start m alike on =
-    let f = oldest_front v.levels.plans v.front in
+    let f = oldest_issue v.levels.plans v.issue in
     let un = is.unstarted refl start in
     let last : now - 1 ≡ now = omega (arith, start) in
     let lookahead : IsLookahead ds n now now None s f v = subst (λ (x : ℕ). IsLookahead ds n x now None s f v) last is.lookahead in
@@ -68,9 +68,9 @@ behind-done halt n ds s u (Some i) b now over true v is done m alike on = absurd
 behind-done halt n ds s u None b now true true v is done m alike on =
     let between : IsBetween now None s v = is.lookahead in
     inside-fresh halt true n ds u b now v is.some is.few is.in_time
-    (assumption (opened-same None s u (opening_front (answers_before now v) v.front.c) v between.opened alike)) (λ e. absurd (cc e)) (is.done refl).1
+    (assumption (opened-same None s u (opening_issue (answers_before now v) v.issue.c) v between.opened alike)) (λ e. absurd (cc e)) (is.done refl).1
 behind-done halt n ds s u None b now false true v is done m alike on =
-    let f = oldest_front v.levels.plans v.front in
+    let f = oldest_issue v.levels.plans v.issue in
     let lookahead : IsLookahead ds n now now None (with_counter b s) f v = is.lookahead in
     let next = on (with_counter b s) (with_counter b u) f lookahead lookahead.outlook.not_done ((is.done refl).2 refl)
     (counted-machine b s u lookahead.outlook.machine m) (counted-alike b s u alike) in

@@ -5,11 +5,11 @@ use Rattle.std.proofs.lemmas.Bool.{eq-eqb, ltb-false}
 use Rattle.std.proofs.lemmas.List.Elements.{All-head}
 use Rattle.st_state.specs.Machine.{Machine, word}
 use Rattle.st_prep.specs.Plan.{plan}
-use Rattle.st_exec.specs.Completion.{state_after_execution, guessed_state, guess}
+use Rattle.st_exec.specs.Completion.{state_after_execution, predicted_state, prediction}
 use Rattle.st_rows.specs.Ranges.{AreDelaysUpTo, IsEntryInTime, IsTight}
 use Rattle.st_rows.specs.Rows.{row_of_entry}
 use Rattle.st_rows.specs.declared.entry.Entry.{Entry}
-use Rattle.st_rows.specs.declared.front.Front.{Front}
+use Rattle.st_rows.specs.declared.issue.IssueState.{IssueState}
 use Rattle.st_rows.proofs.Tight.{later-r, later-c}
 use Rattle.st_ring.specs.declared.level.Level.{Level}
 use Rattle.st_segment.specs.Ahead.{Ahead, ahead, prepared_before}
@@ -23,7 +23,7 @@ not-both : (b : Bool) → b ≡ false → b ≡ true → ⊥
 not-both true e g = cc e
 not-both false e g = cc g
 
-pub due-later : (ds : List ℕ) (n tick now : ℕ) (t : Option ℕ) (s : Machine) (f last : Front) (ring : List Level) (plans : List PlannedRow)
+pub due-later : (ds : List ℕ) (n tick now : ℕ) (t : Option ℕ) (s : Machine) (f last : IssueState) (ring : List Level) (plans : List PlannedRow)
     → AreLevels ds n tick t s f last ring plans → All (λ q. tick < q.c) plans → is_oldest_due plans now ≡ false → now ≡ tick + 1 → 1 ≤ length ring
     → now < (row_of_entry ds n f (entry t s)).c
 unfolding AreLevels
@@ -41,7 +41,7 @@ not-first : (b : Bool) (a : Ahead) (rest : List Ahead) → (if b then a ∷ rest
 not-first true a rest e = absurd (cc e)
 not-first false a rest e = refl
 
-pub none-prepared : (ds : List ℕ) (n m k now : ℕ) (t : Option ℕ) (s : Machine) (f : Front) → 1 ≤ m → k ≡ 0
+pub none-prepared : (ds : List ℕ) (n m k now : ℕ) (t : Option ℕ) (s : Machine) (f : IssueState) → 1 ≤ m → k ≡ 0
     → prepared_before now (ahead ds n m t s f) ≡ ahead ds n k t s f → now ≤ (row_of_entry ds n f (entry t s)).p
 unfolding ahead prepared_before
 none-prepared ds n zero k now t s f some empty h = absurd (omega (arith, some))
@@ -50,11 +50,11 @@ none-prepared ds n (suc m) zero now t s f some empty h =
     let late : nat_lt (row_of_entry ds n f (entry t s)).p now ≡ false = not-first _ _ _ h in
     ltb-false (row_of_entry ds n f (entry t s)).p now late
 
-pub done-behind : (ds : List ℕ) (n : ℕ) (f : Front) (e : Entry) → AreDelaysUpTo 255 ds → IsEntryInTime e → IsTight 255 f → (row_of_entry ds n f e).p < (row_of_entry ds n f e).c
+pub done-behind : (ds : List ℕ) (n : ℕ) (f : IssueState) (e : Entry) → AreDelaysUpTo 255 ds → IsEntryInTime e → IsTight 255 f → (row_of_entry ds n f e).p < (row_of_entry ds n f e).c
 unfolding row_of_entry
 done-behind ds n f e are range tight = omega (arith, later-r 255 ds are n f e range tight, (later-c 255 ds are n f e range tight).1)
 
-pub unprepared : (ds : List ℕ) (n k now : ℕ) (t : Option ℕ) (s : Machine) (f : Front) → 1 ≤ n → k ≡ 0 → AreDelaysUpTo 255 ds → IsEntryInTime (entry t s)
+pub unprepared : (ds : List ℕ) (n k now : ℕ) (t : Option ℕ) (s : Machine) (f : IssueState) → 1 ≤ n → k ≡ 0 → AreDelaysUpTo 255 ds → IsEntryInTime (entry t s)
     → IsTight 255 f → prepared_before now (ahead ds n n t s f) ≡ ahead ds n k t s f → (row_of_entry ds n f (entry t s)).c ≢ now
 unprepared ds n k now t s f some empty are range tight h = λ due.
     let p = none-prepared ds n n k now t s f some empty h in
@@ -66,6 +66,6 @@ words-of : (b : Bool) (s : Machine) (h w : ℕ) → word s w ≡ word (if b then
 words-of true s h w = refl
 words-of false s h w = refl
 
-pub guess-words : (t : Option ℕ) (s : Machine) (w : ℕ) → word (state_after_execution t s) w ≡ word (guess t s) w
-unfolding guessed_state
-guess-words t s w = words-of (plan s t).serial (state_after_execution t s) (plan s t).following w
+pub prediction-words : (t : Option ℕ) (s : Machine) (w : ℕ) → word (state_after_execution t s) w ≡ word (prediction t s) w
+unfolding predicted_state
+prediction-words t s w = words-of (plan s t).serial (state_after_execution t s) (plan s t).following w

@@ -3,11 +3,11 @@ use Rattle.std.specs.Prelude.{◌++◌, map, replicate, get_or, slice_get, nat_l
 use Rattle.std.proofs.Common.{◌≡◌, ℕ, zero, suc, ◌≤◌, Bool, List, [], ◌∷◌, length, Option, None, Some, refl, sym, ◌∙◌, ap, arith}
 use Rattle.std.proofs.lemmas.List.{length-append, length-map, length-replicate}
 use Rattle.st_state.specs.Machine.{Machine}
-use Rattle.st_exec.specs.Completion.{guess}
+use Rattle.st_exec.specs.Completion.{prediction}
 use Rattle.st_prep.specs.declared.entries.Prepared.{Prepared}
 use Rattle.st_prep.specs.Plan.{plan}
-use Rattle.st_rows.specs.Rows.{row_of_entry, front_after_entry}
-use Rattle.st_rows.specs.declared.front.Front.{Front}
+use Rattle.st_rows.specs.Rows.{row_of_entry, issue_after_entry}
+use Rattle.st_rows.specs.declared.issue.IssueState.{IssueState}
 use Rattle.st_ring.specs.declared.level.Level.{Level}
 use Rattle.st_segment.specs.Entries.{entry}
 use Rattle.st_segment.specs.Ahead.{Ahead, ahead, next_ahead}
@@ -40,20 +40,20 @@ at prepared p r tick = record {
 same-shown : (a b : Prepared) (p q r x tick : ℕ) → a ≡ b → p ≡ q → r ≡ x → at a p r tick ≡ at b q x tick
 same-shown a b p q r x tick e g h = rw (e, g, h) refl
 
-one-shown : (ds : List ℕ) (n tick now : ℕ) (t : Option ℕ) (s : Machine) (f : Front) (level : Level) (q : PlannedRow) → IsLevel ds n tick t s f level q
+one-shown : (ds : List ℕ) (n tick now : ℕ) (t : Option ℕ) (s : Machine) (f : IssueState) (level : Level) (q : PlannedRow) → IsLevel ds n tick t s f level q
     → at level.prepared level.p q.r now ≡ level_shown now (next_ahead ds n t s f)
 one-shown ds n tick now t s f level q is =
     same-shown level.prepared (plan s t) level.p (row_of_entry ds n f (entry t s)).p q.r (row_of_entry ds n f (entry t s)).r now is.prepared is.p is.r
 
 -- level k is entry k ahead
-pub none-shown : (ds : List ℕ) (n now m k : ℕ) (t : Option ℕ) (s : Machine) (f : Front) → m ≤ k
+pub none-shown : (ds : List ℕ) (n now m k : ℕ) (t : Option ℕ) (s : Machine) (f : IssueState) → m ≤ k
     → None ≡ get_or (map (λ a. Some (level_shown now a)) (ahead ds n m t s f)) k None
 unfolding ahead
 none-shown ds n now zero k t s f few = refl
 none-shown ds n now (suc m) zero t s f few = absurd (omega (arith, few))
-none-shown ds n now (suc m) (suc k) t s f few = none-shown ds n now m k None (guess t s) (front_after_entry ds n f (entry t s)) (omega (arith, few))
+none-shown ds n now (suc m) (suc k) t s f few = none-shown ds n now m k None (prediction t s) (issue_after_entry ds n f (entry t s)) (omega (arith, few))
 
-pub some-shown : (ds : List ℕ) (n tick now k : ℕ) (t : Option ℕ) (s : Machine) (f last : Front) (ring : List Level) (plans : List PlannedRow) (level : Level) (q : PlannedRow)
+pub some-shown : (ds : List ℕ) (n tick now k : ℕ) (t : Option ℕ) (s : Machine) (f last : IssueState) (ring : List Level) (plans : List PlannedRow) (level : Level) (q : PlannedRow)
     → AreLevels ds n tick t s f last ring plans → slice_get ring k ≡ Some level → slice_get plans k ≡ Some q
     → Some (at level.prepared level.p q.r now) ≡ get_or (map (λ a. Some (level_shown now a)) (ahead ds n (length ring) t s f)) k None
 unfolding AreLevels ahead
@@ -64,7 +64,7 @@ some-shown ds n tick now zero t s f last (l ∷ ls) (p ∷ ps) level q is there 
     let beside : q ≡ p = cc in
     rw (same, beside) (ap (λ x. Some x) (one-shown ds n tick now t s f l p is.0))
 some-shown ds n tick now (suc k) t s f last (l ∷ ls) (p ∷ ps) level q is there planned =
-    some-shown ds n tick now k None (guess t s) (front_after_entry ds n f (entry t s)) last ls ps level q is.1 there planned
+    some-shown ds n tick now k None (prediction t s) (issue_after_entry ds n f (entry t s)) last ls ps level q is.1 there planned
 
 none-at : (m k : ℕ) → get_or (replicate m hidden) k None ≡ None
 none-at zero k = refl
@@ -86,7 +86,7 @@ some-kept address p index number kept word ready a b = rw (a, b) refl
 -- ---- all of them
 
 pub showing-level : (m : Overlap) (v : LookaheadView) (k : ℕ) → IsShowing m v
-    → get_or (map (λ a. Some (level_shown (last_tick_made m) a)) (ahead m.delays m.levels (count v) m.taken (state_ahead m) m.front)) k None
+    → get_or (map (λ a. Some (level_shown (last_tick_made m) a)) (ahead m.delays m.levels (count v) m.taken (state_ahead m) m.issue)) k None
     ≡ get_or (view_at_tick m).levels k None
 unfolding view_at_tick
 showing-level m v k is =

@@ -4,17 +4,17 @@ use Rattle.st_banks.specs.Bank.{idle_banks}
 use Rattle.st_banks.specs.declared.answers.LastAnswers.{LastAnswers}
 use Rattle.st_state.specs.Interrupts.{state_with_signal}
 use Rattle.st_prep.specs.Plan.{plan}
-use Rattle.st_exec.specs.Completion.{state_after_execution, is_missed}
+use Rattle.st_exec.specs.Completion.{state_after_execution, is_mispredicted}
 use Rattle.st_exec.specs.Step.{rests}
 use Rattle.st_exec.specs.Transfer.{read_in, printed_out}
-use Rattle.st_rows.specs.Rows.{front_after_entry}
-use Rattle.st_segment.specs.Ahead.{front_behind_end}
+use Rattle.st_rows.specs.Rows.{issue_after_entry}
+use Rattle.st_segment.specs.Ahead.{issue_behind_end}
 use Rattle.st_ahead.specs.Overlap.{Overlap, oldest_entry, oldest_row, levels_of, banks_at_its_end, interrupt_due}
 use Rattle.st_ahead.specs.declared.events.Row.{Row}
 use Rattle.st_ahead.specs.declared.events.Event.{Event}
 use Rattle.st_ahead.specs.declared.events.Event.TheVariants.{Passed, Done}
 use Rattle.st_ahead.specs.declared.events.Settled.{Settled}
-use Rattle.st_ahead.specs.declared.events.Settled.TheVariants.{Goes, Interrupt, Missed, Waits}
+use Rattle.st_ahead.specs.declared.events.Settled.TheVariants.{Goes, Interrupt, Mispredicted, Waits}
 
 -- ---- a tick
 
@@ -33,17 +33,17 @@ row_done m = record {
 }
 
 -- the counter of the guess, where that was wrong
-abbrev pub missed_counter : Overlap → Option ℕ
-missed_counter m =
-    if is_missed (plan m.state m.taken) m.state then Some (plan m.state m.taken).following else None
+abbrev pub mispredicted_counter : Overlap → Option ℕ
+mispredicted_counter m =
+    if is_mispredicted (plan m.state m.taken) m.state then Some (plan m.state m.taken).following else None
 
 -- the machine once it is done
 unfoldable pub machine_after_completion : Overlap → Overlap
 machine_after_completion m = record m {
   state = state_after_execution m.taken m.state;
   taken = None;
-  missed = missed_counter m;
-  front = front_after_entry m.delays m.levels m.front (oldest_entry m);
+  mispredicted = mispredicted_counter m;
+  issue = issue_after_entry m.delays m.levels m.issue (oldest_entry m);
   owed = true;
   closing = Some (banks_at_its_end m);
 }
@@ -75,7 +75,7 @@ unfoldable pub machine_after_segment : Overlap → Overlap
 machine_after_segment m =
     if m.ended then m
     else record m {
-      front = front_behind_end (banks_left m.closing) m.now (length (levels_of m));
+      issue = issue_behind_end (banks_left m.closing) m.now (length (levels_of m));
       ended = true;
     }
 
@@ -90,7 +90,7 @@ abbrev pub machine_after_pass : Overlap → Overlap
 machine_after_pass m = record m {
   owed = false;
   ended = false;
-  missed = None;
+  mispredicted = None;
   closing = None;
   now = m.now + 1;
 }
@@ -98,26 +98,26 @@ machine_after_pass m = record m {
 -- the machine once the tick is settled: an interrupt is taken, or the machine waits, or a branch
 -- was missed, or it goes on
 abbrev pub settled_by : Option ℕ → Bool → Option ℕ → Overlap → Overlap
-settled_by (Some i) at_rest missed m = machine_after_pass
+settled_by (Some i) at_rest mispredicted m = machine_after_pass
     (record (machine_after_segment m) { taken = Some i })
-settled_by None true missed m = machine_after_segment m
+settled_by None true mispredicted m = machine_after_segment m
 settled_by None false (Some h) m = machine_after_pass (machine_after_segment m)
 settled_by None false None m = machine_after_pass m
 
 -- what settling answers in each of these cases
 abbrev pub answer_by : Option ℕ → Bool → Option ℕ → Overlap → Settled
-answer_by (Some i) at_rest missed m = Interrupt i m.state.done m.state.ic (drop_count m)
-answer_by None true missed m = Waits
-answer_by None false (Some h) m = Missed (drop_count m)
+answer_by (Some i) at_rest mispredicted m = Interrupt i m.state.done m.state.ic (drop_count m)
+answer_by None true mispredicted m = Waits
+answer_by None false (Some h) m = Mispredicted (drop_count m)
 answer_by None false None m = Goes
 
 -- the machine once its tick is settled
 unfoldable pub machine_after_settling : Overlap → Overlap
-machine_after_settling m = settled_by (interrupt_due m) (rests m.state) m.missed m
+machine_after_settling m = settled_by (interrupt_due m) (rests m.state) m.mispredicted m
 
 -- what settling it answers
 unfoldable pub answer : Overlap → Settled
-answer m = answer_by (interrupt_due m) (rests m.state) m.missed m
+answer m = answer_by (interrupt_due m) (rests m.state) m.mispredicted m
 
 -- ---- from outside
 

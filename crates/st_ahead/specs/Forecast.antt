@@ -9,29 +9,29 @@ use Rattle.st_rows.specs.Notes.{IsLogged}
 use Rattle.st_rows.specs.Ranges.{IsTight, most_ticks_of_entry}
 use Rattle.st_rows.specs.Rows.{reads_of_entry}
 use Rattle.st_rows.specs.BusTimes.{Read}
-use Rattle.st_rows.specs.declared.front.Front.{Front}
+use Rattle.st_rows.specs.declared.issue.IssueState.{IssueState}
 use Rattle.st_rows.specs.declared.log.Made.{Made}
 use Rattle.st_segment.specs.Ahead.{Ahead, ahead}
 use Rattle.st_segment.specs.Guesses.{guesses, table_behind}
 use Rattle.st_ring.specs.Levels.{LevelsView, AreAhead, AreFull, AreNotDone}
 use Rattle.st_next.specs.Progress.{IsUnread, IsNext, Rests, reads_so_far}
-use Rattle.st_next.specs.declared.next.Next.{Next}
+use Rattle.st_next.specs.declared.fetch_unit.FetchUnit.{FetchUnit}
 
 -- what is seen of it
 pub record LookaheadView : Type 0 where
   pub levels : LevelsView
-  pub front : Front
+  pub issue : IssueState
   pub log : List Made
-  pub next : Next
+  pub next : FetchUnit
 
 -- the reads of the next k entries
-abbrev pub asked_ahead : List ℕ → ℕ → ℕ → Option ℕ → Machine → Front → List Read
+abbrev pub asked_ahead : List ℕ → ℕ → ℕ → Option ℕ → Machine → IssueState → List Read
 asked_ahead ds n k t s f =
-    flat_map (λ (a : Ahead). reads_of_entry ds n a.front a.entry) (ahead ds n k t s f)
+    flat_map (λ (a : Ahead). reads_of_entry ds n a.issue a.entry) (ahead ds n k t s f)
 
 -- the entry that is prepared next can be known: the youngest level is not done alone
 abbrev pub is_open : LookaheadView → Bool
-is_open v = (length v.levels.ring == 0) || not v.front.serial
+is_open v = (length v.levels.ring == 0) || not v.issue.serial
 
 -- how many levels there are
 abbrev pub count : LookaheadView → ℕ
@@ -40,35 +40,35 @@ count v = length v.levels.ring
 -- it is the next entry behind the levels; behind a level that is done alone nothing is known of it
 abbrev pub IsNextIf : Bool → List ℕ → ℕ → ℕ → Option ℕ → Machine → LookaheadView → Type 0
 IsNextIf true ds n now t s v =
-    IsNext ds n (table_behind (count v) t) (guesses (count v) t s) v.front v.next
-    × Rests now (table_behind (count v) t) (guesses (count v) t s) v.front v.next
-IsNextIf false ds n now t s v = IsUnread v.front.bus v.next
+    IsNext ds n (table_behind (count v) t) (guesses (count v) t s) v.issue v.next
+    × Rests now (table_behind (count v) t) (guesses (count v) t s) v.issue v.next
+IsNextIf false ds n now t s v = IsUnread v.issue.bus v.next
 
 -- the reads that are made behind the front f: those of the levels, and those that are asked for the
 -- next entry so far
-abbrev pub reads_ahead : List ℕ → ℕ → Option ℕ → Machine → Front → LookaheadView → List Read
-reads_ahead ds n t s f v = asked_ahead ds n (count v) t s f ++ reads_so_far ds v.front v.next
+abbrev pub reads_ahead : List ℕ → ℕ → Option ℕ → Machine → IssueState → LookaheadView → List Read
+reads_ahead ds n t s f v = asked_ahead ds n (count v) t s f ++ reads_so_far ds v.issue v.next
 
 -- What runs ahead of the state s, behind the front f of the oldest entry that is not done; t says
 -- whether that is a table instruction. Levels are prepared before `now`, and not done at `tick` or
 -- before it; no operand word stands in a slot that comes behind `tick`. The next entry is prepared
 -- at `first` or later, and nothing more of it can be known before `rest`.
 pub record IsForecast (ds : List ℕ) (n tick now first rest : ℕ) (t : Option ℕ) (s : Machine)
-    (f : Front) (v : LookaheadView) : Type 0 where
+    (f : IssueState) (v : LookaheadView) : Type 0 where
   pub machine : IsMachine s
   pub indicator : IsIndicatorIfAny t
-  pub ahead : AreAhead ds n tick t s f v.front v.levels
+  pub ahead : AreAhead ds n tick t s f v.issue v.levels
   pub prepared : All (λ level. level.p < now) v.levels.ring
   pub not_done : AreNotDone tick v.levels
   pub oldest : IsTight MOST_DELAY f
-  pub tight : IsTight MOST_DELAY v.front
+  pub tight : IsTight MOST_DELAY v.issue
   pub start : f.c ≤ now + 9
-  pub early : v.front.c ≤ now + 9 + most_ticks_of_entry * count v
+  pub early : v.issue.c ≤ now + 9 + most_ticks_of_entry * count v
   pub next : IsNextIf (is_open v) ds n rest t s v
   pub late : v.next.planned ≡ true → first ≤ v.next.formed.p
   pub logged : IsLogged ds f.bus.free (reads_ahead ds n t s f v) f.bus v.log
 
-module _ (ds : List ℕ) (n tick now : ℕ) (t : Option ℕ) (s : Machine) (f : Front)
+module _ (ds : List ℕ) (n tick now : ℕ) (t : Option ℕ) (s : Machine) (f : IssueState)
     (v : LookaheadView) where
   -- the levels are the entries that are prepared before `now`
   abbrev pub IsOutlook : Type 0
@@ -80,11 +80,11 @@ module _ (ds : List ℕ) (n tick now : ℕ) (t : Option ℕ) (s : Machine) (f : 
     pub full : AreFull ds n tick t s f v.levels.ring
 
 -- nothing runs ahead yet, at the opening of a segment
-pub record IsOpened (t : Option ℕ) (s : Machine) (f : Front) (v : LookaheadView) : Type 0 where
+pub record IsOpened (t : Option ℕ) (s : Machine) (f : IssueState) (v : LookaheadView) : Type 0 where
   pub ring : v.levels.ring ≡ []
   pub plans : v.levels.plans ≡ []
   pub index : v.levels.x ≡ index_words s
-  pub front : v.front ≡ f
+  pub issue : v.issue ≡ f
   pub log : v.log ≡ []
   pub place : v.next.place ≡ place_of s t
   pub next : IsUnread f.bus v.next

@@ -4,7 +4,7 @@ use Rattle.st_bits.specs.Indicators.{IsIndicatorIfAny}
 use Rattle.st_state.specs.Machine.{Machine}
 use Rattle.st_rows.specs.Ranges.{IsEntryInTime}
 use Rattle.st_rows.specs.Rows.{row_of_entry}
-use Rattle.st_rows.specs.declared.front.Front.{Front}
+use Rattle.st_rows.specs.declared.issue.IssueState.{IssueState}
 use Rattle.st_segment.specs.Entries.{entry}
 use Rattle.st_segment.specs.Guesses.{guesses, table_behind}
 use Rattle.st_segment.specs.Alone.{RunAhead}
@@ -20,14 +20,14 @@ WaitsFor due last v = v.next.planned ≡ true → v.next.formed.p < due → v.ne
 module _ (ds : List ℕ) (n : ℕ) where
   -- up to the tick `now` entries are prepared and done, and nothing more of the next one can be
   -- known before the tick `rest`
-  abbrev pub IsGoing : ℕ → ℕ → Option ℕ → Machine → Front → LookaheadView → Type 0
+  abbrev pub IsGoing : ℕ → ℕ → Option ℕ → Machine → IssueState → LookaheadView → Type 0
   IsGoing now rest t s f v = IsForecast ds n now (now + 1) now rest t s f v
 
   -- there is such a front, and t
   pub record Goes (now rest : ℕ) (s : Machine) (v : LookaheadView) : Type 0 where
     pub table : Option ℕ
-    pub front : Front
-    pub going : IsGoing now rest table s front v
+    pub issue : IssueState
+    pub going : IsGoing now rest table s issue v
 
   -- it goes on so from some tick, `last` at the latest
   pub record Reaches (last : ℕ) (s : Machine) (v : LookaheadView) : Type 0 where
@@ -35,7 +35,7 @@ module _ (ds : List ℕ) (n : ℕ) where
     pub goes : Goes tick tick s v
     pub soon : tick ≤ last
 
-  module _ (since last : ℕ) (t : Option ℕ) (s : Machine) (f : Front) (v : LookaheadView) where
+  module _ (since last : ℕ) (t : Option ℕ) (s : Machine) (f : IssueState) (v : LookaheadView) where
     -- the same of this front and t, from the tick `since` at the earliest
     pub record GoesUpTo : Type 0 where
       pub tick : ℕ
@@ -59,13 +59,13 @@ module _ (ds : List ℕ) (n : ℕ) where
 
   -- the next entry becomes a level at this tick, its P: no level is done alone, and there is room
   -- for one more; where it is done alone, all entries before it are done
-  pub record BecomesLevel (now : ℕ) (t : Option ℕ) (s : Machine) (f : Front)
+  pub record BecomesLevel (now : ℕ) (t : Option ℕ) (s : Machine) (f : IssueState)
       (v : LookaheadView) : Type 0 where
     pub run : RunAhead (count v) t s
-    pub before : IsStateBefore now v.front.past v.levels.x s (guesses (count v) t s)
-    pub is_next : IsNext ds n (table_behind (count v) t) (guesses (count v) t s) v.front v.next
+    pub before : IsStateBefore now v.issue.past v.levels.x s (guesses (count v) t s)
+    pub is_next : IsNext ds n (table_behind (count v) t) (guesses (count v) t s) v.issue v.next
     pub indicator : IsIndicatorIfAny (table_behind (count v) t)
     pub range : IsEntryInTime v.next.entry
     pub alone : v.next.entry.serial ≡ true → guesses (count v) t s ≡ s
     pub room : count v < n
-    pub early : v.front.c ≤ 2 ^ 63 + 2 ^ 18
+    pub early : v.issue.c ≤ 2 ^ 63 + 2 ^ 18

@@ -6,8 +6,8 @@ use Rattle.st_state.specs.Machine.{Machine, IsMachine}
 use Rattle.st_banks.specs.declared.answers.LastAnswers.{LastAnswers}
 use Rattle.st_exec.specs.Step.{rests}
 use Rattle.st_rows.specs.Notes.{answers_left}
-use Rattle.st_rows.specs.Rows.{opening_front}
-use Rattle.st_ring.specs.Levels.{oldest_front}
+use Rattle.st_rows.specs.Rows.{opening_issue}
+use Rattle.st_ring.specs.Levels.{oldest_issue}
 use Rattle.st_ahead.specs.Overlap.{Overlap, state_ahead, interrupt_due, last_tick_made}
 use Rattle.st_ahead.specs.Forecast.{LookaheadView, IsLookahead, IsOpened}
 
@@ -18,13 +18,13 @@ answers_before now v = record { ticks = answers_left now v.log v.next.words.bus.
 -- what it stands for, by what it keeps; `fresh` says whether an entry was done at this tick
 abbrev pub overlap_of : ℕ → List ℕ → Machine → Option ℕ → Option ℕ → ℕ → Bool → Bool → Bool → Bool →
     LookaheadView → Overlap
-overlap_of n delays state taken missed now owed ended stopped fresh v = record {
+overlap_of n delays state taken mispredicted now owed ended stopped fresh v = record {
   delays = delays;
   levels = n;
   state = state;
   taken = taken;
-  missed = missed;
-  front = oldest_front v.levels.plans v.front;
+  mispredicted = mispredicted;
+  issue = oldest_issue v.levels.plans v.issue;
   now = now;
   owed = owed;
   ended = ended;
@@ -35,15 +35,15 @@ overlap_of n delays state taken missed now owed ended stopped fresh v = record {
 -- the segment has ended at the tick `now`, and v is what the next one opens with
 pub record IsBetween (now : ℕ) (t : Option ℕ) (s : Machine) (v : LookaheadView) : Type 0 where
   pub machine : IsMachine s
-  pub opened : IsOpened t s (opening_front (answers_before now v) v.front.c) v
-  pub banks : All (λ b. b ≤ v.front.c + MOST_DELAY) (answers_before now v).ticks
-  pub later : now + 1 ≤ v.front.c
-  pub soon : v.front.c ≤ now + 9
+  pub opened : IsOpened t s (opening_issue (answers_before now v) v.issue.c) v
+  pub banks : All (λ b. b ≤ v.issue.c + MOST_DELAY) (answers_before now v).ticks
+  pub later : now + 1 ≤ v.issue.c
+  pub soon : v.issue.c ≤ now + 9
 
 -- what runs ahead, or the opening of the next segment where one has ended at this tick
 abbrev pub IsLookaheadOf : Bool → Overlap → LookaheadView → Type 0
 IsLookaheadOf false m v = IsLookahead m.delays m.levels (last_tick_made m) m.now m.taken
-    (state_ahead m) m.front v
+    (state_ahead m) m.issue v
 IsLookaheadOf true m v = IsBetween m.now m.taken m.state v
 
 -- the number of the tick is within its range
@@ -60,9 +60,9 @@ pub record IsInside (m : Overlap) (fresh : Bool) (v : LookaheadView) : Type 0 wh
   pub in_time : IsInTime m.owed m.now
   pub settled : m.owed ≡ false → (fresh ≡ false) × (m.ended ≡ false) × (m.stopped ≡ false)
   pub quiet : fresh ≡ false →
-      (interrupt_due m ≡ None) × (rests m.state ≡ false) × (m.missed ≡ None)
+      (interrupt_due m ≡ None) × (rests m.state ≡ false) × (m.mispredicted ≡ None)
   pub done : fresh ≡ true →
       (m.taken ≡ None) × All (λ b. b ≤ m.now + MOST_DELAY) (answers_before m.now v).ticks
-      × (m.ended ≡ false → m.front.c ≡ m.now)
+      × (m.ended ≡ false → m.issue.c ≡ m.now)
   pub unstarted : m.owed ≡ false → m.now ≡ 0 →
-      (m.state.enabled ≡ false) × (m.state.waiting ≡ false) × (m.taken ≡ None) × (m.front.c ≡ 0)
+      (m.state.enabled ≡ false) × (m.state.waiting ≡ false) × (m.taken ≡ None) × (m.issue.c ≡ 0)

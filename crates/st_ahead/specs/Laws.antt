@@ -6,7 +6,7 @@ use Rattle.st_state.specs.Machine.{Machine, IsMachine, word}
 use Rattle.st_prep.specs.Fetch.{place_of, words_fetched as fetched_at}
 use Rattle.st_rows.specs.Entries.{latest_done}
 use Rattle.st_rows.specs.Ranges.{AreDelaysUpTo}
-use Rattle.st_rows.specs.declared.front.Front.{Front}
+use Rattle.st_rows.specs.declared.issue.IssueState.{IssueState}
 use Rattle.st_segment.specs.Guesses.{guesses, table_behind}
 use Rattle.st_segment.specs.Alone.{RunAhead, words_of_run}
 use Rattle.st_ring.specs.Levels.{AreAhead, AreNotDone}
@@ -15,31 +15,31 @@ use Rattle.st_ahead.specs.Forecast.{LookaheadView, IsLookahead, is_open, count, 
 use Rattle.st_ahead.specs.Going.{IsGoing, BecomesLevel}
 use Rattle.st_banks.specs.declared.answers.LastAnswers.{LastAnswers}
 use Rattle.st_prep.specs.BesideOrders.{AreAlikeBesideOrders}
-use Rattle.st_exec.specs.Completion.{guess}
+use Rattle.st_exec.specs.Completion.{prediction}
 use Rattle.st_rows.specs.Asked.{made_before}
 use Rattle.st_rows.specs.Notes.{answers_left}
-use Rattle.st_rows.specs.Rows.{opening_front, row_of_entry, front_after_entry, reads_of_entry}
+use Rattle.st_rows.specs.Rows.{opening_issue, row_of_entry, issue_after_entry, reads_of_entry}
 use Rattle.st_segment.specs.Entries.{entry}
 use Rattle.st_segment.specs.Ahead.{ahead, prepared_before, reads_before}
 
 -- None of the levels is done alone, where the next entry can be known.
 abbrev pub OpenLevelsRunAhead : Type 0
-OpenLevelsRunAhead = (ds : List ℕ) (n now : ℕ) (t : Option ℕ) (s : Machine) (f : Front)
+OpenLevelsRunAhead = (ds : List ℕ) (n now : ℕ) (t : Option ℕ) (s : Machine) (f : IssueState)
     (v : LookaheadView) →
-    AreAhead ds n now t s f v.front v.levels → All (λ level. level.p < now + 1) v.levels.ring →
+    AreAhead ds n now t s f v.issue v.levels → All (λ level. level.p < now + 1) v.levels.ring →
     AreNotDone now v.levels → is_open v ≡ true → RunAhead (count v) t s
 
 -- So the state before the next entry agrees with the one that stands in all that it is known by.
 abbrev pub NextEntriesAreKnown : Type 0
-NextEntriesAreKnown = (ds : List ℕ) (n tick now : ℕ) (t : Option ℕ) (s : Machine) (f : Front)
+NextEntriesAreKnown = (ds : List ℕ) (n tick now : ℕ) (t : Option ℕ) (s : Machine) (f : IssueState)
     (v : LookaheadView) →
-    IsMachine s → IsIndicatorIfAny t → AreAhead ds n tick t s f v.front v.levels →
+    IsMachine s → IsIndicatorIfAny t → AreAhead ds n tick t s f v.issue v.levels →
     AreNotDone now v.levels → count v ≤ 8 → RunAhead (count v) t s →
-    IsStateBefore now v.front.past v.levels.x s (guesses (count v) t s)
+    IsStateBefore now v.issue.past v.levels.x s (guesses (count v) t s)
 
 -- An entry that is planned becomes a level at its tick.
 abbrev pub PlannedEntriesBecomeLevels : Type 0
-PlannedEntriesBecomeLevels = (ds : List ℕ) (n now : ℕ) (t : Option ℕ) (s : Machine) (f : Front)
+PlannedEntriesBecomeLevels = (ds : List ℕ) (n now : ℕ) (t : Option ℕ) (s : Machine) (f : IssueState)
     (v : LookaheadView) →
     1 ≤ n → n ≤ 8 → AreDelaysUpTo MOST_DELAY ds → count v ≤ n → now < 2 ^ 63 →
     IsGoing ds n now (now + 1) t s f v → v.next.planned ≡ true → v.next.formed.p ≡ now →
@@ -51,18 +51,18 @@ PlannedEntriesBecomeLevels = (ds : List ℕ) (n now : ℕ) (t : Option ℕ) (s :
 -- asked for of the next entry, which its contents are taken from then (`words`); and what was
 -- fetched of an entry that is planned is what stands in the run at its place (`fetched`).
 pub record InstructionWordsAreThoseOfTheRun : Type 0 where
-  pub held : (ds : List ℕ) (n now w : ℕ) (t : Option ℕ) (s : Machine) (f : Front)
+  pub held : (ds : List ℕ) (n now w : ℕ) (t : Option ℕ) (s : Machine) (f : IssueState)
       (v : LookaheadView) →
       count v ≤ 8 → IsLookahead ds n now now t s f v → is_open v ≡ true → 32 ≤ w →
-      latest_done v.front.past w ≤ now →
+      latest_done v.issue.past w ≤ now →
       word s w ≡ word (guesses (count v) t s) w
-  pub words : (ds : List ℕ) (n now : ℕ) (t : Option ℕ) (s : Machine) (f : Front)
+  pub words : (ds : List ℕ) (n now : ℕ) (t : Option ℕ) (s : Machine) (f : IssueState)
       (v : LookaheadView) →
       count v ≤ 8 → IsLookahead ds n now now t s f v → is_open v ≡ true →
       v.next.words.awaited ≤ now →
       let words = words_of_run v.next.entry.own ++ words_of_run v.next.entry.target in
       map (word s) words ≡ map (word (guesses (count v) t s)) words
-  pub fetched : (ds : List ℕ) (n tick now : ℕ) (t : Option ℕ) (s : Machine) (f : Front)
+  pub fetched : (ds : List ℕ) (n tick now : ℕ) (t : Option ℕ) (s : Machine) (f : IssueState)
       (v : LookaheadView) →
       IsLookahead ds n tick now t s f v → v.next.planned ≡ true →
       let u = guesses (count v) t s in
@@ -72,23 +72,23 @@ pub record InstructionWordsAreThoseOfTheRun : Type 0 where
 abbrev pub OpeningsLookAhead : Type 0
 OpeningsLookAhead = (ds : List ℕ) (n tick now start : ℕ) (t : Option ℕ) (s : Machine)
     (banks : LastAnswers) (v : LookaheadView) →
-    IsOpened t s (opening_front banks start) v → IsMachine s → IsIndicatorIfAny t →
+    IsOpened t s (opening_issue banks start) v → IsMachine s → IsIndicatorIfAny t →
     All (λ b. b ≤ start + MOST_DELAY) banks.ticks → now ≤ start → start ≤ now + 9 →
-    IsLookahead ds n tick now t s (opening_front banks start) v
+    IsLookahead ds n tick now t s (opening_issue banks start) v
 
 -- A signal and an order without a card leave what runs ahead, once the entry before it is done; and
 -- an opening.
 pub record SignalsLeaveLookaheads : Type 0 where
-  pub lookahead : (ds : List ℕ) (n tick now : ℕ) (s u : Machine) (f : Front) (v : LookaheadView) →
+  pub lookahead : (ds : List ℕ) (n tick now : ℕ) (s u : Machine) (f : IssueState) (v : LookaheadView) →
       1 ≤ n → n ≤ 8 → AreDelaysUpTo MOST_DELAY ds → IsLookahead ds n tick now None s f v →
       AreNotDone now v.levels → f.c ≡ now →
       IsMachine u → AreAlikeBesideOrders s u → IsLookahead ds n tick now None u f v
-  pub opening : (t : Option ℕ) (s u : Machine) (f : Front) (v : LookaheadView) →
+  pub opening : (t : Option ℕ) (s u : Machine) (f : IssueState) (v : LookaheadView) →
       IsOpened t s f v → AreAlikeBesideOrders s u → IsOpened t u f v
 
 -- The levels are the entries that are prepared before the tick.
 abbrev pub LookaheadsAreLevels : Type 0
-LookaheadsAreLevels = (ds : List ℕ) (n tick now : ℕ) (t : Option ℕ) (s : Machine) (f : Front)
+LookaheadsAreLevels = (ds : List ℕ) (n tick now : ℕ) (t : Option ℕ) (s : Machine) (f : IssueState)
     (v : LookaheadView) →
     1 ≤ n → n ≤ 8 → AreDelaysUpTo MOST_DELAY ds → now ≤ tick + 1 → count v ≤ n →
     IsLookahead ds n tick now t s f v →
@@ -98,12 +98,12 @@ LookaheadsAreLevels = (ds : List ℕ) (n tick now : ℕ) (t : Option ℕ) (s : M
 -- accepted then or later, are those of that entry and of those behind it that are accepted before;
 -- what they ask for is answered soon.
 abbrev pub TheBanksAreLeft : Type 0
-TheBanksAreLeft = (ds : List ℕ) (n tick now : ℕ) (t : Option ℕ) (s : Machine) (f : Front)
+TheBanksAreLeft = (ds : List ℕ) (n tick now : ℕ) (t : Option ℕ) (s : Machine) (f : IssueState)
     (v : LookaheadView) →
     1 ≤ n → n ≤ 8 → AreDelaysUpTo MOST_DELAY ds → now ≡ tick + 1 → count v ≤ n → 1 ≤ count v →
     IsOutlook ds n tick now t s f v →
     (row_of_entry ds n f (entry t s)).c ≡ now →
     ((made_before ds now (reads_of_entry ds n f (entry t s) ++ reads_before ds n now
-    (ahead ds n (suc n) None (guess t s) (front_after_entry ds n f (entry t s)))) f.bus).banks.ticks
+    (ahead ds n (suc n) None (prediction t s) (issue_after_entry ds n f (entry t s)))) f.bus).banks.ticks
     ≡ answers_left now v.log v.next.words.bus.banks.ticks)
     × All (λ b. b ≤ now + MOST_DELAY) (answers_left now v.log v.next.words.bus.banks.ticks)

@@ -4,10 +4,10 @@ use Rattle.st_state.specs.Machine.{Machine}
 use Rattle.st_exec.specs.Step.{interrupt}
 use Rattle.st_banks.specs.declared.answers.LastAnswers.{LastAnswers}
 use Rattle.st_banks.specs.Bank.{idle_banks}
-use Rattle.st_rows.specs.Rows.{opening_front, row_of_entry}
+use Rattle.st_rows.specs.Rows.{opening_issue, row_of_entry}
 use Rattle.st_rows.specs.declared.entry.Entry.{Entry}
-use Rattle.st_rows.specs.declared.front.Front.{Front}
-use Rattle.st_rows.specs.declared.front.EntryTicks.{EntryTicks}
+use Rattle.st_rows.specs.declared.issue.IssueState.{IssueState}
+use Rattle.st_rows.specs.declared.issue.EntryTicks.{EntryTicks}
 use Rattle.st_segment.specs.Entries.{entry}
 use Rattle.st_segment.specs.Ahead.{Ahead, ahead, prepared_before, reads_to_end, banks_at_end}
 
@@ -22,8 +22,8 @@ pub record Overlap : Type 0 where
   pub levels : ℕ
   pub state : Machine
   pub taken : Option ℕ
-  pub missed : Option ℕ
-  pub front : Front
+  pub mispredicted : Option ℕ
+  pub issue : IssueState
   pub now : ℕ
   pub owed : Bool
   pub ended : Bool
@@ -31,14 +31,14 @@ pub record Overlap : Type 0 where
   pub closing : Option LastAnswers
 
 -- a machine between two ticks
-abbrev pub machine_between_ticks : List ℕ → ℕ → Machine → Option ℕ → Front → ℕ → Overlap
+abbrev pub machine_between_ticks : List ℕ → ℕ → Machine → Option ℕ → IssueState → ℕ → Overlap
 machine_between_ticks ds n s t f now = record {
   delays = ds;
   levels = n;
   state = s;
   taken = t;
-  missed = None;
-  front = f;
+  mispredicted = None;
+  issue = f;
   now = now;
   owed = false;
   ended = false;
@@ -48,7 +48,7 @@ machine_between_ticks ds n s t f now = record {
 
 -- a machine before its first tick
 abbrev pub machine_at_start : List ℕ → ℕ → Machine → Overlap
-machine_at_start ds n s = machine_between_ticks ds n s None (opening_front idle_banks 0) 0
+machine_at_start ds n s = machine_between_ticks ds n s None (opening_issue idle_banks 0) 0
 
 -- a state with the counter behind a missed branch, if there is one
 abbrev pub with_counter : Option ℕ → Machine → Machine
@@ -58,7 +58,7 @@ with_counter (Some h) s = record s { ic = h }
 -- the state that what runs ahead goes on from: behind a missed branch, with the counter of the
 -- guess
 unfoldable pub state_ahead : Overlap → Machine
-state_ahead m = if m.ended then m.state else with_counter m.missed m.state
+state_ahead m = if m.ended then m.state else with_counter m.mispredicted m.state
 
 -- the entry that is done next
 abbrev pub oldest_entry : Overlap → Entry
@@ -66,11 +66,11 @@ oldest_entry m = entry m.taken (state_ahead m)
 
 -- its row
 unfoldable pub oldest_row : Overlap → EntryTicks
-oldest_row m = row_of_entry m.delays m.levels m.front (oldest_entry m)
+oldest_row m = row_of_entry m.delays m.levels m.issue (oldest_entry m)
 
 -- the next k entries by guessed steps
 abbrev pub entries_ahead : ℕ → Overlap → List Ahead
-entries_ahead k m = ahead m.delays m.levels k m.taken (state_ahead m) m.front
+entries_ahead k m = ahead m.delays m.levels k m.taken (state_ahead m) m.issue
 
 -- the levels: the entries that are prepared before this tick and not done
 unfoldable pub levels_of : Overlap → List Ahead
@@ -80,8 +80,8 @@ levels_of m = prepared_before m.now (entries_ahead m.levels m)
 -- reads of that entry and of those behind it that are accepted before that tick are made
 unfoldable pub banks_at_its_end : Overlap → LastAnswers
 banks_at_its_end m =
-    banks_at_end m.delays m.now (reads_to_end m.delays m.levels m.now m.taken m.state m.front
-    (oldest_entry m)) m.front.bus
+    banks_at_end m.delays m.now (reads_to_end m.delays m.levels m.now m.taken m.state m.issue
+    (oldest_entry m)) m.issue.bus
 
 -- the interrupt that is taken before the next entry
 abbrev pub interrupt_due : Overlap → Option ℕ

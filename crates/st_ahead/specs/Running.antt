@@ -4,7 +4,7 @@ use Rattle.st_bits.specs.Indicators.{IsIndicatorIfAny}
 use Rattle.st_bits.specs.declared.limits.TheConstants.{MOST_DELAY}
 use Rattle.st_state.specs.Machine.{Machine, IsMachine}
 use Rattle.st_exec.specs.Step.{interrupt, rests}
-use Rattle.st_rows.specs.declared.front.Front.{Front}
+use Rattle.st_rows.specs.declared.issue.IssueState.{IssueState}
 use Rattle.st_ring.specs.declared.levels.Completed.{Completed}
 use Rattle.st_ahead.specs.Overlap.{machine_between_ticks, banks_at_its_end}
 use Rattle.st_ahead.specs.Calls.{machine_after_tick, answer}
@@ -21,40 +21,40 @@ pub record IsAwake (t : Option ℕ) (s : Machine) : Type 0 where
   pub goes : rests s ≡ false
 
 -- it goes on from the tick `now`, `last` at the latest
-pub record GoesFrom (ds : List ℕ) (n last now : ℕ) (t : Option ℕ) (s : Machine) (f : Front)
+pub record GoesFrom (ds : List ℕ) (n last now : ℕ) (t : Option ℕ) (s : Machine) (f : IssueState)
     (v : LookaheadView) : Type 0 where
   pub lookahead : IsLookahead ds n (now - 1) now t s f v
   pub soon : now ≤ last
   pub awake : IsAwake t s
 
-module _ (ds : List ℕ) (n count last now : ℕ) (t : Option ℕ) (s : Machine) (f : Front)
+module _ (ds : List ℕ) (n count last now : ℕ) (t : Option ℕ) (s : Machine) (f : IssueState)
     (k : Option ℕ) (u : Machine) (v : LookaheadView) where
   -- all ticks up to `last` are passed
   pub record HasPassed : Type 0 where
-    pub front : Front
+    pub issue : IssueState
     pub passed : ArePassed count (last + 1 - now) (machine_between_ticks ds n s t f now)
-        (machine_between_ticks ds n u k front (last + 1))
+        (machine_between_ticks ds n u k issue (last + 1))
     pub awake : IsAwake k u
-    pub lookahead : IsLookahead ds n last (last + 1) k u front v
+    pub lookahead : IsLookahead ds n last (last + 1) k u issue v
 
   -- the ticks before the tick `tick` are passed, and at that one an entry is done behind which
   -- something may come
   pub record HasStopped (tick : ℕ) (done : Completed) : Type 0 where
     pub table : Option ℕ
     pub state : Machine
-    pub front : Front
+    pub issue : IssueState
     pub ahead : LookaheadView
     pub passed : ArePassed count (tick - now) (machine_between_ticks ds n s t f now)
-        (machine_between_ticks ds n state table front tick)
+        (machine_between_ticks ds n state table issue tick)
     pub soon : tick ≤ last
     pub none_taken : k ≡ None
     pub machine : IsMachine state
     pub indicator : IsIndicatorIfAny table
-    pub done_at : IsDoneAt ds n tick table state front ahead u v done
-    pub banks : banks_at_its_end (machine_between_ticks ds n state table front tick)
+    pub done_at : IsDoneAt ds n tick table state issue ahead u v done
+    pub banks : banks_at_its_end (machine_between_ticks ds n state table issue tick)
         ≡ answers_before tick v
     pub near : All (λ b. b ≤ tick + MOST_DELAY) (answers_before tick v).ticks
-    pub stops : let m = machine_after_tick (machine_between_ticks ds n state table front tick) in
+    pub stops : let m = machine_after_tick (machine_between_ticks ds n state table issue tick) in
         answer m ≡ Goes → may_come_from_outside count m.state ≡ true
 
   -- by the entry that it stops behind

@@ -16,7 +16,7 @@ use Rattle.st_ahead.specs.declared.events.View.{View}
 pub record IsLevelOf (ds : List ℕ) (n tick : ℕ) (level : Level) (a : Ahead) : Type 0 where
   pub prepared : level.prepared ≡ plan_of a
   pub p : level.p ≡ a.row.p
-  pub have : level.have ≡ slots_of (fills ds n a.front a.entry) (plan_of a) a.state tick
+  pub have : level.have ≡ slots_of (fills ds n a.issue a.entry) (plan_of a) a.state tick
 
 -- the ring that is lent is the levels, in their order
 abbrev pub AreLevelsOf : Overlap → List Level → Type 0

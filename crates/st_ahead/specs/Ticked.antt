@@ -1,15 +1,15 @@
 -- What a tick makes of what runs ahead.
 use Rattle.std.specs.Prelude.{ℕ, ◌≡◌, ◌≢◌, List, Option, None, Some}
 use Rattle.st_state.specs.Machine.{Machine}
-use Rattle.st_exec.specs.Completion.{state_after_execution, guess}
-use Rattle.st_rows.specs.Rows.{row_of_entry, front_after_entry}
-use Rattle.st_rows.specs.declared.front.Front.{Front}
+use Rattle.st_exec.specs.Completion.{state_after_execution, prediction}
+use Rattle.st_rows.specs.Rows.{row_of_entry, issue_after_entry}
+use Rattle.st_rows.specs.declared.issue.IssueState.{IssueState}
 use Rattle.st_segment.specs.Entries.{entry}
 use Rattle.st_ring.specs.Levels.{IsCompleted}
 use Rattle.st_ring.specs.declared.levels.Completed.{Completed}
 use Rattle.st_ahead.specs.Forecast.{LookaheadView, IsLookahead}
 
-module _ (ds : List ℕ) (n now : ℕ) (t : Option ℕ) (s : Machine) (f : Front) (v : LookaheadView)
+module _ (ds : List ℕ) (n now : ℕ) (t : Option ℕ) (s : Machine) (f : IssueState) (v : LookaheadView)
     (u : Machine) (w : LookaheadView) where
   -- the oldest entry is done at it: u is the state after its step, and w runs ahead of the guess of
   -- that
@@ -17,8 +17,8 @@ module _ (ds : List ℕ) (n now : ℕ) (t : Option ℕ) (s : Machine) (f : Front
     pub due : (row_of_entry ds n f (entry t s)).c ≡ now
     pub told : IsCompleted ds n t s f done
     pub state : u ≡ state_after_execution t s
-    pub lookahead : IsLookahead ds n now now None (guess t s)
-        (front_after_entry ds n f (entry t s)) w
+    pub lookahead : IsLookahead ds n now now None (prediction t s)
+        (issue_after_entry ds n f (entry t s)) w
     pub log : w.log ≡ v.log
     pub bus : w.next.words ≡ v.next.words
 

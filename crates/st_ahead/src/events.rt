@@ -38,7 +38,7 @@ pub enum Settled {
         dropped: u8,
     },
     /// The guess of a branch was wrong; so many levels are dropped.
-    Missed {
+    Mispredicted {
         dropped: u8,
     },
     /// The machine waits, and nothing is pending. The decision is still owed.

@@ -10,7 +10,7 @@ mod lookahead_shown;
 mod lookahead_steps;
 mod lookahead_tick;
 mod machine;
-mod present;
+mod committed;
 mod row_queue;
 
 pub use events::{Event, LevelView, Row, Settled, View};

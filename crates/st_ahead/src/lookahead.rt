@@ -5,15 +5,15 @@ ghost use Rattle.st_bits.specs.Indicators.{IsIndicatorIfAny};
 ghost use Rattle.st_bits.specs.declared.limits.TheConstants.{MOST_DELAY};
 ghost use Rattle.st_state.specs.Machine.{Machine, IsMachine};
 ghost use Rattle.st_prep.specs.Fetch.{index_words as index_words_of};
-ghost use Rattle.st_rows.specs.Rows.{opening_front};
-ghost use Rattle.st_rows.specs.declared.front.Front.{Front as FrontOf};
+ghost use Rattle.st_rows.specs.Rows.{opening_issue};
+ghost use Rattle.st_rows.specs.declared.issue.IssueState.{IssueState as IssueStateOf};
 ghost use Rattle.st_banks.specs.Bank.{idle_banks};
 
 use st_banks::{Delays, LastAnswers};
-use st_next::Next;
+use st_next::FetchUnit;
 use st_prep::{Place, Prepared, index_words, place_of};
 use st_ring::{Completed, Levels};
-use st_rows::{Front, Log};
+use st_rows::{IssueState, Log};
 use st_state::State;
 use std::marker::Model;
 
@@ -23,11 +23,11 @@ pub struct Lookahead<const N: usize> {
     /// The entries that are prepared and not done, and the index words that they change.
     pub levels: Levels<N>,
     /// The front behind them.
-    pub front: Front,
+    pub issue: IssueState,
     /// The reads of the segment that may be taken back.
     pub log: Log,
     /// The entry that is prepared next. All reads are made on its bus.
-    pub next: Next,
+    pub next: FetchUnit,
 }
 
 impl<const N: usize> Model for Lookahead<N> {
@@ -37,7 +37,7 @@ impl<const N: usize> Model for Lookahead<N> {
 
     ghost view = { λ lookahead. record {
       levels = lookahead.levels;
-      front = lookahead.front;
+      issue = lookahead.issue;
       log = lookahead.log;
       next = lookahead.next;
     } };
@@ -57,14 +57,14 @@ impl<const N: usize> Lookahead<N> {
         requires early { start ≤ 2 ^ 64 - 1024 }
         requires banks { All (λ t. t ≤ start + MOST_DELAY) banks.ticks }
 
-        ensures opened { IsOpened table state.now (opening_front banks start) result }
+        ensures opened { IsOpened table state.now (opening_issue banks start) result }
         ensures machine { IsMachine state.now }
     {
-        let front = Front::new(banks, start);
-        let next = Next::new(place_of(state, table), front.bus);
+        let issue = IssueState::new(banks, start);
+        let next = FetchUnit::new(place_of(state, table), issue.bus);
         Lookahead {
             levels: Levels::new(index_words(state)),
-            front,
+            issue,
             log: Log::new(),
             next,
         }
@@ -82,9 +82,9 @@ impl<const N: usize> Lookahead<N> {
         ensures dropped { result ≡ count self.old }
         ensures banks { All (λ b. b ≤ now + 1 + count self.old + MOST_DELAY)
             (answers_before now self.old).ticks }
-        ensures opened { (ds : List ℕ) (tick : ℕ) (t : Option ℕ) (s : Machine) (f : FrontOf) →
+        ensures opened { (ds : List ℕ) (tick : ℕ) (t : Option ℕ) (s : Machine) (f : IssueStateOf) →
             IsLookahead ds N tick now t s f self.old → index_words_of s ≡ index_words_of state.now →
-            IsOpened table state.now (opening_front (answers_before now self.old) (now + 1 + count
+            IsOpened table state.now (opening_issue (answers_before now self.old) (now + 1 + count
             self.old)) self.new }
         ensures few { count self.old ≤ N }
         ensures machine { IsMachine state.now }
@@ -93,9 +93,9 @@ impl<const N: usize> Lookahead<N> {
         self.log.undo(&mut banks, now);
         let dropped = self.levels.undo();
         let start = now + 1 + u64::from(dropped);
-        self.front = Front::new(banks, start);
+        self.issue = IssueState::new(banks, start);
         self.log.clear();
-        self.next = Next::new(place_of(state, table), self.front.bus);
+        self.next = FetchUnit::new(place_of(state, table), self.issue.bus);
         dropped
     }
 
@@ -107,9 +107,9 @@ impl<const N: usize> Lookahead<N> {
 
         // The levels are dropped, and the front starts anew.
         ensures dropped { result ≡ count self.old }
-        ensures opened { (ds : List ℕ) (tick : ℕ) (t : Option ℕ) (s : Machine) (f : FrontOf) →
+        ensures opened { (ds : List ℕ) (tick : ℕ) (t : Option ℕ) (s : Machine) (f : IssueStateOf) →
             IsLookahead ds N tick now t s f self.old → index_words_of s ≡ index_words_of state.now →
-            IsOpened table state.now (opening_front idle_banks
+            IsOpened table state.now (opening_issue idle_banks
             (now + 1 + count self.old)) self.new }
 
         ensures few { count self.old ≤ N }
@@ -118,9 +118,9 @@ impl<const N: usize> Lookahead<N> {
         let count = self.levels.undo();
         let start = now + 1 + u64::from(count);
         let banks = LastAnswers::new();
-        self.front = Front::new(banks, start);
+        self.issue = IssueState::new(banks, start);
         self.log.clear();
-        self.next = Next::new(place_of(state, table), self.front.bus);
+        self.next = FetchUnit::new(place_of(state, table), self.issue.bus);
         count
     }
 }

@@ -1,11 +1,11 @@
 //! What runs ahead goes on, from one entry that is prepared to the next one, up to a completion.
 ghost use Rattle.std.specs.Prelude.{◌≡◌, ℕ, ◌+◌, ◌<◌, ◌≤◌, ◌^◌, true, false, nat_le, if◌then◌else◌, Option, None, Some};
-ghost use Rattle.st_rows.specs.declared.front.Front.{Front as FrontOf};
+ghost use Rattle.st_rows.specs.declared.issue.IssueState.{IssueState as IssueStateOf};
 ghost use Rattle.st_ring.specs.Levels.{due_of};
 
 use crate::lookahead::Lookahead;
 use st_banks::Delays;
-use st_next::Basis;
+use st_next::PlanContext;
 use st_prep::{Place, Prepared};
 use st_rows::{FormedEntry, Nobody, Timing};
 use st_state::State;
@@ -25,7 +25,7 @@ impl<const N: usize> Lookahead<N> {
         requires going { Reaches delays.now.list N last state.now self.old }
 
         // What becomes levels.
-        ensures goes { (t : Option ℕ) (f : FrontOf) (since : ℕ) →
+        ensures goes { (t : Option ℕ) (f : IssueStateOf) (since : ℕ) →
             GoesUpTo delays.now.list N since last t state.now f self.old →
             HasGone delays.now.list N since last t state.now f self.new result }
         ensures before { count self.old ≤ N }
@@ -83,7 +83,7 @@ impl<const N: usize> Lookahead<N> {
         requires due { due ≡ due_of self.old.levels.plans }
         requires going { Reaches delays.now.list N last state.now self.old }
 
-        ensures going { (t : Option ℕ) (f : FrontOf) (tick : ℕ) →
+        ensures going { (t : Option ℕ) (f : IssueStateOf) (tick : ℕ) →
             IsGoing delays.now.list N tick tick t state.now f self.old →
             IsGoing delays.now.list N tick due t state.now f self.new }
         ensures levels { self.new.levels ≡ self.old.levels }
@@ -93,13 +93,13 @@ impl<const N: usize> Lookahead<N> {
         }
         let _last = last;
         let timing = Timing { delays, levels: N };
-        let basis = Basis {
+        let context = PlanContext {
             timing,
             state,
-            front: &self.front,
+            issue: &self.issue,
             index: self.levels.index(),
         };
-        self.next.plan_before(due, &basis, &mut self.log);
+        self.next.plan_before(due, &context, &mut self.log);
     }
 
     // The next entry becomes a level at the tick `now`, its P.
@@ -112,7 +112,7 @@ impl<const N: usize> Lookahead<N> {
         requires planned { self.old.next.planned ≡ true }
         requires due { self.old.next.formed.p ≡ now }
 
-        ensures going { (t : Option ℕ) (f : FrontOf) →
+        ensures going { (t : Option ℕ) (f : IssueStateOf) →
             IsGoing delays.now.list N now (now + 1) t state.now f self.old →
             IsGoing delays.now.list N now now t state.now f self.new }
         ensures count { count self.new ≡ count self.old + 1 }
@@ -126,10 +126,10 @@ impl<const N: usize> Lookahead<N> {
             formed: self.next.formed,
         };
         let filled = self
-            .front
+            .issue
             .fill(&next, &mut self.next.words, &mut self.log, &mut Nobody);
-        self.levels.push(&self.next.prepared, &self.front, &filled);
-        self.front
+        self.levels.push(&self.next.prepared, &self.issue, &filled);
+        self.issue
             .pass(&self.next.entry, &filled.row, &self.next.words.bus);
         let place = place_behind(&self.next.prepared);
         self.next.restart(place);

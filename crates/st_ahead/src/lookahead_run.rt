@@ -1,12 +1,12 @@
 //! What runs ahead makes ticks, up to an entry that is done behind which something may come.
 ghost use Rattle.std.specs.Prelude.{◌≡◌, ℕ, ◌<◌, ◌≤◌, ◌^◌, true, false, None, option_map};
 ghost use Rattle.st_exec.specs.Step.{interrupt as interrupt_of, rests};
-ghost use Rattle.st_rows.specs.declared.front.Front.{Front as FrontOf};
+ghost use Rattle.st_rows.specs.declared.issue.IssueState.{IssueState as IssueStateOf};
 ghost use Rattle.st_ahead.specs.RunTo.{may_come_from_outside};
 
 use crate::events::Row;
 use crate::lookahead::Lookahead;
-use crate::present::Present;
+use crate::committed::CommittedState;
 use crate::row_queue::RowQueue;
 use st_banks::Delays;
 use st_exec::{interrupt, is_at_rest};
@@ -46,17 +46,17 @@ impl<const N: usize> Lookahead<N> {
     pub fn run_to(
         &mut self,
         limits: Limits,
-        present: &mut Present,
+        committed: &mut CommittedState,
         rows: &mut RowQueue,
         delays: &Delays,
     ) -> Option<Stop>
         requires some { 1 ≤ N }
         requires few { N ≤ 8 }
-        requires done { present.old.state.done < 2 ^ 63 }
-        requires starts { (f : FrontOf) × (now : ℕ) × (let x = present.old in
+        requires done { committed.old.state.done < 2 ^ 63 }
+        requires starts { (f : IssueStateOf) × (now : ℕ) × (let x = committed.old in
             GoesFrom delays.now.list N limits.last now x.taken x.state f self.old) }
 
-        ensures { (f : FrontOf) (now : ℕ) → let x = present.old in let y = present.new in
+        ensures { (f : IssueStateOf) (now : ℕ) → let x = committed.old in let y = committed.new in
             let ds = delays.now.list in let last = limits.last in
             GoesFrom ds N last now x.taken x.state f self.old →
             HasRunTo ds N limits.count last now x.taken x.state f y.taken y.state self.new result
@@ -66,17 +66,17 @@ impl<const N: usize> Lookahead<N> {
     {
         let Limits { count, last } = limits;
         'entries: loop {
-            let Some(tick) = self.go_to(last, &present.state, delays) else {
-                self.fill(&present.state, last);
+            let Some(tick) = self.go_to(last, &committed.state, delays) else {
+                self.fill(&committed.state, last);
                 return None;
             };
-            let done = self.complete(&mut present.state);
-            present.taken = None;
-            if is_stopped(&done, &present.state, count) {
-                self.fill(&present.state, tick);
+            let done = self.complete(&mut committed.state);
+            committed.taken = None;
+            if is_stopped(&done, &committed.state, count) {
+                self.fill(&committed.state, tick);
                 return Some(Stop { done, tick });
             }
-            rows.put(row_of(&done, tick, &present.state));
+            rows.put(row_of(&done, tick, &committed.state));
         }
     }
 }
@@ -106,15 +106,15 @@ fn row_of(done: &Completed, tick: u64, state: &State) -> Row
 #[inline(always)]
 fn is_stopped(done: &Completed, state: &State, count: u64) -> bool
     ensures goes { result ≡ false → (may_come_from_outside count state.now ≡ false)
-        × (done.now.missed ≡ None) × (interrupt_of state.now ≡ None)
+        × (done.now.mispredicted ≡ None) × (interrupt_of state.now ≡ None)
         × (rests state.now ≡ false) }
-    ensures stops { result ≡ true → may_come_from_outside count state.now ≡ false → done.now.missed
+    ensures stops { result ≡ true → may_come_from_outside count state.now ≡ false → done.now.mispredicted
         ≡ None → interrupt_of state.now ≡ None → rests state.now ≡ false → ⊥ }
 {
     if may_come(state, count) {
         return true;
     }
-    if done.missed.is_some() {
+    if done.mispredicted.is_some() {
         return true;
     }
     if interrupt(state).is_some() {

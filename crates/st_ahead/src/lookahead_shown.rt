@@ -1,7 +1,7 @@
 //! What is shown of what runs ahead, and where its next entry stands.
 ghost use Rattle.std.specs.Prelude.{◌≡◌, ◌≤◌, ℕ, List, map, get_or, Option, None, Some, option_map};
 ghost use Rattle.st_state.specs.Machine.{Machine};
-ghost use Rattle.st_rows.specs.declared.front.Front.{Front as FrontOf};
+ghost use Rattle.st_rows.specs.declared.issue.IssueState.{IssueState as IssueStateOf};
 ghost use Rattle.st_ahead.specs.Shown.{word_before_change};
 
 use crate::events::LevelView;
@@ -40,8 +40,8 @@ impl<const N: usize> Lookahead<N> {
 
     // Level k, counted from the oldest, as it is shown at a tick; none behind the last one.
     pub(crate) fn level(&self, k: usize, tick: u64) -> Option<LevelView>
-        ensures value { (ds : List ℕ) (n now : ℕ) (t : Option ℕ) (s : Machine) (f : FrontOf) →
-            AreAhead ds n now t s f self.now.front self.now.levels →
+        ensures value { (ds : List ℕ) (n now : ℕ) (t : Option ℕ) (s : Machine) (f : IssueStateOf) →
+            AreAhead ds n now t s f self.now.issue self.now.levels →
             result ≡ get_or (map (λ a. Some (level_shown tick a))
             (ahead ds n (count self.now) t s f)) k None }
         ensures few { count self.now ≤ N }

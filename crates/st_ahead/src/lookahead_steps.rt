@@ -1,6 +1,6 @@
 //! What runs ahead goes on to the next tick.
 ghost use Rattle.std.specs.Prelude.{◌≡◌, ℕ, ◌+◌, ◌<◌, ◌≤◌, ◌^◌, true, Option};
-ghost use Rattle.st_rows.specs.declared.front.Front.{Front as FrontOf};
+ghost use Rattle.st_rows.specs.declared.issue.IssueState.{IssueState as IssueStateOf};
 
 use crate::lookahead::Lookahead;
 use st_banks::Delays;
@@ -17,7 +17,7 @@ impl<const N: usize> Lookahead<N> {
         requires few { N ≤ 8 }
         requires early { now < 2 ^ 63 }
         requires going { Reaches delays.now.list N now state.now self.old }
-        ensures { (t : Option ℕ) (f : FrontOf) →
+        ensures { (t : Option ℕ) (f : IssueStateOf) →
             IsLookahead delays.now.list N now now t state.now f self.old →
             IsLookahead delays.now.list N now (now + 1) t state.now f self.new }
     {
@@ -42,7 +42,7 @@ impl<const N: usize> Lookahead<N> {
         requires few { N ≤ 8 }
         requires early { now < 2 ^ 63 }
         requires going { Reaches delays.now.list N now state.now self.old }
-        ensures { (t : Option ℕ) (f : FrontOf) →
+        ensures { (t : Option ℕ) (f : IssueStateOf) →
             IsLookahead delays.now.list N now now t state.now f self.old →
             IsLookahead delays.now.list N now (now + 1) t state.now f self.new }
     {

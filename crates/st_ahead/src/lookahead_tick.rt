@@ -2,10 +2,10 @@
 ghost use Rattle.std.specs.Prelude.{◌≡◌, ℕ, ◌+◌, ◌<◌, ◌≤◌, ◌^◌, List, Option, None};
 ghost use Rattle.st_bits.specs.declared.limits.TheConstants.{MOST_DELAY};
 ghost use Rattle.st_state.specs.Machine.{Machine, word};
-ghost use Rattle.st_exec.specs.Completion.{state_after_execution, guess};
+ghost use Rattle.st_exec.specs.Completion.{state_after_execution, prediction};
 ghost use Rattle.st_rows.specs.Ranges.{AreDelaysUpTo};
-ghost use Rattle.st_rows.specs.Rows.{row_of_entry, front_after_entry};
-ghost use Rattle.st_rows.specs.declared.front.Front.{Front as FrontOf};
+ghost use Rattle.st_rows.specs.Rows.{row_of_entry, issue_after_entry};
+ghost use Rattle.st_rows.specs.declared.issue.IssueState.{IssueState as IssueStateOf};
 ghost use Rattle.st_segment.specs.Entries.{entry};
 ghost use Rattle.st_ring.specs.Levels.{IsCompleted, AreNotDone};
 ghost use Rattle.st_ahead.specs.Forecast.{IsLookahead, IsOutlook, count};
@@ -22,7 +22,7 @@ impl<const N: usize> Lookahead<N> {
     /// up to date, with nothing owed.
     pub fn tick(&mut self, state: &mut State, now: u64) -> Option<Completed>
         requires few { state.old.done < 2 ^ 63 }
-        ensures ticked { (ds : List ℕ) (tick : ℕ) (t : Option ℕ) (f : FrontOf) → 1 ≤ N → N ≤ 8 →
+        ensures ticked { (ds : List ℕ) (tick : ℕ) (t : Option ℕ) (f : IssueStateOf) → 1 ≤ N → N ≤ 8 →
             AreDelaysUpTo MOST_DELAY ds →
             IsLookahead ds N tick now t state.old f self.old →
             (1 ≤ count self.old → now ≡ tick + 1) →
@@ -46,17 +46,17 @@ impl<const N: usize> Lookahead<N> {
     pub(crate) fn complete(&mut self, state: &mut State) -> Completed
         requires some { 0 < count self.old }
         requires few { state.old.done < 2 ^ 63 }
-        ensures { (ds : List ℕ) (tick now : ℕ) (t : Option ℕ) (f : FrontOf) → AreDelaysUpTo
+        ensures { (ds : List ℕ) (tick now : ℕ) (t : Option ℕ) (f : IssueStateOf) → AreDelaysUpTo
             MOST_DELAY ds →
             IsOutlook ds N tick now t state.old f self.old →
             (row_of_entry ds N f (entry t state.old)).c ≡ now →
             (state.new ≡ state_after_execution t state.old) × IsCompleted ds N t state.old f result
-            × IsOutlook ds N tick now None (guess t state.old)
-            (front_after_entry ds N f (entry t state.old)) self.new
+            × IsOutlook ds N tick now None (prediction t state.old)
+            (issue_after_entry ds N f (entry t state.old)) self.new
             × (self.new.log ≡ self.old.log) × (self.new.next.words ≡ self.old.next.words) }
     {
         let done = self.levels.complete(state);
-        if self.levels.len() == 0 && self.front.serial {
+        if self.levels.len() == 0 && self.issue.serial {
             self.next.place = place_of(state, None);
         }
         done
@@ -66,7 +66,7 @@ impl<const N: usize> Lookahead<N> {
     // then and not done. They are the same in the state that the levels run ahead of, which may
     // have another counter.
     pub(crate) fn fill(&mut self, state: &State, now: u64)
-        ensures filled { (ds : List ℕ) (tick next : ℕ) (t : Option ℕ) (s : Machine) (f : FrontOf) →
+        ensures filled { (ds : List ℕ) (tick next : ℕ) (t : Option ℕ) (s : Machine) (f : IssueStateOf) →
             AreDelaysUpTo MOST_DELAY ds →
             IsOutlook ds N tick next t s f self.old → tick ≤ now → next ≤ now + 1 →
             AreNotDone now self.old.levels →

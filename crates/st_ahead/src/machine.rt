@@ -5,7 +5,7 @@ ghost use Rattle.st_bits.specs.Indicators.{IsIndicatorIfAny};
 use crate::events::{Event, LevelView, Row, Settled, View};
 use crate::lookahead::Lookahead;
 use crate::lookahead_run::Limits;
-use crate::present::Present;
+use crate::committed::CommittedState;
 use crate::row_queue::RowQueue;
 use st_banks::{Delays, LastAnswers};
 use st_exec::is_at_rest;
@@ -20,9 +20,9 @@ use std::marker::Model;
 #[derive(Drop)]
 pub struct Machine<const N: usize> {
     delays: Delays,
-    present: Present,
+    committed: CommittedState,
     // The counter behind a branch that was missed at this tick.
-    missed: Option<u32>,
+    mispredicted: Option<u32>,
     // The tick that comes next, or that is not settled yet.
     now: u64,
     // Whether that tick is not settled yet.
@@ -43,11 +43,11 @@ impl<const N: usize> Model for Machine<N> {
 
     ghost Value = { Overlap };
 
-    ghost view = { λ a. overlap_of N a.delays.list a.present.state a.present.taken a.missed a.now
+    ghost view = { λ a. overlap_of N a.delays.list a.committed.state a.committed.taken a.mispredicted a.now
         a.owed a.ended a.stopped a.fresh a.lookahead };
 
-    ghost invariant = { λ a. IsInside (overlap_of N a.delays.list a.present.state a.present.taken
-        a.missed a.now a.owed a.ended a.stopped a.fresh a.lookahead) a.fresh a.lookahead };
+    ghost invariant = { λ a. IsInside (overlap_of N a.delays.list a.committed.state a.committed.taken
+        a.mispredicted a.now a.owed a.ended a.stopped a.fresh a.lookahead) a.fresh a.lookahead };
 }
 
 impl<const N: usize> Machine<N> {
@@ -75,8 +75,8 @@ impl<const N: usize> Machine<N> {
         let lookahead = Lookahead::new(&state, None, LastAnswers::new(), 0);
         Machine {
             delays,
-            present: Present { state, taken: None },
-            missed: None,
+            committed: CommittedState { state, taken: None },
+            mispredicted: None,
             now: 0,
             owed: false,
             ended: false,
@@ -97,14 +97,14 @@ impl<const N: usize> Machine<N> {
         ensures after { self.new ≡ machine_after_tick self.old }
     {
         let now = self.now;
-        let done = self.lookahead.tick(&mut self.present.state, now);
-        let number = done_in(&self.present.state);
+        let done = self.lookahead.tick(&mut self.committed.state, now);
+        let number = done_in(&self.committed.state);
         self.owed = true;
         let Some(done) = done else {
             return Event::Passed;
         };
-        self.present.taken = None;
-        self.missed = done.missed;
+        self.committed.taken = None;
+        self.mispredicted = done.mispredicted;
         self.fresh = true;
         Event::Done(Row {
             number,
@@ -140,13 +140,13 @@ impl<const N: usize> Machine<N> {
         let limits = Limits { count, last };
         let stop = self
             .lookahead
-            .run_to(limits, &mut self.present, rows, &self.delays);
-        let number = done_in(&self.present.state);
+            .run_to(limits, &mut self.committed, rows, &self.delays);
+        let number = done_in(&self.committed.state);
         let Some(stop) = stop else {
             self.now = last + 1;
             return None;
         };
-        self.missed = stop.done.missed;
+        self.mispredicted = stop.done.mispredicted;
         self.fresh = true;
         self.owed = true;
         self.now = stop.tick;
@@ -181,7 +181,7 @@ impl<const N: usize> Machine<N> {
         }
         let dropped = self.end();
         self.pass();
-        Settled::Missed { dropped }
+        Settled::Mispredicted { dropped }
     }
 
     /// What runs ahead goes on behind the last tick, as `settle` decides where it answers `Goes`:
@@ -192,7 +192,7 @@ impl<const N: usize> Machine<N> {
         requires stands { self.old.stopped ≡ false }
         requires due { interrupt_due_of self.old ≡ None }
         requires goes { rests self.old.state ≡ false }
-        requires right { self.old.missed ≡ None }
+        requires right { self.old.mispredicted ≡ None }
 
         ensures { self.new ≡ machine_after_pass self.old }
     {
@@ -201,7 +201,7 @@ impl<const N: usize> Machine<N> {
             return;
         }
         let now = self.now;
-        self.lookahead.go_on(now, &self.present.state, &self.delays);
+        self.lookahead.go_on(now, &self.committed.state, &self.delays);
         self.owed = false;
         self.fresh = false;
         self.now += 1;
@@ -210,8 +210,8 @@ impl<const N: usize> Machine<N> {
     // Whether nothing else comes behind the last tick than that it goes on.
     fn goes_on(&self) -> bool
         ensures yes { result ≡ true → (interrupt_due_of self.entry.now ≡ None)
-            × (rests self.entry.now.state ≡ false) × (self.entry.now.missed ≡ None) }
-        ensures no { result ≡ false → (is_some self.entry.now.missed
+            × (rests self.entry.now.state ≡ false) × (self.entry.now.mispredicted ≡ None) }
+        ensures no { result ≡ false → (is_some self.entry.now.mispredicted
             || is_some (interrupt_due_of self.entry.now)
             || rests self.entry.now.state) ≡ true }
         ensures done { result ≡ false → IsSome self.entry.now.closing }
@@ -230,7 +230,7 @@ impl<const N: usize> Machine<N> {
     fn is_fresh(&self) -> bool
         ensures yes { result ≡ true → IsSome self.entry.now.closing }
         ensures no { result ≡ false → (interrupt_due_of self.entry.now ≡ None)
-            × (rests self.entry.now.state ≡ false) × (self.entry.now.missed ≡ None) }
+            × (rests self.entry.now.state ≡ false) × (self.entry.now.mispredicted ≡ None) }
     {
         self.fresh
     }
@@ -240,33 +240,33 @@ impl<const N: usize> Machine<N> {
         ensures value { result ≡ interrupt_due_of self.entry.now }
         ensures bound { IsIndicatorIfAny result }
     {
-        if self.present.taken.is_some() {
+        if self.committed.taken.is_some() {
             return None;
         }
-        st_exec::interrupt(&self.present.state)
+        st_exec::interrupt(&self.committed.state)
     }
 
     // Whether the machine waits, and nothing is pending.
     fn is_resting(&self) -> bool
         ensures { result ≡ rests self.entry.now.state }
     {
-        is_at_rest(&self.present.state)
+        is_at_rest(&self.committed.state)
     }
 
     // Whether a branch was missed at this tick.
-    fn is_misled(&self) -> bool
-        ensures { result ≡ is_some self.entry.now.missed }
+    fn is_mispredicted(&self) -> bool
+        ensures { result ≡ is_some self.entry.now.mispredicted }
     {
-        self.missed.is_some()
+        self.mispredicted.is_some()
     }
 
     /// Whether an interrupt is due or a branch was missed, so that the next decision ends the
     /// segment.
     pub fn ends(&self) -> bool
-        ensures { result ≡ (is_some self.entry.now.missed
+        ensures { result ≡ (is_some self.entry.now.mispredicted
             || is_some (interrupt_due_of self.entry.now)) }
     {
-        self.is_misled() || self.interrupt_due().is_some()
+        self.is_mispredicted() || self.interrupt_due().is_some()
     }
 
     // The segment ends at this tick, at which an entry was done; where it has not ended already.
@@ -281,7 +281,7 @@ impl<const N: usize> Machine<N> {
             return 0;
         }
         let now = self.now;
-        let dropped = self.lookahead.end(&self.present.state, None, now);
+        let dropped = self.lookahead.end(&self.committed.state, None, now);
         self.ended = true;
         dropped
     }
@@ -298,12 +298,12 @@ impl<const N: usize> Machine<N> {
         ensures after { self.new ≡ machine_after_settling self.old }
     {
         let dropped = self.end();
-        let place = place_of(&self.present.state, Some(indicator));
-        let done = done_in(&self.present.state);
-        let ic = counter_in(&self.present.state);
+        let place = place_of(&self.committed.state, Some(indicator));
+        let done = done_in(&self.committed.state);
+        let ic = counter_in(&self.committed.state);
         self.lookahead.stand(place);
-        self.present.taken = Some(indicator);
-        self.missed = None;
+        self.committed.taken = Some(indicator);
+        self.mispredicted = None;
         self.owed = false;
         self.ended = false;
         self.fresh = false;
@@ -327,7 +327,7 @@ impl<const N: usize> Machine<N> {
 
         ensures { self.new ≡ machine_after_pass self.old }
     {
-        self.missed = None;
+        self.mispredicted = None;
         self.owed = false;
         self.ended = false;
         self.fresh = false;
@@ -341,7 +341,7 @@ impl<const N: usize> Machine<N> {
         requires turn { MaySignal self.old }
         ensures { self.new ≡ signalled_by i self.old }
     {
-        self.present.state.signal(i);
+        self.committed.state.signal(i);
     }
 
     /// Ends the segment at the end of a run, at the tick whose settle is owed. The result is the
@@ -393,7 +393,7 @@ impl<const N: usize> Machine<N> {
         let now = self.now;
         let dropped = self
             .lookahead
-            .give_up(&self.present.state, self.present.taken, now);
+            .give_up(&self.committed.state, self.committed.taken, now);
         self.ended = true;
         dropped
     }
@@ -423,7 +423,7 @@ impl<const N: usize> Machine<N> {
         ensures { IfSome self.old.state.reader (λ order. self.new
             ≡ read_in_by order.word None self.old) }
     {
-        st_exec::read_in(&mut self.present.state, None);
+        st_exec::read_in(&mut self.committed.state, None);
     }
 
     // The order of the reader takes effect with a card, where the segment has ended.
@@ -437,7 +437,7 @@ impl<const N: usize> Machine<N> {
                   (Some card);
             }) }
     {
-        st_exec::read_in(&mut self.present.state, Some(card));
+        st_exec::read_in(&mut self.committed.state, Some(card));
     }
 
     /// The order of the printer takes effect; its eight words are the result.
@@ -448,7 +448,7 @@ impl<const N: usize> Machine<N> {
             ≡ words_from self.old.state order.word 8) }
         ensures after { self.new ≡ printed_by self.old }
     {
-        st_exec::print_out(&mut self.present.state)
+        st_exec::print_out(&mut self.committed.state)
     }
 
     /// The levels, oldest first.
@@ -501,7 +501,7 @@ impl<const N: usize> Machine<N> {
     fn done(&self) -> u64
         ensures { result ≡ self.entry.now.state.done }
     {
-        done_in(&self.present.state)
+        done_in(&self.committed.state)
     }
 
     // Level k, counted from the oldest, as it is shown; none behind the last one. There is room for
@@ -518,6 +518,6 @@ impl<const N: usize> Machine<N> {
     pub fn state(&self) -> &State
         ensures { result.now ≡ self.entry.now.state }
     {
-        &self.present.state
+        &self.committed.state
     }
 }

@@ -14,7 +14,7 @@ use Rattle.st_asm.specs.Checks.{is_address, in_range, fits, on_boundary, in_stor
 use Rattle.st_asm.specs.Places.{placing_of, length_in}
 use Rattle.st_asm.specs.declared.values.Values.{Values}
 use Rattle.st_asm.specs.declared.places.Placing.{Placing}
-use Rattle.st_asm.specs.declared.places.Placing.TheVariants.{Lays, Passes, Sets, Names, Ends}
+use Rattle.st_asm.specs.declared.places.Placing.TheVariants.{Emits, Passes, Sets, Names, Ends}
 
 none_of : (a b c d : Bool) (e f g h : Fault) →
     first_fault ((not a, e) ∷ (not b, f) ∷ (not c, g) ∷ (not d, h) ∷ []) ≡ None →
@@ -54,14 +54,14 @@ first-below (IndexWord value count refill flags) v is good =
 first-below _ v is good = address-below v.first (both (is_address v.first) (is_address v.second) is).0
 
 -- the assembled bits are in storage if the assembled or skipped bits are
-pub laid-in_storage : (placing : Placing) (value : ℤ) (place : ℕ) → in_storage place (extent placing value) ≡ true →
+pub emitted-in_storage : (placing : Placing) (value : ℤ) (place : ℕ) → in_storage place (extent placing value) ≡ true →
     in_storage place (length_in placing) ≡ true
 unfolding in_storage
-laid-in_storage (Lays unit bits) value place is = is
-laid-in_storage Passes value place is = refl
-laid-in_storage Sets value place is = refl
-laid-in_storage Names value place is = refl
-laid-in_storage Ends value place is = refl
+emitted-in_storage (Emits unit bits) value place is = is
+emitted-in_storage Passes value place is = refl
+emitted-in_storage Sets value place is = refl
+emitted-in_storage Names value place is = refl
+emitted-in_storage Ends value place is = refl
 
 -- if there is no fault, the first test is false
 pub first-passes : (b : Bool) (fault : Fault) (rows : List (Bool × Fault)) → first_fault ((b, fault) ∷ rows) ≡ None → b ≡ false

@@ -33,13 +33,13 @@ use Rattle.st_asm.specs.Values.{value_modulo, values_of}
 use Rattle.st_asm.specs.Checks.{value_fault}
 use Rattle.st_asm.specs.Places.{placing_of, place_in}
 use Rattle.st_asm.specs.Naming.{Named, naming_at_start, name_fault, name_step, name_card, name_pass, place_of_card, symbol_of}
-use Rattle.st_asm.specs.Valuing.{Laid, laying_at_start, value_statement, value_saying, value_card, value_pass}
+use Rattle.st_asm.specs.Valuing.{Emitted, laying_at_start, value_statement, value_saying, value_card, value_pass}
 use Rattle.st_asm.specs.Assembly.{together, with_defaults}
 use Rattle.st_asm.specs.Sound.{IsLocation, IsSymbol, IsAssemblySound}
 use Rattle.st_asm.specs.Kept.{IsReadCard, IsDeck, IsNamed, IsSoundLayout}
 use Rattle.st_asm.specs.declared.line.ReadCard.{ReadCard}
 use Rattle.st_asm.specs.declared.places.Placing.{Placing}
-use Rattle.st_asm.specs.declared.places.Placing.TheVariants.{Lays, Passes, Sets, Names, Ends}
+use Rattle.st_asm.specs.declared.places.Placing.TheVariants.{Emits, Passes, Sets, Names, Ends}
 use Rattle.st_asm.specs.declared.valuing.Listed.{Listed}
 
 -- the numbers of the cards of lines
@@ -262,7 +262,7 @@ wrapped-below (pos n) = omega arith
 wrapped-below (negsuc n) = omega arith
 
 place_in-is : (placing : Placing) (location : ℕ) (value : ℤ) → IsLocation (place_in placing location value)
-place_in-is (Lays unit bits) location value = omega arith
+place_in-is (Emits unit bits) location value = omega arith
 place_in-is Passes location value = omega arith
 place_in-is Sets location value = wrapped-below value
 place_in-is Names location value = wrapped-below value
@@ -315,7 +315,7 @@ row-pushed : (rows : List Listed) (row : Listed) → numbers_in (rows ++ row ∷
 row-pushed [] row = refl
 row-pushed (r ∷ rs) row = ap (λ ns. r.card ∷ ns) (row-pushed rs row)
 
-saying-numbers : (symbols : List (List ℕ × ℕ)) (s : Laid) (card : ℕ) (statement : Option Statement) (place : Option ℕ) →
+saying-numbers : (symbols : List (List ℕ × ℕ)) (s : Emitted) (card : ℕ) (statement : Option Statement) (place : Option ℕ) →
     IfOk (value_saying symbols s card statement place) (λ t. numbers_in t.rows ≡ numbers_in s.rows ++ card ∷ [])
 unfolding value_statement
 saying-numbers symbols s card None place = row-pushed s.rows _
@@ -323,7 +323,7 @@ saying-numbers symbols s card (Some st) place =
     ok-unless (λ t. numbers_in t.rows ≡ numbers_in s.rows ++ card ∷ []) (value_fault st (values_of symbols st) (unwrap_or place 0)) _
     (row-pushed s.rows _)
 
-value-numbers : (symbols : List (List ℕ × ℕ)) (s : Laid) (p : ReadCard × Option ℕ) →
+value-numbers : (symbols : List (List ℕ × ℕ)) (s : Emitted) (p : ReadCard × Option ℕ) →
     IfOk (value_card symbols s p) (λ t. numbers_in t.rows ≡ numbers_in s.rows ++ p.0.card ∷ [])
 unfolding value_card
 value-numbers symbols s p = saying-numbers symbols s p.0.card p.0.statement p.1
@@ -334,10 +334,10 @@ zip-cards (l ∷ ls) [] same = let no : ⊥ = omega arith in absurd no
 zip-cards (l ∷ ls) (p ∷ ps) same = ap (λ ns. l.card ∷ ns) (zip-cards ls ps (omega arith))
 
 -- the rows are those of the cards, in order
-pub value_pass-numbers : (symbols : List (List ℕ × ℕ)) (lines : List ReadCard) (places : List (Option ℕ)) (laid : Laid) →
-    value_pass symbols lines places ≡ Ok laid → length places ≡ length lines → numbers_in laid.rows ≡ cards_in lines
+pub value_pass-numbers : (symbols : List (List ℕ × ℕ)) (lines : List ReadCard) (places : List (Option ℕ)) (emitted : Emitted) →
+    value_pass symbols lines places ≡ Ok emitted → length places ≡ length lines → numbers_in emitted.rows ≡ cards_in lines
 unfolding value_pass
-value_pass-numbers symbols lines places laid is same =
+value_pass-numbers symbols lines places emitted is same =
     subst (λ r. IfOk r (λ t. numbers_in t.rows ≡ map (λ p. p.0.card) (zip lines places))) is
     (pass-numbers (value_card symbols) (λ p. p.0.card) (λ t. numbers_in t.rows) (value-numbers symbols) laying_at_start (zip lines places))
     ∙ zip-cards lines places same
@@ -431,20 +431,20 @@ defaults-within asked is =
     )
 
 -- the combined result of the three passes is sound
-pub together-sound : (job : List ℕ) (found : Found) (named : Named) (laid : Laid) → form_pass job (cards_of job) ≡ Ok found →
-    name_pass found.lines ≡ Ok named → value_pass (table named.symbols) found.lines named.places ≡ Ok laid →
-    IsSoundLayout laid → IsAssemblySound (length (cards_of job)) (together found named laid)
-together-sound job found named laid formed is_named is_laid sound =
+pub together-sound : (job : List ℕ) (found : Found) (named : Named) (emitted : Emitted) → form_pass job (cards_of job) ≡ Ok found →
+    name_pass found.lines ≡ Ok named → value_pass (table named.symbols) found.lines named.places ≡ Ok emitted →
+    IsSoundLayout emitted → IsAssemblySound (length (cards_of job)) (together found named emitted)
+together-sound job found named emitted formed is_named is_emitted sound =
     let deck = form_pass-deck job (cards_of job) found formed in
     let names = name_pass-named found.lines named is_named deck.lines in
     let asked = defaults-within found.asked deck.limits in
-    let numbers : numbers_in laid.rows ≡ map (λ card. card.number) (cards_of job) =
-    value_pass-numbers (table named.symbols) found.lines named.places laid is_laid (name_pass-counts found.lines named is_named)
+    let numbers : numbers_in emitted.rows ≡ map (λ card. card.number) (cards_of job) =
+    value_pass-numbers (table named.symbols) found.lines named.places emitted is_emitted (name_pass-counts found.lines named is_named)
     ∙ form_pass-numbers job (cards_of job) found formed in
-    let count : length laid.rows ≡ length (cards_of job) =
-    sym (length-numbers (λ r. r.card) laid.rows) ∙ (ap (λ ns. length ns) numbers ∙ length-numbers (λ card. card.number) (cards_of job)) in
-    let numbered_row : (k : ℕ) (d : Listed) → k < length (cards_of job) → (get_or laid.rows k d).card ≡ k + 1 =
-    λ k d below. sym (get_or-map (λ r. r.card) laid.rows k d (omega (arith, count, below)))
+    let count : length emitted.rows ≡ length (cards_of job) =
+    sym (length-numbers (λ r. r.card) emitted.rows) ∙ (ap (λ ns. length ns) numbers ∙ length-numbers (λ card. card.number) (cards_of job)) in
+    let numbered_row : (k : ℕ) (d : Listed) → k < length (cards_of job) → (get_or emitted.rows k d).card ≡ k + 1 =
+    λ k d below. sym (get_or-map (λ r. r.card) emitted.rows k d (omega (arith, count, below)))
     ∙ (ap (λ ns. get_or ns k 0) numbers ∙ number-at job k below) in
     record {
       image = sound.image;

@@ -17,7 +17,7 @@ use Rattle.st_asm.specs.Lines.{name_field, statement_field}
 use Rattle.st_asm.specs.Forming.{Found, found_at_start, before_end, first_fault_of, with_end, with_control, with_statement, form_control, form_statement, form_kind, form_card, form_pass}
 use Rattle.st_asm.specs.Symbols.{table}
 use Rattle.st_asm.specs.Naming.{Named, name_pass}
-use Rattle.st_asm.specs.Valuing.{Laid, value_pass}
+use Rattle.st_asm.specs.Valuing.{Emitted, value_pass}
 use Rattle.st_asm.specs.Assembly.{Assembly, together, assembly}
 use Rattle.st_asm.specs.Stops.{Leads, HasFirst, StopsAtFirst, LacksEnd, StopsForm, StopsAtNames, StopsAtValues, StopsInOrder, asking_fault, form_fault}
 use Rattle.std.specs.Result.{result_err}
@@ -163,14 +163,14 @@ stops-form job cards refusal =
 
 -- the passes after the form pass, in order
 abbrev after-names : Found → Named → Result Assembly Refusal
-after-names found named = pass_then (value_pass (table named.symbols) found.lines named.places) (λ laid. Ok (together found named laid))
+after-names found named = pass_then (value_pass (table named.symbols) found.lines named.places) (λ emitted. Ok (together found named emitted))
 
 abbrev after-form : Found → Result Assembly Refusal
 after-form found = pass_then (name_pass found.lines) (λ named. after-names found named)
 
-last-refused : (found : Found) (named : Named) (r : Result Laid Refusal) (refusal : Refusal) → pass_then r (λ laid. Ok (together found named laid)) ≡ Err refusal →
+last-refused : (found : Found) (named : Named) (r : Result Emitted Refusal) (refusal : Refusal) → pass_then r (λ emitted. Ok (together found named emitted)) ≡ Err refusal →
     r ≡ Err refusal
-last-refused found named (Ok laid) refusal refused = let no : ⊥ = cc in absurd no
+last-refused found named (Ok emitted) refusal refused = let no : ⊥ = cc in absurd no
 last-refused found named (Err other) refusal refused = let same : other ≡ refusal = cc in ap (λ q. Err q) same
 
 names-by : (job : List ℕ) (refusal : Refusal) (found : Found) → form_pass job (cards_of job) ≡ Ok found →
@@ -202,7 +202,7 @@ order-stopped job refusal (inr (inl at)) =
 order-stopped job refusal (inr (inr at)) =
     and_then-next (λ found. after-form found) (form_pass job (cards_of job)) at.found refusal at.formed
     (and_then-next (λ named. after-names at.found named) (name_pass at.found.lines) at.named refusal at.has_names
-    (and_then-first (λ laid. Ok (together at.found at.named laid)) (value_pass (table at.named.symbols) at.found.lines at.named.places) refusal at.refused))
+    (and_then-first (λ emitted. Ok (together at.found at.named emitted)) (value_pass (table at.named.symbols) at.found.lines at.named.places) refusal at.refused))
 
 pub stops-in-order : (job : List ℕ) → StopsInOrder job
 unfolding assembly

@@ -10,25 +10,25 @@ use Rattle.st_asm.specs.Naming.{naming_at_start}
 use Rattle.st_asm.specs.Checks.{value_fault}
 use Rattle.st_asm.specs.Laying.{bits_of}
 use Rattle.st_asm.specs.declared.values.Values.{Values}
-use Rattle.st_asm.specs.declared.alone.LaidBits.{LaidBits}
+use Rattle.st_asm.specs.declared.alone.EmittedBits.{EmittedBits}
 
 -- the bits that a statement with these values assembles to, if it has no fault at the first
 -- location
-abbrev pub laid_with : Statement → Values → Option LaidBits
-laid_with s v =
+abbrev pub emitted_with : Statement → Values → Option EmittedBits
+emitted_with s v =
     if is_none (value_fault s v naming_at_start.location)
     then Some (record { length = length_in (placing_of s); bits = bits_of s v }) else None
 
 -- the bits that a statement assembles to, if its names are all in a table and it has no fault
-unfoldable pub laid_by : List (List ℕ × ℕ) → Statement → Option LaidBits
-laid_by symbols s =
-    if accepts_all (is_defined symbols) s then laid_with s (values_of symbols s) else None
+unfoldable pub emitted_by : List (List ℕ × ℕ) → Statement → Option EmittedBits
+emitted_by symbols s =
+    if accepts_all (is_defined symbols) s then emitted_with s (values_of symbols s) else None
 
 -- the bits that a statement assembles to, if it was read without a fault
-abbrev pub laid_if_read : List (List ℕ × ℕ) → Result Statement Fault → Option LaidBits
-laid_if_read symbols (Ok s) = laid_by symbols s
-laid_if_read symbols (Err fault) = None
+abbrev pub emitted_if_read : List (List ℕ × ℕ) → Result Statement Fault → Option EmittedBits
+emitted_if_read symbols (Ok s) = emitted_by symbols s
+emitted_if_read symbols (Err fault) = None
 
 -- the bits that a statement's text assembles to, if it has no fault
-unfoldable pub laid_alone : List (List ℕ × ℕ) → List ℕ → Option LaidBits
-laid_alone symbols text = laid_if_read symbols (statement_of [] text)
+unfoldable pub emitted_alone : List (List ℕ × ℕ) → List ℕ → Option EmittedBits
+emitted_alone symbols text = emitted_if_read symbols (statement_of [] text)

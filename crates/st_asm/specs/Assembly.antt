@@ -6,7 +6,7 @@ use Rattle.st_asm.specs.Pass.{Refusal, pass_then}
 use Rattle.st_asm.specs.Forming.{Found, form_pass}
 use Rattle.st_asm.specs.Symbols.{table}
 use Rattle.st_asm.specs.Naming.{Named, name_pass}
-use Rattle.st_asm.specs.Valuing.{Laid, value_pass}
+use Rattle.st_asm.specs.Valuing.{Emitted, value_pass}
 use Rattle.st_asm.specs.declared.naming.Symbol.{Symbol}
 use Rattle.st_asm.specs.declared.valuing.Listed.{Listed}
 use Rattle.st_asm.specs.declared.assembling.Assembled.{Assembled}
@@ -29,11 +29,11 @@ with_defaults asked = record asked {
 }
 
 -- the results of the three passes combined
-abbrev pub together : Found → Named → Laid → Assembly
-together found named laid = record {
-  image = laid.image;
-  start = laid.start;
-  rows = laid.rows;
+abbrev pub together : Found → Named → Emitted → Assembly
+together found named emitted = record {
+  image = emitted.image;
+  start = emitted.start;
+  rows = emitted.rows;
   symbols = named.symbols;
   asked = with_defaults found.asked;
 }
@@ -44,8 +44,8 @@ unfoldable pub assembly : List ℕ → Result Assembly Refusal
 assembly job =
     pass_then (form_pass job (cards_of job)) (λ found.
     pass_then (name_pass found.lines) (λ named.
-    pass_then (value_pass (table named.symbols) found.lines named.places) (λ laid.
-    Ok (together found named laid))))
+    pass_then (value_pass (table named.symbols) found.lines named.places) (λ emitted.
+    Ok (together found named emitted))))
 
 -- the parts of the assembler's result
 abbrev pub assembly_parts : Assembled → Assembly

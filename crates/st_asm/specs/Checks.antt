@@ -10,7 +10,7 @@ use Rattle.st_strap.specs.Statements.{Statement}
 use Rattle.st_strap.specs.declared.statement.Statement.TheVariants.{Half, Branch, Floating, Vfl, Connect, Move, BitBranch, IndBranch, StoreCounter, Transfer, Data, IndexWord, End}
 use Rattle.st_asm.specs.declared.values.Values.{Values}
 use Rattle.st_asm.specs.declared.places.Placing.{Placing}
-use Rattle.st_asm.specs.declared.places.Placing.TheVariants.{Lays, Passes}
+use Rattle.st_asm.specs.declared.places.Placing.TheVariants.{Emits, Passes}
 use Rattle.st_asm.specs.Numbers.{holds}
 use Rattle.st_asm.specs.Places.{placing_of}
 
@@ -60,7 +60,7 @@ on_boundary _ v = true
 
 -- the number of bits that a statement assembles to or skips
 abbrev pub extent : Placing → ℤ → ℕ
-extent (Lays unit bits) value = bits
+extent (Emits unit bits) value = bits
 extent Passes value = unsigned_abs value
 extent _ value = 0
 

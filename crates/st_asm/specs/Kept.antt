@@ -5,7 +5,7 @@ use Rattle.st_card.specs.Limits.{IsWithinLimits}
 use Rattle.st_strap.specs.WellFormed.{IsWellFormedIfAny}
 use Rattle.st_asm.specs.Forming.{Found}
 use Rattle.st_asm.specs.Naming.{Named}
-use Rattle.st_asm.specs.Valuing.{Laid}
+use Rattle.st_asm.specs.Valuing.{Emitted}
 use Rattle.st_asm.specs.Sound.{IsLocation, IsRow, IsSymbol}
 use Rattle.st_asm.specs.declared.line.ReadCard.{ReadCard}
 
@@ -25,7 +25,7 @@ pub record IsNamed (named : Named) : Type 0 where
   pub places : All IsLocation named.places
 
 -- the image, the start and the rows of the value pass so far are sound
-pub record IsSoundLayout (laid : Laid) : Type 0 where
-  pub image : IsImage laid.image
-  pub start : laid.start < 2 ^ 19
-  pub rows : All IsRow laid.rows
+pub record IsSoundLayout (emitted : Emitted) : Type 0 where
+  pub image : IsImage emitted.image
+  pub start : emitted.start < 2 ^ 19
+  pub rows : All IsRow emitted.rows

@@ -5,7 +5,7 @@ use Rattle.st_bits.specs.IndexWord.{index_word_with_value, with_count, with_refi
 use Rattle.st_bits.specs.declared.operations.HalfOp.TheVariants.{Lvs, R}
 use Rattle.st_format.specs.Formats.{first_half, second_half}
 use Rattle.st_format.specs.declared.instruction.Instr.{Instr}
-use Rattle.st_format.specs.declared.instruction.Instr.TheVariants as laid
+use Rattle.st_format.specs.declared.instruction.Instr.TheVariants as emitted
 use Rattle.st_strap.specs.Statements.{Spot, Statement}
 use Rattle.st_strap.specs.declared.statement.Statement.TheVariants.{Half, Sum, Refill, Branch, Floating, Vfl, Connect, Move, BitBranch, IndBranch, StoreCounter, Transfer, Data, IndexWord, Synonym, SetLocation, Reserve, End}
 use Rattle.st_asm.specs.declared.values.Values.{Values}
@@ -39,30 +39,30 @@ index_word_bits value count refill flags =
 -- the bits that a statement assembles to, as a number; the list of LVS is in the first 16 of the 19
 -- bits of the address
 unfoldable pub bits_of : Statement → Values → ℕ
-bits_of (Half op j at) v = instruction_bits (laid.Half op (half_word_bits v.first) j at.index)
-bits_of (Sum j listed) v = instruction_bits (laid.Half Lvs (listed * 8) j 0)
-bits_of (Refill j) v = instruction_bits (laid.Half R 0 j 0)
-bits_of (Branch op at) v = instruction_bits (laid.Branch op (half_word_bits v.first)
+bits_of (Half op j at) v = instruction_bits (emitted.Half op (half_word_bits v.first) j at.index)
+bits_of (Sum j listed) v = instruction_bits (emitted.Half Lvs (listed * 8) j 0)
+bits_of (Refill j) v = instruction_bits (emitted.Half R 0 j 0)
+bits_of (Branch op at) v = instruction_bits (emitted.Branch op (half_word_bits v.first)
     (spot_index at))
-bits_of (Floating number at) v = instruction_bits (laid.Floating number
+bits_of (Floating number at) v = instruction_bits (emitted.Floating number
     (half_word_bits v.first) at.index)
 bits_of (Vfl op negated f at offset) v = instruction_bits
-    (laid.Vfl op f.decimal f.unsigned negated f.p f.length f.byte offset
+    (emitted.Vfl op f.decimal f.unsigned negated f.p f.length f.byte offset
     (unsigned_abs v.first) at.index)
 bits_of (Connect kind truth f at offset) v = instruction_bits
-    (laid.Connect kind truth f.p f.length f.byte offset (unsigned_abs v.first) at.index)
+    (emitted.Connect kind truth f.p f.length f.byte offset (unsigned_abs v.first) at.index)
 bits_of (Move swap at second count) v =
-    instruction_bits (laid.Move swap (unsigned_abs v.first) at.index
+    instruction_bits (emitted.Move swap (unsigned_abs v.first) at.index
     (half_word_bits v.second) count)
 bits_of (BitBranch sense change at second) v = instruction_bits
-    (laid.BitBranch sense change (unsigned_abs v.first) at.index (half_word_bits v.second))
+    (emitted.BitBranch sense change (unsigned_abs v.first) at.index (half_word_bits v.second))
 bits_of (IndBranch sense off at second) v =
-    instruction_bits (laid.IndBranch sense off (unsigned_abs v.first) at.index
+    instruction_bits (emitted.IndBranch sense off (unsigned_abs v.first) at.index
     (half_word_bits v.second))
 bits_of (StoreCounter at second) v =
-    instruction_bits (laid.StoreCounter (unsigned_abs v.first) at.index (half_word_bits v.second))
+    instruction_bits (emitted.StoreCounter (unsigned_abs v.first) at.index (half_word_bits v.second))
 bits_of (Transfer write at count) v =
-    instruction_bits (laid.Transfer write (unsigned_abs v.first) at.index count)
+    instruction_bits (emitted.Transfer write (unsigned_abs v.first) at.index count)
 bits_of (Data form minus number) v = field_bits_of form minus number
 bits_of (IndexWord value count refill flags) v = index_word_bits v.first count v.second flags
 bits_of (Synonym at) v = 0

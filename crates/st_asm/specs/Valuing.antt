@@ -18,17 +18,17 @@ use Rattle.st_asm.specs.declared.valuing.Layout.{Layout}
 
 -- the result of the value pass so far: the words of storage, the start as a half-word address, and
 -- one row for each card
-pub record Laid : Type 0 where
+pub record Emitted : Type 0 where
   pub image : List ℕ
   pub start : ℕ
   pub rows : List Listed
 
 -- the state of the value pass that the code's layout represents
-abbrev pub laid_in : Layout → Laid
-laid_in l = record { image = l.image.items; start = l.start; rows = l.rows.items }
+abbrev pub emitted_in : Layout → Emitted
+emitted_in l = record { image = l.image.items; start = l.start; rows = l.rows.items }
 
 -- the result of the value pass over no cards
-abbrev pub laying_at_start : Laid
+abbrev pub laying_at_start : Emitted
 laying_at_start = record { image = replicate words_of_storage 0; start = 0; rows = [] }
 
 -- the image with a number written to a number of bits from a bit address on
@@ -38,8 +38,8 @@ image_with image place count number =
     (put (all_bits image) place (bits count number))
 
 -- the result with a card's statement, its values and its location added
-abbrev pub with_laid : Laid → ℕ → Statement → Values → Option ℕ → Laid
-with_laid so_far card s v place = let count = length_in (placing_of s) in record {
+abbrev pub with_emitted : Emitted → ℕ → Statement → Values → Option ℕ → Emitted
+with_emitted so_far card s v place = let count = length_in (placing_of s) in record {
   image = image_with so_far.image (unwrap_or place 0) count (bits_of s v);
   start = if is_end s then half_word_bits v.first else so_far.start;
   rows = so_far.rows ++ record { card = card; location = place; bits = bits_of s v; length = count }
@@ -47,29 +47,29 @@ with_laid so_far card s v place = let count = length_in (placing_of s) in record
 }
 
 -- the result with a card without a statement added
-abbrev pub with_silent : Laid → ℕ → Option ℕ → Laid
+abbrev pub with_silent : Emitted → ℕ → Option ℕ → Emitted
 with_silent so_far card place = record so_far {
   rows = so_far.rows ++ record { card = card; location = place; bits = 0; length = 0 } ∷ [];
 }
 
 -- the value pass over a card's statement at its location
-unfoldable pub value_statement : Laid → ℕ → Statement → Values → Option ℕ → Result Laid Fault
+unfoldable pub value_statement : Emitted → ℕ → Statement → Values → Option ℕ → Result Emitted Fault
 value_statement so_far card s v place =
-    unless_faulty (value_fault s v (unwrap_or place 0)) (Ok (with_laid so_far card s v place))
+    unless_faulty (value_fault s v (unwrap_or place 0)) (Ok (with_emitted so_far card s v place))
 
 -- the value pass over a card with an optional statement and location
-abbrev pub value_saying : List (List ℕ × ℕ) → Laid → ℕ → Option Statement → Option ℕ →
-    Result Laid Fault
+abbrev pub value_saying : List (List ℕ × ℕ) → Emitted → ℕ → Option Statement → Option ℕ →
+    Result Emitted Fault
 value_saying symbols so_far card None place = Ok (with_silent so_far card place)
 value_saying symbols so_far card (Some s) place = value_statement so_far card s
     (values_of symbols s) place
 
 -- the value pass over one card with its location
-unfoldable pub value_card : List (List ℕ × ℕ) → Laid → ReadCard × Option ℕ → Result Laid Fault
+unfoldable pub value_card : List (List ℕ × ℕ) → Emitted → ReadCard × Option ℕ → Result Emitted Fault
 value_card symbols so_far p = value_saying symbols so_far p.0.card p.0.statement p.1
 
 -- the value pass over the cards of a job
 unfoldable pub value_pass : List (List ℕ × ℕ) → List ReadCard → List (Option ℕ) →
-    Result Laid Refusal
+    Result Emitted Refusal
 value_pass symbols lines places = pass (value_card symbols) (λ p. p.0.card) laying_at_start
     (zip lines places)

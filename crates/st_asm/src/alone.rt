@@ -15,7 +15,7 @@ use st_strap::{CompactStatement, read_compact};
 
 /// The bits that a statement assembles to: at most 64, as a number.
 #[derive(Clone, Copy, Debug, PartialEq, Eq)]
-pub struct LaidBits {
+pub struct EmittedBits {
     /// The number of bits.
     pub length: u8,
     /// The bits, as a number below 2^length.
@@ -24,36 +24,36 @@ pub struct LaidBits {
 
 /// Assembles the statement of a card without a name, whose symbols are defined by `symbols`. The
 /// text is columns 10 to 72, at most 63 bytes. `None` if the statement has a fault of any pass.
-pub fn laid_alone(symbols: &Symbols, text: &[u8]) -> Option<LaidBits>
+pub fn emitted_alone(symbols: &Symbols, text: &[u8]) -> Option<EmittedBits>
     requires { length text.now ≤ 63 }
-    ensures { result ≡ spec.laid_alone symbols.now text.now }
+    ensures { result ≡ spec.emitted_alone symbols.now text.now }
 {
     match read_compact(b"", text) {
-        Ok(statement) => laid_by(symbols, &statement),
+        Ok(statement) => emitted_by(symbols, &statement),
         Err(_) => None,
     }
 }
 
 // Assembles a statement whose names are all defined by `symbols`.
-fn laid_by(symbols: &Symbols, s: &CompactStatement) -> Option<LaidBits>
+fn emitted_by(symbols: &Symbols, s: &CompactStatement) -> Option<EmittedBits>
     requires { IsWellFormed s.now }
-    ensures { result ≡ spec.laid_by symbols.now s.now }
+    ensures { result ≡ spec.emitted_by symbols.now s.now }
 {
     if !knows_all(symbols, s) {
         return None;
     }
-    laid_with(s, values_of(symbols, s))
+    emitted_with(s, values_of(symbols, s))
 }
 
 // Assembles a statement whose values are known.
-fn laid_with(s: &CompactStatement, v: Values) -> Option<LaidBits>
+fn emitted_with(s: &CompactStatement, v: Values) -> Option<EmittedBits>
     requires { IsWellFormed s.now }
-    ensures { result ≡ spec.laid_with s.now v }
+    ensures { result ≡ spec.emitted_with s.now v }
 {
     let placing = placing_of(s);
     match value_fault(s, placing, v, FIRST_LOCATION) {
         Some(_) => None,
-        None => Some(LaidBits {
+        None => Some(EmittedBits {
             length: placing.length() as u8,
             bits: bits_of(s, v),
         }),

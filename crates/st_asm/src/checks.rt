@@ -131,7 +131,7 @@ fn extent(placing: Placing, value: i64) -> u64
     ensures few { result ≤ 2 ^ 63 }
 {
     match placing {
-        Placing::Lays { bits, .. } => u64::from(bits),
+        Placing::Emits { bits, .. } => u64::from(bits),
         Placing::Passes => value.unsigned_abs(),
         _ => 0,
     }

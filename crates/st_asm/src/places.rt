@@ -17,7 +17,7 @@ const WORD: u32 = 64;
 #[derive(Clone, Copy)]
 pub(crate) enum Placing {
     // The statement assembles to `bits` bits, from the next multiple of `unit` on.
-    Lays { unit: u32, bits: u32 },
+    Emits { unit: u32, bits: u32 },
     // The statement skips the number of bits in its field, from the next word on.
     Passes,
     // The location counter is set to the field's value.
@@ -39,7 +39,7 @@ pub(crate) fn placing_of(statement: &CompactStatement) -> Placing
         | Statement::Sum { .. }
         | Statement::Refill { .. }
         | Statement::Branch { .. }
-        | Statement::Floating { .. } => Placing::Lays {
+        | Statement::Floating { .. } => Placing::Emits {
             unit: HALF,
             bits: HALF,
         },
@@ -49,15 +49,15 @@ pub(crate) fn placing_of(statement: &CompactStatement) -> Placing
         | Statement::BitBranch { .. }
         | Statement::IndBranch { .. }
         | Statement::StoreCounter { .. }
-        | Statement::Transfer { .. } => Placing::Lays {
+        | Statement::Transfer { .. } => Placing::Emits {
             unit: HALF,
             bits: WORD,
         },
-        Statement::Data { form, .. } => Placing::Lays {
+        Statement::Data { form, .. } => Placing::Emits {
             unit: 1,
             bits: u32::from(form.length),
         },
-        Statement::IndexWord { .. } => Placing::Lays {
+        Statement::IndexWord { .. } => Placing::Emits {
             unit: WORD,
             bits: WORD,
         },
@@ -76,7 +76,7 @@ impl Placing {
         ensures few { result ≤ 64 }
     {
         match self {
-            Placing::Lays { bits, .. } => bits,
+            Placing::Emits { bits, .. } => bits,
             _ => 0,
         }
     }
@@ -89,7 +89,7 @@ impl Placing {
         ensures below { IfSome result (λ place. place < 2 ^ 24) }
     {
         match self {
-            Placing::Lays { unit, .. } => Some(aligned(unit, location)),
+            Placing::Emits { unit, .. } => Some(aligned(unit, location)),
             Placing::Passes => Some(aligned(WORD, location)),
             Placing::Sets | Placing::Names => Some(wrapped(value)),
             Placing::Ends => None,
@@ -104,7 +104,7 @@ impl Placing {
         ensures below { result < 2 ^ 24 }
     {
         match self {
-            Placing::Lays { unit, bits } => (aligned(unit, location) + bits) % (1 << 24),
+            Placing::Emits { unit, bits } => (aligned(unit, location) + bits) % (1 << 24),
             Placing::Passes => (aligned(WORD, location) + wrapped(value)) % (1 << 24),
             Placing::Sets => wrapped(value),
             Placing::Names | Placing::Ends => location,

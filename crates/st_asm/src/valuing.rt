@@ -58,9 +58,9 @@ pub(crate) fn value_pass(
     requires well { All (λ line. IsWellFormedIfAny line.statement) lines.now }
     requires located { All IsLocation places.now }
     ensures ok { IfOk result (λ l. spec.value_pass symbols.now lines.now places.now
-        ≡ Ok (spec.laid_in l)) }
+        ≡ Ok (spec.emitted_in l)) }
     ensures err { IfErr result (Explains (spec.value_pass symbols.now lines.now places.now)) }
-    ensures sound { IfOk result (λ l. IsSoundLayout (spec.laid_in l)) }
+    ensures sound { IfOk result (λ l. IsSoundLayout (spec.emitted_in l)) }
 {
     let Ok(mut layout) = empty_layout(alloc) else {
         return Err(AsmError::NoMemory);
@@ -82,8 +82,8 @@ pub(crate) fn value_pass(
 
 // The result of the value pass over no cards.
 fn empty_layout(alloc: Global) -> Result<Layout, AllocError>
-    ensures laid { IfOk result (λ l. spec.laid_in l ≡ spec.laying_at_start) }
-    ensures sound { IfOk result (λ l. IsSoundLayout (spec.laid_in l)) }
+    ensures emitted { IfOk result (λ l. spec.emitted_in l ≡ spec.laying_at_start) }
+    ensures sound { IfOk result (λ l. IsSoundLayout (spec.emitted_in l)) }
 {
     Ok(Layout {
         image: vec![in alloc; 0u64; number_of_words()]?,
@@ -101,13 +101,13 @@ fn value_line(
 ) -> Result<(), PassStop>
     requires well { IsWellFormedIfAny line.now.statement }
     requires located { IsLocation place }
-    requires sound { IsSoundLayout (spec.laid_in layout.old) }
+    requires sound { IsSoundLayout (spec.emitted_in layout.old) }
 
-    ensures ok { OnOk result (spec.value_card symbols.now (spec.laid_in layout.old)
-        (line.now, place) ≡ Ok (spec.laid_in layout.new)) }
+    ensures ok { OnOk result (spec.value_card symbols.now (spec.emitted_in layout.old)
+        (line.now, place) ≡ Ok (spec.emitted_in layout.new)) }
     ensures err { IfErr result
-        (Stops (spec.value_card symbols.now (spec.laid_in layout.old) (line.now, place))) }
-    ensures sound { OnOk result (IsSoundLayout (spec.laid_in layout.new)) }
+        (Stops (spec.value_card symbols.now (spec.emitted_in layout.old) (line.now, place))) }
+    ensures sound { OnOk result (IsSoundLayout (spec.emitted_in layout.new)) }
 {
     match &line.statement {
         None => add_silent(layout, line.card, place),
@@ -118,11 +118,11 @@ fn value_line(
 // Adds a card without a statement.
 fn add_silent(layout: &mut Layout, card: u32, place: Option<u32>) -> Result<(), PassStop>
     requires located { IsLocation place }
-    requires sound { IsSoundLayout (spec.laid_in layout.old) }
-    ensures ok { OnOk result (spec.laid_in layout.new
-        ≡ spec.with_silent (spec.laid_in layout.old) card place) }
+    requires sound { IsSoundLayout (spec.emitted_in layout.old) }
+    ensures ok { OnOk result (spec.emitted_in layout.new
+        ≡ spec.with_silent (spec.emitted_in layout.old) card place) }
     ensures err { IfErr result (λ stop. stop ≡ PassStop.NoMemory) }
-    ensures sound { OnOk result (IsSoundLayout (spec.laid_in layout.new)) }
+    ensures sound { OnOk result (IsSoundLayout (spec.emitted_in layout.new)) }
 {
     add_row(
         layout,
@@ -138,12 +138,12 @@ fn add_silent(layout: &mut Layout, card: u32, place: Option<u32>) -> Result<(), 
 // Adds a row to the listing.
 fn add_row(layout: &mut Layout, row: Listed) -> Result<(), PassStop>
     requires row { IsRow row }
-    requires sound { IsSoundLayout (spec.laid_in layout.old) }
-    ensures ok { OnOk result (spec.laid_in layout.new ≡ record (spec.laid_in layout.old) {
+    requires sound { IsSoundLayout (spec.emitted_in layout.old) }
+    ensures ok { OnOk result (spec.emitted_in layout.new ≡ record (spec.emitted_in layout.old) {
       rows = layout.old.rows.items ++ row ∷ [];
     }) }
     ensures err { IfErr result (λ stop. stop ≡ PassStop.NoMemory) }
-    ensures sound { OnOk result (IsSoundLayout (spec.laid_in layout.new)) }
+    ensures sound { OnOk result (IsSoundLayout (spec.emitted_in layout.new)) }
 {
     layout.rows.push(row).map_err(|_| PassStop::NoMemory)
 }
@@ -158,22 +158,22 @@ fn value_statement(
 ) -> Result<(), PassStop>
     requires well { IsWellFormed s.now }
     requires located { IsLocation place }
-    requires sound { IsSoundLayout (spec.laid_in layout.old) }
+    requires sound { IsSoundLayout (spec.emitted_in layout.old) }
 
-    ensures ok { OnOk result (spec.value_statement (spec.laid_in layout.old) card s.now v place
-        ≡ Ok (spec.laid_in layout.new)) }
+    ensures ok { OnOk result (spec.value_statement (spec.emitted_in layout.old) card s.now v place
+        ≡ Ok (spec.emitted_in layout.new)) }
     ensures err { IfErr result
-        (Stops (spec.value_statement (spec.laid_in layout.old) card s.now v place)) }
-    ensures sound { OnOk result (IsSoundLayout (spec.laid_in layout.new)) }
+        (Stops (spec.value_statement (spec.emitted_in layout.old) card s.now v place)) }
+    ensures sound { OnOk result (IsSoundLayout (spec.emitted_in layout.new)) }
 {
     match value_fault(s, placing_of(s), v, place.unwrap_or(0)) {
         Some(fault) => Err(PassStop::Faulty(fault)),
-        None => lay(layout, card, s, v, place),
+        None => emit(layout, card, s, v, place),
     }
 }
 
 // Adds a statement card without a fault.
-fn lay(
+fn emit(
     layout: &mut Layout,
     card: u32,
     s: &CompactStatement,
@@ -182,13 +182,13 @@ fn lay(
 ) -> Result<(), PassStop>
     requires well { IsWellFormed s.now }
     requires located { IsLocation place }
-    requires sound { IsSoundLayout (spec.laid_in layout.old) }
+    requires sound { IsSoundLayout (spec.emitted_in layout.old) }
     requires good { value_fault s.now v (unwrap_or place 0) ≡ None }
 
-    ensures ok { OnOk result (spec.laid_in layout.new
-        ≡ spec.with_laid (spec.laid_in layout.old) card s.now v place) }
+    ensures ok { OnOk result (spec.emitted_in layout.new
+        ≡ spec.with_emitted (spec.emitted_in layout.old) card s.now v place) }
     ensures err { IfErr result (λ stop. stop ≡ PassStop.NoMemory) }
-    ensures sound { OnOk result (IsSoundLayout (spec.laid_in layout.new)) }
+    ensures sound { OnOk result (IsSoundLayout (spec.emitted_in layout.new)) }
 {
     let length = placing_of(s).length() as u8;
     let bits = bits_of(s, v);

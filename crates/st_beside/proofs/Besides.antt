@@ -11,7 +11,7 @@ use Rattle.st_exec.specs.declared.step.Step.{Step}
 use Rattle.st_exec.specs.declared.step.Step.TheVariants.{Plain, Interrupt, Waits}
 use Rattle.st_exec.specs.Transfer.{all_stored, read_in}
 use Rattle.st_run.specs.Run.{Scene, interlude}
-use Rattle.st_run.specs.Outside.{Coming, scene_at}
+use Rattle.st_run.specs.ExternalEvents.{PendingEvents, scene_at}
 use Rattle.st_exec.proofs.StepLemmas.{step_made}
 use Rattle.st_back.specs.declared.kept.KeptStep.{KeptStep}
 use Rattle.st_back.specs.Between.{AreAlikeAbove}
@@ -36,7 +36,7 @@ pub room_same : (o q : Option Order) (ks : List KeptStep) → q ≡ o → HasRoo
 room_same o q ks e h = subst (λ r. HasRoomForCard r ks) (sym e) h
 
 -- the transition between two steps
-pub moved_between : (m n : Noted) (x y : Coming) → IsOpen m → scene_at n.state y ≡ (interlude (scene_at m.state x)).scene
+pub moved_between : (m n : Noted) (x y : PendingEvents) → IsOpen m → scene_at n.state y ≡ (interlude (scene_at m.state x)).scene
     → IsKept false m n → IsMoved (scene_at m.state x, m.steps) (scene_at n.state y, n.steps) (interlude (scene_at m.state x)).scene
 moved_between m n x y open_now scene kept = record { ready = kept.2 open_now; scene = scene; depth = kept.0; states = kept.1 }
 

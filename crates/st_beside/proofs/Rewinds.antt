@@ -159,16 +159,16 @@ undo_begins kept m =
     let size : length all ≤ length kept.kept + 1 = omega (arith, length-append (states_before kept.kept m) (m ∷ []), length-states_before kept.kept m) in
     record { left = sym (take_all (length kept.kept + 1) all size) }
 
-front-of : (xs : List Machine) (x : Machine) (n : ℕ) (all : List Machine) → xs ++ x ∷ [] ≡ take (suc n) all → length xs ≡ n → xs ≡ take n all
-front-of [] x zero all e size = refl
-front-of [] x (suc n) all e size = absurd (omega arith)
-front-of (y ∷ ys) x zero all e size = absurd (omega arith)
-front-of (y ∷ ys) x (suc n) [] e size = absurd (cc)
-front-of (y ∷ ys) x (suc n) (z ∷ zs) e size =
+issue-of : (xs : List Machine) (x : Machine) (n : ℕ) (all : List Machine) → xs ++ x ∷ [] ≡ take (suc n) all → length xs ≡ n → xs ≡ take n all
+issue-of [] x zero all e size = refl
+issue-of [] x (suc n) all e size = absurd (omega arith)
+issue-of (y ∷ ys) x zero all e size = absurd (omega arith)
+issue-of (y ∷ ys) x (suc n) [] e size = absurd (cc)
+issue-of (y ∷ ys) x (suc n) (z ∷ zs) e size =
     let first : y ≡ z = cc in
     let rest : ys ++ x ∷ [] ≡ take (suc n) zs = cc in
     let small : length ys ≡ n = omega arith in
-    ap (λ (a : Machine). a ∷ ys) first ∙ ap (λ (bs : List Machine). z ∷ bs) (front-of ys x n zs rest small)
+    ap (λ (a : Machine). a ∷ ys) first ∙ ap (λ (bs : List Machine). z ∷ bs) (issue-of ys x n zs rest small)
 
 -- one step is undone
 pub undo_next : (all : List Machine) (a b : Steps) (s t : Machine) (r : Bool) → IsBack a b s t r → length a.kept ≢ 0 → LeftToUndo all a s → LeftToUndo all b t
@@ -179,7 +179,7 @@ undo_next all a b s t true back some h =
     let long : length (states_before a.kept s) ≡ n = length-states_before a.kept s ∙ size in
     let next : length a.kept + 1 ≡ suc n = omega (arith, size) in
     let whole : states_before a.kept s ++ s ∷ [] ≡ take (suc n) all = h.left ∙ ap (λ k. take k all) next in
-    record { left = sym (back-states a b s t back) ∙ front-of (states_before a.kept s) s n all whole long }
+    record { left = sym (back-states a b s t back) ∙ issue-of (states_before a.kept s) s n all whole long }
 
 pub undo_fewer : (a b : Steps) (s t : Machine) (r : Bool) → IsBack a b s t r → length a.kept ≢ 0 → length b.kept + 1 ≡ length a.kept
 undo_fewer a b s t false back some = absurd (some (ap length back.0))

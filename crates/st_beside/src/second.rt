@@ -30,7 +30,7 @@ use st_card::Signal;
 use st_exch::Hopper;
 use st_exec::is_at_rest;
 use st_run::between::between;
-use st_run::{Coming, Outside};
+use st_run::{PendingEvents, ExternalEvents};
 use st_state::State;
 use std::marker::Model;
 
@@ -45,7 +45,7 @@ pub struct Noted {
 #[derive(Drop)]
 pub struct MachineBeside<'a> {
     noted: Noted,
-    coming: Coming<'a>,
+    pending: PendingEvents<'a>,
 }
 
 impl<'a> Model for MachineBeside<'a> {
@@ -56,8 +56,8 @@ impl<'a> Model for MachineBeside<'a> {
     ghost view = { λ p. (
       record {
         machine = p.noted.state;
-        signals = p.coming.signals;
-        cards = p.coming.cards;
+        signals = p.pending.signals;
+        cards = p.pending.cards;
       },
       p.noted.steps,
     ) };
@@ -79,7 +79,7 @@ impl<'a> MachineBeside<'a> {
     {
         MachineBeside {
             noted: Noted { state, steps },
-            coming: Coming::new(signals, cards),
+            pending: PendingEvents::new(signals, cards),
         }
     }
 
@@ -128,7 +128,7 @@ fn read_noted(steps: &mut Back, machine: &mut State, card: Option<[u64; 8]>)
     machine.signal(END_OF_OPERATION);
 }
 
-impl Outside for Noted {
+impl ExternalEvents for Noted {
     ghost use Rattle.std.specs.Prelude.{refl};
     ghost use Rattle.st_beside.specs.Beside.{IsOpen, IsKept};
     ghost use Rattle.st_beside.specs.BesideLaws.{kept-both};
@@ -170,7 +170,7 @@ fn pass_interlude(second: &mut MachineBeside)
     requires { IsBesideReady second.old }
     ensures { IsMoved second.old second.new (run.interlude second.old.0).scene }
 {
-    between(&mut second.noted, &mut second.coming);
+    between(&mut second.noted, &mut second.pending);
 }
 
 // Makes the next step of a machine that is not at rest.

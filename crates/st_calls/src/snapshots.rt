@@ -133,7 +133,7 @@ fn begin(state: &mut State) {
 }
 
 // Makes a predicted step of a state, which is a step except for the instruction counter.
-fn guess(rt: &impl Abort, state: &mut State, counter: u32) {
+fn prediction(rt: &impl Abort, state: &mut State, counter: u32) {
     assert!(rt; state.done < 15 && counter < 512);
     one(state);
     state.ic = counter;
@@ -144,7 +144,7 @@ fn go_ahead(rt: &impl Abort, state: &mut State, levels: &[Option<LevelView>]) {
     if let [Some(_), after @ ..] = levels {
         for level in after {
             if let Some(level) = level {
-                guess(rt, state, level.address);
+                prediction(rt, state, level.address);
             }
         }
         begin(state);
@@ -169,7 +169,7 @@ fn shown_states_are_split(rt: HostRuntime) -> Result<(), Fail> {
     let state = opened(&rt, rt.alloc())?;
     let signals = [signal()];
     let snaps = ticks();
-    let mut run = begun(&rt, state, one_tick(rt.alloc())?, &signals, &snaps);
+    let mut run = open_line(&rt, state, one_tick(rt.alloc())?, &signals, &snaps);
     for _ in 0..20 {
         let Some(done) = next_shown(&mut run) else {
             return Err(Fail::new("a snapshot is missing"));

@@ -6,7 +6,7 @@ ghost use Rattle.st_card.specs.Written as spec;
 ghost use Rattle.st_card.specs.declared.written.Control.TheVariants as asks;
 
 use crate::control_cards::{Controls, Signal};
-use st_text::{Line, begun, push_decimal};
+use st_text::{Line, open_line, push_decimal};
 use std::alloc::AllocError;
 
 /// One request with its numbers. Each variant takes numbers as the `Keyword` of that name does.
@@ -65,12 +65,12 @@ fn delay_word(form: ControlForm) -> &'static str
 }
 
 // A line with a keyword and no number.
-fn worded(form: ControlForm, word: &str) -> Line
+fn with_word(form: ControlForm, word: &str) -> Line
     requires { length word.now ≤ 8 }
     ensures text { result.bytes ≡ spec.front form ++ word.now }
     ensures room { array_string_len result ≤ 9 }
 {
-    let mut line = begun(front(form));
+    let mut line = open_line(front(form));
     line.push_str(word);
     line
 }
@@ -80,7 +80,7 @@ fn with_number(form: ControlForm, word: &str, n: u64) -> Line
     requires { length word.now ≤ 8 }
     ensures { result.bytes ≡ spec.front form ++ word.now ++ decimal n }
 {
-    let mut line = worded(form, word);
+    let mut line = with_word(form, word);
     push_decimal(&mut line, n);
     line
 }
@@ -90,7 +90,7 @@ fn with_numbers(form: ControlForm, word: &str, a: u64, b: u64) -> Line
     requires { length word.now ≤ 8 }
     ensures { result.bytes ≡ spec.front form ++ word.now ++ decimal a ++ codes " " ++ decimal b }
 {
-    let mut line = worded(form, word);
+    let mut line = with_word(form, word);
     push_decimal(&mut line, a);
     line.push_str(" ");
     push_decimal(&mut line, b);
@@ -107,9 +107,9 @@ pub fn control_line(form: ControlForm, control: Control) -> Line
         Control::Delay(ticks) => with_number(form, delay_word(form), ticks),
         Control::Signal(count, indicator) => with_numbers(form, "SIGNAL ", count, indicator),
         Control::Dump(first, last) => with_numbers(form, "DUMP ", first, last),
-        Control::Trace => worded(form, "TRACE"),
-        Control::Time => worded(form, "TIME"),
-        Control::Chart => worded(form, "CHART"),
+        Control::Trace => with_word(form, "TRACE"),
+        Control::Time => with_word(form, "TIME"),
+        Control::Chart => with_word(form, "CHART"),
         Control::Snap(tick) => with_number(form, "SNAP ", tick),
         Control::Back(k) => with_number(form, "BACK ", k),
     }

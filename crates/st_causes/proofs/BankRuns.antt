@@ -11,12 +11,12 @@ use Rattle.st_prep.specs.Plan.{plan}
 use Rattle.st_exec.specs.Step.{rests, interrupt}
 use Rattle.st_rows.specs.Asked.{made_before}
 use Rattle.st_rows.specs.BusTimes.{accept_at, answer_at, Read, after_one}
-use Rattle.st_rows.specs.Rows.{opening_front, reads_of_entry}
+use Rattle.st_rows.specs.Rows.{opening_issue, reads_of_entry}
 use Rattle.st_rows.specs.declared.bus.Bus.{Bus}
 use Rattle.st_rows.proofs.Laws.{rows_make_their_reads}
 use Rattle.st_segment.specs.Ahead.{reads_to_end}
 use Rattle.st_segment.specs.Entries.{entry}
-use Rattle.st_run.specs.Moments.{Moment, Standing, next_state, next_front, ends_segment, standing_at, next_row, next_moment, entry_of_moment}
+use Rattle.st_run.specs.Moments.{Moment, Standing, next_state, next_issue, ends_segment, standing_at, next_row, next_moment, entry_of_moment}
 use Rattle.st_plain.specs.Looking.{side_at}
 use Rattle.st_rows.specs.declared.uses.Use.{Use}
 use Rattle.st_reasons.specs.Served.{AreBankedBehind, busy_until}
@@ -39,37 +39,37 @@ made-whole ds t (r ∷ reads) b whole = elim (cases_Bool (nat_lt (accept_at b r.
 ]
 
 -- the banks at the start of a segment
-pub opened-banked : (banks : LastAnswers) → length banks.ticks ≡ BANKS → (start : ℕ) → AreBanked banks (opening_front banks start).bus []
+pub opened-banked : (banks : LastAnswers) → length banks.ticks ≡ BANKS → (start : ℕ) → AreBanked banks (opening_issue banks start).bus []
 unfolding AreBankedBehind busy_until
 opened-banked banks whole start = record { each = tt; until = λ w. refl; whole = whole }
 
 module _ (ds : List ℕ) (n : ℕ) where
-  row-banked : (p : Standing) (segment : List Use) (banks : LastAnswers) → AreBanked banks p.front.bus segment
-      → AreBanked banks (next_moment ds n p).front.bus (reverse (uses_at ds n p) ++ segment)
+  row-banked : (p : Standing) (segment : List Use) (banks : LastAnswers) → AreBanked banks p.issue.bus segment
+      → AreBanked banks (next_moment ds n p).issue.bus (reverse (uses_at ds n p) ++ segment)
   unfolding uses_at side_at entry next_moment
   row-banked p segment banks are =
       let s = p.scene.machine in
       let e = entry_of_moment p in
-      let told = reads_told_are_those_of_the_bus ds n p.front e (side_at (interrupt s) s) (plan s (interrupt s)).reads refl in
-      subst (λ b. AreBanked banks b (reverse (uses_at ds n p) ++ segment)) (rows_make_their_reads.bus ds n p.front e)
-      (banked banks ds (uses_at ds n p) (reads_of_entry ds n p.front e) p.front.bus segment told are)
+      let told = reads_told_are_those_of_the_bus ds n p.issue e (side_at (interrupt s) s) (plan s (interrupt s)).reads refl in
+      subst (λ b. AreBanked banks b (reverse (uses_at ds n p) ++ segment)) (rows_make_their_reads.bus ds n p.issue e)
+      (banked banks ds (uses_at ds n p) (reads_of_entry ds n p.issue e) p.issue.bus segment told are)
 
-  next-whole : (p : Standing) → length p.front.bus.banks.ticks ≡ BANKS → length (next_moment ds n p).banks.ticks ≡ BANKS
+  next-whole : (p : Standing) → length p.issue.bus.banks.ticks ≡ BANKS → length (next_moment ds n p).banks.ticks ≡ BANKS
   unfolding next_moment
   next-whole p whole =
       let s = p.scene.machine in
-      made-whole ds (next_row ds n p).c (reads_to_end ds n (next_row ds n p).c (interrupt s) s p.front (entry_of_moment p)) p.front.bus whole
+      made-whole ds (next_row ds n p).c (reads_to_end ds n (next_row ds n p).c (interrupt s) s p.issue (entry_of_moment p)) p.issue.bus whole
 
   -- the banks after a moment
-  at-standing : (m : Moment) (segment : List Use) (banks : LastAnswers) → AreBanked banks m.front.bus segment → length m.banks.ticks ≡ BANKS
-      → (now : LastAnswers) × AreBanked now (standing_at m).front.bus (words_before m segment)
-  unfolding next_front
+  at-standing : (m : Moment) (segment : List Use) (banks : LastAnswers) → AreBanked banks m.issue.bus segment → length m.banks.ticks ≡ BANKS
+      → (now : LastAnswers) × AreBanked now (standing_at m).issue.bus (words_before m segment)
+  unfolding next_issue
   at-standing m segment banks are whole = elim (cases_Bool (ends_segment m)) [
     | inl y ↦ (m.banks, rw y (opened-banked m.banks whole (m.tick + 1 + length m.dropped)))
     | inr k ↦ (banks, rw k are)
   ]
 
-  pub each-banked : (left : ℕ) (m : Moment) (us segment : List Use) (banks : LastAnswers) → AreBanked banks m.front.bus segment
+  pub each-banked : (left : ℕ) (m : Moment) (us segment : List Use) (banks : LastAnswers) → AreBanked banks m.issue.bus segment
       → length m.banks.ticks ≡ BANKS → All (λ (r : ToldRow). (now : LastAnswers) × AreBankedBehind now r.segment) (told_from ds n left us segment m)
   unfolding told_from
   each-banked zero m us segment banks are whole = All-nil (λ (r : ToldRow). (now : LastAnswers) × AreBankedBehind now r.segment)

@@ -60,14 +60,14 @@ wait_sums_add_up ds n left c s is parted = sums-from ds n s parted left (moment_
 pub uses_of_a_run_are_true : UsesOfARunAreTrue
 uses_of_a_run_are_true = record {
   read = λ ds n left c is.
-      each-told ds n (λ (r : ToldRow). reads_told r.uses ≡ served ds (reads_of_entry ds n r.standing.front (entry_of_moment r.standing)) r.standing.front.bus)
+      each-told ds n (λ (r : ToldRow). reads_told r.uses ≡ served ds (reads_of_entry ds n r.standing.issue (entry_of_moment r.standing)) r.standing.issue.bus)
       (λ p us segment fit comes. row-read ds n p us segment fit comes) left (moment_at_start c) [] [] (at-start ds n c) (entries-fit ds n left (moment_at_start c) is);
   held = λ ds n left c is.
       each-told ds n (λ (r : ToldRow). AreBrought r.segment)
       (λ p us segment fit comes. row-brought ds n p us segment fit comes) left (moment_at_start c) [] [] (at-start ds n c) (entries-fit ds n left (moment_at_start c) is);
   banked = λ ds n left c. each-banked ds n left (moment_at_start c) [] [] (moment_at_start c).banks (opened-banked (moment_at_start c).banks refl 0) refl;
   forwarded = λ ds n left c is.
-      each-told ds n (λ (r : ToldRow). All (IsWrittenBy r.standing.front.past) r.uses)
+      each-told ds n (λ (r : ToldRow). All (IsWrittenBy r.standing.issue.past) r.uses)
       (λ p us segment fit comes. row-written ds n p us segment fit comes) left (moment_at_start c) [] [] (at-start ds n c) (entries-fit ds n left (moment_at_start c) is);
 }
 
@@ -105,5 +105,5 @@ reasons_stand_where_ticks_are_lost ds n left c = each-lost ds n left [] [] (mome
 
 pub reasons_of_a_run_are_true : ReasonsOfARunAreTrue
 reasons_of_a_run_are_true ds n left c is least most =
-    each-told ds n (λ (r : ToldRow). IsReason ds n r.standing.front (entry_of_moment r.standing) (formed_at ds r.standing) r.before (because_at ds n r.before r.standing))
+    each-told ds n (λ (r : ToldRow). IsReason ds n r.standing.issue (entry_of_moment r.standing) (formed_at ds r.standing) r.before (because_at ds n r.before r.standing))
     (λ p us segment fit comes. row-reasoned ds n least most p us segment fit comes) left (moment_at_start c) [] [] (at-start ds n c) (entries-fit ds n left (moment_at_start c) is)

@@ -7,15 +7,15 @@ use Rattle.st_banks.specs.declared.answers.LastAnswers.{LastAnswers}
 use Rattle.st_prep.specs.Plan.{plan}
 use Rattle.st_exec.specs.Step.{rests, interrupt}
 use Rattle.st_rows.specs.Ranges.{IsEntryInTime}
-use Rattle.st_rows.specs.Rows.{row_of_entry, front_after_entry, opening_front, reads_of_entry}
-use Rattle.st_rows.specs.declared.front.Front.{Front}
+use Rattle.st_rows.specs.Rows.{row_of_entry, issue_after_entry, opening_issue, reads_of_entry}
+use Rattle.st_rows.specs.declared.issue.IssueState.{IssueState}
 use Rattle.st_segment.specs.Entries.{entry}
 use Rattle.st_segment.proofs.EntryRanges.{entry-ranges}
 use Rattle.st_refine.proofs.Kept.{interrupt-below}
 use Rattle.st_run.specs.Scenes.{IsScene}
 use Rattle.st_run.proofs.SceneLemmas.{settled-scene, stepped-scene}
 use Rattle.st_run.specs.Run.{Scene}
-use Rattle.st_run.specs.Moments.{Moment, Standing, moment_at_start, next_state, next_front, ends_segment, standing_at, next_moment, next_row, entry_of_moment}
+use Rattle.st_run.specs.Moments.{Moment, Standing, moment_at_start, next_state, next_issue, ends_segment, standing_at, next_moment, next_row, entry_of_moment}
 use Rattle.st_ledger.proofs.Runs.{entries-none, entries-step}
 use Rattle.st_ledger.specs.Charges.{charges, ticks_for}
 use Rattle.st_ledger.specs.Ledger.{entries_from, charges_at, all_charges}
@@ -30,7 +30,7 @@ use Rattle.st_reasons.specs.declared.waits.Stall.TheVariants.{Turn, Bank, Storag
 use Rattle.st_reasons.specs.declared.waits.Wait.{Wait}
 use Rattle.st_account.specs.Text.{formed_at, uses_at, words_before, stalled_from}
 use Rattle.st_reasons.specs.Causes.{IsTrueOf, FallTo}
-use Rattle.st_reasons.specs.Segments.{Told, IsTold, front_of, uses_behind, last_uses, all_uses}
+use Rattle.st_reasons.specs.Segments.{Told, IsTold, issue_of, uses_behind, last_uses, all_uses}
 use Rattle.st_reasons.specs.Paths.{IsReason}
 use Rattle.st_causes.specs.Runs.{ToldRow, told_from, because_at}
 use Rattle.st_ledger.proofs.Runs.{ticks_for-append}
@@ -39,29 +39,29 @@ use Rattle.st_reasons.proofs.WaitLaws.{reads_told_are_those_of_the_bus, held_wor
 
 -- the front is the one after a segment's entries so far; the words of the last entry and of the
 -- whole segment are given
-pub record ComesOf (ds : List ℕ) (n : ℕ) (f : Front) (us segment : List Use) : Type 0 where
+pub record ComesOf (ds : List ℕ) (n : ℕ) (f : IssueState) (us segment : List Use) : Type 0 where
   pub banks : LastAnswers
   pub start : ℕ
   pub older : List Told
-  pub front : f ≡ front_of ds n banks start older
+  pub issue : f ≡ issue_of ds n banks start older
   pub last : us ≡ last_uses ds n banks start older
   pub whole : segment ≡ all_uses ds n banks start older
   pub told : All IsTold older
 
 module _ (ds : List ℕ) (n : ℕ) where
-  opened : (banks : LastAnswers) (start : ℕ) → ComesOf ds n (opening_front banks start) [] []
-  unfolding front_of last_uses all_uses
-  opened banks start = record { banks = banks; start = start; older = []; front = refl; last = refl; whole = refl; told = All-nil IsTold }
+  opened : (banks : LastAnswers) (start : ℕ) → ComesOf ds n (opening_issue banks start) [] []
+  unfolding issue_of last_uses all_uses
+  opened banks start = record { banks = banks; start = start; older = []; issue = refl; last = refl; whole = refl; told = All-nil IsTold }
 
   -- the front and the words between two rows
-  standing-if : (ends : Bool) (m : Moment) (us segment : List Use) (banks : LastAnswers) (start : ℕ) → ComesOf ds n m.front us segment
-      → ComesOf ds n (if ends then opening_front banks start else m.front) (if ends then [] else us) (if ends then [] else segment)
+  standing-if : (ends : Bool) (m : Moment) (us segment : List Use) (banks : LastAnswers) (start : ℕ) → ComesOf ds n m.issue us segment
+      → ComesOf ds n (if ends then opening_issue banks start else m.issue) (if ends then [] else us) (if ends then [] else segment)
   standing-if true m us segment banks start comes = opened banks start
   standing-if false m us segment banks start comes = comes
 
-  at-standing : (m : Moment) (us segment : List Use) → ComesOf ds n m.front us segment
-      → ComesOf ds n (standing_at m).front (words_before m us) (words_before m segment)
-  unfolding next_front
+  at-standing : (m : Moment) (us segment : List Use) → ComesOf ds n m.issue us segment
+      → ComesOf ds n (standing_at m).issue (words_before m us) (words_before m segment)
+  unfolding next_issue
   at-standing m us segment comes = standing-if (ends_segment m) m us segment m.banks (m.tick + 1 + length m.dropped) comes
 
   -- the next row's entry
@@ -74,77 +74,77 @@ module _ (ds : List ℕ) (n : ℕ) where
   unfolding told_at side_at entry
   told-right p fits = record { side = refl; entry = fits }
 
-  uses-are : (p : Standing) (us segment : List Use) (comes : ComesOf ds n p.front us segment)
+  uses-are : (p : Standing) (us segment : List Use) (comes : ComesOf ds n p.issue us segment)
       → uses_at ds n p ≡ uses_behind ds n comes.banks comes.start comes.older (told_at p)
   unfolding uses_at uses_behind told_at
-  uses-are p us segment comes = rw comes.front refl
+  uses-are p us segment comes = rw comes.issue refl
 
-  next-comes : (p : Standing) (us segment : List Use) → IsEntryInTime (entry_of_moment p) → ComesOf ds n p.front us segment
-      → ComesOf ds n (next_moment ds n p).front (uses_at ds n p) (reverse (uses_at ds n p) ++ segment)
-  unfolding next_moment front_of last_uses all_uses told_at
+  next-comes : (p : Standing) (us segment : List Use) → IsEntryInTime (entry_of_moment p) → ComesOf ds n p.issue us segment
+      → ComesOf ds n (next_moment ds n p).issue (uses_at ds n p) (reverse (uses_at ds n p) ++ segment)
+  unfolding next_moment issue_of last_uses all_uses told_at
   next-comes p us segment fits comes = record {
     banks = comes.banks;
     start = comes.start;
     older = told_at p ∷ comes.older;
-    front = ap (λ f. front_after_entry ds n f (entry_of_moment p)) comes.front;
+    issue = ap (λ f. issue_after_entry ds n f (entry_of_moment p)) comes.issue;
     last = uses-are p us segment comes;
     whole = ap (λ us. reverse us ++ segment) (uses-are p us segment comes) ∙ ap (λ us. reverse (uses_behind ds n comes.banks comes.start comes.older (told_at p)) ++ us) comes.whole;
     told = All-cons IsTold (told_at p) comes.older (told-right p fits) comes.told;
   }
 
-  charges-are : (p : Standing) (us segment : List Use) (comes : ComesOf ds n p.front us segment)
-      → charges p.tick (front_of ds n comes.banks comes.start comes.older) (row_of_entry ds n (front_of ds n comes.banks comes.start comes.older) (told_at p).entry) ≡ charges_at ds n p
+  charges-are : (p : Standing) (us segment : List Use) (comes : ComesOf ds n p.issue us segment)
+      → charges p.tick (issue_of ds n comes.banks comes.start comes.older) (row_of_entry ds n (issue_of ds n comes.banks comes.start comes.older) (told_at p).entry) ≡ charges_at ds n p
   unfolding charges_at next_row told_at
-  charges-are p us segment comes = sym (rw comes.front refl)
+  charges-are p us segment comes = sym (rw comes.issue refl)
 
-  pub row-true : (p : Standing) (us segment : List Use) → IsEntryInTime (entry_of_moment p) → ComesOf ds n p.front us segment
+  pub row-true : (p : Standing) (us segment : List Use) → IsEntryInTime (entry_of_moment p) → ComesOf ds n p.issue us segment
       → All (λ (x : Charge). All (IsTrueOf (reverse (uses_at ds n p) ++ segment)) (charge_waits x (uses_at ds n p) us)) (charges_at ds n p)
   unfolding all_uses
   row-true p us segment fits comes =
       let law = waits_are_true ds n p.tick comes.banks comes.start comes.older (told_at p) (All-cons IsTold (told_at p) comes.older (told-right p fits) comes.told) in
       rw (uses-are p us segment comes, comes.last, comes.whole, ← charges-are p us segment comes) law
 
-  pub row-covered : (p : Standing) (us segment : List Use) → IsEntryInTime (entry_of_moment p) → ComesOf ds n p.front us segment
+  pub row-covered : (p : Standing) (us segment : List Use) → IsEntryInTime (entry_of_moment p) → ComesOf ds n p.issue us segment
       → All (λ (x : Charge). is_parted x.stage ≡ true → FallTo x.from x.to (charge_waits x (uses_at ds n p) us)) (charges_at ds n p)
   row-covered p us segment fits comes =
       let law = waits_cover_their_charge ds n p.tick comes.banks comes.start comes.older (told_at p) (All-cons IsTold (told_at p) comes.older (told-right p fits) comes.told) in
       rw (uses-are p us segment comes, comes.last, ← charges-are p us segment comes) law
 
   -- the words of the next row
-  pub row-read : (p : Standing) (us segment : List Use) → IsEntryInTime (entry_of_moment p) → ComesOf ds n p.front us segment
-      → reads_told (uses_at ds n p) ≡ served ds (reads_of_entry ds n p.front (entry_of_moment p)) p.front.bus
+  pub row-read : (p : Standing) (us segment : List Use) → IsEntryInTime (entry_of_moment p) → ComesOf ds n p.issue us segment
+      → reads_told (uses_at ds n p) ≡ served ds (reads_of_entry ds n p.issue (entry_of_moment p)) p.issue.bus
   unfolding uses_at side_at entry
   row-read p us segment fits comes =
       let s = p.scene.machine in
-      reads_told_are_those_of_the_bus ds n p.front (entry_of_moment p) (side_at (interrupt s) s) (plan s (interrupt s)).reads refl
+      reads_told_are_those_of_the_bus ds n p.issue (entry_of_moment p) (side_at (interrupt s) s) (plan s (interrupt s)).reads refl
 
-  pub row-brought : (p : Standing) (us segment : List Use) → IsEntryInTime (entry_of_moment p) → ComesOf ds n p.front us segment
+  pub row-brought : (p : Standing) (us segment : List Use) → IsEntryInTime (entry_of_moment p) → ComesOf ds n p.issue us segment
       → AreBrought (reverse (uses_at ds n p) ++ segment)
   unfolding all_uses
   row-brought p us segment fits comes =
       let law = held_words_are_brought ds n comes.banks comes.start (told_at p ∷ comes.older) (All-cons IsTold (told_at p) comes.older (told-right p fits) comes.told) in
       rw (uses-are p us segment comes, comes.whole) law
 
-  pub row-written : (p : Standing) (us segment : List Use) → IsEntryInTime (entry_of_moment p) → ComesOf ds n p.front us segment
-      → All (IsWrittenBy p.front.past) (uses_at ds n p)
+  pub row-written : (p : Standing) (us segment : List Use) → IsEntryInTime (entry_of_moment p) → ComesOf ds n p.issue us segment
+      → All (IsWrittenBy p.issue.past) (uses_at ds n p)
   unfolding uses_at
   row-written p us segment fits comes =
       let s = p.scene.machine in
-      forwarded_words_are_written ds n p.front (entry_of_moment p) (side_at (interrupt s) s) (plan s (interrupt s)).reads
+      forwarded_words_are_written ds n p.issue (entry_of_moment p) (side_at (interrupt s) s) (plan s (interrupt s)).reads
 
-  pub row-ended : (p : Standing) (us segment : List Use) → IsEntryInTime (entry_of_moment p) → ComesOf ds n p.front us segment
+  pub row-ended : (p : Standing) (us segment : List Use) → IsEntryInTime (entry_of_moment p) → ComesOf ds n p.issue us segment
       → All (λ (x : Charge). All (λ (w : Wait). w.to < (next_row ds n p).c) (charge_waits x (uses_at ds n p) us)) (charges_at ds n p)
   unfolding next_row told_at
   row-ended p us segment fits comes =
       let law = waits_end_before_their_row ds n p.tick comes.banks comes.start comes.older (told_at p) (All-cons IsTold (told_at p) comes.older (told-right p fits) comes.told) in
-      rw (uses-are p us segment comes, comes.last, ← charges-are p us segment comes, comes.front) law
+      rw (uses-are p us segment comes, comes.last, ← charges-are p us segment comes, comes.issue) law
 
-  pub row-reasoned : 1 ≤ n → n ≤ 8 → (p : Standing) (us segment : List Use) → IsEntryInTime (entry_of_moment p) → ComesOf ds n p.front us segment
-      → IsReason ds n p.front (entry_of_moment p) (formed_at ds p) us (because_at ds n us p)
+  pub row-reasoned : 1 ≤ n → n ≤ 8 → (p : Standing) (us segment : List Use) → IsEntryInTime (entry_of_moment p) → ComesOf ds n p.issue us segment
+      → IsReason ds n p.issue (entry_of_moment p) (formed_at ds p) us (because_at ds n us p)
   unfolding formed_at next_row row_of_entry told_at
   row-reasoned least most p us segment fits comes =
       let law = reasons_are_true ds n comes.banks comes.start comes.older (told_at p) least most (All-cons IsTold (told_at p) comes.older (told-right p fits) comes.told) in
-      rw (comes.front, comes.last) law
+      rw (comes.issue, comes.last) law
 
   -- ---- all rows
 
@@ -153,9 +153,9 @@ module _ (ds : List ℕ) (n : ℕ) where
 
   -- a property of each row holds of all rows
   pub each-told : (P : ToldRow → Type 0)
-      → ((p : Standing) (us segment : List Use) → IsEntryInTime (entry_of_moment p) → ComesOf ds n p.front us segment
+      → ((p : Standing) (us segment : List Use) → IsEntryInTime (entry_of_moment p) → ComesOf ds n p.issue us segment
       → P (record { standing = p; uses = uses_at ds n p; before = us; segment = reverse (uses_at ds n p) ++ segment }))
-      → (left : ℕ) (m : Moment) (us segment : List Use) → ComesOf ds n m.front us segment
+      → (left : ℕ) (m : Moment) (us segment : List Use) → ComesOf ds n m.issue us segment
       → All (λ (q : Standing). IsEntryInTime (entry_of_moment q)) (entries_from ds n left m) → All P (told_from ds n left us segment m)
   unfolding told_from
   each-told P one zero m us segment comes fits = All-nil P
@@ -175,7 +175,7 @@ module _ (ds : List ℕ) (n : ℕ) where
 
   -- ---- the totals of all rows
 
-  row-sums : (s : Stage) (p : Standing) (us segment : List Use) → is_parted s ≡ true → IsEntryInTime (entry_of_moment p) → ComesOf ds n p.front us segment
+  row-sums : (s : Stage) (p : Standing) (us segment : List Use) → is_parted s ≡ true → IsEntryInTime (entry_of_moment p) → ComesOf ds n p.issue us segment
       → row_stalled s Turn (uses_at ds n p) us (charges_at ds n p) + row_stalled s Bank (uses_at ds n p) us (charges_at ds n p)
       + row_stalled s Storage (uses_at ds n p) us (charges_at ds n p) ≡ ticks_for s (charges_at ds n p)
   row-sums s p us segment parted fits comes =
@@ -183,7 +183,7 @@ module _ (ds : List ℕ) (n : ℕ) where
       (All-cons IsTold (told_at p) comes.older (told-right p fits) comes.told) parted in
       rw (uses-are p us segment comes, comes.last, ← charges-are p us segment comes) law
 
-  pub sums-from : (s : Stage) → is_parted s ≡ true → (left : ℕ) (m : Moment) (us segment : List Use) → ComesOf ds n m.front us segment
+  pub sums-from : (s : Stage) → is_parted s ≡ true → (left : ℕ) (m : Moment) (us segment : List Use) → ComesOf ds n m.issue us segment
       → All (λ (q : Standing). IsEntryInTime (entry_of_moment q)) (entries_from ds n left m)
       → stalled_from s Turn ds n left us m + stalled_from s Bank ds n left us m + stalled_from s Storage ds n left us m
       ≡ ticks_for s (all_charges ds n (entries_from ds n left m))
@@ -208,7 +208,7 @@ module _ (ds : List ℕ) (n : ℕ) where
         ))
   ]
 
-pub at-start : (ds : List ℕ) (n : ℕ) (c : Scene) → ComesOf ds n (moment_at_start c).front [] []
+pub at-start : (ds : List ℕ) (n : ℕ) (c : Scene) → ComesOf ds n (moment_at_start c).issue [] []
 at-start ds n c = opened ds n (moment_at_start c).banks 0
 
 -- the entries of a run are entries that a machine can have

@@ -8,10 +8,10 @@ use Rattle.st_state.specs.Machine.{Machine, word}
 use Rattle.st_prep.specs.declared.entries.IndexChange.{IndexChange}
 use Rattle.st_prep.specs.declared.entries.Prepared.{Prepared}
 use Rattle.st_exec.specs.Step.{rests}
-use Rattle.st_rows.specs.Rows.{row_of_entry, front_after_entry}
-use Rattle.st_rows.specs.declared.front.Front.{Front}
+use Rattle.st_rows.specs.Rows.{row_of_entry, issue_after_entry}
+use Rattle.st_rows.specs.declared.issue.IssueState.{IssueState}
 use Rattle.st_run.specs.Run.{Scene}
-use Rattle.st_run.specs.Moments.{Moment, Standing, moment_at_start, next_state, next_front, ends_segment, standing_at, next_moment, next_row, entry_of_moment}
+use Rattle.st_run.specs.Moments.{Moment, Standing, moment_at_start, next_state, next_issue, ends_segment, standing_at, next_moment, next_row, entry_of_moment}
 use Rattle.st_report.specs.Line.{end_line as run_end_line, done_line, ticks_line}
 use Rattle.st_io.specs.Lines.{lines_for}
 use Rattle.st_plain.specs.Looking.{seen_ahead}
@@ -28,12 +28,12 @@ use Rattle.st_ledger.specs.declared.charges.Charge.{Charge}
 use Rattle.st_ledger.specs.declared.totals.StageSum.{StageSum}
 use Rattle.st_ledger.proofs.Laws.{charges_follow}
 use Rattle.st_reasons.specs.Waits.{charge_waits}
-use Rattle.st_reasons.specs.declared.because.Because.{Because}
-use Rattle.st_reasons.specs.declared.because.Because.TheVariants.{Start, Prefetch, Earlier}
+use Rattle.st_reasons.specs.declared.because.StallCause.{StallCause}
+use Rattle.st_reasons.specs.declared.because.StallCause.TheVariants.{Start, Prefetch, Earlier}
 use Rattle.st_reasons.specs.declared.sums.WaitSum.{WaitSum}
 use Rattle.st_reasons.specs.declared.waits.Wait.{Wait}
 use Rattle.st_lines.specs.Lines.{delays_line, tens_of}
-use Rattle.st_lines.specs.EntryLines.{alone_lines, suppressed_lines, run_lines, index_lines, laid_lines, code_lines, facts_lines, missed_lines, level_lines, done_entry_lines, charges_of_entry, known_lines, late_entry_lines, spent_lines}
+use Rattle.st_lines.specs.EntryLines.{alone_lines, suppressed_lines, run_lines, index_lines, emitted_lines, code_lines, facts_lines, missed_lines, level_lines, done_entry_lines, charges_of_entry, known_lines, late_entry_lines, spent_lines}
 use Rattle.st_lines.specs.UseLines.{use_lines, is_told}
 use Rattle.st_lines.specs.WaitLines.{wait_lines, charged_lines, wait_sum_lines, because_line, because_lines}
 use Rattle.st_lines.specs.BorderLines.{drop_lines, begun_entry_lines, segment_end_lines, taken_by, en_lines, prints_lines, nonzero_word_lines, word_change_lines, words_lines, marks_lines, state_lines, machine_lines}
@@ -88,10 +88,10 @@ unfolding suppressed_lines is_spent_line head_of is_word
 suppressed-other None = none
 suppressed-other (Some i) = one _ _ refl none
 
-laid-other : (o : Option Origin) → AreOther (laid_lines o)
-unfolding laid_lines is_spent_line head_of is_word
-laid-other None = none
-laid-other (Some o) = one _ _ refl none
+emitted-other : (o : Option Origin) → AreOther (emitted_lines o)
+unfolding emitted_lines is_spent_line head_of is_word
+emitted-other None = none
+emitted-other (Some o) = one _ _ refl none
 
 code-other : (c : Option Code) → AreOther (code_lines c)
 unfolding code_lines is_spent_line head_of is_word
@@ -115,7 +115,7 @@ uses-other n end (u ∷ us) = two _ _ (either (is_told end u.supply) _ _ (one _ 
 facts-other : (n : ℕ) (end : Option ℕ) (p : Prepared) (k : Known) (o : Option Origin) (us : List Use) → AreOther (facts_lines n end p k o us)
 unfolding facts_lines
 facts-other n end p k o us =
-    two _ _ (two _ _ (two _ _ (alone-other _) (suppressed-other _)) (two _ _ (laid-other o) (code-other k.code)))
+    two _ _ (two _ _ (two _ _ (alone-other _) (suppressed-other _)) (two _ _ (emitted-other o) (code-other k.code)))
     (two _ _ (uses-other n end us) (two _ _ (two _ _ (run-other p.writes.first p.writes.len) (run-other p.writes.first2 p.writes.len2)) (index-other p.index)))
 
 -- ---- where a segment ends, and the state
@@ -222,13 +222,13 @@ charged-spent uses before (x ∷ xs) =
     spent-two (charge_line x ∷ wait_lines (charge_waits x uses before)) (charged_lines uses before xs)
     (spent-one _ _ refl (waits-spent (charge_waits x uses before))) (charged-spent uses before xs)
 
-cause-spent : (n : ℕ) (b : Because) → is_spent_line (because_line n b) ≡ true
+cause-spent : (n : ℕ) (b : StallCause) → is_spent_line (because_line n b) ≡ true
 unfolding is_spent_line head_of is_word
 cause-spent n (Start t) = refl
 cause-spent n (Prefetch x) = refl
 cause-spent n (Earlier x) = refl
 
-because-spent : (n done r : ℕ) (b : Because) → AreSpent (because_lines n done r b)
+because-spent : (n done r : ℕ) (b : StallCause) → AreSpent (because_lines n done r b)
 unfolding because_lines
 because-spent n done r b = spent-either (nat_lt done r) _ _ (spent-one _ _ (cause-spent n b) spent-none) spent-none
 
@@ -254,10 +254,10 @@ kept-behind xs ys first second = filter-append is_spent_line xs ys ∙ rw (first
 
 -- ---- a row
 
-missed-other : (b : Bool) → AreOther (missed_lines b)
+mispredicted-other : (b : Bool) → AreOther (missed_lines b)
 unfolding missed_lines is_spent_line head_of is_word
-missed-other true = one _ _ refl none
-missed-other false = none
+mispredicted-other true = one _ _ refl none
+mispredicted-other false = none
 
 entry-told : (d : EntryDone) (p : Prepared) (k : Known) (uses before : List Use)
     → filter is_spent_line (done_entry_lines d p k uses before) ≡ row_stage_line d.n d.address d.row.ticks ∷ spent_lines d uses before
@@ -265,7 +265,7 @@ unfolding done_entry_lines is_spent_line head_of is_word
 entry-told d p k uses before =
     ap (λ xs. row_stage_line d.n d.address d.row.ticks ∷ xs)
     (kept-behind (known_lines d p k uses) (spent_lines d uses before)
-    (two (missed_lines d.missed) (facts_lines d.n d.end p k d.origin uses) (missed-other d.missed) (facts-other d.n d.end p k d.origin uses))
+    (two (missed_lines d.mispredicted) (facts_lines d.n d.end p k d.origin uses) (mispredicted-other d.mispredicted) (facts-other d.n d.end p k d.origin uses))
     (spent-two (charged_lines uses before (charges_of_entry d)) (late_entry_lines d) (charged-spent uses before (charges_of_entry d))
     (spent-two (level_lines d.row.level_wait) (because_lines d.n d.before d.row.ticks.r d.because) (level-spent d.row.level_wait)
     (because-spent d.n d.before d.row.ticks.r d.because))))
@@ -297,17 +297,17 @@ last-told o ds n k b m =
 
 -- ---- the whole
 
-standing-late : (m : Moment) → m.front.c ≡ m.tick → m.tick ≤ (standing_at m).front.c
-unfolding next_front
-standing-late m at = cond_both (ends_segment m) _ _ (λ (f : Front). m.tick ≤ f.c) (λ y. omega arith) (λ k. omega (arith, at))
+standing-late : (m : Moment) → m.issue.c ≡ m.tick → m.tick ≤ (standing_at m).issue.c
+unfolding next_issue
+standing-late m at = cond_both (ends_segment m) _ _ (λ (f : IssueState). m.tick ≤ f.c) (λ y. omega arith) (λ k. omega (arith, at))
 
-next-at : (ds : List ℕ) (n : ℕ) (p : Standing) → (next_moment ds n p).front.c ≡ (next_moment ds n p).tick
-unfolding next_moment next_row row_of_entry front_after_entry
+next-at : (ds : List ℕ) (n : ℕ) (p : Standing) → (next_moment ds n p).issue.c ≡ (next_moment ds n p).tick
+unfolding next_moment next_row row_of_entry issue_after_entry
 next-at ds n p = refl
 
-row-ticks : (ds : List ℕ) (n : ℕ) (p : Standing) → p.tick ≤ p.front.c → p.tick + all_ticks (charges_at ds n p) ≡ (next_moment ds n p).tick
+row-ticks : (ds : List ℕ) (n : ℕ) (p : Standing) → p.tick ≤ p.issue.c → p.tick + all_ticks (charges_at ds n p) ≡ (next_moment ds n p).tick
 unfolding charges_at next_moment next_row
-row-ticks ds n p early = charges_follow.sum ds n p.tick p.front (entry_of_moment p) early
+row-ticks ds n p early = charges_follow.sum ds n p.tick p.issue (entry_of_moment p) early
 
 ticks-append : (xs ys : List Charge) → all_ticks (xs ++ ys) ≡ all_ticks xs + all_ticks ys
 unfolding all_ticks
@@ -317,7 +317,7 @@ ticks-append (x ∷ xs) ys = omega (arith, ticks-append xs ys)
 same-line : (t u : ℕ) → t ≡ u → ticks_line t ∷ [] ≡ ticks_line u ∷ []
 same-line t u is = ap (λ k. ticks_line k ∷ []) is
 
-from-told : (o : Machine → ℕ → Option Origin) (ds : List ℕ) (n left k : ℕ) (b : Machine) (us segment : List Use) (m : Moment) → m.front.c ≡ m.tick
+from-told : (o : Machine → ℕ → Option Origin) (ds : List ℕ) (n left k : ℕ) (b : Machine) (us segment : List Use) (m : Moment) → m.issue.c ≡ m.tick
     → filter is_spent_line (lines_from o ds n left k b us m)
     ≡ lines_of_rows ds n (told_from ds n left us segment m) ++ (ticks_line (m.tick + all_ticks (all_charges ds n (entries_from ds n left m))) ∷ [])
 unfolding lines_from told_from all_charges all_ticks lines_of_rows AreOther

@@ -4,11 +4,11 @@ use Rattle.std.proofs.Common.{◌≡◌, ℕ, ◌+◌, ◌≤◌, ◌<◌, ◌�
 use Rattle.std.proofs.lemmas.Bool.{cases_Bool, and_parts, eqb-true, leb-true, lt-ltb, ltb-true, ltb-false}
 use Rattle.std.proofs.lemmas.List.Elements.{All-nil, All-cons}
 use Rattle.st_exec.specs.Step.{rests}
-use Rattle.st_rows.specs.Rows.{row_of_entry, front_after_entry, tick_a, tick_p, tick_c, address_tick, preparation_tick}
+use Rattle.st_rows.specs.Rows.{row_of_entry, issue_after_entry, tick_a, tick_p, tick_c, address_tick, preparation_tick}
 use Rattle.st_rows.specs.declared.entry.Entry.{Entry}
-use Rattle.st_rows.specs.declared.front.Front.{Front}
+use Rattle.st_rows.specs.declared.issue.IssueState.{IssueState}
 use Rattle.st_rows.proofs.Awaited.{ready-after}
-use Rattle.st_run.specs.Moments.{Moment, Standing, next_state, next_front, ends_segment, standing_at, next_moment, next_row, entry_of_moment}
+use Rattle.st_run.specs.Moments.{Moment, Standing, next_state, next_issue, ends_segment, standing_at, next_moment, next_row, entry_of_moment}
 use Rattle.st_ledger.specs.Charges.{charges, all_ticks, ticks_for}
 use Rattle.st_ledger.specs.Ledger.{charges_at}
 use Rattle.st_ledger.specs.declared.charges.Stage.TheVariants.{Executing}
@@ -54,11 +54,11 @@ tests-alike a b c d to from = elim (cases_Bool (nat_lt a b)) [
   ]
 ]
 
-done-tick : (ds : List ℕ) (n : ℕ) (f : Front) (e : Entry) → (row_of_entry ds n f e).c ≡ max f.c (row_of_entry ds n f e).r + e.cost
+done-tick : (ds : List ℕ) (n : ℕ) (f : IssueState) (e : Entry) → (row_of_entry ds n f e).c ≡ max f.c (row_of_entry ds n f e).r + e.cost
 unfolding row_of_entry tick_c
 done-tick ds n f e = refl
 
-lost : (ds : List ℕ) (n t : ℕ) (f : Front) (e : Entry) → t ≤ f.c → (f.c ≤ t) ⊎ (f.c ≤ (row_of_entry ds n f e).r)
+lost : (ds : List ℕ) (n t : ℕ) (f : IssueState) (e : Entry) → t ≤ f.c → (f.c ≤ t) ⊎ (f.c ≤ (row_of_entry ds n f e).r)
     → nat_lt t (row_of_entry ds n f e).r
     ≡ nat_lt (ticks_for Executing (charges t f (row_of_entry ds n f e))) (all_ticks (charges t f (row_of_entry ds n f e)))
 lost ds n t f e early late =
@@ -73,38 +73,38 @@ lost ds n t f e early late =
       | inr soon ↦ omega (arith, some, sum, cost, done-tick ds n f e, early, soon)
     ])
 
-prepared-late : (ds : List ℕ) (n : ℕ) (f : Front) (e : Entry) → f.p ≤ tick_p ds n f e
+prepared-late : (ds : List ℕ) (n : ℕ) (f : IssueState) (e : Entry) → f.p ≤ tick_p ds n f e
 unfolding tick_p preparation_tick tick_a address_tick
 prepared-late ds n f e = omega arith
 
-prepared-behind : (ds : List ℕ) (n : ℕ) (f : Front) (e : Entry) → f.p ≤ (row_of_entry ds n f e).r
+prepared-behind : (ds : List ℕ) (n : ℕ) (f : IssueState) (e : Entry) → f.p ≤ (row_of_entry ds n f e).r
 unfolding row_of_entry
 prepared-behind ds n f e = omega (arith, ready-after ds n f e, prepared-late ds n f e)
 
 -- ---- all rows of a run
 
-next-at : (ds : List ℕ) (n : ℕ) (p : Standing) → (next_moment ds n p).front.c ≡ (next_moment ds n p).tick
-unfolding next_moment next_row row_of_entry front_after_entry
+next-at : (ds : List ℕ) (n : ℕ) (p : Standing) → (next_moment ds n p).issue.c ≡ (next_moment ds n p).tick
+unfolding next_moment next_row row_of_entry issue_after_entry
 next-at ds n p = refl
 
 -- the front after a moment is that of the last entry, or opens a segment
-front-late : (ds : List ℕ) (n : ℕ) (m : Moment) (e : Entry) → m.front.c ≡ m.tick
-    → (m.tick ≤ (standing_at m).front.c) × (((standing_at m).front.c ≤ m.tick) ⊎ ((standing_at m).front.c ≤ (row_of_entry ds n (standing_at m).front e).r))
-unfolding next_front
-front-late ds n m e at = elim (cases_Bool (ends_segment m)) [
+issue-late : (ds : List ℕ) (n : ℕ) (m : Moment) (e : Entry) → m.issue.c ≡ m.tick
+    → (m.tick ≤ (standing_at m).issue.c) × (((standing_at m).issue.c ≤ m.tick) ⊎ ((standing_at m).issue.c ≤ (row_of_entry ds n (standing_at m).issue e).r))
+unfolding next_issue
+issue-late ds n m e at = elim (cases_Bool (ends_segment m)) [
   | inl y ↦ rw y (omega arith, inr (prepared-behind ds n _ e))
   | inr k ↦ rw k (omega (arith, at), inl (omega (arith, at)))
 ]
 
-row-lost : (ds : List ℕ) (n : ℕ) (m : Moment) → m.front.c ≡ m.tick
+row-lost : (ds : List ℕ) (n : ℕ) (m : Moment) → m.issue.c ≡ m.tick
     → nat_lt (standing_at m).tick (next_row ds n (standing_at m)).r
     ≡ nat_lt (ticks_for Executing (charges_at ds n (standing_at m))) (all_ticks (charges_at ds n (standing_at m)))
 unfolding charges_at next_row
 row-lost ds n m at =
-    let both = front-late ds n m (entry_of_moment (standing_at m)) at in
-    lost ds n m.tick (standing_at m).front (entry_of_moment (standing_at m)) both.0 both.1
+    let both = issue-late ds n m (entry_of_moment (standing_at m)) at in
+    lost ds n m.tick (standing_at m).issue (entry_of_moment (standing_at m)) both.0 both.1
 
-pub each-lost : (ds : List ℕ) (n left : ℕ) (us segment : List Use) (m : Moment) → m.front.c ≡ m.tick
+pub each-lost : (ds : List ℕ) (n left : ℕ) (us segment : List Use) (m : Moment) → m.issue.c ≡ m.tick
     → All (λ (r : ToldRow). nat_lt r.standing.tick (next_row ds n r.standing).r
     ≡ nat_lt (ticks_for Executing (charges_at ds n r.standing)) (all_ticks (charges_at ds n r.standing))) (told_from ds n left us segment m)
 unfolding told_from

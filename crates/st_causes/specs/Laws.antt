@@ -5,7 +5,7 @@ use Rattle.std.specs.List.{filter}
 use Rattle.st_state.specs.Machine.{Machine}
 use Rattle.st_banks.specs.declared.answers.LastAnswers.{LastAnswers}
 use Rattle.st_rows.specs.Rows.{reads_of_entry}
-use Rattle.st_rows.specs.declared.front.Front.{Front}
+use Rattle.st_rows.specs.declared.issue.IssueState.{IssueState}
 use Rattle.st_segment.specs.Ahead.{Ahead, ahead}
 use Rattle.st_run.specs.Run.{Scene}
 use Rattle.st_run.specs.Scenes.{IsScene}
@@ -49,7 +49,7 @@ LedgersTellWhereTicksWent = (o : Machine → ℕ → Option Origin) (ds : List �
 -- Of the n + 1 entries after a front, at most n are prepared by the completion of the front, if
 -- each takes at least one tick; so one of them has begun and is not yet prepared.
 abbrev pub OneEntryIsBegun : Type 0
-OneEntryIsBegun = (ds : List ℕ) (n : ℕ) (t : Option ℕ) (s : Machine) (f : Front) → 1 ≤ n → n ≤ 8 →
+OneEntryIsBegun = (ds : List ℕ) (n : ℕ) (t : Option ℕ) (s : Machine) (f : IssueState) → 1 ≤ n → n ≤ 8 →
     All (λ (a : Ahead). 1 ≤ a.entry.cost) (ahead ds n (suc n) t s f) →
     length (first_late f.c (ahead ds n (suc n) t s f)) ≡ 1
 
@@ -80,15 +80,15 @@ WaitSumsAddUp = (ds : List ℕ) (n left : ℕ) (c : Scene) (s : Stage) →
 pub record UsesOfARunAreTrue : Type 0 where
   pub read : (ds : List ℕ) (n left : ℕ) (c : Scene) → IsScene c →
       All (λ (r : ToldRow). reads_told r.uses
-      ≡ served ds (reads_of_entry ds n r.standing.front (entry_of_moment r.standing))
-      r.standing.front.bus) (told_of ds n left c)
+      ≡ served ds (reads_of_entry ds n r.standing.issue (entry_of_moment r.standing))
+      r.standing.issue.bus) (told_of ds n left c)
   pub held : (ds : List ℕ) (n left : ℕ) (c : Scene) → IsScene c →
       All (λ (r : ToldRow). AreBrought r.segment) (told_of ds n left c)
   pub banked : (ds : List ℕ) (n left : ℕ) (c : Scene) →
       All (λ (r : ToldRow). (banks : LastAnswers) × AreBankedBehind banks r.segment)
       (told_of ds n left c)
   pub forwarded : (ds : List ℕ) (n left : ℕ) (c : Scene) → IsScene c →
-      All (λ (r : ToldRow). All (IsWrittenBy r.standing.front.past) r.uses) (told_of ds n left c)
+      All (λ (r : ToldRow). All (IsWrittenBy r.standing.issue.past) r.uses) (told_of ds n left c)
 
 -- ---- waits
 
@@ -133,5 +133,5 @@ ReasonsStandWhereTicksAreLost = (ds : List ℕ) (n left : ℕ) (c : Scene) →
 abbrev pub ReasonsOfARunAreTrue : Type 0
 ReasonsOfARunAreTrue = (ds : List ℕ) (n left : ℕ) (c : Scene) →
     IsScene c → 1 ≤ n → n ≤ 8 →
-    All (λ (r : ToldRow). IsReason ds n r.standing.front (entry_of_moment r.standing)
+    All (λ (r : ToldRow). IsReason ds n r.standing.issue (entry_of_moment r.standing)
     (formed_at ds r.standing) r.before (because_at ds n r.before r.standing)) (told_of ds n left c)

@@ -9,7 +9,7 @@ use Rattle.st_ledger.specs.Lines.{row_stage_line}
 use Rattle.st_plain.specs.Looking.{level_wait}
 use Rattle.st_rows.specs.declared.uses.Use.{Use}
 use Rattle.st_reasons.specs.Reasons.{because}
-use Rattle.st_reasons.specs.declared.because.Because.{Because}
+use Rattle.st_reasons.specs.declared.because.StallCause.{StallCause}
 use Rattle.st_lines.specs.EntryLines.{level_lines}
 use Rattle.st_lines.specs.WaitLines.{charged_lines, because_lines}
 use Rattle.st_account.specs.Text.{formed_at, uses_at, words_before}
@@ -41,11 +41,11 @@ told_of ds n left c = told_from ds n left [] [] (moment_at_start c)
 
 -- the number of ticks for which the next row waits for a level
 abbrev pub wait_at : List ℕ → ℕ → Standing → ℕ
-wait_at ds n p = level_wait ds n p.front (entry_of_moment p)
+wait_at ds n p = level_wait ds n p.issue (entry_of_moment p)
 
 -- the cause that delays the next row, given the words that the previous row uses
-abbrev pub because_at : List ℕ → ℕ → List Use → Standing → Because
-because_at ds n before p = because p.front (entry_of_moment p) (next_row ds n p).a
+abbrev pub because_at : List ℕ → ℕ → List Use → Standing → StallCause
+because_at ds n before p = because p.issue (entry_of_moment p) (next_row ds n p).a
     (next_row ds n p).p (wait_at ds n p) (formed_at ds p) before
 
 -- the lines that account for the ticks of a row: the row, each charge followed by its waits, its

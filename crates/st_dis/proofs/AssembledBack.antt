@@ -15,8 +15,8 @@ deck-assembled p is words few =
     let count = length (control_cards p.controls) in
     let found = found_in_job formed.statements count p.controls in
     let gives = statements-give p formed.statements count is words formed.read in (
-      together found gives.named gives.laid,
-      assembled (deck_text p) found gives.named gives.laid formed.formed gives.names gives.values,
+      together found gives.named gives.emitted,
+      assembled (deck_text p) found gives.named gives.emitted formed.formed gives.names gives.values,
       gives.image,
       gives.begins,
       defaults-kept p.controls is.budget is.delays,

@@ -25,13 +25,13 @@ use Rattle.st_asm.specs.Naming.{naming_at_start}
 use Rattle.st_asm.specs.Checks.{value_fault}
 use Rattle.st_asm.specs.Laying.{bits_of}
 use Rattle.st_asm.specs.Forming.{form_pass}
-use Rattle.st_asm.specs.Alone.{laid_alone, laid_if_read, laid_by}
-use Rattle.st_asm.specs.declared.alone.LaidBits.{LaidBits}
+use Rattle.st_asm.specs.Alone.{emitted_alone, emitted_if_read, emitted_by}
+use Rattle.st_asm.specs.declared.alone.EmittedBits.{EmittedBits}
 use Rattle.st_object.specs.Object.{Program, IsProgram, AreWords}
 use Rattle.st_dis.specs.Spelling.{number_text, statements_of}
 use Rattle.st_dis.specs.Deck.{statement_card, location_statement, location_cards, cards_of_word, word_cards, end_text, control_cards, deck_cards, deck_text, card_count}
 use Rattle.st_dis.proofs.Spelled.{statements-cases, whole_bits, half_bits}
-use Rattle.st_dis.proofs.WordRead.{says-lays}
+use Rattle.st_dis.proofs.WordRead.{says-emits}
 use Rattle.st_dis.proofs.Printable.{IsWritten, deck_written}
 use Rattle.st_dis.proofs.Lengths.{IsCard, deck_cards-short}
 use Rattle.st_dis.proofs.ControlsRead.{controls-read}
@@ -102,57 +102,57 @@ both_texts ts us first second = record {
 }
 
 -- a statement that assembles to bits is not END
-lays_by : (known faultless : Bool) (length bits : ℕ) (wanted : LaidBits) →
+emits_by : (known faultless : Bool) (length bits : ℕ) (wanted : EmittedBits) →
     (if known then (if faultless then Some (record { length = length; bits = bits }) else None) else None) ≡ Some wanted →
     length ≡ wanted.length
-lays_by true true length bits wanted lays = cc
-lays_by true false length bits wanted lays = let no : ⊥ = cc in absurd no
-lays_by false faultless length bits wanted lays = let no : ⊥ = cc in absurd no
+emits_by true true length bits wanted emits = cc
+emits_by true false length bits wanted emits = let no : ⊥ = cc in absurd no
+emits_by false faultless length bits wanted emits = let no : ⊥ = cc in absurd no
 
-lays-length : (s : Statement) (wanted : LaidBits) → laid_by [] s ≡ Some wanted → length_in (placing_of s) ≡ wanted.length
-unfolding laid_by
-lays-length s wanted lays =
-    lays_by (accepts_all (is_defined []) s) (is_none (value_fault s (values_of [] s) naming_at_start.location))
-    (length_in (placing_of s)) (bits_of s (values_of [] s)) wanted lays
+emits-length : (s : Statement) (wanted : EmittedBits) → emitted_by [] s ≡ Some wanted → length_in (placing_of s) ≡ wanted.length
+unfolding emitted_by
+emits-length s wanted emits =
+    emits_by (accepts_all (is_defined []) s) (is_none (value_fault s (values_of [] s) naming_at_start.location))
+    (length_in (placing_of s)) (bits_of s (values_of [] s)) wanted emits
 
 open-length : (s : Statement) → 0 < length_in (placing_of s) → IsOpen s
-open-length (Half op j at) lays = refl
-open-length (Sum j listed) lays = refl
-open-length (Refill j) lays = refl
-open-length (Branch op at) lays = refl
-open-length (Floating number at) lays = refl
-open-length (Vfl op negated form at offset) lays = refl
-open-length (Connect kind truth form at offset) lays = refl
-open-length (Move swap at second count) lays = refl
-open-length (BitBranch sense change at second) lays = refl
-open-length (IndBranch sense off at second) lays = refl
-open-length (StoreCounter at second) lays = refl
-open-length (Transfer write at count) lays = refl
-open-length (Data form minus number) lays = refl
-open-length (IndexWord value count refill flags) lays = refl
-open-length (Synonym at) lays = refl
-open-length (SetLocation at) lays = refl
-open-length (Reserve at) lays = refl
-open-length (End at) lays = let no : ⊥ = omega arith in absurd no
+open-length (Half op j at) emits = refl
+open-length (Sum j listed) emits = refl
+open-length (Refill j) emits = refl
+open-length (Branch op at) emits = refl
+open-length (Floating number at) emits = refl
+open-length (Vfl op negated form at offset) emits = refl
+open-length (Connect kind truth form at offset) emits = refl
+open-length (Move swap at second count) emits = refl
+open-length (BitBranch sense change at second) emits = refl
+open-length (IndBranch sense off at second) emits = refl
+open-length (StoreCounter at second) emits = refl
+open-length (Transfer write at count) emits = refl
+open-length (Data form minus number) emits = refl
+open-length (IndexWord value count refill flags) emits = refl
+open-length (Synonym at) emits = refl
+open-length (SetLocation at) emits = refl
+open-length (Reserve at) emits = refl
+open-length (End at) emits = let no : ⊥ = omega arith in absurd no
 
 -- a text that assembles to bits is read as a statement other than END
-read_by : (t : List ℕ) (answer : Result Statement Fault) (wanted : LaidBits) → 0 < wanted.length → statement_of [] t ≡ answer →
-    laid_if_read [] answer ≡ Some wanted → AreOpen (t ∷ [])
-read_by t (Ok s) wanted some is lays =
-    let same = lays-length s wanted lays in one_text t s is (open-length s (omega (arith, some, same)))
-read_by t (Err fault) wanted some is lays = let no : ⊥ = cc in absurd no
+read_by : (t : List ℕ) (answer : Result Statement Fault) (wanted : EmittedBits) → 0 < wanted.length → statement_of [] t ≡ answer →
+    emitted_if_read [] answer ≡ Some wanted → AreOpen (t ∷ [])
+read_by t (Ok s) wanted some is emits =
+    let same = emits-length s wanted emits in one_text t s is (open-length s (omega (arith, some, same)))
+read_by t (Err fault) wanted some is emits = let no : ⊥ = cc in absurd no
 
-laid-read : (t : List ℕ) (wanted : LaidBits) → 0 < wanted.length → laid_alone [] t ≡ Some wanted → AreOpen (t ∷ [])
-unfolding laid_alone
-laid-read t wanted some lays = read_by t (statement_of [] t) wanted some refl lays
+emitted-read : (t : List ℕ) (wanted : EmittedBits) → 0 < wanted.length → emitted_alone [] t ≡ Some wanted → AreOpen (t ∷ [])
+unfolding emitted_alone
+emitted-read t wanted some emits = read_by t (statement_of [] t) wanted some refl emits
 
 statements-read : (word : ℕ) → word < 2 ^ 64 → AreOpen (statements_of word)
 statements-read word small =
     statements-cases AreOpen word
-    (λ t said. laid-read t (whole_bits word) (omega arith) (says-lays t (whole_bits word) said))
+    (λ t said. emitted-read t (whole_bits word) (omega arith) (says-emits t (whole_bits word) said))
     (λ l r said_l said_r. both_texts (l ∷ []) (r ∷ [])
-    (laid-read l (half_bits (word / 2 ^ 32)) (omega arith) (says-lays l (half_bits (word / 2 ^ 32)) said_l))
-    (laid-read r (half_bits (word % 2 ^ 32)) (omega arith) (says-lays r (half_bits (word % 2 ^ 32)) said_r)))
+    (emitted-read l (half_bits (word / 2 ^ 32)) (omega arith) (says-emits l (half_bits (word / 2 ^ 32)) said_l))
+    (emitted-read r (half_bits (word % 2 ^ 32)) (omega arith) (says-emits r (half_bits (word % 2 ^ 32)) said_r)))
     (one_text (number_text word) (Data word_form false word) (data-read word small) refl)
 
 word-read : (w before word : ℕ) → w < 98304 → word < 2 ^ 64 → AreOpen (word_statements w before word)

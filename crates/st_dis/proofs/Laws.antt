@@ -1,5 +1,5 @@
 -- Proofs of the laws of the cards of a deck.
-use Rattle.st_dis.proofs.WordRead.{statements-lay}
+use Rattle.st_dis.proofs.WordRead.{statements-emit}
 use Rattle.st_dis.proofs.PlacesRead.{location-read, start-read}
 use Rattle.st_dis.proofs.ControlsRead.{controls-read}
 use Rattle.st_dis.proofs.Printable.{deck_plain, deck_pieces}
@@ -7,8 +7,8 @@ use Rattle.st_dis.proofs.Cutting.{deck_texts, deck_good}
 use Rattle.st_dis.proofs.AssembledBack.{deck-assembled}
 use Rattle.st_dis.specs.Laws.{StatementsLayTheirWord, PlacesComeBack, ControlsComeBack, CardsAreLines, DecksAreCutIntoTheirCards, DecksAssembleToTheirProgram}
 
-pub statements_lay_their_word : StatementsLayTheirWord
-statements_lay_their_word = statements-lay
+pub statements_emit_their_word : StatementsLayTheirWord
+statements_emit_their_word = statements-emit
 
 pub places_come_back : PlacesComeBack
 places_come_back = record {

@@ -14,7 +14,7 @@ use Rattle.st_asm.specs.Places.{placing_of, length_in, needs_earlier}
 use Rattle.st_asm.specs.Naming.{Named, naming_at_start, is_statement_earlier, name_fault, name_step, name_card, name_pass}
 use Rattle.st_asm.specs.Forming.{is_end}
 use Rattle.st_asm.specs.Laying.{half_word_bits, bits_of}
-use Rattle.st_asm.specs.Valuing.{Laid, with_laid, value_statement, value_card, value_pass}
+use Rattle.st_asm.specs.Valuing.{Emitted, with_emitted, value_statement, value_card, value_pass}
 use Rattle.st_asm.specs.declared.valuing.Listed.{Listed}
 use Rattle.st_dis.proofs.Said.{ReadCard, deck_statements, AreRead, spoken_lines, silent_lines}
 use Rattle.st_dis.proofs.StatementSteps.{Stand, stand, Steps, place_at}
@@ -24,8 +24,8 @@ use Rattle.st_dis.proofs.WordsLead.{Leads, deck-leads}
 abbrev pub named_at : Stand → List (Option ℕ) → Named
 named_at here places = record { location = here.location; symbols = []; places = places }
 
-abbrev pub laid_at : Stand → List Listed → Laid
-laid_at here rows = record { image = here.image; start = here.start; rows = rows }
+abbrev pub emitted_at : Stand → List Listed → Emitted
+emitted_at here rows = record { image = here.image; start = here.start; rows = rows }
 
 -- both passes lead from one state to another over lines
 pub record Passed (lines : List ReadCard) (here there : Stand) : Type 0 where
@@ -33,8 +33,8 @@ pub record Passed (lines : List ReadCard) (here there : Stand) : Type 0 where
   pub names : (before : List (Option ℕ)) → pass (name_card (has_name [])) (λ line. line.card) (named_at here before) lines
       ≡ Ok (named_at there (before ++ places))
   pub rows : List Listed
-  pub values : (before : List Listed) → pass (value_card []) (λ p. p.0.card) (laid_at here before) (zip lines places)
-      ≡ Ok (laid_at there (before ++ rows))
+  pub values : (before : List Listed) → pass (value_card []) (λ p. p.0.card) (emitted_at here before) (zip lines places)
+      ≡ Ok (emitted_at there (before ++ rows))
 
 -- the names of a card without a name are defined earlier, as there are none
 earlier : (s : Statement) → accepts_all (is_defined []) s ≡ true → is_statement_earlier [] s ≡ true
@@ -76,12 +76,12 @@ row_at here n s = record {
   length = length_in (placing_of s);
 }
 
-spoken-laid : (here there : Stand) (rows : List Listed) (n : ℕ) (s : Statement) → Steps s here there →
-    value_card [] (laid_at here rows) (saying n None s, place_at here s) ≡ Ok (laid_at there (rows ++ row_at here n s ∷ []))
+spoken-emitted : (here there : Stand) (rows : List Listed) (n : ℕ) (s : Statement) → Steps s here there →
+    value_card [] (emitted_at here rows) (saying n None s, place_at here s) ≡ Ok (emitted_at there (rows ++ row_at here n s ∷ []))
 unfolding value_card value_statement
-spoken-laid here there rows n s steps =
+spoken-emitted here there rows n s steps =
     let all = rows ++ row_at here n s ∷ [] in
-    ap (λ o. unless_faulty o (Ok (with_laid (laid_at here rows) n s (values_of [] s) (place_at here s)))) steps.faultless
+    ap (λ o. unless_faulty o (Ok (with_emitted (emitted_at here rows) n s (values_of [] s) (place_at here s)))) steps.faultless
     ∙ (ap (λ k. Ok (record { image = k; start = if is_end s then half_word_bits (values_of [] s).first else here.start; rows = all })) steps.image
     ∙ ap (λ k. Ok (record { image = there.image; start = k; rows = all })) steps.start)
 
@@ -91,11 +91,11 @@ silent-named : (here : Stand) (places : List (Option ℕ)) (n : ℕ) →
 unfolding name_card name_fault name_step
 silent-named here places n = refl
 
-silent-laid : (here : Stand) (rows : List Listed) (n : ℕ) →
-    value_card [] (laid_at here rows) (silent_line n, None)
-    ≡ Ok (laid_at here (rows ++ record { card = n; location = None; bits = 0; length = 0 } ∷ []))
+silent-emitted : (here : Stand) (rows : List Listed) (n : ℕ) →
+    value_card [] (emitted_at here rows) (silent_line n, None)
+    ≡ Ok (emitted_at here (rows ++ record { card = n; location = None; bits = 0; length = 0 } ∷ []))
 unfolding value_card
-silent-laid here rows n = refl
+silent-emitted here rows n = refl
 
 -- the passes over no cards, and over one more
 none-passed : (here : Stand) → Passed [] here here
@@ -103,36 +103,36 @@ none-passed here = record {
   places = [];
   names = λ before. ap (λ k. Ok (named_at here k)) (sym (append-nil before));
   rows = [];
-  values = λ before. ap (λ k. Ok (laid_at here k)) (sym (append-nil before));
+  values = λ before. ap (λ k. Ok (emitted_at here k)) (sym (append-nil before));
 }
 
 more-passed : (line : ReadCard) (lines : List ReadCard) (here next there : Stand) (place : Option ℕ) (row : Listed) →
     ((before : List (Option ℕ)) → name_card (has_name []) (named_at here before) line ≡ Ok (named_at next (before ++ place ∷ []))) →
-    ((before : List Listed) → value_card [] (laid_at here before) (line, place) ≡ Ok (laid_at next (before ++ row ∷ []))) →
+    ((before : List Listed) → value_card [] (emitted_at here before) (line, place) ≡ Ok (emitted_at next (before ++ row ∷ []))) →
     Passed lines next there → Passed (line ∷ lines) here there
-more-passed line lines here next there place row named laid rest = record {
+more-passed line lines here next there place row named emitted rest = record {
   places = place ∷ rest.places;
   names = λ before.
       ap (λ r. onward (λ s. pass (name_card (has_name [])) (λ l. l.card) s lines) line.card r) (named before)
       ∙ (rest.names (before ++ place ∷ []) ∙ ap (λ k. Ok (named_at there k)) (append_assoc before (place ∷ []) rest.places));
   rows = row ∷ rest.rows;
   values = λ before.
-      ap (λ r. onward (λ s. pass (value_card []) (λ p. p.0.card) s (zip lines rest.places)) line.card r) (laid before)
-      ∙ (rest.values (before ++ row ∷ []) ∙ ap (λ k. Ok (laid_at there k)) (append_assoc before (row ∷ []) rest.rows));
+      ap (λ r. onward (λ s. pass (value_card []) (λ p. p.0.card) s (zip lines rest.places)) line.card r) (emitted before)
+      ∙ (rest.values (before ++ row ∷ []) ∙ ap (λ k. Ok (emitted_at there k)) (append_assoc before (row ∷ []) rest.rows));
 }
 
 silent-passed : (n k : ℕ) (here : Stand) → Passed (silent_lines n k) here here
 silent-passed n zero here = none-passed here
 silent-passed n (suc k) here =
     more-passed (silent_line n) (silent_lines (n + 1) k) here here here None (record { card = n; location = None; bits = 0; length = 0 })
-    (λ before. silent-named here before n) (λ before. silent-laid here before n) (silent-passed (n + 1) k here)
+    (λ before. silent-named here before n) (λ before. silent-emitted here before n) (silent-passed (n + 1) k here)
 
 spoken-passed : (n : ℕ) (ss : List Statement) (rest : List ReadCard) (here next there : Stand) → Leads ss here next →
     Passed rest next there → Passed (spoken_lines n ss ++ rest) here there
 spoken-passed n [] rest here next there same passed = subst (λ k. Passed rest k there) (sym same) passed
 spoken-passed n (s ∷ ss) rest here next there lead passed =
     more-passed (saying n None s) (spoken_lines (n + 1) ss ++ rest) here lead.0 there (place_at here s) (row_at here n s)
-    (λ before. spoken-named here lead.0 before n s lead.1) (λ before. spoken-laid here lead.0 before n s lead.1)
+    (λ before. spoken-named here lead.0 before n s lead.1) (λ before. spoken-emitted here lead.0 before n s lead.1)
     (spoken-passed (n + 1) ss rest lead.0 next there lead.2 passed)
 
 -- none of the cards has a name
@@ -151,10 +151,10 @@ pub record GivesProgram (lines : List ReadCard) (words : List ℕ) (start : ℕ)
   pub named : Named
   pub names : name_pass lines ≡ Ok named
   pub no_symbols : named.symbols ≡ []
-  pub laid : Laid
-  pub values : value_pass (table named.symbols) lines named.places ≡ Ok laid
-  pub image : laid.image ≡ words
-  pub begins : laid.start ≡ start
+  pub emitted : Emitted
+  pub values : value_pass (table named.symbols) lines named.places ≡ Ok emitted
+  pub image : emitted.image ≡ words
+  pub begins : emitted.start ≡ start
 
 passed-gives : (lines : List ReadCard) (words : List ℕ) (start behind : ℕ) → names_of lines ≡ [] →
     Passed lines (stand 2048 (replicate words_of_storage 0) 0) (stand behind words start) → GivesProgram lines words start
@@ -165,7 +165,7 @@ passed-gives lines words start behind none passed =
       named = named_at there passed.places;
       names = ap (λ (ns : List (List ℕ)). pass (name_card (has_name ns)) (λ line. line.card) naming_at_start lines) none ∙ passed.names [];
       no_symbols = refl;
-      laid = laid_at there passed.rows;
+      emitted = emitted_at there passed.rows;
       values = passed.values [];
       image = refl;
       begins = refl;

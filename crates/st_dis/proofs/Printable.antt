@@ -30,7 +30,7 @@ use Rattle.st_card.specs.declared.written.Control.{Control}
 use Rattle.st_card.specs.declared.written.Control.TheVariants as asks
 use Rattle.st_card.specs.declared.written.ControlForm.TheVariants.{Card}
 use Rattle.st_card.proofs.EachControl.{OfEach, of_any, controls_all}
-use Rattle.st_asm.specs.declared.alone.LaidBits.{LaidBits}
+use Rattle.st_asm.specs.declared.alone.EmittedBits.{EmittedBits}
 use Rattle.st_dis.specs.Names.{half_name, branch_name, field_name, negation, kind_name, truth_digits, move_name, changes, change_name, turning, order_name, mode_name, forms, form_name}
 use Rattle.st_dis.specs.Texts.{index_field_text, index_part_text, half_field, bit_field, second_field, number_field, offset_field, has_index, listed_fields, half_text, branch_text, description, operand_text, instruction_text}
 use Rattle.st_dis.specs.Spelling.{says, spelling_of, word_spelling, half_spelling, number_text, statements_by, statements_of}
@@ -309,13 +309,13 @@ where_it_is : (b : Bool) (text : List ℕ) → IsPlain text → SpellsPlain (if 
 where_it_is true text p = p
 where_it_is false text p = tt
 
-spelled : (instr : Instr) (wanted : LaidBits) → SpellsPlain (spelling_of instr wanted)
+spelled : (instr : Instr) (wanted : EmittedBits) → SpellsPlain (spelling_of instr wanted)
 unfolding spelling_of
 spelled instr wanted = where_it_is (is_valid instr && says (instruction_text instr) wanted) (instruction_text instr) (text_plain instr)
 
 word_spelled : (left right : ℕ) → SpellsPlain (word_spelling left right)
 word_spelled left right =
-    let wanted : LaidBits = record { length = 64; bits = left * 2 ^ 32 + right } in
+    let wanted : EmittedBits = record { length = 64; bits = left * 2 ^ 32 + right } in
     elim (is_full left) as (λ b. SpellsPlain (if b then spelling_of (instruction_of left right) wanted else None)) [
       | true ↦ spelled (instruction_of left right) wanted
       | false ↦ tt
@@ -323,7 +323,7 @@ word_spelled left right =
 
 half_spelled : (half : ℕ) → SpellsPlain (half_spelling half)
 half_spelled half =
-    let wanted : LaidBits = record { length = 32; bits = half } in
+    let wanted : EmittedBits = record { length = 32; bits = half } in
     elim (is_full half) as (λ b. SpellsPlain (if b then None else spelling_of (instruction_of half 0) wanted)) [
       | true ↦ tt
       | false ↦ spelled (instruction_of half 0) wanted

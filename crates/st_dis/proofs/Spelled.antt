@@ -5,16 +5,16 @@ use Rattle.std.proofs.lemmas.Bool.Decides.{nat_tests}
 use Rattle.st_format.specs.Halves.{is_full}
 use Rattle.st_format.specs.Formats.{instruction_of, is_valid}
 use Rattle.st_format.specs.declared.instruction.Instr.{Instr}
-use Rattle.st_asm.specs.Alone.{laid_alone}
-use Rattle.st_asm.specs.declared.alone.LaidBits.{LaidBits}
+use Rattle.st_asm.specs.Alone.{emitted_alone}
+use Rattle.st_asm.specs.declared.alone.EmittedBits.{EmittedBits}
 use Rattle.st_dis.specs.Texts.{instruction_text}
-use Rattle.st_dis.specs.Spelling.{is_laid, says, spelling_of, word_spelling, half_spelling, number_text, statements_by, statements_of}
+use Rattle.st_dis.specs.Spelling.{is_emitted, says, spelling_of, word_spelling, half_spelling, number_text, statements_by, statements_of}
 
 -- a word as 64 bits
-abbrev pub whole_bits : ℕ → LaidBits
+abbrev pub whole_bits : ℕ → EmittedBits
 whole_bits word = record { length = 64; bits = word }
 
-abbrev pub half_bits : ℕ → LaidBits
+abbrev pub half_bits : ℕ → EmittedBits
 half_bits half = record { length = 32; bits = half }
 
 -- a conditional result is present only if its test is true
@@ -23,7 +23,7 @@ given true x y same = (refl, cc)
 given false x y same = let no : ⊥ = cc in absurd no
 
 -- a spelling assembles to the required bits
-spelling-says : (instr : Instr) (wanted : LaidBits) (text : List ℕ) → spelling_of instr wanted ≡ Some text → says text wanted ≡ true
+spelling-says : (instr : Instr) (wanted : EmittedBits) (text : List ℕ) → spelling_of instr wanted ≡ Some text → says text wanted ≡ true
 unfolding spelling_of
 spelling-says instr wanted text same =
     let parts = given (is_valid instr && says (instruction_text instr) wanted) (instruction_text instr) text same in
@@ -78,7 +78,7 @@ statements-cases P word one two number =
     number
 
 -- a text that assembles to bits has at most 63 characters
-pub says-short : (text : List ℕ) (wanted : LaidBits) → says text wanted ≡ true → length text ≤ 63
+pub says-short : (text : List ℕ) (wanted : EmittedBits) → says text wanted ≡ true → length text ≤ 63
 says-short text wanted said =
-    let short = (both (nat_le (length text) 63) (is_laid wanted (laid_alone [] text)) said).0 in
+    let short = (both (nat_le (length text) 63) (is_emitted wanted (emitted_alone [] text)) said).0 in
     grind (arith, nat_tests, short)

@@ -18,8 +18,8 @@ use Rattle.st_asm.specs.Naming.{naming_at_start, place_of_statement, behind_stat
 use Rattle.st_asm.specs.Checks.{in_range, fits, on_boundary, extent, in_storage, value_fault}
 use Rattle.st_asm.specs.Laying.{half_word_bits, bits_of}
 use Rattle.st_asm.specs.Valuing.{image_with}
-use Rattle.st_asm.specs.Alone.{laid_if_read, laid_by, laid_alone}
-use Rattle.st_asm.specs.declared.alone.LaidBits.{LaidBits}
+use Rattle.st_asm.specs.Alone.{emitted_if_read, emitted_by, emitted_alone}
+use Rattle.st_asm.specs.declared.alone.EmittedBits.{EmittedBits}
 use Rattle.st_dis.proofs.Said.{type_of}
 
 -- the values of the expressions of a statement
@@ -48,12 +48,12 @@ pub record Steps (s : Statement) (here there : Stand) : Type 0 where
   pub start : (if is_end s then half_word_bits (values_of [] s).first else here.start) ≡ there.start
 
 -- the properties of a statement that assembles to bits by itself
-record LaysAlone (s : Statement) (wanted : LaidBits) : Type 0 where
+record LaysAlone (s : Statement) (wanted : EmittedBits) : Type 0 where
   known : accepts_all (is_defined []) s ≡ true
   faultless : value_fault s (values_of [] s) naming_at_start.location ≡ None
-  laid : record { length = length_in (placing_of s); bits = bits_of s (values_of [] s) } ≡ wanted
+  emitted : record { length = length_in (placing_of s); bits = bits_of s (values_of [] s) } ≡ wanted
 
-both_hold : (b c : Bool) (x y : LaidBits) → (if b then (if c then Some x else None) else None) ≡ Some y →
+both_hold : (b c : Bool) (x y : EmittedBits) → (if b then (if c then Some x else None) else None) ≡ Some y →
     (b ≡ true) × (c ≡ true) × (x ≡ y)
 both_hold true true x y same = (refl, refl, cc)
 both_hold true false x y same = let no : ⊥ = cc in absurd no
@@ -63,15 +63,15 @@ is-none : (o : Option Fault) → is_none o ≡ true → o ≡ None
 is-none None h = refl
 is-none (Some f) h = let no : ⊥ = cc in absurd no
 
-lays-alone : (t : List ℕ) (s : Statement) (wanted : LaidBits) → statement_of [] t ≡ Ok s → laid_alone [] t ≡ Some wanted →
+emits-alone : (t : List ℕ) (s : Statement) (wanted : EmittedBits) → statement_of [] t ≡ Ok s → emitted_alone [] t ≡ Some wanted →
     LaysAlone s wanted
-unfolding laid_alone laid_by
-lays-alone t s wanted read lays =
-    let here : laid_by [] s ≡ Some wanted = sym (ap (λ r. laid_if_read [] r) read) ∙ lays in
+unfolding emitted_alone emitted_by
+emits-alone t s wanted read emits =
+    let here : emitted_by [] s ≡ Some wanted = sym (ap (λ r. emitted_if_read [] r) read) ∙ emits in
     let fault = value_fault s (values_of [] s) naming_at_start.location in
     let parts = both_hold (accepts_all (is_defined []) s) (is_none fault)
     (record { length = length_in (placing_of s); bits = bits_of s (values_of [] s) }) wanted here in
-    record { known = parts.0; faultless = is-none fault parts.1; laid = parts.2 }
+    record { known = parts.0; faultless = is-none fault parts.1; emitted = parts.2 }
 
 -- a location at which n bits can be assembled
 pub record IsPlace (n a : ℕ) : Type 0 where
@@ -119,10 +119,10 @@ record GoesOn (s : Statement) (n a : ℕ) (v : ℤ) : Type 0 where
   long : extent (placing_of s) v ≡ n
   no_end : is_end s ≡ false
 
-lays-on : (s : Statement) (u m n a : ℕ) (v : ℤ) → place_in (placing_of s) a v ≡ Some (next_multiple u a) →
+emits-on : (s : Statement) (u m n a : ℕ) (v : ℤ) → place_in (placing_of s) a v ≡ Some (next_multiple u a) →
     behind_in (placing_of s) a v ≡ (next_multiple u a + m) % 2 ^ 24 → extent (placing_of s) v ≡ m → is_end s ≡ false → m ≡ n → next_multiple u a ≡ a →
     IsPlace n a → GoesOn s n a v
-lays-on s u m n a v place behind long no_end same on is =
+emits-on s u m n a v place behind long no_end same on is =
     let room = is.room in
     let next : (next_multiple u a + m) % 2 ^ 24 ≡ a + n = ap (λ k. (k + m) % 2 ^ 24) on ∙ omega (arith, same, room) in
     record {
@@ -133,25 +133,25 @@ lays-on s u m n a v place behind long no_end same on is =
     }
 
 goes-on : (s : Statement) (n a : ℕ) (v : ℤ) → length_in (placing_of s) ≡ n → IsPlace n a → GoesOn s n a v
-goes-on (Half op j at) n a v long is = lays-on (Half op j at) 32 32 n a v refl refl refl refl long is.half is
-goes-on (Sum j listed) n a v long is = lays-on (Sum j listed) 32 32 n a v refl refl refl refl long is.half is
-goes-on (Refill j) n a v long is = lays-on (Refill j) 32 32 n a v refl refl refl refl long is.half is
-goes-on (Branch op at) n a v long is = lays-on (Branch op at) 32 32 n a v refl refl refl refl long is.half is
-goes-on (Floating number at) n a v long is = lays-on (Floating number at) 32 32 n a v refl refl refl refl long is.half is
+goes-on (Half op j at) n a v long is = emits-on (Half op j at) 32 32 n a v refl refl refl refl long is.half is
+goes-on (Sum j listed) n a v long is = emits-on (Sum j listed) 32 32 n a v refl refl refl refl long is.half is
+goes-on (Refill j) n a v long is = emits-on (Refill j) 32 32 n a v refl refl refl refl long is.half is
+goes-on (Branch op at) n a v long is = emits-on (Branch op at) 32 32 n a v refl refl refl refl long is.half is
+goes-on (Floating number at) n a v long is = emits-on (Floating number at) 32 32 n a v refl refl refl refl long is.half is
 goes-on (Vfl op negated form at offset) n a v long is =
-    lays-on (Vfl op negated form at offset) 32 64 n a v refl refl refl refl long is.half is
+    emits-on (Vfl op negated form at offset) 32 64 n a v refl refl refl refl long is.half is
 goes-on (Connect kind truth form at offset) n a v long is =
-    lays-on (Connect kind truth form at offset) 32 64 n a v refl refl refl refl long is.half is
-goes-on (Move swap at second count) n a v long is = lays-on (Move swap at second count) 32 64 n a v refl refl refl refl long is.half is
+    emits-on (Connect kind truth form at offset) 32 64 n a v refl refl refl refl long is.half is
+goes-on (Move swap at second count) n a v long is = emits-on (Move swap at second count) 32 64 n a v refl refl refl refl long is.half is
 goes-on (BitBranch sense change at second) n a v long is =
-    lays-on (BitBranch sense change at second) 32 64 n a v refl refl refl refl long is.half is
-goes-on (IndBranch sense off at second) n a v long is = lays-on (IndBranch sense off at second) 32 64 n a v refl refl refl refl long is.half is
-goes-on (StoreCounter at second) n a v long is = lays-on (StoreCounter at second) 32 64 n a v refl refl refl refl long is.half is
-goes-on (Transfer write at count) n a v long is = lays-on (Transfer write at count) 32 64 n a v refl refl refl refl long is.half is
+    emits-on (BitBranch sense change at second) 32 64 n a v refl refl refl refl long is.half is
+goes-on (IndBranch sense off at second) n a v long is = emits-on (IndBranch sense off at second) 32 64 n a v refl refl refl refl long is.half is
+goes-on (StoreCounter at second) n a v long is = emits-on (StoreCounter at second) 32 64 n a v refl refl refl refl long is.half is
+goes-on (Transfer write at count) n a v long is = emits-on (Transfer write at count) 32 64 n a v refl refl refl refl long is.half is
 goes-on (Data form minus number) n a v long is =
-    lays-on (Data form minus number) 1 form.length n a v refl refl refl refl long is.one is
+    emits-on (Data form minus number) 1 form.length n a v refl refl refl refl long is.one is
 goes-on (IndexWord value count refill flags) n a v long is =
-    lays-on (IndexWord value count refill flags) 64 64 n a v refl refl refl refl long (is.whole (sym long)) is
+    emits-on (IndexWord value count refill flags) 64 64 n a v refl refl refl refl long (is.whole (sym long)) is
 goes-on (Synonym at) n a v long is = absurd (is.some (sym long))
 goes-on (SetLocation at) n a v long is = absurd (is.some (sym long))
 goes-on (Reserve at) n a v long is = absurd (is.some (sym long))
@@ -185,13 +185,13 @@ in-storage a n behind room =
     or_true (n == 0) (nat_le 2048 a && nat_le (a + n) 6291456) (both_true (nat_le 2048 a) (nat_le (a + n) 6291456) first last)
 
 -- a statement that assembles to bits by itself assembles to them at each such location
-pub lays-steps : (t : List ℕ) (s : Statement) (n bits a start : ℕ) (old new : List ℕ) → statement_of [] t ≡ Ok s →
-    laid_alone [] t ≡ Some (record { length = n; bits = bits }) → IsPlace n a → image_with old a n bits ≡ new →
+pub emits-steps : (t : List ℕ) (s : Statement) (n bits a start : ℕ) (old new : List ℕ) → statement_of [] t ≡ Ok s →
+    emitted_alone [] t ≡ Some (record { length = n; bits = bits }) → IsPlace n a → image_with old a n bits ≡ new →
     Steps s (stand a old start) (stand (a + n) new start)
-lays-steps t s n bits a start old new read lays is image =
-    let alone = lays-alone t s (record { length = n; bits = bits }) read lays in
-    let long : length_in (placing_of s) ≡ n = ap (λ (l : LaidBits). l.length) alone.laid in
-    let number : bits_of s (values_of [] s) ≡ bits = ap (λ (l : LaidBits). l.bits) alone.laid in
+emits-steps t s n bits a start old new read emits is image =
+    let alone = emits-alone t s (record { length = n; bits = bits }) read emits in
+    let long : length_in (placing_of s) ≡ n = ap (λ (l : EmittedBits). l.length) alone.emitted in
+    let number : bits_of s (values_of [] s) ≡ bits = ap (λ (l : EmittedBits). l.bits) alone.emitted in
     let v = (values_of [] s).first in
     let on = goes-on s n a v long is in
     let place : unwrap_or (place_in (placing_of s) a v) 0 ≡ a = ap (λ o. unwrap_or o 0) on.place in

@@ -7,21 +7,21 @@ use Rattle.st_asm.specs.Pass.{Refusal, pass_then}
 use Rattle.st_asm.specs.Symbols.{table}
 use Rattle.st_asm.specs.Forming.{Found, form_pass}
 use Rattle.st_asm.specs.Naming.{Named, name_pass}
-use Rattle.st_asm.specs.Valuing.{Laid, value_pass}
+use Rattle.st_asm.specs.Valuing.{Emitted, value_pass}
 use Rattle.st_asm.specs.Assembly.{Assembly, with_defaults, together, assembly}
 
 -- the assembly is the combined result of the passes
-pub assembled : (job : List ℕ) (found : Found) (named : Named) (laid : Laid) → form_pass job (cards_of job) ≡ Ok found →
-    name_pass found.lines ≡ Ok named → value_pass (table named.symbols) found.lines named.places ≡ Ok laid →
-    assembly job ≡ Ok (together found named laid)
+pub assembled : (job : List ℕ) (found : Found) (named : Named) (emitted : Emitted) → form_pass job (cards_of job) ≡ Ok found →
+    name_pass found.lines ≡ Ok named → value_pass (table named.symbols) found.lines named.places ≡ Ok emitted →
+    assembly job ≡ Ok (together found named emitted)
 unfolding assembly
-assembled job found named laid formed names values =
-    let last : Found → Named → Result Laid Refusal → Result Assembly Refusal = λ f n r. pass_then r (λ l. Ok (together f n l)) in
+assembled job found named emitted formed names values =
+    let last : Found → Named → Result Emitted Refusal → Result Assembly Refusal = λ f n r. pass_then r (λ l. Ok (together f n l)) in
     let middle : Found → Result Named Refusal → Result Assembly Refusal =
     λ f r. pass_then r (λ n. last f n (value_pass (table n.symbols) f.lines n.places)) in
     ap (λ (r : Result Found Refusal). pass_then r (λ f. middle f (name_pass f.lines))) formed
     ∙ (ap (λ (r : Result Named Refusal). middle found r) names
-    ∙ ap (λ (r : Result Laid Refusal). last found named r) values)
+    ∙ ap (λ (r : Result Emitted Refusal). last found named r) values)
 
 -- the defaults leave requests with a budget and a delay unchanged
 pub defaults-kept : (asked : Asked) → 1 ≤ asked.budget → 1 ≤ length asked.delays → with_defaults asked ≡ asked

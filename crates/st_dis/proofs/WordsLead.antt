@@ -10,16 +10,16 @@ use Rattle.st_strap.specs.Reading.{number_expr}
 use Rattle.st_strap.specs.Saying.{statement_of}
 use Rattle.st_strap.specs.Statements.{Statement}
 use Rattle.st_strap.specs.declared.statement.Statement.TheVariants.{SetLocation, End}
-use Rattle.st_asm.specs.Alone.{laid_alone}
+use Rattle.st_asm.specs.Alone.{emitted_alone}
 use Rattle.st_asm.specs.Valuing.{image_with}
 use Rattle.st_dis.specs.Deck.{location_statement, end_text}
 use Rattle.st_dis.specs.Spelling.{number_text, statements_of}
 use Rattle.st_dis.proofs.Said.{word_statements, statements_from, deck_statements, AreRead}
 use Rattle.st_dis.proofs.Spelled.{whole_bits, half_bits, statements-cases}
-use Rattle.st_dis.proofs.WordRead.{says-lays, data-lays}
+use Rattle.st_dis.proofs.WordRead.{says-emits, data-emits}
 use Rattle.st_dis.proofs.PlacesRead.{location-read, start-read}
 use Rattle.st_dis.proofs.PlacedWords.{word-placed, first-placed, second-placed}
-use Rattle.st_dis.proofs.StatementSteps.{Stand, stand, Steps, word-place, first-place, second-place, lays-steps, set-steps, end-steps}
+use Rattle.st_dis.proofs.StatementSteps.{Stand, stand, Steps, word-place, first-place, second-place, emits-steps, set-steps, end-steps}
 
 -- each statement that a text is read as leads from one state to the other
 abbrev TextLeads : List ℕ → Stand → Stand → Type 0
@@ -65,9 +65,9 @@ text-leads t s here there is steps other read =
 
 module _ (done zs : List ℕ) (start : ℕ) (words : AreWords done) (zeros : AreWords zs) where
   -- the statements of a word lead to the image with that word
-  lays-word : (w x : ℕ) → length done ≡ w → 32 ≤ w → w < 98304 → x < 2 ^ 64 →
+  emits-word : (w x : ℕ) → length done ≡ w → 32 ≤ w → w < 98304 → x < 2 ^ 64 →
       Lead (statements_of x) (stand (64 * w) (done ++ 0 ∷ zs) start) (stand (64 * w + 64) (done ++ x ∷ zs) start)
-  lays-word w x size above room small =
+  emits-word w x size above room small =
       let here = stand (64 * w) (done ++ 0 ∷ zs) start in
       let there = stand (64 * w + 64) (done ++ x ∷ zs) start in
       let half = done ++ (x / 2 ^ 32 * 2 ^ 32) ∷ zs in
@@ -76,18 +76,18 @@ module _ (done zs : List ℕ) (start : ℕ) (words : AreWords done) (zeros : Are
       let whole = ap (λ k. image_with (done ++ 0 ∷ zs) (64 * k) 64 x) (sym size) ∙ word-placed done zs x words zeros small in
       let first = ap (λ k. image_with (done ++ 0 ∷ zs) (64 * k) 32 (x / 2 ^ 32)) (sym size) ∙ first-placed done zs x words zeros small in
       let second = ap (λ k. image_with half (64 * k + 32) 32 (x % 2 ^ 32)) (sym size) ∙ second-placed done zs x words zeros small in
-      let one : (t : List ℕ) → laid_alone [] t ≡ Some (whole_bits x) → Lead (t ∷ []) here there =
-      λ t lays. one-leads t here there
-      (λ s read. lays-steps t s 64 x (64 * w) start (done ++ 0 ∷ zs) (done ++ x ∷ zs) read lays (word-place w above room) whole) in
+      let one : (t : List ℕ) → emitted_alone [] t ≡ Some (whole_bits x) → Lead (t ∷ []) here there =
+      λ t emits. one-leads t here there
+      (λ s read. emits-steps t s 64 x (64 * w) start (done ++ 0 ∷ zs) (done ++ x ∷ zs) read emits (word-place w above room) whole) in
       statements-cases (λ texts. Lead texts here there) x
-      (λ t said. one t (says-lays t (whole_bits x) said))
+      (λ t said. one t (says-emits t (whole_bits x) said))
       (λ l r said_l said_r. two-lead l r here middle there
-      (λ s read. lays-steps l s 32 (x / 2 ^ 32) (64 * w) start (done ++ 0 ∷ zs) half read
-      (says-lays l (half_bits (x / 2 ^ 32)) said_l) (first-place w above room) first)
+      (λ s read. emits-steps l s 32 (x / 2 ^ 32) (64 * w) start (done ++ 0 ∷ zs) half read
+      (says-emits l (half_bits (x / 2 ^ 32)) said_l) (first-place w above room) first)
       (λ s read. subst (λ k. Steps s middle (stand k (done ++ x ∷ zs) start)) more
-      (lays-steps r s 32 (x % 2 ^ 32) (64 * w + 32) start half (done ++ x ∷ zs) read
-      (says-lays r (half_bits (x % 2 ^ 32)) said_r) (second-place w above room) second)))
-      (one (number_text x) (data-lays x small))
+      (emits-steps r s 32 (x % 2 ^ 32) (64 * w + 32) start half (done ++ x ∷ zs) read
+      (says-emits r (half_bits (x % 2 ^ 32)) said_r) (second-place w above room) second)))
+      (one (number_text x) (data-emits x small))
 
 abbrev IsWord : ℕ → Type 0
 IsWord x = x < 2 ^ 64
@@ -137,7 +137,7 @@ word-led w before (suc k) done zs location start size room above words zeros sma
           (sym (more_than_none k))
           (place-leads w before (statements_of (suc k)) here next there set
           (λ other. ap (λ a. stand a (done ++ 0 ∷ zs) start) (ready other))
-          (lays-word done zs start words zeros w (suc k) size (above (λ h. omega arith)) room small));
+          (emits-word done zs start words zeros w (suc k) size (above (λ h. omega arith)) room small));
     }
 
 -- the address of a word is below the registers' end or not

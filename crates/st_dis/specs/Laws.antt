@@ -13,13 +13,13 @@ use Rattle.st_asm.specs.Assembly.{Assembly, assembly}
 use Rattle.st_object.specs.Object.{Program, IsProgram, AreWords}
 use Rattle.st_dis.specs.Deck.{location_statement, end_text, control_cards, deck_cards, deck_text, card_count}
 use Rattle.st_dis.specs.Spelling.{statements_of}
-use Rattle.st_dis.specs.Read.{bits_of_length, laid_together, CardsLead}
+use Rattle.st_dis.specs.Read.{bits_of_length, emitted_together, CardsLead}
 
 -- The statements of a word have no fault, and the bits that they assemble to, concatenated, are the
 -- word's 64 bits.
 abbrev pub StatementsLayTheirWord : Type 0
 StatementsLayTheirWord = (word : ℕ) → word < 2 ^ 64 →
-    laid_together (statements_of word) ≡ Some (bits_of_length 64 word)
+    emitted_together (statements_of word) ≡ Some (bits_of_length 64 word)
 
 -- The card before a run of words sets the location counter to the first of them, and END gives the
 -- start; both operands are bit addresses.

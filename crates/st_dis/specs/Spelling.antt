@@ -3,22 +3,22 @@ use Rattle.std.specs.Prelude.{ℕ, ◌+◌, ◌*◌, ◌/◌, ◌%◌, ◌^◌, 
 use Rattle.st_format.specs.Halves.{is_full}
 use Rattle.st_format.specs.Formats.{instruction_of, is_valid}
 use Rattle.st_format.specs.declared.instruction.Instr.{Instr}
-use Rattle.st_asm.specs.Alone.{laid_alone}
-use Rattle.st_asm.specs.declared.alone.LaidBits.{LaidBits}
+use Rattle.st_asm.specs.Alone.{emitted_alone}
+use Rattle.st_asm.specs.declared.alone.EmittedBits.{EmittedBits}
 use Rattle.st_dis.specs.Texts.{instruction_text}
 
 -- whether the assembled bits are present and equal to these bits
-abbrev pub is_laid : LaidBits → Option LaidBits → Bool
-is_laid wanted None = false
-is_laid wanted (Some laid) = laid.length == wanted.length && laid.bits == wanted.bits
+abbrev pub is_emitted : EmittedBits → Option EmittedBits → Bool
+is_emitted wanted None = false
+is_emitted wanted (Some emitted) = emitted.length == wanted.length && emitted.bits == wanted.bits
 
 -- whether a text fits on a card and assembles to these bits
-abbrev pub says : List ℕ → LaidBits → Bool
-says text wanted = nat_le (length text) 63 && is_laid wanted (laid_alone [] text)
+abbrev pub says : List ℕ → EmittedBits → Bool
+says text wanted = nat_le (length text) 63 && is_emitted wanted (emitted_alone [] text)
 
 -- the spelling of an instruction: its text, if the instruction is valid and the text assembles to
 -- its bits
-unfoldable pub spelling_of : Instr → LaidBits → Option (List ℕ)
+unfoldable pub spelling_of : Instr → EmittedBits → Option (List ℕ)
 spelling_of instr wanted = if is_valid instr && says (instruction_text instr) wanted
     then Some (instruction_text instr) else None
 

@@ -5,7 +5,7 @@ ghost use Rattle.std.specs.Option.{option_map};
 ghost use Rattle.st_dis.specs.Spelling as spec;
 
 use crate::texts::text_of;
-use st_asm::{LaidBits, laid_alone};
+use st_asm::{EmittedBits, emitted_alone};
 use st_expr::Symbols;
 use st_format::{Instr, decode};
 use st_text::Line;
@@ -37,7 +37,7 @@ pub(crate) fn word_spelling(symbols: &Symbols, left: u32, right: u32) -> Option<
     if decoded.halves != 2 {
         return None;
     }
-    let wanted = LaidBits {
+    let wanted = EmittedBits {
         length: 64,
         bits: (u64::from(left) << 32) + u64::from(right),
     };
@@ -54,7 +54,7 @@ pub(crate) fn half_spelling(symbols: &Symbols, half: u32) -> Option<Line>
     if decoded.halves == 2 {
         return None;
     }
-    let wanted = LaidBits {
+    let wanted = EmittedBits {
         length: 32,
         bits: u64::from(half),
     };
@@ -63,7 +63,7 @@ pub(crate) fn half_spelling(symbols: &Symbols, half: u32) -> Option<Line>
 
 // The text of an instruction, if the instruction is valid and the text assembles to these bits.
 #[tactic(auto, unfolding(crate::specs::Spelling::spelling_of))]
-fn spelling_of(symbols: &Symbols, instr: Instr, wanted: LaidBits) -> Option<Line>
+fn spelling_of(symbols: &Symbols, instr: Instr, wanted: EmittedBits) -> Option<Line>
     requires { symbols.now ≡ [] }
     ensures { option_map (λ line. line.bytes) result ≡ spec.spelling_of instr wanted }
 {
@@ -79,15 +79,15 @@ fn spelling_of(symbols: &Symbols, instr: Instr, wanted: LaidBits) -> Option<Line
 }
 
 // Whether a text fits on a card and assembles to these bits.
-fn says(symbols: &Symbols, text: &[u8], wanted: LaidBits) -> bool
+fn says(symbols: &Symbols, text: &[u8], wanted: EmittedBits) -> bool
     requires { symbols.now ≡ [] }
     ensures { result ≡ spec.says text.now wanted }
 {
     if text.len() > MOST_CHARACTERS {
         return false;
     }
-    match laid_alone(symbols, text) {
+    match emitted_alone(symbols, text) {
         None => false,
-        Some(laid) => laid.length == wanted.length && laid.bits == wanted.bits,
+        Some(emitted) => emitted.length == wanted.length && emitted.bits == wanted.bits,
     }
 }

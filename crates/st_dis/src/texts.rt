@@ -13,13 +13,13 @@ use crate::pieces::{
 };
 use st_bits::{BranchOp, HalfOp};
 use st_format::Instr;
-use st_text::{Line, begun};
+use st_text::{Line, open_line};
 
 // The text of an instruction on an index word.
 fn half_text(op: HalfOp, address: u32, j: u8, i: u8) -> Line
     ensures { result.bytes ≡ spec.half_text op address j i }
 {
-    let mut line = begun(half_name(op));
+    let mut line = open_line(half_name(op));
     match op {
         HalfOp::Ex => push_half_field(&mut line, address, i),
         HalfOp::R => push_index_field(&mut line, j),
@@ -39,7 +39,7 @@ fn half_text(op: HalfOp, address: u32, j: u8, i: u8) -> Line
 fn branch_text(op: BranchOp, address: u32, i: u8) -> Line
     ensures { result.bytes ≡ spec.branch_text op address i }
 {
-    let mut line = begun(branch_name(op));
+    let mut line = open_line(branch_name(op));
     match op {
         BranchOp::Bew | BranchOp::Nop => {}
         _ => push_half_field(&mut line, address, i),
@@ -66,7 +66,7 @@ pub(crate) fn text_of(instr: Instr) -> Line
             address,
             i,
         } => {
-            let mut line = begun(field_name(op));
+            let mut line = open_line(field_name(op));
             line.push_str(negation(negated));
             push_description(&mut line, decimal, unsigned, length, byte);
             push_operand(&mut line, p, address, i, offset);
@@ -82,7 +82,7 @@ pub(crate) fn text_of(instr: Instr) -> Line
             address,
             i,
         } => {
-            let mut line = begun(kind_name(kind));
+            let mut line = open_line(kind_name(kind));
             push_truth(&mut line, table);
             push_description(&mut line, false, true, length, byte);
             push_operand(&mut line, p, address, i, offset);
@@ -95,7 +95,7 @@ pub(crate) fn text_of(instr: Instr) -> Line
             second,
             count,
         } => {
-            let mut line = begun(move_name(swap));
+            let mut line = open_line(move_name(swap));
             push_bit_field(&mut line, address, i);
             push_second_field(&mut line, second);
             push_number_field(&mut line, u32::from(count));
@@ -108,7 +108,7 @@ pub(crate) fn text_of(instr: Instr) -> Line
             i,
             second,
         } => {
-            let mut line = begun("BB");
+            let mut line = open_line("BB");
             line.push_str(digit(sense));
             line.push_str(change_name(change));
             push_bit_field(&mut line, address, i);
@@ -122,7 +122,7 @@ pub(crate) fn text_of(instr: Instr) -> Line
             i,
             second,
         } => {
-            let mut line = begun("BI");
+            let mut line = open_line("BI");
             line.push_str(digit(sense));
             line.push_str(turning(off));
             push_bit_field(&mut line, address, i);
@@ -130,7 +130,7 @@ pub(crate) fn text_of(instr: Instr) -> Line
             line
         }
         Instr::StoreCounter { address, i, second } => {
-            let mut line = begun("SIC");
+            let mut line = open_line("SIC");
             push_bit_field(&mut line, address, i);
             push_second_field(&mut line, second);
             line
@@ -141,7 +141,7 @@ pub(crate) fn text_of(instr: Instr) -> Line
             i,
             count,
         } => {
-            let mut line = begun(order_name(write));
+            let mut line = open_line(order_name(write));
             push_bit_field(&mut line, address, i);
             push_number_field(&mut line, count);
             line

@@ -9,7 +9,7 @@ ghost use Rattle.st_dis.specs.Spelling.{statements_of};
 use crate::spelling::{half_spelling, left_half, right_half, word_spelling};
 use st_card::{ControlForm, Controls, push_controls};
 use st_expr::Symbols;
-use st_text::{Line, begun, push_decimal, push_half_address, push_short_decimal};
+use st_text::{Line, open_line, push_decimal, push_half_address, push_short_decimal};
 use std::alloc::AllocError;
 
 // The columns before a statement.
@@ -36,7 +36,7 @@ fn push_statement(deck: &mut Vec<u8>, text: &Line) -> Result<(), AllocError>
 fn number_text(word: u64) -> Line
     ensures { result.bytes ≡ codes "DD(BU,64)," ++ decimal word }
 {
-    let mut text = begun("DD(BU,64),");
+    let mut text = open_line("DD(BU,64),");
     push_decimal(&mut text, word);
     text
 }
@@ -69,7 +69,7 @@ fn push_location(deck: &mut Vec<u8>, w: u32, before: u64) -> Result<(), AllocErr
     if before != 0 {
         return Ok(());
     }
-    let mut text = begun("SLC,");
+    let mut text = open_line("SLC,");
     push_short_decimal(&mut text, w);
     text.push_str(".0");
     push_statement(deck, &text)
@@ -118,7 +118,7 @@ fn push_end(deck: &mut Vec<u8>, start: u32) -> Result<(), AllocError>
     ensures { OnOk result (deck.new.items
         ≡ deck.old.items ++ text_of_lines (spec.statement_card (spec.end_text start) ∷ [])) }
 {
-    let mut text = begun("END,");
+    let mut text = open_line("END,");
     push_half_address(&mut text, start);
     push_statement(deck, &text)
 }

@@ -21,8 +21,8 @@ has_filled_front [] = false
 has_filled_front (c ∷ cs) = not (c == 32)
 
 -- whether a listed card was assembled to bits at an address
-unfoldable pub lays : List ℕ → ReportAddress → Bool
-lays line here = is_place (place_in_report (without_front_blanks (take 9 (drop 6 line)))) here
+unfoldable pub emits : List ℕ → ReportAddress → Bool
+emits line here = is_place (place_in_report (without_front_blanks (take 9 (drop 6 line)))) here
     && has_filled_front (drop 16 line)
 
 -- the text of a listed card, without leading and trailing blanks
@@ -33,7 +33,7 @@ card_text line = without_end_blanks (without_front_blanks (drop 33 line))
 abbrev pub label_card : ReportAddress → List (List ℕ) → List ℕ
 label_card here [] = []
 label_card here (line ∷ lines) =
-    if not (is_listed line) then [] else if lays line here then card_text line
+    if not (is_listed line) then [] else if emits line here then card_text line
     else label_card here lines
 
 -- the text of the card that was assembled to the bits at an address; empty if the report does not

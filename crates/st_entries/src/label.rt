@@ -34,8 +34,8 @@ fn is_filled(text: &[u8]) -> bool
 }
 
 // Whether a listed card was assembled to bits at an address.
-fn lays(line: &[u8], here: ReportAddress) -> bool
-    ensures { result ≡ spec.lays line.now here }
+fn emits(line: &[u8], here: ReportAddress) -> bool
+    ensures { result ≡ spec.emits line.now here }
 {
     is_place(without_front_blanks(front(behind(line, 6), 9)), here) && is_filled(behind(line, 16))
 }
@@ -57,12 +57,12 @@ pub fn label_at(report: &[u8], here: ReportAddress) -> &[u8]
         if !is_listed(line) {
             return &[];
         }
-        if lays(line, here) {
+        if emits(line, here) {
             return card_text(line);
         }
         rest = after;
     }
-    if is_listed(rest) && lays(rest, here) {
+    if is_listed(rest) && emits(rest, here) {
         return card_text(rest);
     }
     &[]

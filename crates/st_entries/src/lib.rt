@@ -1,6 +1,6 @@
 //! The entries of the timetable in a report, and their texts. `docs/chart.md` has the rules. Calls
 //! that allocate memory fail only if memory runs out.
-#![tactic(auto, unfolding(crate::specs::Caption::first_text, crate::specs::Caption::indicator_names, crate::specs::Caption::indicator_text, crate::specs::Caption::second_text, crate::specs::Caption::third_text, crate::specs::Caption::title, crate::specs::Caption::with_dots, crate::specs::Caption::words_with_number, crate::specs::Label::card_text, crate::specs::Label::is_listed, crate::specs::Label::label, crate::specs::Label::lays, crate::specs::Report::dropped_item, crate::specs::Report::item, crate::specs::Report::number_in_report, crate::specs::Report::place_in_report, crate::specs::Report::row_item, crate::specs::Report::word_in_line, crate::specs::Timetable::timetable))]
+#![tactic(auto, unfolding(crate::specs::Caption::first_text, crate::specs::Caption::indicator_names, crate::specs::Caption::indicator_text, crate::specs::Caption::second_text, crate::specs::Caption::third_text, crate::specs::Caption::title, crate::specs::Caption::with_dots, crate::specs::Caption::words_with_number, crate::specs::Label::card_text, crate::specs::Label::is_listed, crate::specs::Label::label, crate::specs::Label::emits, crate::specs::Report::dropped_item, crate::specs::Report::item, crate::specs::Report::number_in_report, crate::specs::Report::place_in_report, crate::specs::Report::row_item, crate::specs::Report::word_in_line, crate::specs::Timetable::timetable))]
 
 mod caption;
 mod label;

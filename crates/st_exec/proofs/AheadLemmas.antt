@@ -14,14 +14,14 @@ use Rattle.st_state.proofs.Placed.{fixed-word}
 use Rattle.st_prep.specs.declared.entries.IndexChange.{IndexChange}
 use Rattle.st_prep.specs.declared.entries.Words.{Words}
 use Rattle.st_prep.specs.declared.entries.Prepared.{Prepared}
-use Rattle.st_prep.specs.EarlyChange.{words_after}
-use Rattle.st_prep.specs.Entry.{acts_alone}
+use Rattle.st_prep.specs.SpeculativeChanges.{words_after}
+use Rattle.st_prep.specs.Entry.{is_serial_operation}
 use Rattle.st_prep.specs.Fetch.{index_words}
 use Rattle.st_prep.specs.Plan.{state_at_entry}
 use Rattle.st_prep.specs.Ranges.{IsChange, AreAbove, IsPrepared}
 use Rattle.st_prep.proofs.IndexWords.{are_index_words}
 use Rattle.st_exec.specs.Effect.{effect, carried_out}
-use Rattle.st_exec.specs.Completion.{with_change, state_with_early_changes, is_taken, counter, state_counted_on, state_after_effect, state_after_completion, guessed_state, is_missed}
+use Rattle.st_exec.specs.Completion.{with_change, state_with_early_changes, is_taken, counter, state_counted_on, state_after_effect, state_after_completion, predicted_state, is_mispredicted}
 use Rattle.st_exec.specs.Ahead.{IsNotAmong, IsPast, is_indicator_branch}
 use Rattle.st_exec.proofs.Unchanged.{stored-other, early-above, early-done, done-done}
 use Rattle.st_exec.proofs.SparedLemmas.{HasMarks, marks-same, marks-then, marks-words, marks-done, quiet-effect, spares-effect, IsKept, kept-below, kept-above, kept-mask, Stands, done-keeps}
@@ -143,7 +143,7 @@ late-kept true p t e h free size =
     record { marks = marks-same t; done = refl; words = λ i x kept apart stands. stands.is }
 late-kept false p t e h free size =
     let entry = h.entry e in
-    let hazard_free : acts_alone p.instr ≡ false = (h.ahead free).operation e in
+    let hazard_free : is_serial_operation p.instr ≡ false = (h.ahead free).operation e in
     record {
       marks = marks-done (effect p t) t (quiet-effect p.instr p.e p.value t hazard_free);
       done = done-done (effect p t) t;
@@ -231,9 +231,9 @@ completed-past p s h m free =
 -- ---- the prediction
 
 -- of the branches that are decided late, only BI is non-serializing
-taken-ahead : (instr : Instr) (e : ℕ) (t : Machine) → acts_alone instr ≡ false → is_taken instr e t ≡ true
+taken-ahead : (instr : Instr) (e : ℕ) (t : Machine) → is_serial_operation instr ≡ false → is_taken instr e t ≡ true
     → is_indicator_branch instr ≡ true
-unfolding acts_alone is_taken
+unfolding is_serial_operation is_taken
 taken-ahead (BitBranch sense change a i second) e t hazard_free h = absurd (cc)
 taken-ahead (IndBranch sense off a i second) e t hazard_free h = refl
 taken-ahead (Half op a j i) e t hazard_free h = absurd (cc)
@@ -253,10 +253,10 @@ all_three true b c h = absurd (cc)
 all_three false true c h = absurd (cc)
 all_three false false false h = absurd (cc)
 
-pub missed-branch : (p : Prepared) (s : Machine) → IsPrepared p → is_missed p s ≡ true → is_indicator_branch p.instr ≡ true
-unfolding is_missed
-missed-branch p s h missed =
-    let tests = all_three p.serial p.suppressed _ missed in
+pub mispredicted-branch : (p : Prepared) (s : Machine) → IsPrepared p → is_mispredicted p s ≡ true → is_indicator_branch p.instr ≡ true
+unfolding is_mispredicted
+mispredicted-branch p s h mispredicted =
+    let tests = all_three p.serial p.suppressed _ mispredicted in
     taken-ahead p.instr p.e _ ((h.ahead tests.0).operation tests.1) tests.2
 
 counter-not_taken : (b : Bool) (p : Prepared) (t : Machine) → is_taken p.instr p.e t ≡ b → b ≡ false → counter p t ≡ p.following
@@ -267,18 +267,18 @@ following-unless : (b : Bool) (p : Prepared) (t : Machine) → p.suppressed ≡ 
 following-unless true p t e h = refl
 following-unless false p t e h = counter-not_taken false p t h refl
 
-right-guess : (b : Bool) (p : Prepared) (s : Machine) → p.serial ≡ b → IsPrepared p
+right-prediction : (b : Bool) (p : Prepared) (s : Machine) → p.serial ≡ b → IsPrepared p
     → (not b && not p.suppressed && is_taken p.instr p.e (state_with_early_changes p (state_at_entry p.place.table s))) ≡ false
     → (if b then state_after_completion p s else record (state_after_completion p s) { ic = p.following }) ≡ state_after_completion p s
-right-guess true p s e h missed = refl
-right-guess false p s e h missed =
+right-prediction true p s e h mispredicted = refl
+right-prediction false p s e h mispredicted =
     let table : p.place.table ≡ None = (h.ahead e).table in
     let test : (not p.suppressed && is_taken p.instr p.e (state_with_early_changes p s)) ≡ false =
-    ap (λ k. not p.suppressed && is_taken p.instr p.e (state_with_early_changes p (state_at_entry k s))) (sym table) ∙ missed in
+    ap (λ k. not p.suppressed && is_taken p.instr p.e (state_with_early_changes p (state_at_entry k s))) (sym table) ∙ mispredicted in
     let same : (state_after_completion p s).ic ≡ p.following =
     ap (λ (u : Machine). u.ic) (completed-late p s table) ∙ following-unless p.suppressed p (state_with_early_changes p s) refl test in
     ap (λ c. record (state_after_completion p s) { ic = c }) (sym same)
 
-pub guessed-right : (p : Prepared) (s : Machine) → IsPrepared p → is_missed p s ≡ false → guessed_state p s ≡ state_after_completion p s
-unfolding guessed_state is_missed
-guessed-right p s h missed = right-guess p.serial p s refl h missed
+pub predicted-right : (p : Prepared) (s : Machine) → IsPrepared p → is_mispredicted p s ≡ false → predicted_state p s ≡ state_after_completion p s
+unfolding predicted_state is_mispredicted
+predicted-right p s h mispredicted = right-prediction p.serial p s refl h mispredicted

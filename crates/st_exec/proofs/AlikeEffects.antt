@@ -29,19 +29,19 @@ use Rattle.st_dec.specs.DecimalResult as decimal
 use Rattle.st_prep.specs.Alike.{AreAlike}
 use Rattle.st_prep.specs.declared.entries.IndexChange.{IndexChange}
 use Rattle.st_prep.specs.declared.entries.Prepared.{Prepared}
-use Rattle.st_prep.specs.Entry.{no_words, one_run, field_words, operand_words, is_index_store, reads_field, reads, words_written, is_alone_branch, acts_alone}
+use Rattle.st_prep.specs.Entry.{no_words, one_run, field_words, operand_words, is_index_store, reads_field, reads, words_written, is_serial_branch, is_serial_operation}
 use Rattle.st_prep.specs.Ranges.{HasFields, AreInside, AreAbove, IsPrepared}
 use Rattle.st_exec.specs.Operand.{field_at, operand_bits, accumulator}
 use Rattle.st_conn.specs.Connection.{connection}
 use Rattle.st_exec.specs.Outcome.{bits_taken, result_by, operation_outcome, connects, with_register, with_accumulator, with_registers, with_field, with_result, shape_of}
 use Rattle.st_field.specs.declared.outcome.Done.{Done}
 use Rattle.st_exec.specs.Effect.{index_effect, branch_effect, indicator_effect, effect_of, carried_out}
-use Rattle.st_exec.specs.Completion.{with_change, state_with_early_changes, state_counted_on, state_after_completion, guessed_state, is_missed, counter}
+use Rattle.st_exec.specs.Completion.{with_change, state_with_early_changes, state_counted_on, state_after_completion, predicted_state, is_mispredicted, counter}
 use Rattle.st_exec.proofs.AlikeStates.{alike-stored, alike-indicators, alike-placed, alike-field_at, alike-accumulator}
 use Rattle.st_exec.proofs.FieldLemmas.{result-field, connection-field}
 use Rattle.st_exec.proofs.InsideLemmas.{some_words, inside-field, inside-field_if}
 use Rattle.st_exec.proofs.SparedLemmas.{marks-registers}
-use Rattle.st_exec.proofs.AheadLemmas.{late, completed-late, early-marks, guessed-right}
+use Rattle.st_exec.proofs.AheadLemmas.{late, completed-late, early-marks, predicted-right}
 
 -- ---- results
 
@@ -181,7 +181,7 @@ alike-index Sr e v s t h size k = alike-placed s t (64 * (e / 64) + 46) (bits 18
 alike-index Sva e v s t h size k = alike-placed s t (32 * (e / 32)) (bits 19 v) h (omega (arith, length-bits 19 v, k.inside (omega arith)))
 alike-index _ e v s t h size k = h
 
-alike-branch : (op : BranchOp) (s t : Machine) → AreAlike s t → is_alone_branch op ≡ false
+alike-branch : (op : BranchOp) (s t : Machine) → AreAlike s t → is_serial_branch op ≡ false
     → AreAlike (carried_out (branch_effect op) s) (carried_out (branch_effect op) t)
 unfolding carried_out
 alike-branch Be s t h hazard_free = absurd (cc)
@@ -202,9 +202,9 @@ inside-left None b e n m size few only h = tt
 inside-left (Some v) b e n m size few only h = omega (arith, size, inside-field_if b e n few h only)
 
 alike-effect : (instr : Instr) (e v : ℕ) (s t : Machine) → AreAlike s t → length s.words ≡ words_of_storage
-    → HasFields instr → acts_alone instr ≡ false → AreInside (reads instr e) → AreAbove (reads instr e)
+    → HasFields instr → is_serial_operation instr ≡ false → AreInside (reads instr e) → AreAbove (reads instr e)
     → AreInside (words_written instr e) → AreAlike (carried_out (effect_of instr e v s) s) (carried_out (effect_of instr e v t) t)
-unfolding effect_of carried_out acts_alone reads words_written operation_outcome connects
+unfolding effect_of carried_out is_serial_operation reads words_written operation_outcome connects
 alike-effect (Half op a j x) e v s t h size fields hazard_free inside above written = alike-index op e v s t h size written
 alike-effect (Branch op a x) e v s t h size fields hazard_free inside above written = alike-branch op s t h hazard_free
 alike-effect (Floating n a x) e v s t h size fields hazard_free inside above written = h
@@ -257,36 +257,36 @@ alike-counted s t c d f h = record {
   printer = h.printer;
 }
 
-guessed-ahead : (b : Bool) (p : Prepared) (s : Machine) → b ≡ false
+predicted-ahead : (b : Bool) (p : Prepared) (s : Machine) → b ≡ false
     → (if b then state_after_completion p s else record (state_after_completion p s) { ic = p.following }) ≡ record (state_after_completion p s) { ic = p.following }
-guessed-ahead true p s e = absurd (cc)
-guessed-ahead false p s e = refl
+predicted-ahead true p s e = absurd (cc)
+predicted-ahead false p s e = refl
 
-pub guessed-late : (p : Prepared) (s : Machine) → IsPrepared p → p.serial ≡ false
-    → guessed_state p s
+pub predicted-late : (p : Prepared) (s : Machine) → IsPrepared p → p.serial ≡ false
+    → predicted_state p s
     ≡ record (state_counted_on (late p.suppressed p (state_with_early_changes p s)) (if p.suppressed then p.following else counter p (state_with_early_changes p s))) {
       ic = p.following;
     }
-unfolding guessed_state
-guessed-late p s h free =
-    guessed-ahead p.serial p s free
+unfolding predicted_state
+predicted-late p s h free =
+    predicted-ahead p.serial p s free
     ∙ ap (λ (u : Machine). record u { ic = p.following }) (completed-late p s (h.ahead free).table)
 
-pub guessed-alike : (p : Prepared) (s t : Machine) → IsPrepared p → IsMachine s → AreAlike s t → p.serial ≡ false
-    → AreAlike (guessed_state p s) (guessed_state p t)
-guessed-alike p s t h m k free =
+pub predicted-alike : (p : Prepared) (s t : Machine) → IsPrepared p → IsMachine s → AreAlike s t → p.serial ≡ false
+    → AreAlike (predicted_state p s) (predicted_state p t)
+predicted-alike p s t h m k free =
     let size : length (state_with_early_changes p s).words ≡ words_of_storage = (early-marks p s).size ∙ m.size in
     let after = alike-late p.suppressed p (state_with_early_changes p s) (state_with_early_changes p t) refl h free size (alike-early p s t k) in
     let c : ℕ = if p.suppressed then p.following else counter p (state_with_early_changes p s) in
     let d : ℕ = if p.suppressed then p.following else counter p (state_with_early_changes p t) in
     let u = late p.suppressed p (state_with_early_changes p s) in
     let v = late p.suppressed p (state_with_early_changes p t) in
-    subst (λ (y : Machine). AreAlike (guessed_state p s) y) (sym (guessed-late p t h free))
-    (subst (λ (y : Machine). AreAlike y (record (state_counted_on v d) { ic = p.following })) (sym (guessed-late p s h free))
+    subst (λ (y : Machine). AreAlike (predicted_state p s) y) (sym (predicted-late p t h free))
+    (subst (λ (y : Machine). AreAlike y (record (state_counted_on v d) { ic = p.following })) (sym (predicted-late p s h free))
     (alike-counted u v c d p.following after))
 
 pub completed-alike : (p : Prepared) (s t : Machine) → IsPrepared p → IsMachine s → AreAlike s t → p.serial ≡ false
-    → is_missed p s ≡ false → is_missed p t ≡ false → AreAlike (state_after_completion p s) (state_after_completion p t)
+    → is_mispredicted p s ≡ false → is_mispredicted p t ≡ false → AreAlike (state_after_completion p s) (state_after_completion p t)
 completed-alike p s t h m k free right right' =
-    subst (λ (u : Machine). AreAlike (state_after_completion p s) u) (guessed-right p t h right')
-    (subst (λ (u : Machine). AreAlike u (guessed_state p t)) (guessed-right p s h right) (guessed-alike p s t h m k free))
+    subst (λ (u : Machine). AreAlike (state_after_completion p s) u) (predicted-right p t h right')
+    (subst (λ (u : Machine). AreAlike u (predicted_state p t)) (predicted-right p s h right) (predicted-alike p s t h m k free))

@@ -10,7 +10,7 @@ use Rattle.st_prep.specs.Alike.{AreAlike}
 use Rattle.st_prep.specs.BesideOrders.{AreAlikeBesideOrders}
 use Rattle.st_prep.specs.declared.entries.IndexChange.{IndexChange}
 use Rattle.st_prep.specs.declared.entries.Prepared.{Prepared}
-use Rattle.st_prep.specs.Entry.{acts_alone}
+use Rattle.st_prep.specs.Entry.{is_serial_operation}
 use Rattle.st_prep.specs.Ranges.{IsPrepared}
 use Rattle.st_prep.proofs.BesideLemmas.{with_orders, alike-orders}
 use Rattle.st_exec.specs.Outcome.{operation_outcome, connects, with_accumulator, with_register, with_registers, with_field, with_result}
@@ -18,11 +18,11 @@ use Rattle.st_field.specs.declared.outcome.Done.{Done}
 use Rattle.st_exec.specs.Effect.{effect_of, effect, carried_out}
 use Rattle.st_exec.specs.declared.effects.Effect.{Effect}
 use Rattle.st_exec.specs.declared.effects.Effect.TheVariants.{Rest, Put, Copy, Exchange, TurnOff, Enable, Wait, Give, Leave}
-use Rattle.st_exec.specs.Completion.{with_change, state_with_early_changes, counter, state_counted_on, guessed_state}
+use Rattle.st_exec.specs.Completion.{with_change, state_with_early_changes, counter, state_counted_on, predicted_state}
 use Rattle.st_exec.specs.Transfer.{read_in, printed_out}
 use Rattle.st_exec.proofs.SparedLemmas.{IsQuiet, quiet-effect}
 use Rattle.st_exec.proofs.AheadLemmas.{late}
-use Rattle.st_exec.proofs.AlikeEffects.{guessed-late, guessed-alike}
+use Rattle.st_exec.proofs.AlikeEffects.{predicted-late, predicted-alike}
 
 -- ---- changes of a state with other orders
 
@@ -98,7 +98,7 @@ late-orders : (r q : Option Order) (b : Bool) (p : Prepared) (t : Machine) → p
     → p.serial ≡ false → late b p (with_orders r q t) ≡ with_orders r q (late b p t)
 late-orders r q true p t e h free = refl
 late-orders r q false p t e h free =
-    let hazard_free : acts_alone p.instr ≡ false = (h.ahead free).operation e in
+    let hazard_free : is_serial_operation p.instr ≡ false = (h.ahead free).operation e in
     ap (λ d. carried_out d (with_orders r q t)) (effect-orders r q p.instr p.e p.value t)
     ∙ done-orders r q (effect p t) t (quiet-effect p.instr p.e p.value t hazard_free)
 
@@ -109,19 +109,19 @@ counted-orders : (r q : Option Order) (u : Machine) (c d f : ℕ)
     → record (state_counted_on (with_orders r q u) c) { ic = f } ≡ with_orders r q (record (state_counted_on u d) { ic = f })
 counted-orders r q u c d f = refl
 
-guessed-orders : (r q : Option Order) (p : Prepared) (s : Machine) → IsPrepared p → p.serial ≡ false
-    → guessed_state p (with_orders r q s) ≡ with_orders r q (guessed_state p s)
-guessed-orders r q p s h free =
+predicted-orders : (r q : Option Order) (p : Prepared) (s : Machine) → IsPrepared p → p.serial ≡ false
+    → predicted_state p (with_orders r q s) ≡ with_orders r q (predicted_state p s)
+predicted-orders r q p s h free =
     let u = with_orders r q s in
     let t = state_with_early_changes p s in
     let c : ℕ = if p.suppressed then p.following else counter p (state_with_early_changes p u) in
     let d : ℕ = if p.suppressed then p.following else counter p t in
     let same : late p.suppressed p (state_with_early_changes p u) ≡ with_orders r q (late p.suppressed p t) =
     ap (late p.suppressed p) (early-orders r q p s) ∙ late-orders r q p.suppressed p t refl h free in
-    guessed-late p u h free
+    predicted-late p u h free
     ∙ ap (λ y. record (state_counted_on y c) { ic = p.following }) same
     ∙ counted-orders r q (late p.suppressed p t) c d p.following
-    ∙ ap (with_orders r q) (sym (guessed-late p s h free))
+    ∙ ap (with_orders r q) (sym (predicted-late p s h free))
 
 -- two states that are alike except for the orders of one of them
 beside-orders : (s t : Machine) (r q : Option Order) → AreAlike s (with_orders r q t) → AreAlikeBesideOrders s t
@@ -134,12 +134,12 @@ beside-orders s t r q h = record {
   done = h.done;
 }
 
-pub guessed-beside : (p : Prepared) (s t : Machine) → IsPrepared p → IsMachine s → AreAlikeBesideOrders s t
-    → p.serial ≡ false → AreAlikeBesideOrders (guessed_state p s) (guessed_state p t)
-guessed-beside p s t h m k free =
-    let alike = guessed-alike p s (with_orders s.reader s.printer t) h m (alike-orders s t k) free in
-    beside-orders (guessed_state p s) (guessed_state p t) s.reader s.printer
-    (subst (AreAlike (guessed_state p s)) (guessed-orders s.reader s.printer p t h free) alike)
+pub predicted-beside : (p : Prepared) (s t : Machine) → IsPrepared p → IsMachine s → AreAlikeBesideOrders s t
+    → p.serial ≡ false → AreAlikeBesideOrders (predicted_state p s) (predicted_state p t)
+predicted-beside p s t h m k free =
+    let alike = predicted-alike p s (with_orders s.reader s.printer t) h m (alike-orders s t k) free in
+    beside-orders (predicted_state p s) (predicted_state p t) s.reader s.printer
+    (subst (AreAlike (predicted_state p s)) (predicted-orders s.reader s.printer p t h free) alike)
 
 -- ---- pairs of states that differ only in indicators and orders
 

@@ -1,10 +1,10 @@
 -- Proofs of the laws of completion.
 use Rattle.st_exec.proofs.Unchanged.{completed-done}
-use Rattle.st_exec.proofs.AheadLemmas.{completed-past, missed-branch, guessed-right}
-use Rattle.st_exec.proofs.AlikeEffects.{guessed-alike, completed-alike}
+use Rattle.st_exec.proofs.AheadLemmas.{completed-past, mispredicted-branch, predicted-right}
+use Rattle.st_exec.proofs.AlikeEffects.{predicted-alike, completed-alike}
 use Rattle.st_exec.proofs.MachineKept.{kept-completed}
-use Rattle.st_exec.proofs.UnwrittenLemmas.{early-index_words, completed-unwritten, guessed-unwritten, guessed-machine, guessed-following, guessed-alone, guessed-rest, guessed-done, guessed-past}
-use Rattle.st_exec.proofs.BesideEntries.{guessed-beside, beside-printed, beside-no_card, beside-signalled, beside-same, beside-then}
+use Rattle.st_exec.proofs.UnwrittenLemmas.{early-index_words, completed-unwritten, predicted-unwritten, predicted-machine, predicted-following, predicted-alone, predicted-rest, predicted-done, predicted-past}
+use Rattle.st_exec.proofs.BesideEntries.{predicted-beside, beside-printed, beside-no_card, beside-signalled, beside-same, beside-then}
 use Rattle.std.proofs.Common.{rules}
 use Rattle.st_exec.specs.Laws.{EntriesAreBounded, EntriesCountAsOne, EntriesAheadLeaveTheRest, OnlyIndicatorBranchesAreMissed, IndicatorsArePassedOver, EntriesLeaveStates, EarlyChangesLeaveTheirIndexWords, EntriesLeaveWhatTheyDoNotWrite, GuessesLeaveStates, OrdersArePassedOver}
 
@@ -21,14 +21,14 @@ entries_count_as_one = completed-done
 pub entries_ahead_leave_the_rest : EntriesAheadLeaveTheRest
 entries_ahead_leave_the_rest = completed-past
 
-pub only_indicator_branches_are_missed : OnlyIndicatorBranchesAreMissed
-only_indicator_branches_are_missed = record {
-  right = guessed-right;
-  missed = missed-branch;
+pub only_indicator_branches_are_mispredicted : OnlyIndicatorBranchesAreMissed
+only_indicator_branches_are_mispredicted = record {
+  right = predicted-right;
+  mispredicted = mispredicted-branch;
 }
 
 pub indicators_are_passed_over : IndicatorsArePassedOver
-indicators_are_passed_over = record { guessed = guessed-alike; completed = completed-alike }
+indicators_are_passed_over = record { predicted = predicted-alike; completed = completed-alike }
 
 pub entries_leave_states : EntriesLeaveStates
 entries_leave_states = kept-completed
@@ -37,21 +37,21 @@ pub early_changes_leave_their_index_words : EarlyChangesLeaveTheirIndexWords
 early_changes_leave_their_index_words = early-index_words
 
 pub entries_leave_what_they_do_not_write : EntriesLeaveWhatTheyDoNotWrite
-entries_leave_what_they_do_not_write = record { completed = completed-unwritten; guessed = guessed-unwritten }
+entries_leave_what_they_do_not_write = record { completed = completed-unwritten; predicted = predicted-unwritten }
 
 pub guesses_leave_states : GuessesLeaveStates
 guesses_leave_states = record {
-  machine = guessed-machine;
-  following = guessed-following;
-  alone = guessed-alone;
-  rest = guessed-rest;
-  done = guessed-done;
-  past = guessed-past;
+  machine = predicted-machine;
+  following = predicted-following;
+  alone = predicted-alone;
+  rest = predicted-rest;
+  done = predicted-done;
+  past = predicted-past;
 }
 
 pub orders_are_passed_over : OrdersArePassedOver
 orders_are_passed_over = record {
-  guessed = guessed-beside;
+  predicted = predicted-beside;
   printed = beside-printed;
   no_card = beside-no_card;
   signalled = beside-signalled;

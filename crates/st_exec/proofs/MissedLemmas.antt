@@ -8,11 +8,11 @@ use Rattle.st_format.specs.declared.instruction.Instr.TheVariants.{BitBranch, In
 use Rattle.st_state.specs.Interrupts.{indicator_word}
 use Rattle.st_state.specs.Machine.{Machine, IsMachine, word}
 use Rattle.st_prep.specs.declared.entries.Prepared.{Prepared}
-use Rattle.st_prep.specs.Entry.{acts_alone}
+use Rattle.st_prep.specs.Entry.{is_serial_operation}
 use Rattle.st_prep.specs.Plan.{state_at_entry}
 use Rattle.st_prep.specs.Ranges.{IsPrepared}
 use Rattle.st_exec.specs.Ahead.{is_indicator_branch}
-use Rattle.st_exec.specs.Completion.{with_change, state_with_early_changes, is_taken, is_missed}
+use Rattle.st_exec.specs.Completion.{with_change, state_with_early_changes, is_taken, is_mispredicted}
 use Rattle.st_exec.proofs.AheadLemmas.{change-low, change-marks}
 
 -- the indicator register after the early change
@@ -24,35 +24,35 @@ early-indicators p s m =
     ∙ ap (λ x. indicator_word 64 p.ind.on p.ind.off x) (change-low p.index s 11 (omega arith))
 
 -- a non-serializing entry that is not suppressed is mispredicted if and only if it is taken
-missed-taken : (p : Prepared) (s : Machine) → IsPrepared p → p.serial ≡ false → p.suppressed ≡ false
-    → is_missed p s ≡ is_taken p.instr p.e (state_with_early_changes p s)
-unfolding is_missed
-missed-taken p s h free whole =
+mispredicted-taken : (p : Prepared) (s : Machine) → IsPrepared p → p.serial ≡ false → p.suppressed ≡ false
+    → is_mispredicted p s ≡ is_taken p.instr p.e (state_with_early_changes p s)
+unfolding is_mispredicted
+mispredicted-taken p s h free whole =
     ap (λ b. not b && not p.suppressed && is_taken p.instr p.e (state_with_early_changes p (state_at_entry p.place.table s))) free
     ∙ ap (λ b. not b && is_taken p.instr p.e (state_with_early_changes p (state_at_entry p.place.table s))) whole
     ∙ ap (λ k. is_taken p.instr p.e (state_with_early_changes p (state_at_entry k s))) (h.ahead free).table
 
-pub missed-branch : (p : Prepared) (s : Machine) (sense off : Bool) (address i second : ℕ) → IsPrepared p → IsMachine s
+pub mispredicted-branch : (p : Prepared) (s : Machine) (sense off : Bool) (address i second : ℕ) → IsPrepared p → IsMachine s
     → p.serial ≡ false → p.suppressed ≡ false → p.instr ≡ IndBranch sense off address i second
-    → is_missed p s ≡ (part (indicator_word 64 p.ind.on p.ind.off (word s 11)) (p.e % 64) 1 == bit_of sense)
+    → is_mispredicted p s ≡ (part (indicator_word 64 p.ind.on p.ind.off (word s 11)) (p.e % 64) 1 == bit_of sense)
 unfolding is_taken
-missed-branch p s sense off address i second h m free whole is =
-    missed-taken p s h free whole
+mispredicted-branch p s sense off address i second h m free whole is =
+    mispredicted-taken p s h free whole
     ∙ ap (λ (instr : Instr). is_taken instr p.e (state_with_early_changes p s)) is
     ∙ ap (λ x. part x (p.e % 64) 1 == bit_of sense) (early-indicators p s m)
 
 -- a non-serializing entry other than BI is not a taken branch
-not-taken : (instr : Instr) (e : ℕ) (t : Machine) → acts_alone instr ≡ false → is_indicator_branch instr ≡ false
+not-taken : (instr : Instr) (e : ℕ) (t : Machine) → is_serial_operation instr ≡ false → is_indicator_branch instr ≡ false
     → is_taken instr e t ≡ false
-unfolding is_taken acts_alone
+unfolding is_taken is_serial_operation
 not-taken (BitBranch sense change address i second) e t free other = cc
 not-taken (IndBranch sense off address i second) e t free other = cc
 not-taken _ e t free other = refl
 
-pub missed-not : (p : Prepared) (s : Machine) → IsPrepared p → p.serial ≡ false → p.suppressed ≡ false
-    → is_indicator_branch p.instr ≡ false → is_missed p s ≡ false
-missed-not p s h free whole other =
-    missed-taken p s h free whole ∙ not-taken p.instr p.e (state_with_early_changes p s) ((h.ahead free).operation whole) other
+pub mispredicted-not : (p : Prepared) (s : Machine) → IsPrepared p → p.serial ≡ false → p.suppressed ≡ false
+    → is_indicator_branch p.instr ≡ false → is_mispredicted p s ≡ false
+mispredicted-not p s h free whole other =
+    mispredicted-taken p s h free whole ∙ not-taken p.instr p.e (state_with_early_changes p s) ((h.ahead free).operation whole) other
 
 pub no-branch : (instr : Instr)
     → ((sense off : Bool) (address i second : ℕ) → instr ≡ IndBranch sense off address i second → ⊥)

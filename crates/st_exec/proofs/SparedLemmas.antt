@@ -20,7 +20,7 @@ use Rattle.st_format.specs.Operations.{writes_field}
 use Rattle.st_state.specs.Machine.{Machine, word, state_with_bits, state_with_store}
 use Rattle.st_state.specs.Interrupts.{state_with_indicators}
 use Rattle.st_field.specs.declared.accumulator.Acc.{Acc}
-use Rattle.st_prep.specs.Entry.{no_words, one_run, field_words, is_index_store, words_written, is_alone_branch, acts_alone}
+use Rattle.st_prep.specs.Entry.{no_words, one_run, field_words, is_index_store, words_written, is_serial_branch, is_serial_operation}
 use Rattle.st_prep.specs.Ranges.{HasFields, AreInside}
 use Rattle.st_exec.specs.Outcome.{with_accumulator, with_register, with_registers, with_field, with_result, operation_outcome, connects}
 use Rattle.st_field.specs.declared.outcome.Done.{Done}
@@ -97,7 +97,7 @@ spares-index Sr e v i h k = apart-word (e / 64) (64 * (e / 64) + 46) 18 i h (ome
 spares-index Sva e v i h k = apart-word (e / 64) (32 * (e / 32)) 19 i h (omega arith) (omega arith) k
 spares-index _ e v i h k = tt
 
-spares-branch : (op : BranchOp) (i : ℕ) → is_alone_branch op ≡ false → Spares (branch_effect op) i
+spares-branch : (op : BranchOp) (i : ℕ) → is_serial_branch op ≡ false → Spares (branch_effect op) i
 spares-branch Be i h = absurd (cc)
 spares-branch Bd i h = absurd (cc)
 spares-branch Bew i h = absurd (cc)
@@ -107,9 +107,9 @@ spares-indicator : (off : Bool) (e i : ℕ) → Spares (indicator_effect off e) 
 spares-indicator false e i = tt
 spares-indicator true e i = tt
 
-pub spares-effect : (instr : Instr) (e v : ℕ) (t : Machine) (i : ℕ) → HasFields instr → acts_alone instr ≡ false
+pub spares-effect : (instr : Instr) (e v : ℕ) (t : Machine) (i : ℕ) → HasFields instr → is_serial_operation instr ≡ false
     → AreInside (words_written instr e) → IsNotAmong i (words_written instr e) → Spares (effect_of instr e v t) i
-unfolding effect_of words_written acts_alone operation_outcome connects
+unfolding effect_of words_written is_serial_operation operation_outcome connects
 spares-effect (Half op a j x) e v t i fields hazard_free h k = spares-index op e v i h k
 spares-effect (Branch op a x) e v t i fields hazard_free h k = spares-branch op i hazard_free
 spares-effect (Floating n a x) e v t i fields hazard_free h k = tt
@@ -132,7 +132,7 @@ quiet-index Sr e v = tt
 quiet-index Sva e v = tt
 quiet-index _ e v = tt
 
-quiet-branch : (op : BranchOp) → is_alone_branch op ≡ false → IsQuiet (branch_effect op)
+quiet-branch : (op : BranchOp) → is_serial_branch op ≡ false → IsQuiet (branch_effect op)
 quiet-branch Be h = absurd (cc)
 quiet-branch Bd h = absurd (cc)
 quiet-branch Bew h = absurd (cc)
@@ -142,8 +142,8 @@ quiet-indicator : (off : Bool) (e : ℕ) → IsQuiet (indicator_effect off e)
 quiet-indicator false e = tt
 quiet-indicator true e = tt
 
-pub quiet-effect : (instr : Instr) (e v : ℕ) (t : Machine) → acts_alone instr ≡ false → IsQuiet (effect_of instr e v t)
-unfolding effect_of acts_alone
+pub quiet-effect : (instr : Instr) (e v : ℕ) (t : Machine) → is_serial_operation instr ≡ false → IsQuiet (effect_of instr e v t)
+unfolding effect_of is_serial_operation
 quiet-effect (Half op a j x) e v t hazard_free = quiet-index op e v
 quiet-effect (Branch op a x) e v t hazard_free = quiet-branch op hazard_free
 quiet-effect (Floating n a x) e v t hazard_free = tt

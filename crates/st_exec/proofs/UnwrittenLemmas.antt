@@ -11,8 +11,8 @@ use Rattle.st_state.specs.Machine.{Machine, IsMachine, word, state_with_store}
 use Rattle.st_state.specs.declared.devices.Order.{Order}
 use Rattle.st_state.proofs.Placed.{fixed-word}
 use Rattle.st_prep.specs.declared.entries.Prepared.{Prepared}
-use Rattle.st_prep.specs.EarlyChange.{words_after}
-use Rattle.st_prep.specs.Entry.{no_words, one_run, words_moved_to, words_written, acts_alone}
+use Rattle.st_prep.specs.SpeculativeChanges.{words_after}
+use Rattle.st_prep.specs.Entry.{no_words, one_run, words_moved_to, words_written, is_serial_operation}
 use Rattle.st_prep.specs.Fetch.{index_words}
 use Rattle.st_prep.specs.Plan.{state_at_entry}
 use Rattle.st_prep.specs.Ranges.{HasFields, AreInside, IsPrepared}
@@ -20,7 +20,7 @@ use Rattle.st_prep.proofs.Choices.{of_choice}
 use Rattle.st_prep.proofs.IndexWords.{are_index_words}
 use Rattle.st_prep.proofs.PlanLemmas.{is_machine-opened}
 use Rattle.st_exec.specs.Effect.{state_with_copy, state_with_exchange, order_standing, machine_with_order, state_with_order, branch_effect, bit_effect, move_effect, effect_of, effect, carried_out}
-use Rattle.st_exec.specs.Completion.{state_with_early_changes, counter, state_counted_on, state_after_effect, state_after_completion, guessed_state}
+use Rattle.st_exec.specs.Completion.{state_with_early_changes, counter, state_counted_on, state_after_effect, state_after_completion, predicted_state}
 use Rattle.st_exec.specs.Ahead.{IsNotAmong, IsPast}
 use Rattle.st_exec.specs.declared.effects.Effect.{Effect}
 use Rattle.st_exec.specs.declared.effects.Effect.TheVariants.{Rest, Put, Copy, Exchange, TurnOff, Enable, Wait, Give, Leave}
@@ -131,7 +131,7 @@ above-bit (suc (suc (suc n))) e b i h k =
 
 above-effect : (instr : Instr) (e v : ℕ) (t : Machine) (i : ℕ) → HasFields instr → AreInside (words_written instr e)
     → IsNotAmong i (words_written instr e) → SparesAbove (effect_of instr e v t) i
-unfolding effect_of words_written acts_alone
+unfolding effect_of words_written is_serial_operation
 above-effect (Half op a j x) e v t i fields h k = spared _ i (spares-effect (Half op a j x) e v t i fields refl h k)
 above-effect (Branch op a x) e v t i fields h k = above-branch op i
 above-effect (Floating n a x) e v t i fields h k = tt
@@ -211,39 +211,39 @@ kept-counter s c m h = record {
   printer_area = m.printer_area;
 }
 
-guessed-rest_by : (b : Bool) (u : Machine) (c : ℕ)
+predicted-rest_by : (b : Bool) (u : Machine) (c : ℕ)
     → (if b then u else record u { ic = c }) ≡ record u { ic = (if b then u else record u { ic = c }).ic }
-guessed-rest_by true u c = refl
-guessed-rest_by false u c = refl
+predicted-rest_by true u c = refl
+predicted-rest_by false u c = refl
 
 -- the predicted state is the completed state except for the program counter
-pub guessed-rest : (p : Prepared) (s : Machine) → guessed_state p s ≡ record (state_after_completion p s) { ic = (guessed_state p s).ic }
-unfolding guessed_state
-guessed-rest p s = guessed-rest_by p.serial (state_after_completion p s) p.following
+pub predicted-rest : (p : Prepared) (s : Machine) → predicted_state p s ≡ record (state_after_completion p s) { ic = (predicted_state p s).ic }
+unfolding predicted_state
+predicted-rest p s = predicted-rest_by p.serial (state_after_completion p s) p.following
 
-pub guessed-machine : (p : Prepared) (s : Machine) → IsPrepared p → IsMachine s → IsMachine (guessed_state p s)
-unfolding guessed_state
-guessed-machine p s h m =
+pub predicted-machine : (p : Prepared) (s : Machine) → IsPrepared p → IsMachine s → IsMachine (predicted_state p s)
+unfolding predicted_state
+predicted-machine p s h m =
     let after = kept-completed p s h m in
     of_choice IsMachine p.serial (state_after_completion p s) (record (state_after_completion p s) { ic = p.following }) after
     (kept-counter (state_after_completion p s) p.following after h.following)
 
-pub guessed-alone : (p : Prepared) (s : Machine) → p.serial ≡ true → guessed_state p s ≡ state_after_completion p s
-unfolding guessed_state
-guessed-alone p s e = ap (λ b. if b then state_after_completion p s else record (state_after_completion p s) { ic = p.following }) e
+pub predicted-alone : (p : Prepared) (s : Machine) → p.serial ≡ true → predicted_state p s ≡ state_after_completion p s
+unfolding predicted_state
+predicted-alone p s e = ap (λ b. if b then state_after_completion p s else record (state_after_completion p s) { ic = p.following }) e
 
-pub guessed-following : (p : Prepared) (s : Machine) → p.serial ≡ false → (guessed_state p s).ic ≡ p.following
-unfolding guessed_state
-guessed-following p s e =
+pub predicted-following : (p : Prepared) (s : Machine) → p.serial ≡ false → (predicted_state p s).ic ≡ p.following
+unfolding predicted_state
+predicted-following p s e =
     ap (λ b. (if b then state_after_completion p s else record (state_after_completion p s) { ic = p.following }).ic) e
 
-pub guessed-done : (p : Prepared) (s : Machine) → (guessed_state p s).done ≡ s.done + 1
-guessed-done p s = ap (λ (u : Machine). u.done) (guessed-rest p s) ∙ completed-done p s
+pub predicted-done : (p : Prepared) (s : Machine) → (predicted_state p s).done ≡ s.done + 1
+predicted-done p s = ap (λ (u : Machine). u.done) (predicted-rest p s) ∙ completed-done p s
 
-pub guessed-unwritten : (p : Prepared) (s : Machine) (w : ℕ) → IsPrepared p → IsMachine s → 32 ≤ w
-    → IsNotAmong w p.writes → word (guessed_state p s) w ≡ word s w
-guessed-unwritten p s w h m above k =
-    ap (λ (u : Machine). word u w) (guessed-rest p s) ∙ completed-unwritten p s w h m above k
+pub predicted-unwritten : (p : Prepared) (s : Machine) (w : ℕ) → IsPrepared p → IsMachine s → 32 ≤ w
+    → IsNotAmong w p.writes → word (predicted_state p s) w ≡ word s w
+predicted-unwritten p s w h m above k =
+    ap (λ (u : Machine). word u w) (predicted-rest p s) ∙ completed-unwritten p s w h m above k
 
 past-counter : (p : Prepared) (s u : Machine) (c : ℕ) → IsPast p s u → IsPast p s (record u { ic = c })
 unfolding index_words
@@ -260,8 +260,8 @@ past-counter p s u c h = record {
   done = h.done;
 }
 
-pub guessed-past : (p : Prepared) (s : Machine) → IsPrepared p → IsMachine s → p.serial ≡ false
-    → IsPast p s (guessed_state p s)
-guessed-past p s h m free =
-    subst (IsPast p s) (sym (guessed-rest p s))
-    (past-counter p s (state_after_completion p s) (guessed_state p s).ic (completed-past p s h m free))
+pub predicted-past : (p : Prepared) (s : Machine) → IsPrepared p → IsMachine s → p.serial ≡ false
+    → IsPast p s (predicted_state p s)
+predicted-past p s h m free =
+    subst (IsPast p s) (sym (predicted-rest p s))
+    (past-counter p s (state_after_completion p s) (predicted_state p s).ic (completed-past p s h m free))

@@ -7,7 +7,7 @@ use Rattle.st_format.specs.declared.instruction.Instr.TheVariants.{IndBranch}
 use Rattle.st_state.specs.Machine.{Machine, word}
 use Rattle.st_prep.specs.declared.entries.Words.{Words}
 use Rattle.st_prep.specs.declared.entries.Prepared.{Prepared}
-use Rattle.st_prep.specs.EarlyChange.{words_after}
+use Rattle.st_prep.specs.SpeculativeChanges.{words_after}
 use Rattle.st_prep.specs.Fetch.{index_words}
 
 -- word i is not in either range of the words w

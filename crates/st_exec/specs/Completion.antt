@@ -72,18 +72,18 @@ state_after_execution table s = state_after_completion (plan s table) s
 
 -- the state after an entry if its branch is predicted not taken; a serializing entry is not
 -- predicted, so for it this is the completed state
-unfoldable pub guessed_state : Prepared → Machine → Machine
-guessed_state p s = if p.serial then state_after_completion p s
+unfoldable pub predicted_state : Prepared → Machine → Machine
+predicted_state p s = if p.serial then state_after_completion p s
     else record (state_after_completion p s) { ic = p.following }
 
 -- the predicted state after the next entry of a state, or after the table instruction of an
 -- interrupt
-abbrev pub guess : Option ℕ → Machine → Machine
-guess table s = guessed_state (plan s table) s
+abbrev pub prediction : Option ℕ → Machine → Machine
+prediction table s = predicted_state (plan s table) s
 
 -- whether an entry is mispredicted: it is neither serializing nor suppressed, and its branch is
 -- taken
-unfoldable pub is_missed : Prepared → Machine → Bool
-is_missed p s =
+unfoldable pub is_mispredicted : Prepared → Machine → Bool
+is_mispredicted p s =
     not p.serial && not p.suppressed && is_taken p.instr p.e
     (state_with_early_changes p (state_at_entry p.place.table s))

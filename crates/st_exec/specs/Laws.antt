@@ -4,11 +4,11 @@ use Rattle.st_state.specs.Machine.{Machine, IsMachine, word}
 use Rattle.st_prep.specs.declared.entries.Prepared.{Prepared}
 use Rattle.st_prep.specs.Alike.{AreAlike}
 use Rattle.st_prep.specs.Ranges.{IsPrepared}
-use Rattle.st_exec.specs.Completion.{state_after_completion, guessed_state, is_missed, state_with_early_changes}
+use Rattle.st_exec.specs.Completion.{state_after_completion, predicted_state, is_mispredicted, state_with_early_changes}
 use Rattle.st_exec.specs.Ahead.{IsPast, is_indicator_branch, IsNotAmong}
 use Rattle.st_state.specs.Interrupts.{state_with_signal}
 use Rattle.st_prep.specs.BesideOrders.{AreAlikeBesideOrders}
-use Rattle.st_prep.specs.EarlyChange.{words_after}
+use Rattle.st_prep.specs.SpeculativeChanges.{words_after}
 use Rattle.st_prep.specs.Fetch.{index_words}
 use Rattle.st_prep.specs.Plan.{state_at_entry}
 use Rattle.st_exec.specs.Transfer.{read_in, printed_out}
@@ -34,19 +34,19 @@ EntriesAheadLeaveTheRest = (p : Prepared) (s : Machine) → IsPrepared p → IsM
 -- The predicted state is the completed state unless the entry is mispredicted, and only a branch on
 -- an indicator can be mispredicted.
 pub record OnlyIndicatorBranchesAreMissed : Type 0 where
-  pub right : (p : Prepared) (s : Machine) → IsPrepared p → is_missed p s ≡ false
-      → guessed_state p s ≡ state_after_completion p s
-  pub missed : (p : Prepared) (s : Machine) → IsPrepared p → is_missed p s ≡ true
+  pub right : (p : Prepared) (s : Machine) → IsPrepared p → is_mispredicted p s ≡ false
+      → predicted_state p s ≡ state_after_completion p s
+  pub mispredicted : (p : Prepared) (s : Machine) → IsPrepared p → is_mispredicted p s ≡ true
       → is_indicator_branch p.instr ≡ true
 
 -- If two states differ only in word 11, so do their predicted states after a non-serializing entry,
 -- and their completed states if the entry is mispredicted in neither. A branch on an indicator that
 -- is taken in only one of them makes their program counters differ.
 pub record IndicatorsArePassedOver : Type 0 where
-  pub guessed : (p : Prepared) (s u : Machine) → IsPrepared p → IsMachine s → AreAlike s u
-      → p.serial ≡ false → AreAlike (guessed_state p s) (guessed_state p u)
+  pub predicted : (p : Prepared) (s u : Machine) → IsPrepared p → IsMachine s → AreAlike s u
+      → p.serial ≡ false → AreAlike (predicted_state p s) (predicted_state p u)
   pub completed : (p : Prepared) (s u : Machine) → IsPrepared p → IsMachine s → AreAlike s u
-      → p.serial ≡ false → is_missed p s ≡ false → is_missed p u ≡ false
+      → p.serial ≡ false → is_mispredicted p s ≡ false → is_mispredicted p u ≡ false
       → AreAlike (state_after_completion p s) (state_after_completion p u)
 
 -- The completion of an entry keeps the invariant of the state: the size of storage, the range of
@@ -69,31 +69,31 @@ EarlyChangesLeaveTheirIndexWords = (p : Prepared) (s : Machine) (t : Option ℕ)
 pub record EntriesLeaveWhatTheyDoNotWrite : Type 0 where
   pub completed : (p : Prepared) (s : Machine) (w : ℕ) → IsPrepared p → IsMachine s → 32 ≤ w
       → IsNotAmong w p.writes → word (state_after_completion p s) w ≡ word s w
-  pub guessed : (p : Prepared) (s : Machine) (w : ℕ) → IsPrepared p → IsMachine s → 32 ≤ w
-      → IsNotAmong w p.writes → word (guessed_state p s) w ≡ word s w
+  pub predicted : (p : Prepared) (s : Machine) (w : ℕ) → IsPrepared p → IsMachine s → 32 ≤ w
+      → IsNotAmong w p.writes → word (predicted_state p s) w ≡ word s w
 
 -- The predicted state of an entry keeps the invariant. It is the completed state with the following
 -- address as program counter; for a serializing entry it is the completed state.
 pub record GuessesLeaveStates : Type 0 where
   pub machine : (p : Prepared) (s : Machine) → IsPrepared p → IsMachine s
-      → IsMachine (guessed_state p s)
+      → IsMachine (predicted_state p s)
   pub following : (p : Prepared) (s : Machine) → p.serial ≡ false
-      → (guessed_state p s).ic ≡ p.following
-  pub alone : (p : Prepared) (s : Machine) → p.serial ≡ true → guessed_state p s
+      → (predicted_state p s).ic ≡ p.following
+  pub alone : (p : Prepared) (s : Machine) → p.serial ≡ true → predicted_state p s
       ≡ state_after_completion p s
   pub rest : (p : Prepared) (s : Machine)
-      → guessed_state p s ≡ record (state_after_completion p s) { ic = (guessed_state p s).ic }
-  pub done : (p : Prepared) (s : Machine) → (guessed_state p s).done ≡ s.done + 1
+      → predicted_state p s ≡ record (state_after_completion p s) { ic = (predicted_state p s).ic }
+  pub done : (p : Prepared) (s : Machine) → (predicted_state p s).done ≡ s.done + 1
   pub past : (p : Prepared) (s : Machine) → IsPrepared p → IsMachine s → p.serial ≡ false
-      → IsPast p s (guessed_state p s)
+      → IsPast p s (predicted_state p s)
 
 -- If two states differ only in word 11 and in orders, so do their predicted states after a
 -- non-serializing entry. Such pairs of states result from a signal, from a printer order that took
 -- effect, and from a reader order without a card.
 pub record OrdersArePassedOver : Type 0 where
-  pub guessed : (p : Prepared) (s u : Machine) → IsPrepared p → IsMachine s
+  pub predicted : (p : Prepared) (s u : Machine) → IsPrepared p → IsMachine s
       → AreAlikeBesideOrders s u → p.serial ≡ false
-      → AreAlikeBesideOrders (guessed_state p s) (guessed_state p u)
+      → AreAlikeBesideOrders (predicted_state p s) (predicted_state p u)
   pub printed : (s : Machine) → AreAlikeBesideOrders s (printed_out s)
   pub no_card : (s : Machine) (w : ℕ) → AreAlikeBesideOrders s (read_in s w None)
   pub signalled : (s : Machine) (i : ℕ) → AreAlikeBesideOrders s (state_with_signal s i)

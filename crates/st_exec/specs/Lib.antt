@@ -19,7 +19,7 @@ pub use Rattle.st_format.specs.Formats
 pub use Rattle.st_format.specs.Operations
 pub use Rattle.st_prep.specs.Alike
 pub use Rattle.st_prep.specs.BesideOrders
-pub use Rattle.st_prep.specs.EarlyChange
+pub use Rattle.st_prep.specs.SpeculativeChanges
 pub use Rattle.st_prep.specs.Entry
 pub use Rattle.st_prep.specs.Fetch
 pub use Rattle.st_prep.specs.Plan

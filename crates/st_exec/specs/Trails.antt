@@ -2,7 +2,7 @@
 use Rattle.std.specs.Prelude.{ℕ, ◌≡◌, ◌<◌, ◌^◌, slice_index}
 use Rattle.st_state.specs.Machine.{Machine, IsMachine, HasArea, word}
 use Rattle.st_prep.specs.Fetch.{place_of}
-use Rattle.st_prep.specs.Plan.{needs, sight, plan}
+use Rattle.st_prep.specs.Plan.{needs, decode_context, plan}
 use Rattle.st_prep.specs.Ranges.{IsRuns, AreInside}
 use Rattle.st_exec.specs.Operand.{AreOperands}
 use Rattle.st_exec.specs.Step.{interrupt}
@@ -26,7 +26,7 @@ pub record TrailKeeps (s : Machine) (t : Trail) : Type 0 where
 -- trail t records state s and the words that the next step of s reads and writes
 pub record IsTrail (s : Machine) (t : Trail) : Type 0 where
   pub keeps : TrailKeeps s t
-  pub index_read : t.index_read ≡ (needs (sight s (place_of s (interrupt s)))).index_read
+  pub index_read : t.index_read ≡ (needs (decode_context s (place_of s (interrupt s)))).index_read
   pub reads : t.reads ≡ (plan s (interrupt s)).reads
   pub writes : t.writes ≡ (plan s (interrupt s)).writes
 

@@ -7,7 +7,7 @@ use crate::form::form_of;
 use crate::generator::Generator;
 use crate::statement::draw_statement;
 use st_bits::NoMemory;
-use st_text::{begun, push_decimal, push_short_decimal};
+use st_text::{open_line, push_decimal, push_short_decimal};
 use std::alloc::{AllocError, Global};
 
 // Appends a statement card.
@@ -59,7 +59,7 @@ fn push_delay_card(deck: &mut Vec<u8>, generator: &mut Generator) -> Result<(), 
     ensures drawn { generator.new.x ≡ next_number generator.old.x }
     ensures ok { OnOk result (deck.new.items ≡ deck.old.items ++ delay_card generator.new.x) }
 {
-    let mut text = begun("/DELAYS ");
+    let mut text = open_line("/DELAYS ");
     push_short_decimal(&mut text, 1 + generator.draw(20));
     push_control(deck, text.as_str())
 }
@@ -86,7 +86,7 @@ fn push_closing_cards(
 ) -> Result<(), AllocError>
     ensures { OnOk result (deck.new.items ≡ deck.old.items ++ closing_cards cards generator.old.x) }
 {
-    let mut budget = begun("/BUDGET ");
+    let mut budget = open_line("/BUDGET ");
     push_decimal(&mut budget, u64::from(cards) + 2);
     push_card(deck, "BEW")?;
     push_card(deck, "END,32.0")?;

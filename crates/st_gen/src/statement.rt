@@ -6,7 +6,7 @@ ghost use Rattle.st_gen.specs.declared.form.StatementForm.TheVariants.{LoadValue
 
 use crate::form::StatementForm;
 use crate::generator::Generator;
-use st_text::{Line, begun, push_short_decimal};
+use st_text::{Line, open_line, push_short_decimal};
 
 /// The word address of the first word that drawn statements use.
 pub const FIRST_DRAWN_WORD: u32 = 4_096;
@@ -17,7 +17,7 @@ fn load_value(generator: &mut Generator) -> Line
     ensures drawn { generator.new.x ≡ number_after 2 generator.old.x }
     ensures text { result.bytes ≡ statement LoadValue generator.old.x }
 {
-    let mut text = begun("LVI,$X");
+    let mut text = open_line("LVI,$X");
     push_short_decimal(&mut text, 1 + generator.draw(7));
     text.push_str(",");
     push_short_decimal(&mut text, FIRST_DRAWN_WORD + generator.draw(DRAWN_WORDS));
@@ -29,7 +29,7 @@ fn add_value(generator: &mut Generator) -> Line
     ensures drawn { generator.new.x ≡ number_after 2 generator.old.x }
     ensures text { result.bytes ≡ statement AddValue generator.old.x }
 {
-    let mut text = begun("V+I,$X");
+    let mut text = open_line("V+I,$X");
     push_short_decimal(&mut text, 1 + generator.draw(7));
     text.push_str(",");
     push_short_decimal(&mut text, generator.draw(4));
@@ -41,7 +41,7 @@ fn load_word(generator: &mut Generator) -> Line
     ensures drawn { generator.new.x ≡ number_after 1 generator.old.x }
     ensures text { result.bytes ≡ statement LoadWord generator.old.x }
 {
-    let mut text = begun("L(BU,64),");
+    let mut text = open_line("L(BU,64),");
     push_short_decimal(&mut text, FIRST_DRAWN_WORD + generator.draw(DRAWN_WORDS));
     text.push_str(".0");
     text
@@ -53,7 +53,7 @@ fn field_operation(operation: &str, generator: &mut Generator) -> Line
     ensures drawn { generator.new.x ≡ number_after 4 generator.old.x }
     ensures text { result.bytes ≡ operation.now ++ field_operands generator.old.x }
 {
-    let mut text = begun(operation);
+    let mut text = open_line(operation);
     text.push_str("(BU,");
     push_short_decimal(&mut text, 1 + generator.draw(64));
     text.push_str("),");
@@ -69,7 +69,7 @@ fn add_one(generator: &mut Generator) -> Line
     ensures drawn { generator.new.x ≡ number_after 3 generator.old.x }
     ensures text { result.bytes ≡ statement AddOne generator.old.x }
 {
-    let mut text = begun("M+1(B,");
+    let mut text = open_line("M+1(B,");
     push_short_decimal(&mut text, 8 + generator.draw(57));
     text.push_str(",8),");
     push_short_decimal(&mut text, FIRST_DRAWN_WORD + generator.draw(DRAWN_WORDS));
@@ -82,7 +82,7 @@ fn multiply(generator: &mut Generator) -> Line
     ensures drawn { generator.new.x ≡ number_after 2 generator.old.x }
     ensures text { result.bytes ≡ statement Multiply generator.old.x }
 {
-    let mut text = begun("*(BU,");
+    let mut text = open_line("*(BU,");
     push_short_decimal(&mut text, 1 + generator.draw(64));
     text.push_str(")(V+I),0.32($X");
     push_short_decimal(&mut text, 1 + generator.draw(7));

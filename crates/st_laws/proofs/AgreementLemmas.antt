@@ -61,10 +61,10 @@ shown-in p =
     let same : nat_le p.1 98303 ≡ nat_lt p.1 98304 = one-below p.1 98303 in
     ap (λ b. nat_le p.0 p.1 && b) (same ∙ ap (λ n. nat_lt p.1 n) (sym words_of_storage_is))
 
-pub laid-in : (place bits : ℕ) → in_storage place bits
+pub emitted-in : (place bits : ℕ) → in_storage place bits
     ≡ (bits == 0 || (nat_le (64 * 32) place && nat_le (place + bits) (64 * words_of_storage)))
 unfolding in_storage
-laid-in place bits = ap (λ n. bits == 0 || (nat_le 2048 place && nat_le (place + bits) (64 * n))) (sym words_of_storage_is)
+emitted-in place bits = ap (λ n. bits == 0 || (nat_le 2048 place && nat_le (place + bits) (64 * n))) (sym words_of_storage_is)
 
 -- ---- numbers
 

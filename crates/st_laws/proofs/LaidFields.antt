@@ -4,11 +4,11 @@ use Rattle.std.proofs.lemmas.Bool.{or_parts as either_false}
 use Rattle.std.specs.Bool.{IsFalse}
 use Rattle.st_format.specs.Validity.{misfits}
 use Rattle.st_mnemonic.specs.declared.form.Form.{Form}
-use Rattle.st_asm.specs.Numbers.{holds, capacity, digits_of_form, magnitude, packed_digits, field_bits_of as laid_bits}
+use Rattle.st_asm.specs.Numbers.{holds, capacity, digits_of_form, magnitude, packed_digits, field_bits_of as emitted_bits}
 use Rattle.st_asm.proofs.FieldLemmas.{holds-below}
 use Rattle.st_dec.specs.DigitLists.{bytes, codes_value, decimal as digits}
 use Rattle.st_dec.specs.DecimalOperand.{field_value, digit_bytes}
-use Rattle.st_laws.specs.LaidNumbers.{IsHeld, IsRead, laid_shape, field_of_number}
+use Rattle.st_laws.specs.LaidNumbers.{IsHeld, IsRead, emitted_shape, field_of_number}
 use Rattle.st_laws.proofs.LaidDigits.{bytes-packed, value-packed}
 use Rattle.st_laws.proofs.LaidParts.{parts-read}
 
@@ -23,15 +23,15 @@ no_minus form minus number held = first_part (form.unsigned && minus) (nat_lt nu
 
 -- an assembled field is read with its magnitude and its sign
 magnitude-read : (form : Form) (minus negated : Bool) (number offset : ℕ) → IsHeld form minus number →
-    let f = field_of_number form minus number (laid_shape form negated offset) in
+    let f = field_of_number form minus number (emitted_shape form negated offset) in
     IsRead f f.mag minus (magnitude form number)
-unfolding laid_bits
+unfolding emitted_bits
 magnitude-read form minus negated number offset held =
     parts-read form.unsigned minus negated (magnitude form number) form.length form.byte offset
     (no_minus form minus number held.room) held.sizes.sizes.some_byte held.sizes.sizes.small_byte
 
 pub binary-read : (form : Form) (minus negated : Bool) (number offset : ℕ) → IsHeld form minus number → form.decimal ≡ false →
-    let f = field_of_number form minus number (laid_shape form negated offset) in
+    let f = field_of_number form minus number (emitted_shape form negated offset) in
     IsRead f f.mag minus number
 binary-read form minus negated number offset held binary =
     let read = magnitude-read form minus negated number offset held in
@@ -46,7 +46,7 @@ wide_bytes unsigned bits byte fits =
     grind arith
 
 pub decimal-read : (form : Form) (minus negated : Bool) (number offset : ℕ) → IsHeld form minus number → form.decimal ≡ true →
-    let h = laid_shape form negated offset in
+    let h = emitted_shape form negated offset in
     let f = field_of_number form minus number h in
     IsRead f (field_value f h) minus number
 decimal-read form minus negated number offset held decimal =
@@ -67,7 +67,7 @@ decimal-read form minus negated number offset held decimal =
 
 -- the bytes of an assembled decimal field are the digits of the number
 pub digits-read : (form : Form) (minus negated : Bool) (number offset : ℕ) → IsHeld form minus number → form.decimal ≡ true →
-    let h = laid_shape form negated offset in
+    let h = emitted_shape form negated offset in
     digit_bytes (field_of_number form minus number h) h ≡ digits (digits_of_form form) number
 digits-read form minus negated number offset held decimal =
     let read = magnitude-read form minus negated number offset held in

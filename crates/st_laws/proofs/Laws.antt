@@ -5,7 +5,7 @@ use Rattle.st_entries.specs.Caption.{indicator_text, indicator_names}
 use Rattle.st_strap.specs.Reading.{index_fields}
 use Rattle.std.proofs.Common.{refl, rules}
 use Rattle.st_laws.specs.Laws.{LimitsInFigures, ControlsInFigures, RegistersInFigures, IndicatorsInFigures, DigitsAgree, CountsAgree, SymbolsAgree, SizesOfStorageAgree, NumbersAgree, MadeDecksAreNotRefused, LaidNumbersAreRead, BanksInFigures, FormatsInFigures, ExpressionsInFigures, StatementsInFigures, DrawnWordsInFigures}
-use Rattle.st_laws.proofs.AgreementLemmas.{value-bytes, digits-joined, zeros-counted, ones-counted, counts-kept, shown-in, laid-in, spelled-agree}
+use Rattle.st_laws.proofs.AgreementLemmas.{value-bytes, digits-joined, zeros-counted, ones-counted, counts-kept, shown-in, emitted-in, spelled-agree}
 use Rattle.st_laws.proofs.MadeDecks.{made-assembled}
 use Rattle.st_laws.proofs.LaidFields.{binary-read, decimal-read, digits-read}
 
@@ -124,7 +124,7 @@ symbols_agree = record {
 pub sizes_of_storage_agree : SizesOfStorageAgree
 sizes_of_storage_agree = record {
   shown = shown-in;
-  laid = laid-in;
+  emitted = emitted-in;
 }
 
 pub numbers_agree : NumbersAgree
@@ -136,8 +136,8 @@ numbers_agree = record {
 pub made_decks_are_not_refused : MadeDecksAreNotRefused
 made_decks_are_not_refused = made-assembled
 
-pub laid_numbers_are_read : LaidNumbersAreRead
-laid_numbers_are_read = record { binary = binary-read; decimal = decimal-read; digits = digits-read }
+pub emitted_numbers_are_read : LaidNumbersAreRead
+emitted_numbers_are_read = record { binary = binary-read; decimal = decimal-read; digits = digits-read }
 
 pub banks_in_figures : BanksInFigures
 banks_in_figures = record { banks = refl; low_words = refl }

@@ -372,10 +372,10 @@ module _ (cards seed : ℕ) (few : cards ≤ 19980) where
       written short count
 
   job-assembled : assembly (text_of_lines (made_cards cards seed))
-      ≡ Ok (together (found_in_job (lead-on.statements ++ last ∷ []) (length (control_cards asked)) asked) gives.named gives.laid)
+      ≡ Ok (together (found_in_job (lead-on.statements ++ last ∷ []) (length (control_cards asked)) asked) gives.named gives.emitted)
   job-assembled =
       assembled (text_of_lines (made_cards cards seed)) (found_in_job (lead-on.statements ++ last ∷ []) (length (control_cards asked)) asked) gives.named
-      gives.laid
+      gives.emitted
       formed gives.names gives.values
 
   asked-kept : with_defaults asked ≡ asked
@@ -390,7 +390,7 @@ made-assembled seed cards few =
     let kept = asked-kept cards seed few in (
       together (found_in_job ((lead-on cards seed few).statements ++ last cards seed few ∷ []) (length (control_cards (asked cards seed few)))
           (asked cards seed few))
-          (gives cards seed few).named (gives cards seed few).laid,
+          (gives cards seed few).named (gives cards seed few).emitted,
       ap (λ (t : List ℕ). assembly t) (made-is seed cards) ∙ job-assembled cards seed few,
       (gives cards seed few).begins,
       ap (λ (k : Asked). k.budget) kept,

@@ -41,14 +41,14 @@ pub record LaysHalves (s : Statement) (count : ℕ) : Type 0 where
   pub place : (a : ℕ) (v : ℤ) → place_in (placing_of s) a v ≡ Some (next_multiple 32 a)
   pub behind : (a : ℕ) (v : ℤ) → behind_in (placing_of s) a v ≡ (next_multiple 32 a + count) % 2 ^ 24
   pub long : (v : ℤ) → extent (placing_of s) v ≡ count
-  pub laid : length_in (placing_of s) ≡ count
+  pub emitted : length_in (placing_of s) ≡ count
 
 -- a text that is read as a statement of one or two half-words
 pub record IsGood (text : List ℕ) : Type 0 where
   pub statement : Statement
   pub count : ℕ
   pub read : statement_of [] text ≡ Ok statement
-  pub lays : LaysHalves statement count
+  pub emits : LaysHalves statement count
 
 -- ---- operations on an index word
 
@@ -65,8 +65,8 @@ half-known : (op : HalfOp) (j a : ℕ) → accepts_all (is_defined []) (Half op 
 unfolding accepts_all
 half-known op j a = refl
 
-half-lays : (op : HalfOp) (j a : ℕ) → a < 2 ^ 24 → a % 32 ≡ 0 → LaysHalves (Half op j (number_spot a 0)) 32
-half-lays op j a small even = record {
+half-emits : (op : HalfOp) (j a : ℕ) → a < 2 ^ 24 → a % 32 ≡ 0 → LaysHalves (Half op j (number_spot a 0)) 32
+half-emits op j a small even = record {
   few = omega arith;
   halves = omega arith;
   going = refl;
@@ -75,7 +75,7 @@ half-lays op j a small even = record {
   place = λ b v. refl;
   behind = λ b v. refl;
   long = λ v. refl;
-  laid = refl;
+  emitted = refl;
 }
 
 half-good : (text : List ℕ) (op : HalfOp) (j a : ℕ) → statement_of [] text ≡ Ok (Half op j (number_spot a 0)) → a < 2 ^ 24 → a % 32 ≡ 0 → IsGood text
@@ -83,7 +83,7 @@ half-good text op j a read small even = record {
   statement = Half op j (number_spot a 0);
   count = 32;
   read = read;
-  lays = half-lays op j a small even;
+  emits = half-emits op j a small even;
 }
 
 -- ---- operations on a field
@@ -100,8 +100,8 @@ field-known : (op : VflOp) (f : FieldForm) (a i o : ℕ) → accepts_all (is_def
 unfolding accepts_all
 field-known op f a i o = refl
 
-field-lays : (op : VflOp) (f : FieldForm) (a i o : ℕ) → a < 2 ^ 24 → o ≤ 127 → LaysHalves (Vfl op false f (number_spot a i) o) 64
-field-lays op f a i o small short = record {
+field-emits : (op : VflOp) (f : FieldForm) (a i o : ℕ) → a < 2 ^ 24 → o ≤ 127 → LaysHalves (Vfl op false f (number_spot a i) o) 64
+field-emits op f a i o small short = record {
   few = omega arith;
   halves = omega arith;
   going = refl;
@@ -110,7 +110,7 @@ field-lays op f a i o small short = record {
   place = λ b v. refl;
   behind = λ b v. refl;
   long = λ v. refl;
-  laid = refl;
+  emitted = refl;
 }
 
 field-good : (text : List ℕ) (op : VflOp) (f : FieldForm) (a i o : ℕ) → statement_of [] text ≡ Ok (Vfl op false f (number_spot a i) o) →
@@ -120,7 +120,7 @@ field-good text op f a i o read small short = record {
   statement = Vfl op false f (number_spot a i) o;
   count = 64;
   read = read;
-  lays = field-lays op f a i o small short;
+  emits = field-emits op f a i o small short;
 }
 
 connect-faultless : (f : FieldForm) (a o : ℕ) → a < 2 ^ 24 → o ≤ 127 →
@@ -135,8 +135,8 @@ connect-known : (f : FieldForm) (a o : ℕ) → accepts_all (is_defined []) (Con
 unfolding accepts_all
 connect-known f a o = refl
 
-connect-lays : (f : FieldForm) (a o : ℕ) → a < 2 ^ 24 → o ≤ 127 → LaysHalves (Connect C 6 f (number_spot a 0) o) 64
-connect-lays f a o small short = record {
+connect-emits : (f : FieldForm) (a o : ℕ) → a < 2 ^ 24 → o ≤ 127 → LaysHalves (Connect C 6 f (number_spot a 0) o) 64
+connect-emits f a o small short = record {
   few = omega arith;
   halves = omega arith;
   going = refl;
@@ -145,7 +145,7 @@ connect-lays f a o small short = record {
   place = λ b v. refl;
   behind = λ b v. refl;
   long = λ v. refl;
-  laid = refl;
+  emitted = refl;
 }
 
 connect-good : (text : List ℕ) (f : FieldForm) (a o : ℕ) → statement_of [] text ≡ Ok (Connect C 6 f (number_spot a 0) o) → a < 2 ^ 24 → o ≤ 127 →
@@ -154,7 +154,7 @@ connect-good text f a o read small short = record {
   statement = Connect C 6 f (number_spot a 0) o;
   count = 64;
   read = read;
-  lays = connect-lays f a o small short;
+  emits = connect-emits f a o small short;
 }
 
 -- ---- the branch that waits
@@ -172,7 +172,7 @@ wait-good = record {
   statement = Branch Bew None;
   count = 32;
   read = wait-read;
-  lays = record {
+  emits = record {
     few = omega arith;
     halves = omega arith;
     going = refl;
@@ -181,7 +181,7 @@ wait-good = record {
     place = λ b v. refl;
     behind = λ b v. refl;
     long = λ v. refl;
-    laid = refl;
+    emitted = refl;
   };
 }
 
@@ -259,20 +259,20 @@ made-good y x = drawn-cases IsGood (record {
 -- a location that is a multiple of 32, with room for the bits
 halves-steps : (s : Statement) (count a start : ℕ) (image : List ℕ) → LaysHalves s count → a % 32 ≡ 0 → 2048 ≤ a → a + count ≤ 6291456 →
     Steps s (stand a image start) (stand (a + count) (image_with image a count (bits_of s (values_of [] s))) start)
-halves-steps s count a start image lays even above room =
+halves-steps s count a start image emits even above room =
     let v = (values_of [] s).first in
     let number = bits_of s (values_of [] s) in
     let same : next_multiple 32 a ≡ a = omega (arith, even, room) in
-    let place : unwrap_or (place_in (placing_of s) a v) 0 ≡ a = ap (λ o. unwrap_or o 0) (lays.place a v) ∙ same in
+    let place : unwrap_or (place_in (placing_of s) a v) 0 ≡ a = ap (λ o. unwrap_or o 0) (emits.place a v) ∙ same in
     let inside : in_storage (unwrap_or (place_in (placing_of s) a v) 0) (extent (placing_of s) v) ≡ true =
-    ap (λ k. in_storage k (extent (placing_of s) v)) place ∙ (ap (λ k. in_storage a k) (lays.long v) ∙ in-storage a count above room) in
+    ap (λ k. in_storage k (extent (placing_of s) v)) place ∙ (ap (λ k. in_storage a k) (emits.long v) ∙ in-storage a count above room) in
     let next : (a + count) % 2 ^ 24 ≡ a + count = omega (arith, room) in
     record {
-      known = lays.known;
-      faultless = faultless-elsewhere s (values_of [] s) 2048 (unwrap_or (place_in (placing_of s) a v) 0) lays.faultless inside;
-      location = lays.behind a v ∙ (ap (λ k. (k + count) % 2 ^ 24) same ∙ next);
-      image = ap (λ k. image_with image k (length_in (placing_of s)) number) place ∙ ap (λ k. image_with image a k number) lays.laid;
-      start = ap (λ b. if b then half_word_bits v else start) lays.going;
+      known = emits.known;
+      faultless = faultless-elsewhere s (values_of [] s) 2048 (unwrap_or (place_in (placing_of s) a v) 0) emits.faultless inside;
+      location = emits.behind a v ∙ (ap (λ k. (k + count) % 2 ^ 24) same ∙ next);
+      image = ap (λ k. image_with image k (length_in (placing_of s)) number) place ∙ ap (λ k. image_with image a k number) emits.emitted;
+      start = ap (λ b. if b then half_word_bits v else start) emits.going;
     }
 
 -- texts that are read as statements which lead from a state
@@ -298,18 +298,18 @@ good-leads (t ∷ ts) a start image good even above room =
     let first = All-head IsGood t ts good in
     let s = first.statement in
     let count = first.count in
-    let halves = first.lays.halves in
-    let few = first.lays.few in
+    let halves = first.emits.halves in
+    let few = first.emits.few in
     let next = image_with image a count (bits_of s (values_of [] s)) in
     let rest = good-leads ts (a + count) start next (All-tail IsGood t ts good) (omega (arith, even, halves)) (omega arith)
     (omega (arith, few, room)) in
     record {
       statements = s ∷ rest.statements;
       read = (first.read, rest.read);
-      going = All-cons IsOpen s rest.statements first.lays.going rest.going;
+      going = All-cons IsOpen s rest.statements first.emits.going rest.going;
       location = rest.location;
       image = rest.image;
-      leads = (stand (a + count) next start, halves-steps s count a start image first.lays even above (omega (arith, few, room)), rest.leads);
+      leads = (stand (a + count) next start, halves-steps s count a start image first.emits even above (omega (arith, few, room)), rest.leads);
     }
 
 -- the statements with one more statement after them

@@ -2,7 +2,7 @@
 use Rattle.std.specs.Prelude.{ℕ, ◌≡◌, Bool, true}
 use Rattle.st_mnemonic.specs.declared.form.Form.{Form}
 use Rattle.st_strap.specs.WellFormed.{IsNumberForm}
-use Rattle.st_asm.specs.Numbers.{holds, field_bits_of as laid_bits}
+use Rattle.st_asm.specs.Numbers.{holds, field_bits_of as emitted_bits}
 use Rattle.st_field.specs.declared.fields.Field.{Field}
 use Rattle.st_field.specs.declared.fields.Shape.{Shape}
 use Rattle.st_field.specs.Fields.{field_of}
@@ -14,8 +14,8 @@ pub record IsHeld (form : Form) (minus : Bool) (number : ℕ) : Type 0 where
 
 -- the shape in which an operation sees a field of the form; the operation determines whether it is
 -- negated, and its offset
-abbrev pub laid_shape : Form → Bool → ℕ → Shape
-laid_shape form negated offset = record {
+abbrev pub emitted_shape : Form → Bool → ℕ → Shape
+emitted_shape form negated offset = record {
   length = form.length;
   byte = form.byte;
   unsigned = form.unsigned;
@@ -25,7 +25,7 @@ laid_shape form negated offset = record {
 
 -- the field that an operation with this shape reads from the assembled bits of a number
 abbrev pub field_of_number : Form → Bool → ℕ → Shape → Field
-field_of_number form minus number h = field_of (laid_bits form minus number) h
+field_of_number form minus number h = field_of (emitted_bits form minus number) h
 
 -- a field with this value is read as this number with this sign, and has neither flags nor zone
 pub record IsRead (f : Field) (value : ℕ) (minus : Bool) (number : ℕ) : Type 0 where

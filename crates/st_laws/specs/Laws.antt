@@ -26,7 +26,7 @@ use Rattle.st_gen.specs.Deck.{made_deck}
 use Rattle.st_gen.specs.declared.statement.TheConstants.{FIRST_DRAWN_WORD, DRAWN_WORDS}
 use Rattle.st_mnemonic.specs.declared.form.Form.{Form}
 use Rattle.st_dec.specs.DecimalOperand.{field_value, digit_bytes, digit_count}
-use Rattle.st_laws.specs.LaidNumbers.{IsHeld, IsRead, laid_shape, field_of_number}
+use Rattle.st_laws.specs.LaidNumbers.{IsHeld, IsRead, emitted_shape, field_of_number}
 use Rattle.st_banks.specs.declared.answers.TheConstants.{BANKS, LOW_WORDS}
 use Rattle.st_format.specs.declared.operations.TheConstants.{FLOATING_GROUP, BRANCH_GROUP, UNUSED}
 use Rattle.st_expr.specs.declared.terms.TheConstants.{LAST_ADDRESS, LAST_BIT}
@@ -155,7 +155,7 @@ pub record SymbolsAgree : Type 0 where
 -- Assembled bits and dumped parts of storage end at the end of storage.
 pub record SizesOfStorageAgree : Type 0 where
   pub shown : (p : ℕ × ℕ) → is_part p ≡ (nat_le p.0 p.1 && nat_lt p.1 words_of_storage)
-  pub laid : (place bits : ℕ) → in_storage place bits
+  pub emitted : (place bits : ℕ) → in_storage place bits
       ≡ (bits == 0 || (nat_le (64 * FIRST_STORAGE_WORD) place
       && nat_le (place + bits) (64 * words_of_storage)))
 
@@ -182,16 +182,16 @@ MadeDecksAreNotRefused = (seed cards : ℕ) → cards ≤ 19980 →
 pub record LaidNumbersAreRead : Type 0 where
   pub binary : (form : Form) (minus negated : Bool) (number offset : ℕ)
       → IsHeld form minus number → form.decimal ≡ false
-      → let f = field_of_number form minus number (laid_shape form negated offset) in
+      → let f = field_of_number form minus number (emitted_shape form negated offset) in
       IsRead f f.mag minus number
   pub decimal : (form : Form) (minus negated : Bool) (number offset : ℕ)
       → IsHeld form minus number → form.decimal ≡ true
-      → let h = laid_shape form negated offset in
+      → let h = emitted_shape form negated offset in
       let f = field_of_number form minus number h in
       IsRead f (field_value f h) minus number
   pub digits : (form : Form) (minus negated : Bool) (number offset : ℕ)
       → IsHeld form minus number → form.decimal ≡ true
-      → let h = laid_shape form negated offset in
+      → let h = emitted_shape form negated offset in
       digit_bytes (field_of_number form minus number h) h ≡ digit_list (digit_count h) number
 
 -- the number of banks of storage, and the number of words in the first four of them

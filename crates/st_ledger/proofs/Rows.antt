@@ -2,8 +2,8 @@
 use Rattle.std.proofs.Common.{◌≡◌, ℕ, ◌+◌, ◌-◌, ◌≤◌, max, List, [], ◌∷◌, refl, ◌∙◌, ap, subst, arith}
 use Rattle.st_rows.specs.Rows.{row_of_entry, preparation_tick, tick_p, tick_c}
 use Rattle.st_rows.specs.declared.entry.Entry.{Entry}
-use Rattle.st_rows.specs.declared.front.Front.{Front}
-use Rattle.st_rows.specs.declared.front.EntryTicks.{EntryTicks}
+use Rattle.st_rows.specs.declared.issue.IssueState.{IssueState}
+use Rattle.st_rows.specs.declared.issue.EntryTicks.{EntryTicks}
 use Rattle.st_rows.proofs.Awaited.{ready-after}
 use Rattle.st_ledger.specs.declared.charges.StagePart.{StagePart}
 use Rattle.st_ledger.specs.declared.charges.Stage.TheVariants.{Restart, Instruction, Address, Index, Preparing, Operand, Executing}
@@ -11,17 +11,17 @@ use Rattle.st_ledger.specs.Charges.{parts_of_row, charges, all_ticks, ticks_for,
 use Rattle.st_ledger.proofs.Sums.{reach, AreOthers, charged-follow, follow-sum, charged-last, charged-first}
 
 -- the order of the ticks of a row
-record IsOrdered (f : Front) (row : EntryTicks) (cost : ℕ) : Type 0 where
+record IsOrdered (f : IssueState) (row : EntryTicks) (cost : ℕ) : Type 0 where
   a : row.a ≤ row.p
   p : row.p ≤ row.r
   c : row.c ≡ max f.c row.r + cost
 
-ordered : (ds : List ℕ) (n : ℕ) (f : Front) (e : Entry) → IsOrdered f (row_of_entry ds n f e) e.cost
+ordered : (ds : List ℕ) (n : ℕ) (f : IssueState) (e : Entry) → IsOrdered f (row_of_entry ds n f e) e.cost
 unfolding row_of_entry tick_p preparation_tick tick_c
 ordered ds n f e = record { a = omega arith; p = ready-after ds n f e; c = refl }
 
 -- the stages of a row end at its completion
-reach-end : (t cost : ℕ) (f : Front) (r : EntryTicks) → IsOrdered f r cost → t ≤ f.c → reach t (parts_of_row f.c r) ≡ r.c
+reach-end : (t cost : ℕ) (f : IssueState) (r : EntryTicks) → IsOrdered f r cost → t ≤ f.c → reach t (parts_of_row f.c r) ≡ r.c
 unfolding reach
 reach-end t cost f r is early = omega (arith, is.a, is.p, is.c)
 
@@ -37,7 +37,7 @@ front_parts start row =
     ∷ record { stage = Operand; end = row.r }
     ∷ []
 
-reach-ready : (t cost : ℕ) (f : Front) (r : EntryTicks) → IsOrdered f r cost → t ≤ f.c → reach t (front_parts f.c r) ≡ max f.c r.r
+reach-ready : (t cost : ℕ) (f : IssueState) (r : EntryTicks) → IsOrdered f r cost → t ≤ f.c → reach t (front_parts f.c r) ≡ max f.c r.r
 unfolding reach front_parts
 reach-ready t cost f r is early = omega (arith, is.a, is.p)
 
@@ -45,7 +45,7 @@ others : (start : ℕ) (r : EntryTicks) → AreOthers Executing (front_parts sta
 unfolding front_parts AreOthers
 others start r = (refl, (refl, (refl, (refl, (refl, (refl, tt))))))
 
-executing : (t cost : ℕ) (f : Front) (r : EntryTicks) → IsOrdered f r cost → t ≤ f.c → ticks_for Executing (charges t f r) ≡ cost
+executing : (t cost : ℕ) (f : IssueState) (r : EntryTicks) → IsOrdered f r cost → t ≤ f.c → ticks_for Executing (charges t f r) ≡ cost
 unfolding front_parts
 executing t cost f r is early =
     charged-last t (front_parts f.c r) (record { stage = Executing; end = r.c }) refl (others f.c r)
@@ -67,13 +67,13 @@ none-restarts : (r : EntryTicks) → AreOthers Restart (later_parts r)
 unfolding later_parts AreOthers
 none-restarts r = (refl, (refl, (refl, (refl, (refl, (refl, tt))))))
 
-restarting : (t : ℕ) (f : Front) (r : EntryTicks) → t ≤ f.c → t + ticks_for Restart (charges t f r) ≡ f.c
+restarting : (t : ℕ) (f : IssueState) (r : EntryTicks) → t ≤ f.c → t + ticks_for Restart (charges t f r) ≡ f.c
 unfolding later_parts
 restarting t f r early =
     let is = charged-first t (record { stage = Restart; end = f.c }) (later_parts r) refl (none-restarts r) in
     omega (arith, is)
 
-module _ (ds : List ℕ) (n t : ℕ) (f : Front) (e : Entry) (early : t ≤ f.c) where
+module _ (ds : List ℕ) (n t : ℕ) (f : IssueState) (e : Entry) (early : t ≤ f.c) where
   pub row-follows : Follow t (row_of_entry ds n f e).c (charges t f (row_of_entry ds n f e))
   row-follows =
       let r = row_of_entry ds n f e in

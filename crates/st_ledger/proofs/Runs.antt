@@ -3,10 +3,10 @@ use Rattle.std.specs.Prelude.{Bool, if◌then◌else◌, map, reverse}
 use Rattle.std.proofs.Common.{◌≡◌, ℕ, zero, suc, ◌+◌, ◌≤◌, true, false, List, [], ◌∷◌, ◌++◌, length, refl, sym, ◌∙◌, ap, subst, append_assoc, arith}
 use Rattle.st_prep.proofs.Choices.{of_choice}
 use Rattle.st_exec.specs.Step.{rests, interrupt}
-use Rattle.st_rows.specs.Rows.{row_of_entry, front_after_entry}
+use Rattle.st_rows.specs.Rows.{row_of_entry, issue_after_entry}
 use Rattle.st_run.specs.Run.{PlainEvent, Ends, interlude, interrupts_by}
 use Rattle.st_run.specs.Events.{Timed, drop_of, snapshot}
-use Rattle.st_run.specs.Moments.{Moment, Standing, next_state, standing_at, entry_of_moment, next_row, next_moment, next_front, next_segment, ends_segment, moments}
+use Rattle.st_run.specs.Moments.{Moment, Standing, next_state, standing_at, entry_of_moment, next_row, next_moment, next_issue, next_segment, ends_segment, moments}
 use Rattle.st_run.specs.Order.{last_completion}
 use Rattle.st_run.specs.TimedRun.{event_at, ticks_before, snapshots_from, drops, drops_if_ends, happening_at, events_between, snapshot_at, last_snapshot_at, completion, until_done, last_events, timed_from}
 use Rattle.st_run.specs.Course.{Course, course}
@@ -34,12 +34,12 @@ ticks_for-append s (x ∷ xs) ys = omega (arith, ticks_for-append s xs ys)
 -- ---- moments
 
 -- the front of a moment is that of the entry that has just completed
-standing-late : (m : Moment) → m.front.c ≡ m.tick → m.tick ≤ (next_front m).c
-unfolding next_front
-standing-late m at = of_choice (λ f. m.tick ≤ f.c) (ends_segment m) (next_segment m) m.front (omega arith) (omega (arith, at))
+standing-late : (m : Moment) → m.issue.c ≡ m.tick → m.tick ≤ (next_issue m).c
+unfolding next_issue
+standing-late m at = of_choice (λ f. m.tick ≤ f.c) (ends_segment m) (next_segment m) m.issue (omega arith) (omega (arith, at))
 
-next-at : (ds : List ℕ) (n : ℕ) (p : Standing) → (next_moment ds n p).front.c ≡ (next_moment ds n p).tick
-unfolding next_moment next_row row_of_entry front_after_entry
+next-at : (ds : List ℕ) (n : ℕ) (p : Standing) → (next_moment ds n p).issue.c ≡ (next_moment ds n p).tick
+unfolding next_moment next_row row_of_entry issue_after_entry
 next-at ds n p = refl
 
 -- ---- the entries of a run
@@ -64,13 +64,13 @@ entries-none ds n m = refl
 
 -- ---- the charges of a run
 
-charges-follow : (ds : List ℕ) (n : ℕ) (p : Standing) → p.tick ≤ p.front.c → Follow p.tick (next_moment ds n p).tick (charges_at ds n p)
+charges-follow : (ds : List ℕ) (n : ℕ) (p : Standing) → p.tick ≤ p.issue.c → Follow p.tick (next_moment ds n p).tick (charges_at ds n p)
 unfolding charges_at next_moment next_row
-charges-follow ds n p early = row-follows ds n p.tick p.front (entry_of_moment p) early
+charges-follow ds n p early = row-follows ds n p.tick p.issue (entry_of_moment p) early
 
-costs-at : (ds : List ℕ) (n : ℕ) (p : Standing) → p.tick ≤ p.front.c → ticks_for Executing (charges_at ds n p) ≡ (entry_of_moment p).cost
+costs-at : (ds : List ℕ) (n : ℕ) (p : Standing) → p.tick ≤ p.issue.c → ticks_for Executing (charges_at ds n p) ≡ (entry_of_moment p).cost
 unfolding charges_at next_row
-costs-at ds n p early = row-costs ds n p.tick p.front (entry_of_moment p) early
+costs-at ds n p early = row-costs ds n p.tick p.issue (entry_of_moment p) early
 
 module _ (ds : List ℕ) (n : ℕ) where
   follow-end : (m : Moment) (snaps : List ℕ) (t : ℕ) → Follow m.tick (last_completion t (last_events m snaps)) []
@@ -84,7 +84,7 @@ module _ (ds : List ℕ) (n : ℕ) where
   follow-if true t m snaps turn rest ps h = follow-end m snaps t
   follow-if false t m snaps turn rest ps h = subst (λ c. Follow m.tick c (all_charges ds n ps)) (sym (last-append t turn rest)) h
 
-  pub run-follows : (left : ℕ) (m : Moment) (snaps : List ℕ) (t : ℕ) → m.front.c ≡ m.tick
+  pub run-follows : (left : ℕ) (m : Moment) (snaps : List ℕ) (t : ℕ) → m.issue.c ≡ m.tick
       → Follow m.tick (last_completion t (timed_from ds n left m snaps)) (all_charges ds n (entries_from ds n left m))
   unfolding all_charges
   run-follows zero m snaps t at = rw (timed-none ds n m snaps, entries-none ds n m) (follow-end m (snapshots_from m.tick snaps) t)
@@ -107,7 +107,7 @@ module _ (ds : List ℕ) (n : ℕ) where
   costs-if true ps h = refl
   costs-if false ps h = h
 
-  pub run-costs : (left : ℕ) (m : Moment) → m.front.c ≡ m.tick
+  pub run-costs : (left : ℕ) (m : Moment) → m.issue.c ≡ m.tick
       → ticks_for Executing (all_charges ds n (entries_from ds n left m)) ≡ all_costs (entries_from ds n left m)
   unfolding all_charges all_costs ticks_for
   run-costs zero m at = rw (entries-none ds n m) refl
@@ -200,6 +200,6 @@ run-rows ds n (suc left) m snaps =
 
 -- ---- segments
 
-pub segment-starts : (m : Moment) → ends_segment m ≡ true → (next_front m).c ≡ m.tick + 1 + length m.dropped
-unfolding next_front
+pub segment-starts : (m : Moment) → ends_segment m ≡ true → (next_issue m).c ≡ m.tick + 1 + length m.dropped
+unfolding next_issue
 segment-starts m ends = rw ends refl

@@ -1,8 +1,8 @@
 -- The charges of an entry. The tick t is the time from t - 1 to t; an entry is charged with the
 -- ticks after the completion of the entry before it, up to and including its own completion.
 use Rattle.std.specs.Prelude.{ℕ, ◌≡◌, ◌+◌, ◌-◌, ◌<◌, nat_eq, nat_lt, nat_le, Bool, if◌then◌else◌, List, [], ◌∷◌}
-use Rattle.st_rows.specs.declared.front.Front.{Front}
-use Rattle.st_rows.specs.declared.front.EntryTicks.{EntryTicks}
+use Rattle.st_rows.specs.declared.issue.IssueState.{IssueState}
+use Rattle.st_rows.specs.declared.issue.EntryTicks.{EntryTicks}
 use Rattle.st_ledger.specs.declared.charges.Charge.{Charge}
 use Rattle.st_ledger.specs.declared.charges.StagePart.{StagePart}
 use Rattle.st_ledger.specs.declared.charges.Stage.{Stage}
@@ -51,7 +51,7 @@ part_charges t x = if nat_lt t x.end then record { from = t; to = x.end; stage =
 -- the charges of a row after a front, if the run's previous entry completed at tick t. For the
 -- first entry of a segment, c of the front is the start of the segment. For any other entry it is
 -- t, so that no tick is charged to the restart
-abbrev pub charges : ℕ → Front → EntryTicks → List Charge
+abbrev pub charges : ℕ → IssueState → EntryTicks → List Charge
 charges t f row = charges_behind t (parts_of_row f.c row)
 
 -- ---- sums

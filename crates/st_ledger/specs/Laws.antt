@@ -2,9 +2,9 @@
 use Rattle.std.specs.Prelude.{ℕ, ◌≡◌, ◌+◌, ◌<◌, ◌≤◌, true, List, All, map, length}
 use Rattle.st_rows.specs.Rows.{row_of_entry}
 use Rattle.st_rows.specs.declared.entry.Entry.{Entry}
-use Rattle.st_rows.specs.declared.front.Front.{Front}
+use Rattle.st_rows.specs.declared.issue.IssueState.{IssueState}
 use Rattle.st_run.specs.Run.{Scene}
-use Rattle.st_run.specs.Moments.{Moment, ends_segment, next_front}
+use Rattle.st_run.specs.Moments.{Moment, ends_segment, next_issue}
 use Rattle.st_run.specs.TimedRun.{timed_run}
 use Rattle.st_run.specs.Order.{last_completion}
 use Rattle.st_ledger.specs.declared.charges.Charge.{Charge}
@@ -18,19 +18,19 @@ use Rattle.st_ledger.specs.Ledger.{entries_of, all_charges, all_costs, row_at, r
 -- its own, so they add up to the ticks between; the charge of executing is its cost. The completion
 -- of the previous entry is that of the front, or precedes the segment that the front opens.
 pub record ChargesFollow : Type 0 where
-  pub gapless : (ds : List ℕ) (n t : ℕ) (f : Front) (e : Entry) → t ≤ f.c →
+  pub gapless : (ds : List ℕ) (n t : ℕ) (f : IssueState) (e : Entry) → t ≤ f.c →
       Follow t (row_of_entry ds n f e).c (charges t f (row_of_entry ds n f e))
-  pub sum : (ds : List ℕ) (n t : ℕ) (f : Front) (e : Entry) → t ≤ f.c →
+  pub sum : (ds : List ℕ) (n t : ℕ) (f : IssueState) (e : Entry) → t ≤ f.c →
       t + all_ticks (charges t f (row_of_entry ds n f e)) ≡ (row_of_entry ds n f e).c
-  pub cost : (ds : List ℕ) (n t : ℕ) (f : Front) (e : Entry) → t ≤ f.c →
+  pub cost : (ds : List ℕ) (n t : ℕ) (f : IssueState) (e : Entry) → t ≤ f.c →
       ticks_for Executing (charges t f (row_of_entry ds n f e)) ≡ e.cost
-  pub restart : (ds : List ℕ) (n t : ℕ) (f : Front) (e : Entry) → t ≤ f.c →
+  pub restart : (ds : List ℕ) (n t : ℕ) (f : IssueState) (e : Entry) → t ≤ f.c →
       t + ticks_for Restart (charges t f (row_of_entry ds n f e)) ≡ f.c
 
 -- Each tick of a charge belongs to the charge's stage, as determined by the start of the segment
 -- and the row.
 abbrev pub TicksBelongToTheirStage : Type 0
-TicksBelongToTheirStage = (ds : List ℕ) (n t : ℕ) (f : Front) (e : Entry) →
+TicksBelongToTheirStage = (ds : List ℕ) (n t : ℕ) (f : IssueState) (e : Entry) →
     All (λ (x : Charge). (u : ℕ) → x.from < u → u ≤ x.to → stage_at f.c (row_of_entry ds n f e) u
     ≡ x.stage)
     (charges t f (row_of_entry ds n f e))
@@ -59,4 +59,4 @@ pub record ChargesAddUpToTheRun : Type 0 where
 -- entry.
 abbrev pub SegmentsStartBehindTheirEnd : Type 0
 SegmentsStartBehindTheirEnd = (m : Moment) → ends_segment m ≡ true →
-    (next_front m).c ≡ m.tick + 1 + length m.dropped
+    (next_issue m).c ≡ m.tick + 1 + length m.dropped

@@ -2,7 +2,7 @@
 -- and n levels.
 use Rattle.std.specs.Prelude.{ℕ, ◌+◌, List, [], ◌∷◌, ◌++◌, map}
 use Rattle.st_exec.specs.Step.{address}
-use Rattle.st_rows.specs.declared.front.EntryTicks.{EntryTicks}
+use Rattle.st_rows.specs.declared.issue.EntryTicks.{EntryTicks}
 use Rattle.st_run.specs.Run.{Scene}
 use Rattle.st_run.specs.Events.{TimetableEvent, Timed, Completes, Drops, Shows, Happens}
 use Rattle.st_run.specs.Moments.{Moment, Standing, moment_at_start, moments, standing_at, entry_of_moment, next_row}
@@ -21,7 +21,7 @@ entries_of ds n left c = entries_from ds n left (moment_at_start c)
 
 -- the charges of the next entry
 unfoldable pub charges_at : List ℕ → ℕ → Standing → List Charge
-charges_at ds n p = charges p.tick p.front (next_row ds n p)
+charges_at ds n p = charges p.tick p.issue (next_row ds n p)
 
 -- the charges of several entries
 unfoldable pub all_charges : List ℕ → ℕ → List Standing → List Charge

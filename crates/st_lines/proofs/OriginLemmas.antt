@@ -7,9 +7,9 @@ use Rattle.st_lines.specs.declared.origins.Origins.{Origins}
 use Rattle.st_state.specs.Machine.{Machine}
 
 -- a line of five pieces, two of which are put together, the last one first
-pub laid_pieces : (a b c d e l0 l1 l2 l3 l4 : List ℕ) → l0 ≡ [] → l1 ≡ e ++ l0 → l2 ≡ (c ++ d) ++ l1 → l3 ≡ b ++ l2 → l4 ≡ a ++ l3
+pub emitted_pieces : (a b c d e l0 l1 l2 l3 l4 : List ℕ) → l0 ≡ [] → l1 ≡ e ++ l0 → l2 ≡ (c ++ d) ++ l1 → l3 ≡ b ++ l2 → l4 ≡ a ++ l3
     → l4 ≡ a ++ b ++ c ++ d ++ e
-laid_pieces a b c d e l0 l1 l2 l3 l4 e0 e1 e2 e3 e4 = rw (e4, e3, e2, e1, e0) (simp (append_assoc, append-nil) refl)
+emitted_pieces a b c d e l0 l1 l2 l3 l4 e0 e1 e2 e3 e4 = rw (e4, e3, e2, e1, e0) (simp (append_assoc, append-nil) refl)
 
 card-some : (card : ℕ) (kept : Bool) → card ≢ 0 → origin_by (card_by card) kept ≡ Some (record { card = card; kept = kept })
 card-some zero kept some = absurd (some refl)

@@ -12,7 +12,7 @@ use Rattle.st_rows.specs.declared.uses.Use.{Use}
 use Rattle.st_ledger.specs.Charges.{parts_of_row, charges_behind}
 use Rattle.st_ledger.specs.Lines.{row_stage_line}
 use Rattle.st_ledger.specs.declared.charges.Charge.{Charge}
-use Rattle.st_lines.specs.Lines.{missed_line, alone_line, suppressed_line, laid_line, code_line, writes_line, index_line, level_wait_line}
+use Rattle.st_lines.specs.Lines.{missed_line, alone_line, suppressed_line, emitted_line, code_line, writes_line, index_line, level_wait_line}
 use Rattle.st_lines.specs.UseLines.{use_lines}
 use Rattle.st_lines.specs.WaitLines.{charged_lines, because_lines}
 use Rattle.st_lines.specs.declared.facts.EntryDone.{EntryDone}
@@ -63,9 +63,9 @@ index_lines None = []
 index_lines (Some x) = index_line x ∷ []
 
 -- the line of the card that an entry's half-words come from, if a card's bits begin there
-unfoldable pub laid_lines : Option Origin → List (List ℕ)
-laid_lines None = []
-laid_lines (Some o) = laid_line o ∷ []
+unfoldable pub emitted_lines : Option Origin → List (List ℕ)
+emitted_lines None = []
+emitted_lines (Some o) = emitted_line o ∷ []
 
 -- the line of the half-words that an entry executes, if they may be fetched
 unfoldable pub code_lines : Option Code → List (List ℕ)
@@ -77,7 +77,7 @@ unfoldable pub facts_lines : ℕ → Option ℕ → Prepared → Known → Optio
     List (List ℕ)
 facts_lines n end p k origin uses =
     ((alone_lines (alone_by p k.side k.execute) ++ suppressed_lines (suppressed_by p))
-    ++ (laid_lines origin ++ code_lines k.code))
+    ++ (emitted_lines origin ++ code_lines k.code))
     ++ (use_lines n end uses ++ (writes_lines p.writes ++ index_lines p.index))
 
 -- ---- the row
@@ -97,7 +97,7 @@ charges_of_entry d = charges_behind d.before (parts_of_row d.start d.row.ticks)
 
 -- the lines of a completed entry's facts that do not concern its ticks
 abbrev pub known_lines : EntryDone → Prepared → Known → List Use → List (List ℕ)
-known_lines d p k uses = missed_lines d.missed ++ facts_lines d.n d.end p k d.origin uses
+known_lines d p k uses = missed_lines d.mispredicted ++ facts_lines d.n d.end p k d.origin uses
 
 -- the lines of an entry's wait for a level and of the cause that delayed it
 abbrev pub late_entry_lines : EntryDone → List (List ℕ)

@@ -3,12 +3,12 @@ use Rattle.std.specs.Prelude.{ℕ, ◌+◌, ◌/◌, Bool, List, [], ◌∷◌, 
 use Rattle.st_text.specs.Bytes.{lf}
 use Rattle.st_text.specs.Numerals.{half_address, hex_text, hex_word, flag}
 use Rattle.st_prep.specs.declared.entries.IndexChange.{IndexChange}
-use Rattle.st_rows.specs.declared.front.EntryTicks.{EntryTicks}
+use Rattle.st_rows.specs.declared.issue.EntryTicks.{EntryTicks}
 use Rattle.st_plain.specs.declared.known.Code.{Code}
 use Rattle.st_lines.specs.declared.lines.Alone.{Alone}
 use Rattle.st_lines.specs.declared.lines.Alone.TheVariants.{Table, Execute, Register, Operation}
 use Rattle.st_lines.specs.declared.lines.Why.{Why}
-use Rattle.st_lines.specs.declared.lines.Why.TheVariants.{Run, Interrupt, Missed, Card}
+use Rattle.st_lines.specs.declared.lines.Why.TheVariants.{Run, Interrupt, Mispredicted, Card}
 use Rattle.st_lines.specs.declared.origins.Origin.{Origin}
 
 -- the line of the number n of levels
@@ -46,7 +46,7 @@ changed_line w was is =
 abbrev pub why_text : Why → List ℕ
 why_text Run = codes "RUN"
 why_text (Interrupt i) = codes "INTERRUPT " ++ decimal i
-why_text Missed = codes "MISSED"
+why_text Mispredicted = codes "MISSED"
 why_text Card = codes "CARD"
 
 -- the line of the start of segment k at a tick, with whether the machine had waited and why the
@@ -80,8 +80,8 @@ abbrev pub suppressed_line : ℕ → List ℕ
 suppressed_line i = codes "SUPPRESSED " ++ decimal i ++ lf
 
 -- the line of the card that an entry comes from, with whether storage still has the card's bits
-abbrev pub laid_line : Origin → List ℕ
-laid_line o = codes "LAID " ++ decimal o.card ++ codes " KEPT " ++ flag o.kept ++ lf
+abbrev pub emitted_line : Origin → List ℕ
+emitted_line o = codes "LAID " ++ decimal o.card ++ codes " KEPT " ++ flag o.kept ++ lf
 
 -- the line of n words from word w on that an entry writes
 abbrev pub writes_line : ℕ → ℕ → List ℕ

@@ -6,8 +6,8 @@ use Rattle.st_rows.specs.declared.uses.Use.{Use}
 use Rattle.st_ledger.specs.Lines.{stage_name, charge_line}
 use Rattle.st_ledger.specs.declared.charges.Charge.{Charge}
 use Rattle.st_reasons.specs.Waits.{charge_waits}
-use Rattle.st_reasons.specs.declared.because.Because.{Because}
-use Rattle.st_reasons.specs.declared.because.Because.TheVariants.{Start, Prefetch, Earlier}
+use Rattle.st_reasons.specs.declared.because.StallCause.{StallCause}
+use Rattle.st_reasons.specs.declared.because.StallCause.TheVariants.{Start, Prefetch, Earlier}
 use Rattle.st_reasons.specs.declared.because.Reason.{Reason}
 use Rattle.st_reasons.specs.declared.because.Reason.TheVariants.{Serial, Store, Level, Forwarding, Bus, Order}
 use Rattle.st_reasons.specs.declared.sums.WaitSum.{WaitSum}
@@ -62,7 +62,7 @@ reason_name Bus = codes "BUS"
 reason_name Order = codes "ORDER"
 
 -- the line of the cause that delayed the n-th entry
-abbrev pub because_line : ℕ → Because → List ℕ
+abbrev pub because_line : ℕ → StallCause → List ℕ
 because_line n (Start tick) =
     codes "BECAUSE START ROW - TICK " ++ decimal tick ++ codes " LATE -" ++ lf
 because_line n (Prefetch x) =
@@ -73,5 +73,5 @@ because_line n (Earlier x) =
 
 -- the lines of the cause that delayed the n-th entry, if it has a charge other than that of
 -- executing: the previous entry completed before the entry's operands were available, at tick r
-unfoldable pub because_lines : ℕ → ℕ → ℕ → Because → List (List ℕ)
+unfoldable pub because_lines : ℕ → ℕ → ℕ → StallCause → List (List ℕ)
 because_lines n done r b = if nat_lt done r then because_line n b ∷ [] else []

@@ -4,13 +4,13 @@ ghost use Rattle.st_bits.specs.Indicators.{indicator as indicator_of};
 ghost use Rattle.st_prep.specs.Entry.{is_register as is_register_of, has_register as has_register_of};
 ghost use Rattle.st_state.specs.Interrupts.{first_from};
 ghost use Rattle.st_io.specs.Lines.{WritesLines};
-ghost use Rattle.st_lines.specs.EntryLines.{alone_for as alone_of, alone_by as alone_why, alone_lines, suppressed_by as suppressed_of, suppressed_lines, laid_lines, code_lines, run_lines, writes_lines, index_lines, facts_lines, missed_lines, level_lines, known_lines, late_entry_lines, spent_lines, done_entry_lines};
+ghost use Rattle.st_lines.specs.EntryLines.{alone_for as alone_of, alone_by as alone_why, alone_lines, suppressed_by as suppressed_of, suppressed_lines, emitted_lines, code_lines, run_lines, writes_lines, index_lines, facts_lines, missed_lines, level_lines, known_lines, late_entry_lines, spent_lines, done_entry_lines};
 ghost use Rattle.st_lines.specs.UseLines.{use_lines};
 ghost use Rattle.st_lines.specs.TellingWaits.{CanTellWaits, HasToldWaits};
 
 use crate::digits::{fill_code, fill_index, fill_writes};
 use crate::lines::{Alone, line_alone, line_level, line_missed, line_suppressed};
-use crate::origins::{Origin, fill_laid};
+use crate::origins::{Origin, fill_emitted};
 use crate::uses::{FactLine, write_uses};
 use crate::waits::{RowTelling, write_because, write_charged};
 use st_bits::indicator;
@@ -18,7 +18,7 @@ use st_io::{Failed, Sink, write_line};
 use st_ledger::write_row;
 use st_plain::{Code, Known, WaitedRow};
 use st_prep::{IndexChange, Prepared, Words, has_register, is_register};
-use st_reasons::Because;
+use st_reasons::StallCause;
 use st_report::{LineFromEnd, put};
 use st_rows::Use;
 
@@ -165,18 +165,18 @@ fn write_changes<K: Sink>(out: &mut K, line: &mut LineFromEnd, p: &Prepared) -> 
 }
 
 // Writes the card that an entry's half-words come from, if a card's bits begin there.
-#[tactic(auto, unfolding(crate::specs::EntryLines::laid_lines), using(st_io::proofs::Progress::wrote_nothing))]
-fn write_laid<K: Sink>(
+#[tactic(auto, unfolding(crate::specs::EntryLines::emitted_lines), using(st_io::proofs::Progress::wrote_nothing))]
+fn write_emitted<K: Sink>(
     out: &mut K,
     line: &mut LineFromEnd,
     origin: Option<Origin>,
 ) -> Result<(), Failed>
-    ensures { WritesLines (K.output out.old) (K.output out.new) (laid_lines origin) result }
+    ensures { WritesLines (K.output out.old) (K.output out.new) (emitted_lines origin) result }
 {
     match origin {
         None => Ok(()),
         Some(origin) => {
-            fill_laid(line, origin);
+            fill_emitted(line, origin);
             write_line(out, line.as_bytes())
         }
     }
@@ -208,9 +208,9 @@ fn write_halves<K: Sink>(
     code: Option<Code>,
 ) -> Result<(), Failed>
     ensures { WritesLines (K.output out.old) (K.output out.new)
-        (laid_lines origin ++ code_lines code) result }
+        (emitted_lines origin ++ code_lines code) result }
 {
-    write_laid(out, line, origin)?;
+    write_emitted(out, line, origin)?;
     write_code(out, line, code)
 }
 
@@ -269,7 +269,7 @@ pub struct EntryDone {
     /// The entry's row.
     pub row: WaitedRow,
     /// Whether the entry is a mispredicted branch.
-    pub missed: bool,
+    pub mispredicted: bool,
     /// The tick at which the previous entry completed.
     pub before: u64,
     /// The tick at which the entry's segment starts, if the entry is the first in it.
@@ -277,7 +277,7 @@ pub struct EntryDone {
     /// The tick at which the entry's segment ends, if the segment ends with this entry.
     pub end: Option<u64>,
     /// The cause that delayed the entry.
-    pub because: Because,
+    pub because: StallCause,
 }
 
 /// All recorded facts about a completed entry.
@@ -298,10 +298,10 @@ pub struct EntryRecord<'a> {
 
 // Writes that a branch was mispredicted, if it was.
 #[tactic(auto, unfolding(crate::specs::EntryLines::missed_lines), using(st_io::proofs::Progress::wrote_nothing))]
-fn write_missed<K: Sink>(out: &mut K, missed: bool) -> Result<(), Failed>
-    ensures { WritesLines (K.output out.old) (K.output out.new) (missed_lines missed) result }
+fn write_missed<K: Sink>(out: &mut K, mispredicted: bool) -> Result<(), Failed>
+    ensures { WritesLines (K.output out.old) (K.output out.new) (missed_lines mispredicted) result }
 {
-    if !missed {
+    if !mispredicted {
         return Ok(());
     }
     put(out, &line_missed())
@@ -318,7 +318,7 @@ fn write_known<K: Sink>(
         result }
 {
     let done = entry.done;
-    write_missed(out, done.missed)?;
+    write_missed(out, done.mispredicted)?;
     let facts = Facts {
         n: done.n,
         end: done.end,

@@ -6,7 +6,7 @@ ghost use Rattle.st_lines.specs.Lines.{ledger_levels_line, numbers_text, delays_
 
 use st_rows::EntryTicks;
 use st_text::{
-    Line, begun, ended, push_decimal, push_flag, push_half_address, push_hex, push_short_decimal,
+    Line, open_line, close_line, push_decimal, push_flag, push_half_address, push_hex, push_short_decimal,
 };
 
 /// Why a segment begins.
@@ -17,7 +17,7 @@ pub enum Why {
     /// An interrupt by this indicator, 0 to 63, is taken.
     Interrupt(u8),
     /// A branch on an indicator was mispredicted.
-    Missed,
+    Mispredicted,
     /// The reader read a card into storage.
     Card,
 }
@@ -39,9 +39,9 @@ pub enum Alone {
 pub fn line_levels(n: u8) -> Line
     ensures { result.bytes ≡ ledger_levels_line n }
 {
-    let mut line = begun("LEVELS ");
+    let mut line = open_line("LEVELS ");
     push_short_decimal(&mut line, u32::from(n));
-    ended(line)
+    close_line(line)
 }
 
 // Appends a blank and a number.
@@ -73,9 +73,9 @@ pub fn line_delays(ds: &[u8]) -> Line
     requires { length ds.now ≤ 10 }
     ensures { result.bytes ≡ delays_line ds.now }
 {
-    let mut line = begun("DELAYS");
+    let mut line = open_line("DELAYS");
     push_numbers(&mut line, ds);
-    ended(line)
+    close_line(line)
 }
 
 // Appends why a segment begins.
@@ -90,7 +90,7 @@ fn push_why(line: &mut Line, why: Why)
             line.push_str("INTERRUPT ");
             push_short_decimal(line, u32::from(i));
         }
-        Why::Missed => line.push_str("MISSED"),
+        Why::Mispredicted => line.push_str("MISSED"),
         Why::Card => line.push_str("CARD"),
     }
 }
@@ -100,7 +100,7 @@ fn push_why(line: &mut Line, why: Why)
 pub fn line_start(k: u32, tick: u64, waited: bool, why: Why) -> Line
     ensures { result.bytes ≡ start_line k tick waited why }
 {
-    let mut line = begun("SEGMENT ");
+    let mut line = open_line("SEGMENT ");
     push_short_decimal(&mut line, k);
     line.push_str(" START ");
     push_decimal(&mut line, tick);
@@ -108,36 +108,36 @@ pub fn line_start(k: u32, tick: u64, waited: bool, why: Why) -> Line
     push_flag(&mut line, waited);
     line.push_str(" BY ");
     push_why(&mut line, why);
-    ended(line)
+    close_line(line)
 }
 
 /// `SEGMENT k END t`: segment k ends at tick t.
 pub fn line_end(k: u32, tick: u64) -> Line
     ensures { result.bytes ≡ segment_end_line k tick }
 {
-    let mut line = begun("SEGMENT ");
+    let mut line = open_line("SEGMENT ");
     push_short_decimal(&mut line, k);
     line.push_str(" END ");
     push_decimal(&mut line, tick);
-    ended(line)
+    close_line(line)
 }
 
 /// `WORD w IS h`: word w is h, which is not zero.
 pub fn line_word(w: u32, word: u64) -> Line
     ensures { result.bytes ≡ word_line w word }
 {
-    let mut line = begun("WORD ");
+    let mut line = open_line("WORD ");
     push_short_decimal(&mut line, w);
     line.push_str(" IS ");
     push_hex(&mut line, 16, word);
-    ended(line)
+    close_line(line)
 }
 
 /// `MISSED`: a branch on an indicator was mispredicted.
 pub fn line_missed() -> Line
     ensures { result.bytes ≡ missed_line }
 {
-    ended(begun("MISSED"))
+    close_line(open_line("MISSED"))
 }
 
 // Appends why an entry is serialized.
@@ -161,18 +161,18 @@ fn push_alone(line: &mut Line, why: Alone)
 pub fn line_alone(why: Alone) -> Line
     ensures { result.bytes ≡ alone_line why }
 {
-    let mut line = begun("ALONE ");
+    let mut line = open_line("ALONE ");
     push_alone(&mut line, why);
-    ended(line)
+    close_line(line)
 }
 
 /// `SUPPRESSED i`: an entry is suppressed, with indicator i.
 pub fn line_suppressed(i: u8) -> Line
     ensures { result.bytes ≡ suppressed_line i }
 {
-    let mut line = begun("SUPPRESSED ");
+    let mut line = open_line("SUPPRESSED ");
     push_short_decimal(&mut line, u32::from(i));
-    ended(line)
+    close_line(line)
 }
 
 // Appends the number of an entry that ran ahead, its half-word address, and its ticks.
@@ -197,9 +197,9 @@ fn push_ahead(line: &mut Line, n: u32, address: u32, row: &EntryTicks)
 pub fn line_drop(n: u32, address: u32, row: &EntryTicks) -> Line
     ensures { result.bytes ≡ dropped_line n address row.now }
 {
-    let mut line = begun("DROP ");
+    let mut line = open_line("DROP ");
     push_ahead(&mut line, n, address, row);
-    ended(line)
+    close_line(line)
 }
 
 /// `BEGUN n a A x P p R r`: the n-th entry had begun but was not prepared in time; its half-word
@@ -207,16 +207,16 @@ pub fn line_drop(n: u32, address: u32, row: &EntryTicks) -> Line
 pub fn line_begun(n: u32, address: u32, row: &EntryTicks) -> Line
     ensures { result.bytes ≡ begun_line n address row.now }
 {
-    let mut line = begun("BEGUN ");
+    let mut line = open_line("BEGUN ");
     push_ahead(&mut line, n, address, row);
-    ended(line)
+    close_line(line)
 }
 
 /// `LEVEL d`: an entry waited d ticks for a level.
 pub fn line_level(d: u64) -> Line
     ensures { result.bytes ≡ level_wait_line d }
 {
-    let mut line = begun("LEVEL ");
+    let mut line = open_line("LEVEL ");
     push_decimal(&mut line, d);
-    ended(line)
+    close_line(line)
 }

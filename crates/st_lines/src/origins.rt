@@ -2,7 +2,7 @@
 ghost use Rattle.std.specs.Prelude.{◌≡◌, ◌+◌, ◌≤◌, ◌++◌, length, codes, slice_index};
 ghost use Rattle.st_prep.specs.Reading.{half_of as half_by};
 ghost use Rattle.st_text.specs.Numerals.{flag};
-ghost use Rattle.st_lines.specs.Lines.{laid_line};
+ghost use Rattle.st_lines.specs.Lines.{emitted_line};
 ghost use Rattle.st_lines.specs.Origins.{half_in, is_same_half as is_same_half_of, is_kept as is_kept_of, origin_at};
 
 use st_bits::part;
@@ -115,8 +115,8 @@ fn put_kept(line: &mut LineFromEnd, kept: bool)
 
 /// Fills a line with `LAID k KEPT f`: card k is the first whose bits begin in the half-word at the
 /// address of an entry. The previous contents are overwritten.
-pub(crate) fn fill_laid(line: &mut LineFromEnd, origin: Origin)
-    ensures { line.new ≡ laid_line origin }
+pub(crate) fn fill_emitted(line: &mut LineFromEnd, origin: Origin)
+    ensures { line.new ≡ emitted_line origin }
 {
     line.clear();
     line.put_word(*b"\n");

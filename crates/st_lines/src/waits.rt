@@ -3,7 +3,7 @@ ghost use Rattle.std.specs.Prelude.{◌≡◌, ◌+◌, ◌≤◌, ◌∷◌, �
 ghost use Rattle.st_io.specs.Lines.{WritesLines};
 ghost use Rattle.st_ledger.specs.Charges.{charges_behind, part_charges};
 ghost use Rattle.st_ledger.specs.Lines.{charge_line};
-ghost use Rattle.st_reasons.specs.declared.because.Because.TheVariants.{Start as StartOf, Prefetch as PrefetchOf, Earlier as EarlierOf};
+ghost use Rattle.st_reasons.specs.declared.because.StallCause.TheVariants.{Start as StartOf, Prefetch as PrefetchOf, Earlier as EarlierOf};
 ghost use Rattle.st_reasons.specs.Sums.{waited_at, wait_sums_by};
 ghost use Rattle.st_lines.specs.EntryLines.{charges_of_entry};
 ghost use Rattle.st_lines.specs.Waited.{AreWaitsReady, AddsWaits};
@@ -15,7 +15,7 @@ use crate::uses::{FactLine, put_bank};
 use st_io::{Failed, Sink, write_line};
 use st_ledger::{Charge, RowLine, StagePart, fill_charge, later, parts, put_stage};
 use st_reasons::{
-    Because, Cause, Prefetched, Reason, Stall, Wait, WaitSum, WaitTotals, Waits, fill_waits,
+    StallCause, Cause, Prefetched, Reason, Stall, Wait, WaitSum, WaitTotals, Waits, fill_waits,
     wait_sums,
 };
 use st_report::LineFromEnd;
@@ -277,18 +277,18 @@ fn fill_earlier(line: &mut LineFromEnd, n: u32, cause: &Cause)
 }
 
 // Fills a line with the cause that delayed the n-th entry. The previous contents are overwritten.
-fn fill_because(line: &mut LineFromEnd, n: u32, because: &Because)
+fn fill_because(line: &mut LineFromEnd, n: u32, because: &StallCause)
     ensures { line.new ≡ because_line n because.now }
 {
     match because {
-        Because::Start(tick) => fill_start(line, n, *tick),
-        Because::Prefetch(asked) => fill_prefetch(line, n, asked),
-        Because::Earlier(cause) => fill_earlier(line, n, cause),
+        StallCause::Start(tick) => fill_start(line, n, *tick),
+        StallCause::Prefetch(asked) => fill_prefetch(line, n, asked),
+        StallCause::Earlier(cause) => fill_earlier(line, n, cause),
     }
 }
 
 // Writes the cause that delayed the n-th entry.
-fn put_because<K: Sink>(out: &mut K, n: u32, because: &Because) -> Result<(), Failed>
+fn put_because<K: Sink>(out: &mut K, n: u32, because: &StallCause) -> Result<(), Failed>
     ensures { WritesLines (K.output out.old) (K.output out.new)
         (because_line n because.now ∷ []) result }
 {
@@ -306,7 +306,7 @@ pub fn write_because<K: Sink>(
     n: u32,
     done: u64,
     r: u64,
-    because: &Because,
+    because: &StallCause,
 ) -> Result<(), Failed>
     ensures { WritesLines (K.output out.old) (K.output out.new)
         (because_lines n done r because.now) result }

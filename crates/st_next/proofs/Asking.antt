@@ -6,20 +6,20 @@ use Rattle.std.proofs.lemmas.List.Elements.{All-cons, All-nil}
 use Rattle.st_fetch.specs.Planned.{tick_of}
 use Rattle.st_state.specs.Machine.{Machine, word}
 use Rattle.st_prep.specs.declared.entries.Fetching.TheVariants.{Next as GivenWord, Found as GivenAll}
-use Rattle.st_prep.specs.Plan.{sight_of, sight}
+use Rattle.st_prep.specs.Plan.{decode_context_of, decode_context}
 use Rattle.st_prep.specs.Ranges.{IsPlace}
-use Rattle.st_prep.proofs.PlanLemmas.{sight-fits}
+use Rattle.st_prep.proofs.PlanLemmas.{decode_context-fits}
 use Rattle.st_rows.specs.Asked.{side_asked, bus_after_reads}
 use Rattle.st_rows.specs.BusTimes.{bus_after_request, answer_tick_on}
 use Rattle.st_rows.specs.Notes.{log_after_reads}
 use Rattle.st_rows.specs.Ranges.{IsEntryInTime, AreDelaysUpTo}
 use Rattle.st_rows.specs.Rows.{words_tick, wanted_from, tick_a, bus_a}
-use Rattle.st_rows.specs.Words.{fetch_word, bus_sided, fetch_words, is_forwarded}
+use Rattle.st_rows.specs.Words.{fetch_word, bus_after_index_read, fetch_words, is_forwarded}
 use Rattle.st_rows.specs.Uses.{behind_use, read_made, forwarded_at}
 use Rattle.st_rows.specs.declared.entry.WordRun.{WordRun}
 use Rattle.st_rows.specs.declared.past.Past.{Past}
 use Rattle.st_rows.specs.declared.fetching.Fetching.{Fetching}
-use Rattle.st_rows.specs.declared.front.Front.{Front}
+use Rattle.st_rows.specs.declared.issue.IssueState.{IssueState}
 use Rattle.st_rows.specs.declared.log.Made.{Made}
 use Rattle.st_rows.proofs.Noted.{noted-two}
 use Rattle.st_rows.proofs.Served.{served-append, served-side, served-word}
@@ -30,13 +30,13 @@ use Rattle.st_segment.specs.Entries.{entry}
 use Rattle.st_segment.proofs.EntryRanges.{entry-ranges}
 use Rattle.st_next.specs.Words.{words_alone, words_so_far, asked_so_far}
 use Rattle.st_next.specs.Progress.{IsKnown, reads_so_far}
-use Rattle.st_next.specs.Going.{IsFrontInTime, IsEarly, IsReadFurther, prepared_as}
-use Rattle.st_next.specs.declared.next.Next.{Next}
+use Rattle.st_next.specs.Going.{IsIssueInTime, IsEarly, IsReadFurther, prepared_as}
+use Rattle.st_next.specs.declared.fetch_unit.FetchUnit.{FetchUnit}
 use Rattle.st_next.proofs.Starts.{IsNextOwn, IsNextTarget, word-behind}
 use Rattle.st_next.proofs.Contents.{words-entry}
 use Rattle.st_next.proofs.WordByWord.{want_of, read_of, own-asked, target-asked}
 use Rattle.st_next.proofs.Late.{IsLate}
-use Rattle.st_next.proofs.Steps.{IsPlannedAs, what, comes-own, comes-target, comes-all, with_own, with_target, sight-same, entry-same}
+use Rattle.st_next.proofs.Steps.{IsPlannedAs, what, comes-own, comes-target, comes-all, with_own, with_target, decode_context-same, entry-same}
 
 -- ---- when they are wanted
 
@@ -56,19 +56,19 @@ served-read ds past from s w = sym (served-word ds (tick_of s.bus.held.words w) 
 
 -- ---- the reads so far
 
-pub reads-none : (ds : List ℕ) (f : Front) (next : Next) → next.planned ≡ false → reads_so_far ds f next ≡ asked_so_far ds f next.entry.own next.entry.target
+pub reads-none : (ds : List ℕ) (f : IssueState) (next : FetchUnit) → next.planned ≡ false → reads_so_far ds f next ≡ asked_so_far ds f next.entry.own next.entry.target
 reads-none ds f next un =
     ap (λ b. asked_so_far ds f next.entry.own next.entry.target ++ (if b then side_asked f.past next.entry.side next.formed.a else [])) un
     ∙ append-nil (asked_so_far ds f next.entry.own next.entry.target)
 
-pub reads-planned : (ds : List ℕ) (f : Front) (next : Next) → next.planned ≡ true
+pub reads-planned : (ds : List ℕ) (f : IssueState) (next : FetchUnit) → next.planned ≡ true
     → reads_so_far ds f next ≡ asked_so_far ds f next.entry.own next.entry.target ++ side_asked f.past next.entry.side next.formed.a
 reads-planned ds f next is =
     ap (λ b. asked_so_far ds f next.entry.own next.entry.target ++ (if b then side_asked f.past next.entry.side next.formed.a else [])) is
 
 -- ---- the front is early enough
 
-pub words-early : (ds : List ℕ) (f : Front) (own target : WordRun) (words : Fetching) → AreDelaysUpTo 255 ds → IsFrontInTime f
+pub words-early : (ds : List ℕ) (f : IssueState) (own target : WordRun) (words : Fetching) → AreDelaysUpTo 255 ds → IsIssueInTime f
     → IsEntryInTime (words_alone own target) → words ≡ words_so_far ds f own target → IsEarly f words
 words-early ds f own target words are is e same = record {
   room = rw same (fetching-weaker (f.c + 7 * 255 + 6) (2 ^ 64 - 512) _ (omega (arith, is.early)) (fetched-within 255 ds are f (words_alone own target) e is.tight));
@@ -77,7 +77,7 @@ words-early ds f own target words are is e same = record {
   done = omega (arith, is.early);
 }
 
-module _ (ds : List ℕ) (n now : ℕ) (f : Front) (x : List ℕ) (s : Machine) (before : Next) (un : before.planned ≡ false)
+module _ (ds : List ℕ) (n now : ℕ) (f : IssueState) (x : List ℕ) (s : Machine) (before : FetchUnit) (un : before.planned ≡ false)
     (k : IsKnown ds n now f x s before) where
   pub known-entry : IsEntryInTime (entry k.table k.state)
   known-entry = entry-ranges k.table k.state k.before.machine k.indicator
@@ -85,12 +85,12 @@ module _ (ds : List ℕ) (n now : ℕ) (f : Front) (x : List ℕ) (s : Machine) 
   pub known-words : IsEntryInTime (words_alone before.entry.own before.entry.target)
   known-words = words-entry before.entry.own before.entry.target (entry k.table k.state) k.is_next.read_on.first known-entry
 
-  pub known-early : AreDelaysUpTo 255 ds → IsFrontInTime f → IsEarly f before.words
+  pub known-early : AreDelaysUpTo 255 ds → IsIssueInTime f → IsEarly f before.words
   known-early are is = words-early ds f before.entry.own before.entry.target before.words are is known-words (k.is_next.read_on.words un)
 
   pub known-place : IsPlace before.place
-  unfolding sight
-  known-place = rw k.is_next.read_on.place (sight-fits k.state k.table k.before.machine k.indicator).place
+  unfolding decode_context
+  known-place = rw k.is_next.read_on.place (decode_context-fits k.state k.table k.before.machine k.indicator).place
 
   module _ (due : before.words.awaited ≤ now) (cs : List ℕ) (contents : cs ≡ map (word s) (words_of_run before.entry.own ++ words_of_run before.entry.target)) where
     -- an own word
@@ -101,7 +101,7 @@ module _ (ds : List ℕ) (n now : ℕ) (f : Front) (x : List ℕ) (s : Machine) 
     pub own-above : (w : ℕ) → what ds n now f x s before un due cs contents ≡ GivenWord w false → 32 ≤ w
     own-above w e = let it = known-own w e in omega (arith, it.place, known-entry.own.above (omega (arith, it.more)))
 
-    pub own-asks : (w : ℕ) (after : Next) (log new : List Made) → what ds n now f x s before un due cs contents ≡ GivenWord w false
+    pub own-asks : (w : ℕ) (after : FetchUnit) (log new : List Made) → what ds n now f x s before un due cs contents ≡ GivenWord w false
         → after ≡ with_own ds n now f x s before un due cs contents w → new ≡ log_after_reads ds (read_of ds f.past (wanted_from f) before.words w) before.words.bus log
         → IsReadFurther ds f before after log new
     own-asks w after log new e same kept =
@@ -125,7 +125,7 @@ module _ (ds : List ℕ) (n now : ℕ) (f : Front) (x : List ℕ) (s : Machine) 
     pub target-above : (w : ℕ) → what ds n now f x s before un due cs contents ≡ GivenWord w true → 32 ≤ w
     target-above w e = let it = known-target w e in omega (arith, it.place, known-entry.target.above (omega (arith, it.more)))
 
-    pub target-asks : (w : ℕ) (after : Next) (log new : List Made) → what ds n now f x s before un due cs contents ≡ GivenWord w true
+    pub target-asks : (w : ℕ) (after : FetchUnit) (log new : List Made) → what ds n now f x s before un due cs contents ≡ GivenWord w true
         → after ≡ with_target ds n now f x s before un due cs contents w
         → new ≡ log_after_reads ds (read_of ds f.past (max (wanted_from f) f.c) before.words w) before.words.bus log → IsReadFurther ds f before after log new
     target-asks w after log new e same kept =
@@ -148,27 +148,27 @@ module _ (ds : List ℕ) (n now : ℕ) (f : Front) (x : List ℕ) (s : Machine) 
       pub known-seen : IsEntryInTime before.entry
       known-seen =
           let it = comes-all ds n now f x s before un due cs contents k.table k.state k.indicator k.before k.is_next.read_on before.fetched.value e in
-          rw (ap (λ (m : Next). m.entry) prepared
-          ∙ entry-same k.table k.state before.entry.own before.entry.target (sight_of before.place before.fetched.value x s) it.0.own_all it.0.target_all
-          (sight-same now f x s k.state k.table before.place before.fetched.value k.before k.is_next.read_on.place it.1)) known-entry
+          rw (ap (λ (m : FetchUnit). m.entry) prepared
+          ∙ entry-same k.table k.state before.entry.own before.entry.target (decode_context_of before.place before.fetched.value x s) it.0.own_all it.0.target_all
+          (decode_context-same now f x s k.state k.table before.place before.fetched.value k.before k.is_next.read_on.place it.1)) known-entry
 
       pub plan-words : before.words ≡ words_tick ds f before.entry
       unfolding words_tick fetch_words
-      plan-words = k.is_next.read_on.words un ∙ ap (λ (m : Next). words_tick ds f m.entry) (sym prepared)
+      plan-words = k.is_next.read_on.words un ∙ ap (λ (m : FetchUnit). words_tick ds f m.entry) (sym prepared)
 
-      pub plan-asks : (after : Next) (log new : List Made) → IsPlannedAs ds n f before after
+      pub plan-asks : (after : FetchUnit) (log new : List Made) → IsPlannedAs ds n f before after
           → new ≡ log_after_reads ds (side_asked f.past after.entry.side after.formed.a) before.words.bus log → IsReadFurther ds f before after log new
-      unfolding bus_a bus_sided
+      unfolding bus_a bus_after_index_read
       plan-asks after log new made kept =
           let g = before.entry in
           let side = side_asked f.past after.entry.side after.formed.a in
-          let same : side ≡ side_asked f.past g.side (tick_a ds f g) = rw (ap (λ (m : Next). m.entry) made.rest, made.address) refl in
+          let same : side ≡ side_asked f.past g.side (tick_a ds f g) = rw (ap (λ (m : FetchUnit). m.entry) made.rest, made.address) refl in
           record {
             added = side;
             so_far =
-                reads-planned ds f after (ap (λ (m : Next). m.planned) made.rest)
-                ∙ ap (λ r. asked_so_far ds f r after.entry.target ++ side) (ap (λ (m : Next). m.entry.own) made.rest)
-                ∙ ap (λ r. asked_so_far ds f before.entry.own r ++ side) (ap (λ (m : Next). m.entry.target) made.rest)
+                reads-planned ds f after (ap (λ (m : FetchUnit). m.planned) made.rest)
+                ∙ ap (λ r. asked_so_far ds f r after.entry.target ++ side) (ap (λ (m : FetchUnit). m.entry.own) made.rest)
+                ∙ ap (λ r. asked_so_far ds f before.entry.own r ++ side) (ap (λ (m : FetchUnit). m.entry.target) made.rest)
                 ∙ ap (λ reads. reads ++ side) (sym (reads-none ds f before un));
             bus = made.bus ∙ sym (served-side ds f.past g.side (tick_a ds f g) (words_tick ds f g).bus)
                 ∙ ap (bus_after_reads ds (side_asked f.past g.side (tick_a ds f g))) (ap (λ (w : Fetching). w.bus) (sym plan-words))
@@ -178,7 +178,7 @@ module _ (ds : List ℕ) (n now : ℕ) (f : Front) (x : List ℕ) (s : Machine) 
 
 -- ---- steps after steps
 
-pub further-then : (ds : List ℕ) (f : Front) (a b c : Next) (log one two : List Made) → IsReadFurther ds f a b log one → IsReadFurther ds f b c one two
+pub further-then : (ds : List ℕ) (f : IssueState) (a b c : FetchUnit) (log one two : List Made) → IsReadFurther ds f a b log one → IsReadFurther ds f b c one two
     → IsReadFurther ds f a c log two
 further-then ds f a b c log one two first then_ = record {
   added = first.added ++ then_.added;
@@ -187,7 +187,7 @@ further-then ds f a b c log one two first then_ = record {
   kept = then_.kept ∙ noted-two ds first.added then_.added a.words.bus b.words.bus log one first.bus first.kept;
 }
 
-pub further-nothing : (ds : List ℕ) (f : Front) (a : Next) (log : List Made) → IsReadFurther ds f a a log log
+pub further-nothing : (ds : List ℕ) (f : IssueState) (a : FetchUnit) (log : List Made) → IsReadFurther ds f a a log log
 unfolding bus_after_reads log_after_reads
 further-nothing ds f a log = record { added = []; so_far = sym (append-nil (reads_so_far ds f a)); bus = refl; kept = refl }
 

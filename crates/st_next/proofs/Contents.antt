@@ -9,7 +9,7 @@ use Rattle.st_prep.specs.Reading.{Reading, reading_at_place, left_after, fetchin
 use Rattle.st_rows.specs.Ranges.{IsEntryInTime, IsReadable}
 use Rattle.st_rows.specs.declared.entry.WordRun.{WordRun}
 use Rattle.st_rows.specs.declared.entry.Entry.{Entry}
-use Rattle.st_rows.specs.declared.front.Front.{Front}
+use Rattle.st_rows.specs.declared.issue.IssueState.{IssueState}
 use Rattle.st_rows.specs.declared.past.Past.{Past}
 use Rattle.st_rows.proofs.Awaited.{awaited-own, awaited-target}
 use Rattle.st_segment.specs.Alone.{word_list_from, words_of_run}
@@ -56,7 +56,7 @@ map-same g h w (suc n) same =
     next : (i : ℕ) → g (w + suc i) ≡ h (w + suc i) → g (w + 1 + i) ≡ h (w + 1 + i)
     next i e = let place : w + 1 + i ≡ w + suc i = omega arith in rw place e
 
-pub contents-same : (ds : List ℕ) (now : ℕ) (f : Front) (x : List ℕ) (s u : Machine) (own target : WordRun)
+pub contents-same : (ds : List ℕ) (now : ℕ) (f : IssueState) (x : List ℕ) (s u : Machine) (own target : WordRun)
     → IsStateBefore now f.past x s u → IsEntryInTime (words_alone own target) → (words_so_far ds f own target).awaited ≤ now
     → map (word s) (words_of_run own ++ words_of_run target) ≡ map (word u) (words_of_run own ++ words_of_run target)
 contents-same ds now f x s u own target is words done =

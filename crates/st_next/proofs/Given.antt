@@ -5,7 +5,7 @@ use Rattle.st_state.specs.Machine.{Machine, word}
 use Rattle.st_prep.specs.declared.entries.Fetched.{Fetched}
 use Rattle.st_prep.specs.declared.entries.Fetching.TheVariants.{Next, Found}
 use Rattle.st_prep.specs.Fetch.{index_words, place_of, words_fetched}
-use Rattle.st_prep.specs.Plan.{plan, sight}
+use Rattle.st_prep.specs.Plan.{plan, decode_context}
 use Rattle.st_prep.specs.Reading.{left_after, fetching_of, words_read, own_words, is_execute}
 use Rattle.st_prep.proofs.PreparedLemmas.{alone-serial}
 use Rattle.st_rows.specs.declared.entry.WordRun.{WordRun}
@@ -13,7 +13,7 @@ use Rattle.st_segment.specs.Alone.{words_of_run}
 use Rattle.st_segment.specs.Entries.{reading_at, instruction_words, own_count, entry}
 use Rattle.st_segment.proofs.EntryRanges.{entry-words, entry-own}
 use Rattle.st_next.specs.Words.{AreFirstWords}
-use Rattle.st_next.proofs.Fronts.{IsRest, rest-left, given-word, given-own, given-target, given-found}
+use Rattle.st_next.proofs.Issues.{IsRest, rest-left, given-word, given-own, given-target, given-found}
 use Rattle.st_next.proofs.Readings.{own-first, targets-execute}
 use Rattle.st_next.proofs.Starts.{left_of, first-left, length-first, run_of-none, IsNextOwn, next-own, IsNextTarget, next-target, IsAll, next-none}
 
@@ -83,7 +83,7 @@ module _ (t : Option ℕ) (u : Machine) where
   or-second false b h = h
 
   execute-serial : is_execute (words_fetched u (place_of u t)).instr.instr ≡ true → (entry t u).serial ≡ true
-  unfolding entry plan sight
+  unfolding entry plan decode_context
   execute-serial ex =
       let p = place_of u t in alone-serial _ _ (or-second (is_some p.table) (is_execute (words_fetched u p).instr.instr) ex)
 

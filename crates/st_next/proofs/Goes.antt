@@ -2,33 +2,33 @@
 use Rattle.std.specs.Prelude.{if◌then◌else◌}
 use Rattle.std.proofs.Common.{◌≡◌, ℕ, ◌≤◌, max, Bool, true, false, List, inl, arith}
 use Rattle.st_state.specs.Machine.{Machine}
-use Rattle.st_rows.specs.declared.front.Front.{Front}
+use Rattle.st_rows.specs.declared.issue.IssueState.{IssueState}
 use Rattle.st_next.specs.Progress.{wanted_next, IsKnown}
 use Rattle.st_next.specs.Going.{GoesOnTo}
-use Rattle.st_next.specs.declared.next.Next.{Next}
+use Rattle.st_next.specs.declared.fetch_unit.FetchUnit.{FetchUnit}
 
 -- what is done alone is awaited
 alone-wanted : (b : Bool) (p c : ℕ) → (if b then c else 0) ≤ (if b then max p c else p)
 alone-wanted true p c = omega arith
 alone-wanted false p c = omega arith
 
-module _ (ds : List ℕ) (n now : ℕ) (f : Front) (x : List ℕ) (s : Machine) where
-  pub goes-same : (a : Next) → a.planned ≡ false → GoesOnTo ds n now f x s a a 0
+module _ (ds : List ℕ) (n now : ℕ) (f : IssueState) (x : List ℕ) (s : Machine) where
+  pub goes-same : (a : FetchUnit) → a.planned ≡ false → GoesOnTo ds n now f x s a a 0
   goes-same a un = record { each = λ t u table is next. (next, λ un. inl (omega arith)) }
 
-  pub goes-then : (a b c : Next) (sooner later : ℕ) → GoesOnTo ds n now f x s a b sooner → GoesOnTo ds n now f x s b c later → GoesOnTo ds n now f x s a c later
+  pub goes-then : (a b c : FetchUnit) (sooner later : ℕ) → GoesOnTo ds n now f x s a b sooner → GoesOnTo ds n now f x s b c later → GoesOnTo ds n now f x s a c later
   goes-then a b c sooner later one two = record { each = λ t u table is next. two.each t u table is (one.each t u table is next).0 }
 
   -- it stops at a word that is wanted later
-  pub goes-stop : (a b : Next) (sooner later : ℕ) → GoesOnTo ds n now f x s a b sooner → b.planned ≡ false → later ≤ wanted_next f b → GoesOnTo ds n now f x s a b later
+  pub goes-stop : (a b : FetchUnit) (sooner later : ℕ) → GoesOnTo ds n now f x s a b sooner → b.planned ≡ false → later ≤ wanted_next f b → GoesOnTo ds n now f x s a b later
   goes-stop a b sooner later goes un late = record { each = λ t u table is next. ((goes.each t u table is next).0, λ none. inl late) }
 
   -- or before an entry that it waits for
-  pub goes-waits : (a : Next) (later : ℕ) → a.planned ≡ false → later ≤ max a.words.awaited (if f.serial then f.c else 0) → GoesOnTo ds n now f x s a a later
+  pub goes-waits : (a : FetchUnit) (later : ℕ) → a.planned ≡ false → later ≤ max a.words.awaited (if f.serial then f.c else 0) → GoesOnTo ds n now f x s a a later
   goes-waits a later un late =
       goes-stop a a 0 later (goes-same a un) un (omega (arith, late, alone-wanted f.serial f.p f.c))
 
-  pub known-then : (a b : Next) (later : ℕ) → IsKnown ds n now f x s a → GoesOnTo ds n now f x s a b later → IsKnown ds n now f x s b
+  pub known-then : (a b : FetchUnit) (later : ℕ) → IsKnown ds n now f x s a → GoesOnTo ds n now f x s a b later → IsKnown ds n now f x s b
   known-then a b later k goes =
       let it = goes.each k.table k.state k.indicator k.before k.is_next in
       record { table = k.table; state = k.state; indicator = k.indicator; before = k.before; is_next = it.0 }

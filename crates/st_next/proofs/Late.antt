@@ -12,7 +12,7 @@ use Rattle.st_rows.specs.declared.entry.WordRun.{WordRun}
 use Rattle.st_rows.specs.declared.entry.Entry.{Entry}
 use Rattle.st_rows.specs.declared.past.Past.{Past}
 use Rattle.st_rows.specs.declared.fetching.Fetching.{Fetching}
-use Rattle.st_rows.specs.declared.front.Front.{Front}
+use Rattle.st_rows.specs.declared.issue.IssueState.{IssueState}
 use Rattle.st_prep.proofs.GivenLemmas.{differs}
 use Rattle.st_next.specs.Words.{IsStart, AreFirstWords, words_so_far, asked_so_far}
 use Rattle.st_next.proofs.WordByWord.{want_of, fetch-more, asked-more, fetch-none, asked-none}
@@ -89,19 +89,19 @@ module _ (ds : List ℕ) (past : List Past) (from : ℕ) where
 -- ---- behind the first words of an entry
 
 -- the words of the target wait for the last entry
-pub waits-most : (f : Front) (run : WordRun) → (if run.len == 0 then 0 else f.c) ≤ f.c
+pub waits-most : (f : IssueState) (run : WordRun) → (if run.len == 0 then 0 else f.c) ≤ f.c
 waits-most f run = most_if (run.len == 0)
   where
     most_if : (b : Bool) → (if b then 0 else f.c) ≤ f.c
     most_if true = omega arith
     most_if false = omega arith
 
-pub waits-some : (f : Front) (run : WordRun) → 1 ≤ run.len → (if run.len == 0 then 0 else f.c) ≡ f.c
+pub waits-some : (f : IssueState) (run : WordRun) → 1 ≤ run.len → (if run.len == 0 then 0 else f.c) ≡ f.c
 waits-some f run some =
     let no : (run.len == 0) ≡ false = differs run.len 0 (λ e. omega (arith, e)) in
     ap (λ b. if b then 0 else f.c) no
 
-module _ (ds : List ℕ) (f : Front) (own target : WordRun) (e : Entry) (are : AreFirstWords own target e) where
+module _ (ds : List ℕ) (f : IssueState) (own target : WordRun) (e : Entry) (are : AreFirstWords own target e) where
   abbrev start : Fetching
   start = record { bus = f.bus; answered = 0; awaited = 0 }
 

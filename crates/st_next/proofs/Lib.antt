@@ -1,4 +1,4 @@
-pub mod Fronts
+pub mod Issues
 pub mod WordByWord
 pub mod Starts
 pub mod Readings

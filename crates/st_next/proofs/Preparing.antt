@@ -8,23 +8,23 @@ use Rattle.st_prep.specs.declared.entries.Needs.{Needs}
 use Rattle.st_prep.specs.declared.entries.Place.{Place}
 use Rattle.st_prep.specs.declared.entries.Prepared.{Prepared}
 use Rattle.st_prep.specs.Fetch.{place_of}
-use Rattle.st_prep.specs.Plan.{Sight, sight, needs, asks, prepared_entry, plan, state_at_entry, side_word}
+use Rattle.st_prep.specs.Plan.{DecodeContext, decode_context, needs, asks, prepared_entry, plan, state_at_entry, side_word}
 use Rattle.st_prep.specs.Ranges.{IsPrepared}
 use Rattle.st_prep.proofs.PreparedLemmas.{is_prepared, is_needs, alone-serial, same_serial}
-use Rattle.st_prep.proofs.PlanLemmas.{sight-fits, plan-prepared}
+use Rattle.st_prep.proofs.PlanLemmas.{decode_context-fits, plan-prepared}
 use Rattle.st_rows.specs.BusTimes.{answer_if}
 use Rattle.st_rows.specs.Entries.{latest_done}
-use Rattle.st_rows.specs.Rows.{words_tick as fetched_words, preparation_tick as prepared_at, tick_a, tick_y, tick_p}
+use Rattle.st_rows.specs.Rows.{words_tick as fetched_words, preparation_tick as prepared_at, tick_a, index_arrival, tick_p}
 use Rattle.st_rows.specs.Words.{side_there, is_forwarded}
 use Rattle.st_rows.specs.Uses.{behind, behind_use, uses}
 use Rattle.st_rows.specs.declared.bus.Bus.{Bus}
 use Rattle.st_rows.specs.declared.entry.Entry.{Entry}
 use Rattle.st_rows.specs.declared.past.Past.{Past}
-use Rattle.st_rows.specs.declared.front.Front.{Front}
+use Rattle.st_rows.specs.declared.issue.IssueState.{IssueState}
 use Rattle.st_segment.specs.Entries.{entry, side_to_read}
 use Rattle.st_next.specs.Known.{IsStateBefore}
 use Rattle.st_next.specs.Progress.{IsPlanned, IsNext, IsNextReady}
-use Rattle.st_next.specs.declared.next.Next.{Next}
+use Rattle.st_next.specs.declared.fetch_unit.FetchUnit.{FetchUnit}
 
 -- ---- the writers of the index-side word are done
 
@@ -41,17 +41,17 @@ side_done ds n past b (Some v) w a e =
     let same : v ≡ w = cc in
     rw same (omega (arith, side_if ds b w (is_forwarded past w a) a (latest_done past w) n 0 past refl))
 
-pub writers-done : (ds : List ℕ) (n : ℕ) (f : Front) (e : Entry) (w : ℕ) → e.side ≡ Some w → latest_done f.past w ≤ tick_p ds n f e
-unfolding tick_p tick_y side_there
+pub writers-done : (ds : List ℕ) (n : ℕ) (f : IssueState) (e : Entry) (w : ℕ) → e.side ≡ Some w → latest_done f.past w ≤ tick_p ds n f e
+unfolding tick_p index_arrival side_there
 writers-done ds n f e w is = omega (arith, side_done ds n f.past (fetched_words ds f e).bus e.side w (tick_a ds f e) is)
 
 -- ---- the index-side word as it is now
 
 table-none : (t : Option ℕ) (u : Machine) → (entry t u).serial ≡ false → t ≡ None
-unfolding entry plan sight place_of
+unfolding entry plan decode_context place_of
 table-none None u e = refl
 table-none (Some i) u e =
-    let v = sight u (place_of u (Some i)) in
+    let v = decode_context u (place_of u (Some i)) in
     let serial : (entry (Some i) u).serial ≡ true = alone-serial v (side_word (Some i) u (needs v).index_read) refl in
     absurd (cc)
 
@@ -61,13 +61,13 @@ side-above None w e above = absurd (cc)
 side-above (Some v) w e above =
     let same : v ≡ w = cc in rw (same, le-leb 32 w above) refl
 
-entry-side : (t : Option ℕ) (u : Machine) → (entry t u).side ≡ side_to_read (needs (sight u (place_of u t))).index_read
+entry-side : (t : Option ℕ) (u : Machine) → (entry t u).side ≡ side_to_read (needs (decode_context u (place_of u t))).index_read
 unfolding entry
 entry-side t u = refl
 
-entry-serial : (t : Option ℕ) (u : Machine) → (entry t u).serial ≡ (needs (sight u (place_of u t))).serial
+entry-serial : (t : Option ℕ) (u : Machine) → (entry t u).serial ≡ (needs (decode_context u (place_of u t))).serial
 unfolding entry plan
-entry-serial t u = same_serial (sight u (place_of u t)) (side_word t u (needs (sight u (place_of u t))).index_read)
+entry-serial t u = same_serial (decode_context u (place_of u t)) (side_word t u (needs (decode_context u (place_of u t))).index_read)
 
 place-table : (t : Option ℕ) (u : Machine) → (place_of u t).table ≡ t
 unfolding place_of
@@ -83,10 +83,10 @@ zero-word : (o : Option ℕ) → IfSome (option_map (λ w. 0) o) (λ w. w < 2 ^ 
 zero-word None = tt
 zero-word (Some w) = omega arith
 
-module _ (ds : List ℕ) (n now : ℕ) (f : Front) (x : List ℕ) (s : Machine) (next : Next) (done : next.planned ≡ true)
+module _ (ds : List ℕ) (n now : ℕ) (f : IssueState) (x : List ℕ) (s : Machine) (next : FetchUnit) (done : next.planned ≡ true)
     (t : Option ℕ) (u : Machine) (table : IfSome t (λ i. i < 64)) (before : IsStateBefore now f.past x s u) (is : IsNext ds n t u f next) where
-  abbrev v : Sight
-  v = sight u (place_of u t)
+  abbrev v : DecodeContext
+  v = decode_context u (place_of u t)
 
   planned : IsPlanned ds n t u f next
   planned = is.planned done
@@ -116,7 +116,7 @@ module _ (ds : List ℕ) (n now : ℕ) (f : Front) (x : List ℕ) (s : Machine) 
   -- ---- with one
 
   pub words-seen : v.x ≡ x
-  unfolding sight
+  unfolding decode_context
   words-seen = before.index
 
   pub side-asked : is_some next.needs.index_read ≡ true → asks v ≡ true
@@ -126,7 +126,7 @@ module _ (ds : List ℕ) (n now : ℕ) (f : Front) (x : List ℕ) (s : Machine) 
   without-side = planned.prepared
 
   pub without-fits : IsPrepared next.prepared
-  without-fits = rw planned.prepared (is_prepared v _ (sight-fits u t before.machine table) (zero-word (needs v).index_read))
+  without-fits = rw planned.prepared (is_prepared v _ (decode_context-fits u t before.machine table) (zero-word (needs v).index_read))
 
   read-ahead : (w : ℕ) → next.needs.index_read ≡ Some w → (entry t u).serial ≡ false → tick_p ds n f (entry t u) ≤ now → word s w ≡ word u w
   read-ahead w e alone late =
@@ -165,27 +165,27 @@ none-of (Some w) true e is = absurd (cc)
 none-of (Some w) false e is = absurd (cc)
 
 -- the plan of the state before the entry
-module _ (x : List ℕ) (s : Machine) (next : Next) (done : next.planned ≡ true) (k : IsNextReady x s next) where
+module _ (x : List ℕ) (s : Machine) (next : FetchUnit) (done : next.planned ≡ true) (k : IsNextReady x s next) where
   pub ready-none : next.needs.index_read ≡ None → IsPrepared next.prepared
   ready-none none =
       subst IsPrepared
-      (sym (none-plan k.delays k.levels k.tick k.front x s next done k.known.table k.known.state k.known.indicator k.known.before k.known.is_next none))
-      (plan-fits k.delays k.levels k.tick k.front x s next done k.known.table k.known.state k.known.indicator k.known.before k.known.is_next)
+      (sym (none-plan k.delays k.levels k.tick k.issue x s next done k.known.table k.known.state k.known.indicator k.known.before k.known.is_next none))
+      (plan-fits k.delays k.levels k.tick k.issue x s next done k.known.table k.known.state k.known.indicator k.known.before k.known.is_next)
 
   pub ready-inside : IfSome next.needs.index_read (λ w. w < words_of_storage)
-  ready-inside = side-inside k.delays k.levels k.tick k.front x s next done k.known.table k.known.state k.known.indicator k.known.before k.known.is_next
+  ready-inside = side-inside k.delays k.levels k.tick k.issue x s next done k.known.table k.known.state k.known.indicator k.known.before k.known.is_next
 
   pub ready-table : IfSome next.place.table (λ i. i < 64)
-  ready-table = table-fits k.delays k.levels k.tick k.front x s next done k.known.table k.known.state k.known.indicator k.known.before k.known.is_next
+  ready-table = table-fits k.delays k.levels k.tick k.issue x s next done k.known.table k.known.state k.known.indicator k.known.before k.known.is_next
 
   pub ready-fits : IsPrepared next.prepared
-  ready-fits = without-fits k.delays k.levels k.tick k.front x s next done k.known.table k.known.state k.known.indicator k.known.before k.known.is_next
+  ready-fits = without-fits k.delays k.levels k.tick k.issue x s next done k.known.table k.known.state k.known.indicator k.known.before k.known.is_next
 
-  pub ready-words : (sight k.known.state (place_of k.known.state k.known.table)).x ≡ x
-  ready-words = words-seen k.delays k.levels k.tick k.front x s next done k.known.table k.known.state k.known.indicator k.known.before k.known.is_next
+  pub ready-words : (decode_context k.known.state (place_of k.known.state k.known.table)).x ≡ x
+  ready-words = words-seen k.delays k.levels k.tick k.issue x s next done k.known.table k.known.state k.known.indicator k.known.before k.known.is_next
 
-  pub ready-asked : is_some next.needs.index_read ≡ true → asks (sight k.known.state (place_of k.known.state k.known.table)) ≡ true
-  ready-asked = side-asked k.delays k.levels k.tick k.front x s next done k.known.table k.known.state k.known.indicator k.known.before k.known.is_next
+  pub ready-asked : is_some next.needs.index_read ≡ true → asks (decode_context k.known.state (place_of k.known.state k.known.table)) ≡ true
+  ready-asked = side-asked k.delays k.levels k.tick k.issue x s next done k.known.table k.known.state k.known.indicator k.known.before k.known.is_next
 
-  pub ready-without : next.prepared ≡ prepared_entry (sight k.known.state (place_of k.known.state k.known.table)) (option_map (λ w. 0) (needs (sight k.known.state (place_of k.known.state k.known.table))).index_read)
-  ready-without = without-side k.delays k.levels k.tick k.front x s next done k.known.table k.known.state k.known.indicator k.known.before k.known.is_next
+  pub ready-without : next.prepared ≡ prepared_entry (decode_context k.known.state (place_of k.known.state k.known.table)) (option_map (λ w. 0) (needs (decode_context k.known.state (place_of k.known.state k.known.table))).index_read)
+  ready-without = without-side k.delays k.levels k.tick k.issue x s next done k.known.table k.known.state k.known.indicator k.known.before k.known.is_next

@@ -6,10 +6,10 @@ use Rattle.st_state.specs.Boundary.{forbidden_by}
 use Rattle.st_state.specs.declared.protection.Access.TheVariants.{Fetch}
 use Rattle.st_prep.specs.declared.entries.Place.{Place}
 use Rattle.st_prep.specs.declared.fetching.FoundInstruction.{FoundInstruction}
-use Rattle.st_prep.specs.EarlyChange.{effective}
+use Rattle.st_prep.specs.SpeculativeChanges.{effective}
 use Rattle.st_prep.specs.Reading.{Reading, Finds, Reads, outcome, words_read, own_words, half_of, Continuation, with_second, with_first, read_after, instruction_at, is_execute, with_target, fetched_alone, own_use, reading_at_place}
 use Rattle.st_prep.proofs.Choices.{of_choice}
-use Rattle.st_next.proofs.Fronts.{OwnFirst, none-first}
+use Rattle.st_next.proofs.Issues.{OwnFirst, none-first}
 
 -- ---- a property of readings that holds after words of one kind, where it holds of each use
 

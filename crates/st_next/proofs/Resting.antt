@@ -6,16 +6,16 @@ use Rattle.st_rows.specs.Words.{fetch_words}
 use Rattle.st_rows.specs.declared.entry.WordRun.{WordRun}
 use Rattle.st_rows.specs.declared.entry.Entry.{Entry}
 use Rattle.st_rows.specs.declared.fetching.Fetching.{Fetching}
-use Rattle.st_rows.specs.declared.front.Front.{Front}
+use Rattle.st_rows.specs.declared.issue.IssueState.{IssueState}
 use Rattle.st_segment.specs.Entries.{entry}
 use Rattle.st_next.specs.Words.{words_so_far}
 use Rattle.st_next.specs.Progress.{IsReadOn, Rests, wanted_next}
-use Rattle.st_next.specs.declared.next.Next.{Next}
+use Rattle.st_next.specs.declared.fetch_unit.FetchUnit.{FetchUnit}
 use Rattle.st_next.proofs.Given.{target-serial}
 use Rattle.st_next.proofs.WordByWord.{fetch-none}
 use Rattle.st_next.proofs.Late.{waits-most, words-later, AreLeft, left_none, left_target}
 
-pub waits-none : (f : Front) (run : WordRun) → run.len ≡ 0 → (if run.len == 0 then 0 else f.c) ≡ 0
+pub waits-none : (f : IssueState) (run : WordRun) → run.len ≡ 0 → (if run.len == 0 then 0 else f.c) ≡ 0
 waits-none f run none = ap (λ n. if n == 0 then 0 else f.c) none
 
 -- ---- the address is formed later
@@ -31,7 +31,7 @@ alone-serial : (a b : Bool) (c : ℕ) → a ≡ true → c ≤ (if a || b then c
 alone-serial true b c e = omega arith
 alone-serial false b c e = absurd (cc)
 
-module _ (ds : List ℕ) (m : ℕ) (t : Option ℕ) (u : Machine) (f : Front) (next : Next) (read : IsReadOn ds t u f next) (un : next.planned ≡ false) where
+module _ (ds : List ℕ) (m : ℕ) (t : Option ℕ) (u : Machine) (f : IssueState) (next : FetchUnit) (read : IsReadOn ds t u f next) (un : next.planned ≡ false) where
   abbrev e : Entry
   e = entry t u
 

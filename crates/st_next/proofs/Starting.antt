@@ -7,11 +7,11 @@ use Rattle.st_rows.specs.Words.{fetch_words, fetch_word}
 use Rattle.st_rows.specs.Asked.{words_asked, fetches_asked}
 use Rattle.st_rows.specs.declared.entry.WordRun.{WordRun}
 use Rattle.st_rows.specs.declared.fetching.Fetching.{Fetching}
-use Rattle.st_rows.specs.declared.front.Front.{Front}
+use Rattle.st_rows.specs.declared.issue.IssueState.{IssueState}
 use Rattle.st_segment.specs.Entries.{entry}
 use Rattle.st_next.specs.Words.{IsStart, words_so_far, asked_so_far}
 use Rattle.st_next.specs.Progress.{IsNext, Rests, reads_so_far}
-use Rattle.st_next.specs.declared.next.Next.{Next}
+use Rattle.st_next.specs.declared.fetch_unit.FetchUnit.{FetchUnit}
 use Rattle.st_next.proofs.Steps.{planned-none}
 use Rattle.st_next.proofs.Asking.{reads-none}
 use Rattle.st_rows.specs.Uses.{behind, reads_of, uses, wishes}
@@ -22,16 +22,16 @@ nothing = record { first = 0; len = 0 }
 nothing-start : (run : WordRun) → IsStart nothing run
 nothing-start run = record { few = omega arith; first = λ some. absurd (omega arith); none = λ none. refl }
 
-nothing-fetched : (ds : List ℕ) (f : Front) → words_so_far ds f nothing nothing ≡ record { bus = f.bus; answered = 0; awaited = 0 }
+nothing-fetched : (ds : List ℕ) (f : IssueState) → words_so_far ds f nothing nothing ≡ record { bus = f.bus; answered = 0; awaited = 0 }
 unfolding words_tick fetch_words behind uses wishes fetch_word
 nothing-fetched ds f = refl
 
-nothing-asked : (ds : List ℕ) (f : Front) → asked_so_far ds f nothing nothing ≡ []
+nothing-asked : (ds : List ℕ) (f : IssueState) → asked_so_far ds f nothing nothing ≡ []
 unfolding fetches_asked words_asked fetch_words reads_of uses wishes fetch_word
 nothing-asked ds f = refl
 
 -- an entry with no word is read on so far
-pub new-next : (ds : List ℕ) (n : ℕ) (t : Option ℕ) (u : Machine) (f : Front) (next : Next) → next.place ≡ place_of u t → next.entry.own ≡ nothing → next.entry.target ≡ nothing
+pub new-next : (ds : List ℕ) (n : ℕ) (t : Option ℕ) (u : Machine) (f : IssueState) (next : FetchUnit) → next.place ≡ place_of u t → next.entry.own ≡ nothing → next.entry.target ≡ nothing
     → next.words ≡ record { bus = f.bus; answered = 0; awaited = 0 } → next.planned ≡ false → IsNext ds n t u f next
 new-next ds n t u f next place own target words un = record {
   read_on = record {
@@ -50,10 +50,10 @@ new-next ds n t u f next place own target words un = record {
     begun : next.words ≡ words_so_far ds f next.entry.own next.entry.target
     begun = rw (own, target) (words ∙ sym (nothing-fetched ds f))
 
-pub new-reads : (ds : List ℕ) (f : Front) (next : Next) → next.entry.own ≡ nothing → next.entry.target ≡ nothing → next.planned ≡ false → reads_so_far ds f next ≡ []
+pub new-reads : (ds : List ℕ) (f : IssueState) (next : FetchUnit) → next.entry.own ≡ nothing → next.entry.target ≡ nothing → next.planned ≡ false → reads_so_far ds f next ≡ []
 new-reads ds f next own target un = reads-none ds f next un ∙ rw (own, target) (nothing-asked ds f)
 
 -- before its first word is wanted, nothing of it can be known
-pub new-rests : (now : ℕ) (t : Option ℕ) (u : Machine) (f : Front) (next : Next) → next.planned ≡ false → now ≤ wanted_from f
+pub new-rests : (now : ℕ) (t : Option ℕ) (u : Machine) (f : IssueState) (next : FetchUnit) → next.planned ≡ false → now ≤ wanted_from f
     → Rests now t u f next
 new-rests now t u f next un early = λ none. inl (omega arith)

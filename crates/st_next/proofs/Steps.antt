@@ -9,13 +9,13 @@ use Rattle.st_prep.specs.declared.entries.Place.{Place}
 use Rattle.st_prep.specs.declared.entries.Needs.{Needs}
 use Rattle.st_prep.specs.declared.entries.Prepared.{Prepared}
 use Rattle.st_prep.specs.Fetch.{index_words, place_of, words_fetched as fetched_at}
-use Rattle.st_prep.specs.Plan.{Sight, sight_of, sight, needs}
+use Rattle.st_prep.specs.Plan.{DecodeContext, decode_context_of, decode_context, needs}
 use Rattle.st_prep.specs.Reading.{reading_at_place, left_after, fetching_of}
 use Rattle.st_rows.specs.Rows.{wanted_from, tick_a, bus_a, tick_p}
 use Rattle.st_rows.specs.Words.{fetch_word}
 use Rattle.st_rows.specs.declared.entry.WordRun.{WordRun}
 use Rattle.st_rows.specs.declared.fetching.Fetching.{Fetching}
-use Rattle.st_rows.specs.declared.front.Front.{Front}
+use Rattle.st_rows.specs.declared.issue.IssueState.{IssueState}
 use Rattle.st_segment.specs.Alone.{words_of_run}
 use Rattle.st_segment.specs.Entries.{reading_at, entry, entry_with}
 use Rattle.st_segment.proofs.EntryRanges.{entry-ranges}
@@ -24,54 +24,54 @@ use Rattle.st_next.specs.Words.{run_with_word}
 use Rattle.st_next.specs.Known.{IsStateBefore}
 use Rattle.st_next.specs.Progress.{IsReadOn, IsPlanned, preparation_without_side, Rests}
 use Rattle.st_next.specs.Going.{GoesOnTo, as_entry, prepared_as}
-use Rattle.st_next.specs.declared.next.Next.{Next}
+use Rattle.st_next.specs.declared.fetch_unit.FetchUnit.{FetchUnit}
 use Rattle.st_next.proofs.Starts.{IsNextOwn, own-more, IsNextTarget, target-more, word-behind, IsAll}
 use Rattle.st_next.proofs.Given.{contents_of, gives-own, gives-target, gives-all}
 use Rattle.st_next.proofs.Contents.{words-entry, contents-same, reading-same, given-same}
 use Rattle.st_next.proofs.WordByWord.{own-fetched, target-fetched}
 use Rattle.st_next.proofs.Late.{waits-some}
 
-pub planned-none : (b : Bool) (ds : List ℕ) (n : ℕ) (t : Option ℕ) (u : Machine) (f : Front) (next : Next) → b ≡ false → b ≡ true → IsPlanned ds n t u f next
+pub planned-none : (b : Bool) (ds : List ℕ) (n : ℕ) (t : Option ℕ) (u : Machine) (f : IssueState) (next : FetchUnit) → b ≡ false → b ≡ true → IsPlanned ds n t u f next
 planned-none b ds n t u f next un is = absurd (cc)
 
-abbrev sight_with : Place → Fetched → List ℕ → ℕ → Bool → Sight
-sight_with p fd x b on = record { place = p; fetched = fd; x = x; bounds = b; enabled = on }
+abbrev decode_context_with : Place → Fetched → List ℕ → ℕ → Bool → DecodeContext
+decode_context_with p fd x b on = record { place = p; fetched = fd; x = x; bounds = b; enabled = on }
 
 -- what is seen of the state before the entry is seen of it
-pub sight-same : (now : ℕ) (f : Front) (x : List ℕ) (s u : Machine) (t : Option ℕ) (p : Place) (fd : Fetched) → IsStateBefore now f.past x s u
-    → p ≡ place_of u t → fd ≡ fetched_at u (place_of u t) → sight_of p fd x s ≡ sight u (place_of u t)
-unfolding sight
-sight-same now f x s u t p fd is place found =
-    ap (λ p. sight_of p fd x s) place ∙ ap (λ fd. sight_of (place_of u t) fd x s) found
-    ∙ ap (λ x. sight_of (place_of u t) (fetched_at u (place_of u t)) x s) (sym is.index)
-    ∙ ap (λ b. sight_with (place_of u t) (fetched_at u (place_of u t)) (index_words u) b s.enabled) (sym is.bounds)
-    ∙ ap (λ on. sight_with (place_of u t) (fetched_at u (place_of u t)) (index_words u) (word u 3) on) (sym is.enabled)
+pub decode_context-same : (now : ℕ) (f : IssueState) (x : List ℕ) (s u : Machine) (t : Option ℕ) (p : Place) (fd : Fetched) → IsStateBefore now f.past x s u
+    → p ≡ place_of u t → fd ≡ fetched_at u (place_of u t) → decode_context_of p fd x s ≡ decode_context u (place_of u t)
+unfolding decode_context
+decode_context-same now f x s u t p fd is place found =
+    ap (λ p. decode_context_of p fd x s) place ∙ ap (λ fd. decode_context_of (place_of u t) fd x s) found
+    ∙ ap (λ x. decode_context_of (place_of u t) (fetched_at u (place_of u t)) x s) (sym is.index)
+    ∙ ap (λ b. decode_context_with (place_of u t) (fetched_at u (place_of u t)) (index_words u) b s.enabled) (sym is.bounds)
+    ∙ ap (λ on. decode_context_with (place_of u t) (fetched_at u (place_of u t)) (index_words u) (word u 3) on) (sym is.enabled)
 
 -- so is the entry
-pub entry-same : (t : Option ℕ) (u : Machine) (own target : WordRun) (v : Sight) → own ≡ (entry t u).own → target ≡ (entry t u).target
-    → v ≡ sight u (place_of u t) → entry_with own target (needs v) (preparation_without_side v) v.place.table v.fetched.fault ≡ entry t u
+pub entry-same : (t : Option ℕ) (u : Machine) (own target : WordRun) (v : DecodeContext) → own ≡ (entry t u).own → target ≡ (entry t u).target
+    → v ≡ decode_context u (place_of u t) → entry_with own target (needs v) (preparation_without_side v) v.place.table v.fetched.fault ≡ entry t u
 entry-same t u own target v o g e = rw (o, g, e) (sym (entry-seen t u _))
 
 -- what is fetched for an entry, what it needs and what it is prepared to, kept in it
-abbrev pub shown : Next → Fetched → Needs → Prepared → Next
+abbrev pub shown : FetchUnit → Fetched → Needs → Prepared → FetchUnit
 shown next fd needed prepared =
     let m = record next { fetched = record { marker = record {}; value = fd }; needs = needed; prepared = prepared } in
     record m { entry = as_entry m }
 
-pub shown-as : (next : Next) (x : List ℕ) (s : Machine) (fd given : Fetched) (needed : Needs) (prepared : Prepared) → given ≡ fd
-    → needed ≡ needs (sight_of next.place fd x s) → prepared ≡ preparation_without_side (sight_of next.place fd x s)
+pub shown-as : (next : FetchUnit) (x : List ℕ) (s : Machine) (fd given : Fetched) (needed : Needs) (prepared : Prepared) → given ≡ fd
+    → needed ≡ needs (decode_context_of next.place fd x s) → prepared ≡ preparation_without_side (decode_context_of next.place fd x s)
     → shown next given needed prepared ≡ prepared_as fd x s next
 shown-as next x s fd given needed prepared f n p = rw (f, n, p) refl
 
 -- an entry that is prepared so far is planned
-pub record IsPlannedAs (ds : List ℕ) (n : ℕ) (f : Front) (before after : Next) : Type 0 where
+pub record IsPlannedAs (ds : List ℕ) (n : ℕ) (f : IssueState) (before after : FetchUnit) : Type 0 where
   pub rest : after ≡ record before { words = after.words; formed = after.formed; planned = true }
   pub awaited : after.words.awaited ≡ before.words.awaited
   pub address : after.formed.a ≡ tick_a ds f before.entry
   pub bus : after.words.bus ≡ bus_a ds f before.entry
   pub tick : after.formed.p ≡ tick_p ds n f before.entry
 
-module _ (ds : List ℕ) (n now : ℕ) (f : Front) (x : List ℕ) (s : Machine) (before : Next) (un : before.planned ≡ false) (due : before.words.awaited ≤ now)
+module _ (ds : List ℕ) (n now : ℕ) (f : IssueState) (x : List ℕ) (s : Machine) (before : FetchUnit) (un : before.planned ≡ false) (due : before.words.awaited ≤ now)
     (cs : List ℕ) (contents : cs ≡ map (word s) (words_of_run before.entry.own ++ words_of_run before.entry.target)) where
   abbrev pub what : Giving
   what = fetching_of (left_after (reading_at_place x (word s 3) s.enabled before.place) cs)
@@ -95,7 +95,7 @@ module _ (ds : List ℕ) (n now : ℕ) (f : Front) (x : List ℕ) (s : Machine) 
 
   -- ---- an own word
 
-  abbrev pub with_own : ℕ → Next
+  abbrev pub with_own : ℕ → FetchUnit
   with_own w = record before { words = fetch_word ds f.past before.words w (wanted_from f); entry = record before.entry { own = run_with_word before.entry.own w } }
 
   own-read : (t : Option ℕ) (u : Machine) (w : ℕ) → IsReadOn ds t u f before → IsNextOwn before.entry.own before.entry.target (entry t u) w → IsReadOn ds t u f (with_own w)
@@ -109,7 +109,7 @@ module _ (ds : List ℕ) (n now : ℕ) (f : Front) (x : List ℕ) (s : Machine) 
         awaited = ap (λ (s : Fetching). s.awaited) words;
       }
 
-  pub own-goes : (w : ℕ) (after : Next) → what ≡ GivenWord w false → after ≡ with_own w → GoesOnTo ds n now f x s before after 0
+  pub own-goes : (w : ℕ) (after : FetchUnit) → what ≡ GivenWord w false → after ≡ with_own w → GoesOnTo ds n now f x s before after 0
   own-goes w after e same = subst (λ a. GoesOnTo ds n now f x s before a 0) (sym same) (record {
     each = λ t u table is next. let it = comes-own t u table is next.read_on w e in (
       record { read_on = own-read t u w next.read_on it; planned = planned-none before.planned ds n t u f (with_own w) un },
@@ -119,7 +119,7 @@ module _ (ds : List ℕ) (n now : ℕ) (f : Front) (x : List ℕ) (s : Machine) 
 
   -- ---- a word of the target
 
-  abbrev pub with_target : ℕ → Next
+  abbrev pub with_target : ℕ → FetchUnit
   with_target w = record before { words = fetch_word ds f.past before.words w (max (wanted_from f) f.c); entry = record before.entry { target = run_with_word before.entry.target w } }
 
   target-read : (t : Option ℕ) (u : Machine) (w : ℕ) → IsReadOn ds t u f before → IsNextTarget before.entry.own before.entry.target (entry t u) w → IsReadOn ds t u f (with_target w)
@@ -133,7 +133,7 @@ module _ (ds : List ℕ) (n now : ℕ) (f : Front) (x : List ℕ) (s : Machine) 
         awaited = ap (λ (s : Fetching). s.awaited) words;
       }
 
-  pub target-goes : (w : ℕ) (after : Next) → what ≡ GivenWord w true → after ≡ with_target w → GoesOnTo ds n now f x s before after 0
+  pub target-goes : (w : ℕ) (after : FetchUnit) → what ≡ GivenWord w true → after ≡ with_target w → GoesOnTo ds n now f x s before after 0
   target-goes w after e same = subst (λ a. GoesOnTo ds n now f x s before a 0) (sym same) (record {
     each = λ t u table is next. let it = comes-target t u table is next.read_on w e in (
       record { read_on = target-read t u w next.read_on it; planned = planned-none before.planned ds n t u f (with_target w) un },
@@ -155,7 +155,7 @@ module _ (ds : List ℕ) (n now : ℕ) (f : Front) (x : List ℕ) (s : Machine) 
 
   -- ---- it is prepared
 
-  pub prepared-goes : (fd : Fetched) (after : Next) → after ≡ prepared_as fd x s before → GoesOnTo ds n now f x s before after 0
+  pub prepared-goes : (fd : Fetched) (after : FetchUnit) → after ≡ prepared_as fd x s before → GoesOnTo ds n now f x s before after 0
   prepared-goes fd after same = subst (λ a. GoesOnTo ds n now f x s before a 0) (sym same) (record {
     each = λ t u table is next. (
       record {
@@ -168,13 +168,13 @@ module _ (ds : List ℕ) (n now : ℕ) (f : Front) (x : List ℕ) (s : Machine) 
 
   -- ---- the plan
 
-  pub plan-goes : (after : Next) (later : ℕ) → what ≡ GivenAll before.fetched.value → before ≡ prepared_as before.fetched.value x s before → IsPlannedAs ds n f before after
+  pub plan-goes : (after : FetchUnit) (later : ℕ) → what ≡ GivenAll before.fetched.value → before ≡ prepared_as before.fetched.value x s before → IsPlannedAs ds n f before after
       → GoesOnTo ds n now f x s before after later
   plan-goes after later e prepared made = subst (λ a. GoesOnTo ds n now f x s before a later) (sym made.rest) (record {
     each = λ t u table is next.
         let it = comes-all t u table is next.read_on before.fetched.value e in
-        let same = sight-same now f x s u t before.place before.fetched.value is next.read_on.place it.1 in
-        let whole = ap (λ (m : Next). m.entry) prepared ∙ entry-same t u before.entry.own before.entry.target (sight_of before.place before.fetched.value x s) it.0.own_all it.0.target_all same in (
+        let same = decode_context-same now f x s u t before.place before.fetched.value is next.read_on.place it.1 in
+        let whole = ap (λ (m : FetchUnit). m.entry) prepared ∙ entry-same t u before.entry.own before.entry.target (decode_context_of before.place before.fetched.value x s) it.0.own_all it.0.target_all same in (
           record {
             read_on = record {
               place = next.read_on.place;
@@ -184,8 +184,8 @@ module _ (ds : List ℕ) (n now : ℕ) (f : Front) (x : List ℕ) (s : Machine) 
             };
             planned = λ done. record {
               found = it.1;
-              needs = ap (λ (m : Next). m.needs) prepared ∙ ap needs same;
-              prepared = ap (λ (m : Next). m.prepared) prepared ∙ ap preparation_without_side same;
+              needs = ap (λ (m : FetchUnit). m.needs) prepared ∙ ap needs same;
+              prepared = ap (λ (m : FetchUnit). m.prepared) prepared ∙ ap preparation_without_side same;
               entry = whole;
               address = made.address ∙ ap (tick_a ds f) whole;
               bus = made.bus ∙ ap (bus_a ds f) whole;

@@ -8,7 +8,7 @@ use Rattle.st_rows.specs.BusTimes.{Read}
 use Rattle.st_rows.specs.Rows.{words_tick, tick_a, bus_a, tick_p, operands, reads_of_entry}
 use Rattle.st_rows.specs.declared.entry.Entry.{Entry}
 use Rattle.st_rows.specs.declared.fetching.Fetching.{Fetching}
-use Rattle.st_rows.specs.declared.front.Front.{Front}
+use Rattle.st_rows.specs.declared.issue.IssueState.{IssueState}
 use Rattle.st_rows.proofs.Served.{served-append, served-fetches, served-side}
 use Rattle.st_rows.proofs.Each.{each-operand, each-following, each-of-data}
 use Rattle.st_rows.proofs.Parts.{asked-parts, a-p}
@@ -16,14 +16,14 @@ use Rattle.st_segment.specs.Entries.{entry}
 use Rattle.st_next.specs.Words.{words_alone, asked_so_far}
 use Rattle.st_next.specs.Progress.{IsPlanned, IsNext, Rests, reads_so_far}
 use Rattle.st_next.specs.Going.{AreLeft}
-use Rattle.st_next.specs.declared.next.Next.{Next}
+use Rattle.st_next.specs.declared.fetch_unit.FetchUnit.{FetchUnit}
 use Rattle.st_next.proofs.Late.{IsLate}
 use Rattle.st_next.proofs.Resting.{address-late, rest-left}
 use Rattle.st_next.proofs.Asking.{reads-none, reads-planned, side-late}
-use Rattle.st_rows.specs.Words.{bus_sided, fetch_words}
+use Rattle.st_rows.specs.Words.{bus_after_index_read, fetch_words}
 
 -- all of the data is wanted when the address is formed or later
-data-late : (ds : List ℕ) (n m : ℕ) (f : Front) (e : Entry) → m ≤ tick_a ds f e → All (IsLate m) (data_of ds n f e)
+data-late : (ds : List ℕ) (n m : ℕ) (f : IssueState) (e : Entry) → m ≤ tick_a ds f e → All (IsLate m) (data_of ds n f e)
 data-late ds n m f e late =
     let p : m ≤ tick_p ds n f e = omega (arith, late, a-p ds n f e) in
     each-of-data (IsLate m) ds n f e (side-late f.past e.side m (tick_a ds f e) late)
@@ -31,13 +31,13 @@ data-late ds n m f e late =
     (each-following (IsLate m) ds (operands ds n f e).bus e (tick_p ds n f e) (λ follows v least most. p))
 
 -- the words of the entry, with whatever else
-fetches-same : (ds : List ℕ) (f : Front) (seen e : Entry) → seen ≡ e → asked_so_far ds f seen.own seen.target ≡ fetches_asked ds f e
+fetches-same : (ds : List ℕ) (f : IssueState) (seen e : Entry) → seen ≡ e → asked_so_far ds f seen.own seen.target ≡ fetches_asked ds f e
 unfolding fetches_asked words_asked fetch_words
 fetches-same ds f seen e same = rw same refl
 
 -- ---- of an entry that is not planned
 
-pub left-resting : (ds : List ℕ) (n now : ℕ) (t : Option ℕ) (u : Machine) (f : Front) (next : Next) → IsNext ds n t u f next → next.planned ≡ false
+pub left-resting : (ds : List ℕ) (n now : ℕ) (t : Option ℕ) (u : Machine) (f : IssueState) (next : FetchUnit) → IsNext ds n t u f next → next.planned ≡ false
     → Rests now t u f next → AreLeft ds n now t u f next
 left-resting ds n now t u f next is un rests =
     let e = entry t u in
@@ -54,7 +54,7 @@ left-resting ds n now t u f next is un rests =
 
 -- ---- of one that is
 
-module _ (ds : List ℕ) (n : ℕ) (t : Option ℕ) (u : Machine) (f : Front) (next : Next) (is : IsNext ds n t u f next) (done : next.planned ≡ true) where
+module _ (ds : List ℕ) (n : ℕ) (t : Option ℕ) (u : Machine) (f : IssueState) (next : FetchUnit) (is : IsNext ds n t u f next) (done : next.planned ≡ true) where
   abbrev e : Entry
   e = entry t u
 
@@ -92,7 +92,7 @@ module _ (ds : List ℕ) (n : ℕ) (t : Option ℕ) (u : Machine) (f : Front) (n
       }
 
   served-planned : bus_after_reads ds (reads_so_far ds f next) f.bus ≡ next.words.bus
-  unfolding bus_a bus_sided
+  unfolding bus_a bus_after_index_read
   served-planned =
       let side = side_asked f.past e.side (tick_a ds f e) in
       ap (λ reads. bus_after_reads ds reads f.bus) planned-reads ∙ served-append ds (fetches_asked ds f e) side f.bus
@@ -100,17 +100,17 @@ module _ (ds : List ℕ) (n : ℕ) (t : Option ℕ) (u : Machine) (f : Front) (n
 
 -- ---- the bus
 
-served-resting : (ds : List ℕ) (n : ℕ) (t : Option ℕ) (u : Machine) (f : Front) (next : Next) → IsNext ds n t u f next → next.planned ≡ false
+served-resting : (ds : List ℕ) (n : ℕ) (t : Option ℕ) (u : Machine) (f : IssueState) (next : FetchUnit) → IsNext ds n t u f next → next.planned ≡ false
     → bus_after_reads ds (reads_so_far ds f next) f.bus ≡ next.words.bus
 served-resting ds n t u f next is un =
     ap (λ reads. bus_after_reads ds reads f.bus) (reads-none ds f next un) ∙ served-fetches ds f (words_alone next.entry.own next.entry.target)
     ∙ ap (λ (s : Fetching). s.bus) (sym (is.read_on.words un))
 
-served-by : (b : Bool) (ds : List ℕ) (n : ℕ) (t : Option ℕ) (u : Machine) (f : Front) (next : Next) → next.planned ≡ b → IsNext ds n t u f next
+served-by : (b : Bool) (ds : List ℕ) (n : ℕ) (t : Option ℕ) (u : Machine) (f : IssueState) (next : FetchUnit) → next.planned ≡ b → IsNext ds n t u f next
     → bus_after_reads ds (reads_so_far ds f next) f.bus ≡ next.words.bus
 served-by true ds n t u f next e is = served-planned ds n t u f next is e
 served-by false ds n t u f next e is = served-resting ds n t u f next is e
 
-pub served-so-far : (ds : List ℕ) (n : ℕ) (t : Option ℕ) (u : Machine) (f : Front) (next : Next) → IsNext ds n t u f next
+pub served-so-far : (ds : List ℕ) (n : ℕ) (t : Option ℕ) (u : Machine) (f : IssueState) (next : FetchUnit) → IsNext ds n t u f next
     → bus_after_reads ds (reads_so_far ds f next) f.bus ≡ next.words.bus
 served-so-far ds n t u f next is = served-by next.planned ds n t u f next refl is

@@ -11,7 +11,7 @@ use Rattle.st_rows.specs.BusTimes.{Read}
 use Rattle.st_rows.specs.declared.entry.WordRun.{WordRun}
 use Rattle.st_rows.specs.declared.past.Past.{Past}
 use Rattle.st_rows.specs.declared.fetching.Fetching.{Fetching}
-use Rattle.st_rows.specs.declared.front.Front.{Front}
+use Rattle.st_rows.specs.declared.issue.IssueState.{IssueState}
 use Rattle.st_next.specs.Words.{run_with_word, words_so_far, asked_so_far}
 use Rattle.st_rows.specs.Uses.{behind, reads_of, uses, wishes}
 
@@ -90,7 +90,7 @@ module _ (ds : List ℕ) (past : List Past) (from : ℕ) where
 
 -- ---- of an entry
 
-module _ (ds : List ℕ) (f : Front) (own target : WordRun) (w : ℕ) where
+module _ (ds : List ℕ) (f : IssueState) (own target : WordRun) (w : ℕ) where
   abbrev before : Fetching
   before = record { bus = f.bus; answered = 0; awaited = 0 }
 
@@ -130,7 +130,7 @@ module _ (ds : List ℕ) (f : Front) (own target : WordRun) (w : ℕ) where
       ap (λ reads. words_asked ds f.past before (wanted_from f) own.first own.len ++ reads) (asked-word ds f.past waits own_words target w place)
       ∙ sym (append_assoc (words_asked ds f.past before (wanted_from f) own.first own.len) (words_asked ds f.past own_words waits target.first target.len) _)
 
-pub own-asked : (ds : List ℕ) (f : Front) (own target : WordRun) (w : ℕ) → target.len ≡ 0 → (1 ≤ own.len → w ≡ own.first + own.len)
+pub own-asked : (ds : List ℕ) (f : IssueState) (own target : WordRun) (w : ℕ) → target.len ≡ 0 → (1 ≤ own.len → w ≡ own.first + own.len)
     → asked_so_far ds f (run_with_word own w) target ≡ asked_so_far ds f own target ++ read_of ds f.past (wanted_from f) (words_so_far ds f own target) w
 own-asked ds f own target w none place =
     own-reads ds f (run_with_word own w) target w none

@@ -8,7 +8,7 @@ use Rattle.st_prep.specs.declared.entries.Prepared.{Prepared}
 use Rattle.st_prep.specs.declared.entries.Fetching.{Fetching as Given}
 use Rattle.st_prep.specs.declared.entries.Fetching.TheVariants.{Found}
 use Rattle.st_prep.specs.Fetch.{reading_by}
-use Rattle.st_prep.specs.Plan.{sight_of, needs, plan}
+use Rattle.st_prep.specs.Plan.{decode_context_of, needs, plan}
 use Rattle.st_prep.specs.Reading.{left_after, fetching_of}
 use Rattle.st_rows.specs.Asked.{bus_after_reads}
 use Rattle.st_rows.specs.BusTimes.{Read}
@@ -17,29 +17,29 @@ use Rattle.st_rows.specs.Ranges.{IsTight, IsFetchingWithin, ArePastWithin}
 use Rattle.st_rows.specs.Rows.{wanted_from, reads_of_entry}
 use Rattle.st_rows.specs.declared.entry.Entry.{Entry}
 use Rattle.st_rows.specs.declared.fetching.Fetching.{Fetching}
-use Rattle.st_rows.specs.declared.front.Front.{Front}
+use Rattle.st_rows.specs.declared.issue.IssueState.{IssueState}
 use Rattle.st_rows.specs.declared.log.Made.{Made}
 use Rattle.st_segment.specs.Alone.{words_of_run}
 use Rattle.st_segment.specs.Entries.{entry, entry_with}
 use Rattle.st_next.specs.Known.{IsStateBefore}
 use Rattle.st_next.specs.Progress.{IsNext, Rests, reads_so_far, preparation_without_side}
-use Rattle.st_next.specs.declared.next.Next.{Next}
+use Rattle.st_next.specs.declared.fetch_unit.FetchUnit.{FetchUnit}
 
 -- the ticks of a front lie close together and are early enough
-pub record IsFrontInTime (f : Front) : Type 0 where
+pub record IsIssueInTime (f : IssueState) : Type 0 where
   pub tight : IsTight MOST_DELAY f
   pub early : f.c ≤ 2 ^ 63 + 2 ^ 20
 
 -- whatever the state before the entry is, what is known of it stays so, and then nothing more can
 -- be known before the tick `later`; by the tick `now` the entries are done that write what is read
 -- of the state
-pub record GoesOnTo (ds : List ℕ) (n now : ℕ) (f : Front) (x : List ℕ) (s : Machine)
-    (before after : Next) (later : ℕ) : Type 0 where
+pub record GoesOnTo (ds : List ℕ) (n now : ℕ) (f : IssueState) (x : List ℕ) (s : Machine)
+    (before after : FetchUnit) (later : ℕ) : Type 0 where
   pub each : (t : Option ℕ) (u : Machine) → IsIndicatorIfAny t → IsStateBefore now f.past x s u
       → IsNext ds n t u f before → IsNext ds n t u f after × Rests later t u f after
 
 -- the reads that are asked for it come behind the others, are made on its bus, and are noted
-pub record IsReadFurther (ds : List ℕ) (f : Front) (before after : Next)
+pub record IsReadFurther (ds : List ℕ) (f : IssueState) (before after : FetchUnit)
     (log new : List Made) : Type 0 where
   pub added : List Read
   pub so_far : reads_so_far ds f after ≡ reads_so_far ds f before ++ added
@@ -47,47 +47,47 @@ pub record IsReadFurther (ds : List ℕ) (f : Front) (before after : Next)
   pub kept : new ≡ log_after_reads ds added before.words.bus log
 
 -- what is fetched so far and what the front awaits is early enough for one read more
-pub record IsEarly (f : Front) (words : Fetching) : Type 0 where
+pub record IsEarly (f : IssueState) (words : Fetching) : Type 0 where
   pub room : IsFetchingWithin (2 ^ 64 - 512) words
   pub before : ArePastWithin (2 ^ 64 - 512) f.past
   pub wanted : wanted_from f ≤ 2 ^ 64 - 512
   pub done : f.c ≤ 2 ^ 64 - 512
 
 -- an entry as the timetable sees it, by what is fetched, what it needs and what it is prepared to
-abbrev pub as_entry : Next → Entry
+abbrev pub as_entry : FetchUnit → Entry
 as_entry next = entry_with next.entry.own next.entry.target next.needs next.prepared next.place.table
     next.fetched.value.fault
 
 -- an entry of which this is fetched, prepared as far as it goes without its index-side word
-abbrev pub prepared_as : Fetched → List ℕ → Machine → Next → Next
+abbrev pub prepared_as : Fetched → List ℕ → Machine → FetchUnit → FetchUnit
 prepared_as fd x s next =
-    let v = sight_of next.place fd x s in
+    let v = decode_context_of next.place fd x s in
     let m = record next { fetched = record { marker = record {}; value = fd }; needs = needs v; prepared = preparation_without_side v } in
     record m { entry = as_entry m }
 
 -- how far it is fetched by the words so far, as they stand in a state
-abbrev pub given_so_far : List ℕ → Machine → Next → Given
+abbrev pub given_so_far : List ℕ → Machine → FetchUnit → Given
 given_so_far x s next = fetching_of (left_after (reading_by x s next.place)
     (map (word s) (words_of_run next.entry.own ++ words_of_run next.entry.target)))
 
 -- its words tell all of it, and their writers are done by the tick `now`: it is prepared as far as
 -- it goes without its index-side word
-pub record IsPreparedBy (now : ℕ) (x : List ℕ) (s : Machine) (next : Next) : Type 0 where
+pub record IsPreparedBy (now : ℕ) (x : List ℕ) (s : Machine) (next : FetchUnit) : Type 0 where
   pub found : given_so_far x s next ≡ Found next.fetched.value
   pub done : next.words.awaited ≤ now
   pub prepared : next ≡ prepared_as next.fetched.value x s next
 
 -- what an entry that is planned is prepared to at its tick: the next entry of whatever state stands
 -- before it then
-abbrev pub IsPlanAtItsTick : List ℕ → Machine → Next → Prepared → Type 0
-IsPlanAtItsTick x s next p = (ds : List ℕ) (n now : ℕ) (f : Front) (t : Option ℕ) (u : Machine) →
+abbrev pub IsPlanAtItsTick : List ℕ → Machine → FetchUnit → Prepared → Type 0
+IsPlanAtItsTick x s next p = (ds : List ℕ) (n now : ℕ) (f : IssueState) (t : Option ℕ) (u : Machine) →
     IsIndicatorIfAny t → IsStateBefore now f.past x s u → IsNext ds n t u f next →
     now ≡ next.formed.p → ((entry t u).serial ≡ true → u ≡ s) → p ≡ plan u t
 
 -- the reads so far are the first ones of the entry, and those that are left are wanted at a tick or
 -- later
-pub record AreLeft (ds : List ℕ) (n want : ℕ) (t : Option ℕ) (u : Machine) (f : Front)
-    (next : Next) : Type 0 where
+pub record AreLeft (ds : List ℕ) (n want : ℕ) (t : Option ℕ) (u : Machine) (f : IssueState)
+    (next : FetchUnit) : Type 0 where
   pub rest : List Read
   pub reads : reads_of_entry ds n f (entry t u) ≡ reads_so_far ds f next ++ rest
   pub late : All (λ (r : Read). want ≤ r.want) rest

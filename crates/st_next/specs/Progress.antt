@@ -3,7 +3,7 @@ use Rattle.std.specs.Prelude.{ℕ, ◌≡◌, ◌≤◌, ◌==◌, max, true, fa
 use Rattle.st_bits.specs.Indicators.{IsIndicatorIfAny}
 use Rattle.st_state.specs.Machine.{Machine}
 use Rattle.st_prep.specs.Fetch.{place_of, words_fetched as fetched_at}
-use Rattle.st_prep.specs.Plan.{Sight, needs as needs_of, sight, prepared_entry as prepared_of}
+use Rattle.st_prep.specs.Plan.{DecodeContext, needs as needs_of, decode_context, prepared_entry as prepared_of}
 use Rattle.st_prep.specs.declared.entries.Prepared.{Prepared}
 use Rattle.st_rows.specs.Rows.{wanted_from, tick_a, bus_a, tick_p}
 use Rattle.st_rows.specs.Words.{nothing_fetched}
@@ -11,38 +11,38 @@ use Rattle.st_rows.specs.Entries.{no_run}
 use Rattle.st_rows.specs.declared.bus.Bus.{Bus}
 use Rattle.st_rows.specs.Asked.{side_asked}
 use Rattle.st_rows.specs.BusTimes.{Read}
-use Rattle.st_rows.specs.declared.front.Front.{Front}
+use Rattle.st_rows.specs.declared.issue.IssueState.{IssueState}
 use Rattle.st_segment.specs.Entries.{entry as entry_of}
 use Rattle.st_next.specs.Known.{IsStateBefore}
 use Rattle.st_next.specs.Words.{AreFirstWords, words_so_far, asked_so_far}
-use Rattle.st_next.specs.declared.next.Next.{Next}
+use Rattle.st_next.specs.declared.fetch_unit.FetchUnit.{FetchUnit}
 
 -- ---- the entry that is prepared next: t says whether it is a table instruction, u is the state
 -- before it, and f the front
 
 -- no word of it is asked for yet, on this bus
-abbrev pub IsUnread : Bus → Next → Type 0
+abbrev pub IsUnread : Bus → FetchUnit → Type 0
 IsUnread bus next = (next.planned ≡ false) × (next.entry.own ≡ no_run) × (next.entry.target ≡ no_run)
     × (next.words ≡ nothing_fetched bus)
 
 -- so many of its words are asked for, and the bus is behind them until the entry is planned
-pub record IsReadOn (ds : List ℕ) (t : Option ℕ) (u : Machine) (f : Front)
-    (next : Next) : Type 0 where
+pub record IsReadOn (ds : List ℕ) (t : Option ℕ) (u : Machine) (f : IssueState)
+    (next : FetchUnit) : Type 0 where
   pub place : next.place ≡ place_of u t
   pub first : AreFirstWords next.entry.own next.entry.target (entry_of t u)
   pub words : next.planned ≡ false → next.words ≡ words_so_far ds f next.entry.own next.entry.target
   pub awaited : next.words.awaited ≡ (words_so_far ds f next.entry.own next.entry.target).awaited
 
 -- how an entry of which so much is seen is prepared, with 0 in place of its index-side word
-abbrev pub preparation_without_side : Sight → Prepared
+abbrev pub preparation_without_side : DecodeContext → Prepared
 preparation_without_side v = prepared_of v (option_map (λ w. 0) (needs_of v).index_read)
 
-module _ (ds : List ℕ) (n : ℕ) (t : Option ℕ) (u : Machine) (f : Front) (next : Next) where
+module _ (ds : List ℕ) (n : ℕ) (t : Option ℕ) (u : Machine) (f : IssueState) (next : FetchUnit) where
   -- its words are all asked for, and all of it is known but its index-side word
   pub record IsPlanned : Type 0 where
     pub found : next.fetched.value ≡ fetched_at u (place_of u t)
-    pub needs : next.needs ≡ needs_of (sight u (place_of u t))
-    pub prepared : next.prepared ≡ preparation_without_side (sight u (place_of u t))
+    pub needs : next.needs ≡ needs_of (decode_context u (place_of u t))
+    pub prepared : next.prepared ≡ preparation_without_side (decode_context u (place_of u t))
     pub entry : next.entry ≡ entry_of t u
     pub address : next.formed.a ≡ tick_a ds f (entry_of t u)
     pub bus : next.words.bus ≡ bus_a ds f (entry_of t u)
@@ -54,14 +54,14 @@ module _ (ds : List ℕ) (n : ℕ) (t : Option ℕ) (u : Machine) (f : Front) (n
     pub planned : next.planned ≡ true → IsPlanned
 
 -- the reads that are asked for it so far
-abbrev pub reads_so_far : List ℕ → Front → Next → List Read
+abbrev pub reads_so_far : List ℕ → IssueState → FetchUnit → List Read
 reads_so_far ds f next =
     asked_so_far ds f next.entry.own next.entry.target
     ++ (if next.planned then side_asked f.past next.entry.side next.formed.a else [])
 
 -- the tick from which on the next word is wanted, as far as the words so far tell: those of the
 -- target wait for the last entry, once one of them is asked for
-abbrev pub wanted_next : Front → Next → ℕ
+abbrev pub wanted_next : IssueState → FetchUnit → ℕ
 wanted_next f next =
     max (max (max (wanted_from f)
     (if next.entry.target.len == 0 then 0 else f.c)) next.words.answered) next.words.awaited
@@ -69,15 +69,15 @@ wanted_next f next =
 -- nothing more of it can be known before the tick `now`: it is planned; or the words so far are not
 -- answered before, or an entry that writes one of them is not done; or it is EX, whose target waits
 -- for the entry before
-abbrev pub Rests : ℕ → Option ℕ → Machine → Front → Next → Type 0
+abbrev pub Rests : ℕ → Option ℕ → Machine → IssueState → FetchUnit → Type 0
 Rests now t u f next = next.planned ≡ false → (now ≤ wanted_next f next)
     ⊎ ((next.entry.own ≡ (entry_of t u).own) × (next.entry.target.len ≡ 0)
     × (1 ≤ (entry_of t u).target.len) × (now ≤ f.c))
 
 -- what the calls take for granted: there is such a state u, by the entries that are done at this
 -- tick
-pub record IsKnown (ds : List ℕ) (n now : ℕ) (f : Front) (x : List ℕ) (s : Machine)
-    (next : Next) : Type 0 where
+pub record IsKnown (ds : List ℕ) (n now : ℕ) (f : IssueState) (x : List ℕ) (s : Machine)
+    (next : FetchUnit) : Type 0 where
   pub table : Option ℕ
   pub state : Machine
   pub indicator : IsIndicatorIfAny table
@@ -85,9 +85,9 @@ pub record IsKnown (ds : List ℕ) (n now : ℕ) (f : Front) (x : List ℕ) (s :
   pub is_next : IsNext ds n table state f next
 
 -- it is known by some state before it, whatever the tick, the delays, the levels and the front are
-pub record IsNextReady (x : List ℕ) (s : Machine) (next : Next) : Type 0 where
+pub record IsNextReady (x : List ℕ) (s : Machine) (next : FetchUnit) : Type 0 where
   pub delays : List ℕ
   pub levels : ℕ
   pub tick : ℕ
-  pub front : Front
-  pub known : IsKnown delays levels tick front x s next
+  pub issue : IssueState
+  pub known : IsKnown delays levels tick issue x s next

@@ -7,7 +7,7 @@ use Rattle.st_rows.specs.BusTimes.{Read}
 use Rattle.st_rows.specs.declared.entry.WordRun.{WordRun}
 use Rattle.st_rows.specs.declared.entry.Entry.{Entry}
 use Rattle.st_rows.specs.declared.fetching.Fetching.{Fetching}
-use Rattle.st_rows.specs.declared.front.Front.{Front}
+use Rattle.st_rows.specs.declared.issue.IssueState.{IssueState}
 
 -- ---- the words so far: the first of the entry's own words, and then of those of its target
 
@@ -25,11 +25,11 @@ words_alone own target = record {
 }
 
 -- what is fetched where these are its words so far
-abbrev pub words_so_far : List ℕ → Front → WordRun → WordRun → Fetching
+abbrev pub words_so_far : List ℕ → IssueState → WordRun → WordRun → Fetching
 words_so_far ds f own target = words_tick ds f (words_alone own target)
 
 -- the reads that are asked for then
-abbrev pub asked_so_far : List ℕ → Front → WordRun → WordRun → List Read
+abbrev pub asked_so_far : List ℕ → IssueState → WordRun → WordRun → List Read
 asked_so_far ds f own target = fetches_asked ds f (words_alone own target)
 
 -- the first words of a run

@@ -2,6 +2,6 @@
 //! the last one is known it is planned. `docs/timetable.md` has the rules.
 #![tactic(auto, using(st_bits::specs::Storage::words_of_storage_is))]
 
-mod next;
+mod fetch_unit;
 
-pub use next::{Basis, Next};
+pub use fetch_unit::{PlanContext, FetchUnit};

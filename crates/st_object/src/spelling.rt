@@ -6,13 +6,13 @@ ghost use Rattle.st_object.specs.Lines as spec;
 
 use crate::items::Item;
 use st_card::{ControlForm, control_line};
-use st_text::{Line, begun, push_decimal, push_hex};
+use st_text::{Line, open_line, push_decimal, push_hex};
 
 // The line of the program's start, a half-word address.
 fn start_line(half: u64) -> Line
     ensures { result.bytes ≡ codes "START " ++ half_address half }
 {
-    let mut line = begun("START ");
+    let mut line = open_line("START ");
     push_decimal(&mut line, half / 2);
     line.push_str(".");
     push_decimal(&mut line, 32 * (half % 2));
@@ -23,7 +23,7 @@ fn start_line(half: u64) -> Line
 fn word_line(w: u64, word: u64) -> Line
     ensures { result.bytes ≡ codes "W " ++ (decimal w ++ (codes " " ++ hex_word word)) }
 {
-    let mut line = begun("W ");
+    let mut line = open_line("W ");
     push_decimal(&mut line, w);
     line.push_str(" ");
     push_hex(&mut line, 16, word);
@@ -35,10 +35,10 @@ pub(crate) fn spelled(item: Item) -> Line
     ensures { result.bytes ≡ spec.line_text item }
 {
     match item {
-        Item::Object => begun("OBJECT"),
+        Item::Object => open_line("OBJECT"),
         Item::Start(half) => start_line(half),
         Item::Word(w, word) => word_line(w, word),
         Item::Ask(control) => control_line(ControlForm::ObjectLine, control),
-        Item::Fin => begun("FIN"),
+        Item::Fin => open_line("FIN"),
     }
 }

@@ -9,12 +9,12 @@ use Rattle.st_fetch.specs.Planned.{tick_of}
 use Rattle.st_rows.specs.BusTimes.{accept_at, answer_at, bus_after_read, bus_after_request, requested_if, answer_if, answer_tick_on}
 use Rattle.st_rows.specs.Entries.{latest_done}
 use Rattle.st_rows.specs.Rows.{wanted_from, words_tick, address_tick, operands, tick_a, bus_a, tick_p}
-use Rattle.st_rows.specs.Words.{fetch_word, fetch_words, bus_sided, read_word, read_words, operands_read, request_inside, is_forwarded}
+use Rattle.st_rows.specs.Words.{fetch_word, fetch_words, bus_after_index_read, read_word, read_words, operands_read, request_inside, is_forwarded}
 use Rattle.st_rows.specs.Uses.{behind, behind_use, uses, wishes}
 use Rattle.st_rows.specs.declared.bus.Bus.{Bus}
 use Rattle.st_rows.specs.declared.entry.Entry.{Entry}
 use Rattle.st_rows.specs.declared.fetching.Fetching.{Fetching}
-use Rattle.st_rows.specs.declared.front.Front.{Front}
+use Rattle.st_rows.specs.declared.issue.IssueState.{IssueState}
 use Rattle.st_rows.specs.declared.past.Past.{Past}
 use Rattle.st_rows.proofs.Parts.{a-p}
 use Rattle.st_segment.specs.Entries.{side_to_read}
@@ -96,8 +96,8 @@ module _ (ds : List ℕ) where
     side-if false b w a v t us low less are = (one-read b w a v t low less, are)
 
     side-in-turn : (b : Bus) (side : Option ℕ) (a v t : ℕ) (rest : List Use) → v ≤ a → t ≤ b.free
-        → AreInTurn a (bus_sided ds past b (side_to_read side) a).free rest → AreInTurn v t (side_uses ds past b side a ++ rest)
-    unfolding side_uses side_to_read bus_sided AreInTurn behind uses behind_use
+        → AreInTurn a (bus_after_index_read ds past b (side_to_read side) a).free rest → AreInTurn v t (side_uses ds past b side a ++ rest)
+    unfolding side_uses side_to_read bus_after_index_read AreInTurn behind uses behind_use
     side-in-turn b None a v t rest low less are = sooner a v b.free t rest low less are
     side-in-turn b (Some w) a v t rest low less are = elim (cases_Bool (nat_lt w 32)) [
       | inl y ↦
@@ -167,12 +167,12 @@ parts : (a b c d e f g h : List Use)
     → ((a ++ b) ++ c) ++ (((d ++ e) ++ (f ++ g)) ++ h) ≡ a ++ (b ++ (c ++ (d ++ (e ++ (f ++ (g ++ h))))))
 parts a b c d e f g h = simp append_assoc refl
 
-answered-a : (ds : List ℕ) (f : Front) (e : Entry) → (words_tick ds f e).answered ≤ tick_a ds f e
+answered-a : (ds : List ℕ) (f : IssueState) (e : Entry) → (words_tick ds f e).answered ≤ tick_a ds f e
 unfolding tick_a address_tick
 answered-a ds f e = omega arith
 
 pub reads_of_an_entry_come_in_turn : ReadsOfAnEntryComeInTurn
-unfolding uses_of_entry fetch_uses data_uses words_tick bus_a operands operands_read fetch_words bus_sided read_words instruction_uses
+unfolding uses_of_entry fetch_uses data_uses words_tick bus_a operands operands_read fetch_words bus_after_index_read read_words instruction_uses
 reads_of_an_entry_come_in_turn ds n f e side reads side_is =
     let p = tick_p ds n f e in
     let a = tick_a ds f e in
@@ -197,8 +197,8 @@ reads_of_an_entry_come_in_turn ds n f e side reads side_is =
     operands-in-turn ds past begun p e.reads.one.first e.reads.one.len a sided.free regs_two (a-p ds n f e) (omega arith) regs_two_is in
     let regs_one = register_uses reads.first (reads.len - e.reads.one.len) ++ ops_one in
     let regs_one_is : AreInTurn a sided.free regs_one = registers-in-turn ds past reads.first (reads.len - e.reads.one.len) a sided.free ops_one ops_one_is in
-    let behind_side : AreInTurn a (bus_sided ds past words.bus (side_to_read side) a).free regs_one =
-    subst (λ x. AreInTurn a (bus_sided ds past words.bus x a).free regs_one) side_is regs_one_is in
+    let behind_side : AreInTurn a (bus_after_index_read ds past words.bus (side_to_read side) a).free regs_one =
+    subst (λ x. AreInTurn a (bus_after_index_read ds past words.bus x a).free regs_one) side_is regs_one_is in
     let rises = answered-rises ds past late own e.target.first e.target.len in
     let sides = side_uses ds past words.bus side a ++ regs_one in
     let sides_are : AreInTurn (max (max 0 own.answered) words.answered) words.bus.free sides =

@@ -5,19 +5,19 @@ use Rattle.std.proofs.lemmas.List.{append-nil}
 use Rattle.std.proofs.lemmas.Bool.{lt-ltb, le-ltb}
 use Rattle.st_state.specs.Machine.{Machine}
 use Rattle.st_prep.specs.declared.entries.Prepared.{Prepared}
-use Rattle.st_exec.specs.Completion.{state_after_completion, guessed_state, guess}
+use Rattle.st_exec.specs.Completion.{state_after_completion, predicted_state, prediction}
 use Rattle.st_rows.specs.Asked.{formed_asked, bus_after_reads}
 use Rattle.st_rows.specs.BusTimes.{Read}
 use Rattle.st_rows.specs.Entries.{no_runs}
 use Rattle.st_rows.specs.Notes.{log_after_reads}
-use Rattle.st_rows.specs.Rows.{row_of_entry, front_after_entry, bus_a, tick_p, tick_c, preparation_tick, done_before, reads_of_entry}
+use Rattle.st_rows.specs.Rows.{row_of_entry, issue_after_entry, bus_a, tick_p, tick_c, preparation_tick, done_before, reads_of_entry}
 use Rattle.st_rows.specs.declared.entry.Entry.{Entry}
 use Rattle.st_rows.specs.declared.log.Made.{Made}
 use Rattle.st_rows.specs.declared.past.Past.{Past}
 use Rattle.st_rows.proofs.Noted.{noted-two}
 use Rattle.st_rows.proofs.Served.{served-append, served-asked, served-formed}
-use Rattle.st_rows.specs.declared.front.Front.{Front}
-use Rattle.st_rows.specs.declared.front.EntryTicks.{EntryTicks}
+use Rattle.st_rows.specs.declared.issue.IssueState.{IssueState}
+use Rattle.st_rows.specs.declared.issue.EntryTicks.{EntryTicks}
 use Rattle.st_segment.specs.Entries.{entry}
 use Rattle.st_rows.specs.declared.bus.Bus.{Bus}
 use Rattle.st_segment.specs.Ahead.{Ahead, ahead, next_ahead, prepared_before}
@@ -28,23 +28,23 @@ use Rattle.st_plain.specs.Looking.{seen_ahead, first_late, reads_up_to}
 -- a guessed step is completed, and its counter set
 pub record IsCounted (p : Prepared) (s : Machine) : Type 0 where
   pub ic : ℕ
-  pub is : guessed_state p s ≡ record (state_after_completion p s) { ic = ic }
+  pub is : predicted_state p s ≡ record (state_after_completion p s) { ic = ic }
 
 counted-by : (b : Bool) (u : Machine) (f : ℕ) → (if b then u else record u { ic = f }) ≡ record u { ic = if b then u.ic else f }
 counted-by true u f = refl
 counted-by false u f = refl
 
-pub guess-counted : (p : Prepared) (s : Machine) → IsCounted p s
-unfolding guessed_state
-guess-counted p s = record {
+pub prediction-counted : (p : Prepared) (s : Machine) → IsCounted p s
+unfolding predicted_state
+prediction-counted p s = record {
   ic = if p.serial then (state_after_completion p s).ic else p.following;
   is = counted-by p.serial (state_after_completion p s) p.following;
 }
 
-pub guess-done : (p : Prepared) (s : Machine) → (guessed_state p s).done ≡ s.done + 1
-guess-done p s = let c = guess-counted p s in ap (λ (u : Machine). u.done) c.is ∙ completed-done p s
+pub prediction-done : (p : Prepared) (s : Machine) → (predicted_state p s).done ≡ s.done + 1
+prediction-done p s = let c = prediction-counted p s in ap (λ (u : Machine). u.done) c.is ∙ completed-done p s
 
-module _ (ds : List ℕ) (n t : ℕ) (s : Machine) (f : Front) where
+module _ (ds : List ℕ) (n t : ℕ) (s : Machine) (f : IssueState) where
   -- the entries that are found
   pub found-late : (k : ℕ) → t ≤ (row_of_entry ds n f (entry None s)).p → prepared_before t (ahead ds n k None s f) ≡ []
   unfolding ahead prepared_before
@@ -53,13 +53,13 @@ module _ (ds : List ℕ) (n t : ℕ) (s : Machine) (f : Front) where
 
   pub found-next : (k : ℕ) → 1 ≤ k → (row_of_entry ds n f (entry None s)).p < t
       → prepared_before t (ahead ds n k None s f)
-      ≡ next_ahead ds n None s f ∷ prepared_before t (ahead ds n (k - 1) None (guess None s) (front_after_entry ds n f (entry None s)))
+      ≡ next_ahead ds n None s f ∷ prepared_before t (ahead ds n (k - 1) None (prediction None s) (issue_after_entry ds n f (entry None s)))
   unfolding ahead prepared_before
   found-next zero some early = let no : ⊥ = omega arith in absurd no
   found-next (suc k) some early =
       let one : k ≡ suc k - 1 = omega arith in
       rw (lt-ltb _ t early)
-      (ap (λ j. next_ahead ds n None s f ∷ prepared_before t (ahead ds n j None (guess None s) (front_after_entry ds n f (entry None s)))) one)
+      (ap (λ j. next_ahead ds n None s f ∷ prepared_before t (ahead ds n j None (prediction None s) (issue_after_entry ds n f (entry None s)))) one)
 
   -- the first one that comes too late
   late-here : (k : ℕ) → t ≤ (row_of_entry ds n f (entry None s)).p → first_late t (ahead ds n (suc k) None s f) ≡ next_ahead ds n None s f ∷ []
@@ -68,25 +68,25 @@ module _ (ds : List ℕ) (n t : ℕ) (s : Machine) (f : Front) where
 
   late-next : (k : ℕ) → 1 ≤ k → (row_of_entry ds n f (entry None s)).p < t
       → first_late t (ahead ds n (suc k) None s f)
-      ≡ first_late t (ahead ds n (suc (k - 1)) None (guess None s) (front_after_entry ds n f (entry None s)))
+      ≡ first_late t (ahead ds n (suc (k - 1)) None (prediction None s) (issue_after_entry ds n f (entry None s)))
   unfolding ahead first_late
   late-next zero some early = let no : ⊥ = omega arith in absurd no
   late-next (suc k) some early =
       let one : suc k ≡ suc (suc k - 1) = omega arith in
-      rw (lt-ltb _ t early) (ap (λ j. first_late t (ahead ds n j None (guess None s) (front_after_entry ds n f (entry None s)))) one)
+      rw (lt-ltb _ t early) (ap (λ j. first_late t (ahead ds n j None (prediction None s) (issue_after_entry ds n f (entry None s)))) one)
 
   pub begun-here : (k : ℕ) (x : Seen) → t ≤ (row_of_entry ds n f (entry None s)).p → x ≡ seen_ahead ds n (next_ahead ds n None s f)
       → x ∷ [] ≡ map (seen_ahead ds n) (first_late t (ahead ds n (suc k) None s f))
   begun-here k x late is = ap (λ y. y ∷ []) is ∙ ap (map (seen_ahead ds n)) (sym (late-here k late))
 
-  pub begun-behind : (u : Machine) (g : Front) (k : ℕ) (xs : List Seen) → 1 ≤ k → (row_of_entry ds n f (entry None s)).p < t
-      → u ≡ guess None s → g ≡ front_after_entry ds n f (entry None s)
+  pub begun-behind : (u : Machine) (g : IssueState) (k : ℕ) (xs : List Seen) → 1 ≤ k → (row_of_entry ds n f (entry None s)).p < t
+      → u ≡ prediction None s → g ≡ issue_after_entry ds n f (entry None s)
       → xs ≡ map (seen_ahead ds n) (first_late t (ahead ds n (suc (k - 1)) None u g))
       → xs ≡ map (seen_ahead ds n) (first_late t (ahead ds n (suc k) None s f))
   begun-behind u g k xs some early next behind rest =
       rest
       ∙ ap (λ v. map (seen_ahead ds n) (first_late t (ahead ds n (suc (k - 1)) None v g))) next
-      ∙ ap (λ h. map (seen_ahead ds n) (first_late t (ahead ds n (suc (k - 1)) None (guess None s) h))) behind
+      ∙ ap (λ h. map (seen_ahead ds n) (first_late t (ahead ds n (suc (k - 1)) None (prediction None s) h))) behind
       ∙ ap (map (seen_ahead ds n)) (sym (late-next k some early))
 
   -- the reads that are made
@@ -96,28 +96,28 @@ module _ (ds : List ℕ) (n t : ℕ) (s : Machine) (f : Front) where
 
   pub looked-next : (k : ℕ) → 1 ≤ k → (row_of_entry ds n f (entry None s)).p < t
       → reads_up_to ds n t (ahead ds n (suc k) None s f)
-      ≡ reads_of_entry ds n f (entry None s) ++ reads_up_to ds n t (ahead ds n (suc (k - 1)) None (guess None s) (front_after_entry ds n f (entry None s)))
+      ≡ reads_of_entry ds n f (entry None s) ++ reads_up_to ds n t (ahead ds n (suc (k - 1)) None (prediction None s) (issue_after_entry ds n f (entry None s)))
   unfolding ahead reads_up_to
   looked-next zero some early = let no : ⊥ = omega arith in absurd no
   looked-next (suc k) some early =
       let one : suc k ≡ suc (suc k - 1) = omega arith in
       rw (lt-ltb _ t early)
-      (ap (λ j. reads_of_entry ds n f (entry None s) ++ reads_up_to ds n t (ahead ds n j None (guess None s) (front_after_entry ds n f (entry None s)))) one)
+      (ap (λ j. reads_of_entry ds n f (entry None s) ++ reads_up_to ds n t (ahead ds n j None (prediction None s) (issue_after_entry ds n f (entry None s)))) one)
 
 -- what is found, and what is made
 pub found-same : (ds : List ℕ) (n : ℕ) (xs : List Seen) (ys : List Ahead) → ys ≡ [] → xs ≡ xs ++ map (seen_ahead ds n) ys
 found-same ds n xs ys none = rw none (sym (append-nil xs))
 
-module _ (ds : List ℕ) (n t : ℕ) (s : Machine) (f : Front) where
-  pub found-look : (u : Machine) (g : Front) (k : ℕ) (xs ys ws : List Seen) (x : Seen) → 1 ≤ k → (row_of_entry ds n f (entry None s)).p < t
-      → x ≡ seen_ahead ds n (next_ahead ds n None s f) → u ≡ guess None s → g ≡ front_after_entry ds n f (entry None s) → ys ≡ xs ++ x ∷ []
+module _ (ds : List ℕ) (n t : ℕ) (s : Machine) (f : IssueState) where
+  pub found-look : (u : Machine) (g : IssueState) (k : ℕ) (xs ys ws : List Seen) (x : Seen) → 1 ≤ k → (row_of_entry ds n f (entry None s)).p < t
+      → x ≡ seen_ahead ds n (next_ahead ds n None s f) → u ≡ prediction None s → g ≡ issue_after_entry ds n f (entry None s) → ys ≡ xs ++ x ∷ []
       → ws ≡ ys ++ map (seen_ahead ds n) (prepared_before t (ahead ds n (k - 1) None u g))
       → ws ≡ xs ++ map (seen_ahead ds n) (prepared_before t (ahead ds n k None s f))
   found-look u g k xs ys ws x some early is next behind one rest =
-      let later : List Seen = map (seen_ahead ds n) (prepared_before t (ahead ds n (k - 1) None (guess None s) (front_after_entry ds n f (entry None s)))) in
+      let later : List Seen = map (seen_ahead ds n) (prepared_before t (ahead ds n (k - 1) None (prediction None s) (issue_after_entry ds n f (entry None s)))) in
       rest
       ∙ ap (λ v. ys ++ map (seen_ahead ds n) (prepared_before t (ahead ds n (k - 1) None v g))) next
-      ∙ ap (λ h. ys ++ map (seen_ahead ds n) (prepared_before t (ahead ds n (k - 1) None (guess None s) h))) behind
+      ∙ ap (λ h. ys ++ map (seen_ahead ds n) (prepared_before t (ahead ds n (k - 1) None (prediction None s) h))) behind
       ∙ ap (λ l. l ++ later) one
       ∙ append_assoc xs (x ∷ []) later
       ∙ ap (λ y. xs ++ y ∷ later) is
@@ -133,8 +133,8 @@ module _ (ds : List ℕ) (n t : ℕ) (s : Machine) (f : Front) where
       → new ≡ log_after_reads ds (reads_up_to ds n t (ahead ds n (suc k) None s f)) f.bus log
   log-late k log new late is = is ∙ ap (λ reads. log_after_reads ds reads f.bus log) (sym (looked-late ds n t s f k late))
 
-  module _ (u : Machine) (g : Front) (k : ℕ) (some : 1 ≤ k) (early : (row_of_entry ds n f (entry None s)).p < t) (next : u ≡ guess None s)
-      (behind : g ≡ front_after_entry ds n f (entry None s)) where
+  module _ (u : Machine) (g : IssueState) (k : ℕ) (some : 1 ≤ k) (early : (row_of_entry ds n f (entry None s)).p < t) (next : u ≡ prediction None s)
+      (behind : g ≡ issue_after_entry ds n f (entry None s)) where
     here : List Read
     here = reads_of_entry ds n f (entry None s)
 
@@ -145,12 +145,12 @@ module _ (ds : List ℕ) (n t : ℕ) (s : Machine) (f : Front) where
     unfolding here later
     all =
         looked-next ds n t s f k some early
-        ∙ ap (λ v. reads_of_entry ds n f (entry None s) ++ reads_up_to ds n t (ahead ds n (suc (k - 1)) None v (front_after_entry ds n f (entry None s)))) (sym next)
+        ∙ ap (λ v. reads_of_entry ds n f (entry None s) ++ reads_up_to ds n t (ahead ds n (suc (k - 1)) None v (issue_after_entry ds n f (entry None s)))) (sym next)
         ∙ ap (λ h. reads_of_entry ds n f (entry None s) ++ reads_up_to ds n t (ahead ds n (suc (k - 1)) None u h)) (sym behind)
 
     bus : g.bus ≡ bus_after_reads ds here f.bus
     unfolding here
-    bus = ap (λ (h : Front). h.bus) behind ∙ sym (served-asked ds n f (entry None s))
+    bus = ap (λ (h : IssueState). h.bus) behind ∙ sym (served-asked ds n f (entry None s))
 
     pub bus-look : (b : Bus) → b ≡ bus_after_reads ds (reads_up_to ds n t (ahead ds n (suc (k - 1)) None u g)) g.bus
         → b ≡ bus_after_reads ds (reads_up_to ds n t (ahead ds n (suc k) None s f)) f.bus
@@ -179,43 +179,43 @@ get-take (suc n) (suc j) d (x ∷ xs) few = get-take n j d xs (omega (arith, few
 done-at : (i : ℕ) (past : List Past) → done_before (suc i) past ≡ (get_or past i (record { c = 0; writes = no_runs })).c
 done-at i past = let e : suc i - 1 ≡ i = omega arith in ap (λ j. (get_or past j (record { c = 0; writes = no_runs })).c) e
 
-pub first-next : (ds : List ℕ) (n levels more t : ℕ) (f g : Front) (e : Entry) → levels ≤ 8 → 1 ≤ more → more ≤ levels → t ≤ f.c → f.c < g.c
-    → (more < levels → t ≤ done_before (levels - more) f.past) → g ≡ front_after_entry ds n f e → more - 1 < levels → t ≤ done_before (levels - (more - 1)) g.past
-unfolding front_after_entry
+pub first-next : (ds : List ℕ) (n levels more t : ℕ) (f g : IssueState) (e : Entry) → levels ≤ 8 → 1 ≤ more → more ≤ levels → t ≤ f.c → f.c < g.c
+    → (more < levels → t ≤ done_before (levels - more) f.past) → g ≡ issue_after_entry ds n f e → more - 1 < levels → t ≤ done_before (levels - (more - 1)) g.past
+unfolding issue_after_entry
 first-next ds n levels more t f g e eight some few early rises first behind less = by_place (levels - more) refl
   where
     by_place : (j : ℕ) → levels - more ≡ j → t ≤ done_before (levels - (more - 1)) g.past
     by_place zero is =
         let one : levels - (more - 1) ≡ 1 = omega (arith, some, few, is) in
-        let c : g.c ≡ (front_after_entry ds n f e).c = ap (λ (h : Front). h.c) behind in
+        let c : g.c ≡ (issue_after_entry ds n f e).c = ap (λ (h : IssueState). h.c) behind in
         rw (one, behind) (omega (arith, early, rises, c))
     by_place (suc j) is =
         let two : levels - (more - 1) ≡ suc (suc j) = omega (arith, some, few, is) in
         let known : t ≤ done_before (suc j) f.past = subst (λ i. t ≤ done_before i f.past) is (first (omega (arith, is))) in
         let there : t ≤ (get_or f.past j (record { c = 0; writes = no_runs })).c = subst (λ v. t ≤ v) (done-at j f.past) known in
-        let kept : t ≤ (get_or (front_after_entry ds n f e).past (suc j) (record { c = 0; writes = no_runs })).c =
+        let kept : t ≤ (get_or (issue_after_entry ds n f e).past (suc j) (record { c = 0; writes = no_runs })).c =
         subst (λ (x : Past). t ≤ x.c) (sym (get-take 7 j (record { c = 0; writes = no_runs }) f.past (omega (arith, eight, is, some)))) there in
-        let at : t ≤ done_before (suc (suc j)) (front_after_entry ds n f e).past = subst (λ v. t ≤ v) (sym (done-at (suc j) (front_after_entry ds n f e).past)) kept in
-        subst (λ i. t ≤ done_before i g.past) (sym two) (subst (λ (h : Front). t ≤ done_before (suc (suc j)) h.past) (sym behind) at)
+        let at : t ≤ done_before (suc (suc j)) (issue_after_entry ds n f e).past = subst (λ v. t ≤ v) (sym (done-at (suc j) (issue_after_entry ds n f e).past)) kept in
+        subst (λ i. t ≤ done_before i g.past) (sym two) (subst (λ (h : IssueState). t ≤ done_before (suc (suc j)) h.past) (sym behind) at)
 
 -- the one behind the last level is too late
-pub last-late : (ds : List ℕ) (n more t : ℕ) (f : Front) (e : Entry) → more ≡ 0 → 1 ≤ n → (more < n → t ≤ done_before (n - more) f.past) → t ≤ tick_p ds n f e
+pub last-late : (ds : List ℕ) (n more t : ℕ) (f : IssueState) (e : Entry) → more ≡ 0 → 1 ≤ n → (more < n → t ≤ done_before (n - more) f.past) → t ≤ tick_p ds n f e
 unfolding tick_p preparation_tick
 last-late ds n more t f e none some first =
     let all : n - more ≡ n = omega (arith, none) in
     let known : t ≤ done_before n f.past = subst (λ i. t ≤ done_before i f.past) all (first (omega (arith, none, some))) in
     omega (arith, known)
 
-pub some-more : (ds : List ℕ) (n more t : ℕ) (f : Front) (e : Entry) → 1 ≤ n → (more < n → t ≤ done_before (n - more) f.past) → tick_p ds n f e < t → 1 ≤ more
+pub some-more : (ds : List ℕ) (n more t : ℕ) (f : IssueState) (e : Entry) → 1 ≤ n → (more < n → t ≤ done_before (n - more) f.past) → tick_p ds n f e < t → 1 ≤ more
 some-more ds n zero t f e some first early =
     let late = last-late ds n zero t f e refl some first in
     let no : ⊥ = omega (arith, late, early) in absurd no
 some-more ds n (suc more) t f e some first early = omega arith
 
-pub row-p : (ds : List ℕ) (n : ℕ) (f : Front) (e : Entry) → (row_of_entry ds n f e).p ≡ tick_p ds n f e
+pub row-p : (ds : List ℕ) (n : ℕ) (f : IssueState) (e : Entry) → (row_of_entry ds n f e).p ≡ tick_p ds n f e
 unfolding row_of_entry
 row-p ds n f e = refl
 
-pub after-c : (ds : List ℕ) (n : ℕ) (f : Front) (e : Entry) → (front_after_entry ds n f e).c ≡ tick_c ds n f e
-unfolding front_after_entry
+pub after-c : (ds : List ℕ) (n : ℕ) (f : IssueState) (e : Entry) → (issue_after_entry ds n f e).c ≡ tick_c ds n f e
+unfolding issue_after_entry
 after-c ds n f e = refl

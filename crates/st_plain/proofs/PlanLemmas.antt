@@ -2,7 +2,7 @@
 use Rattle.std.proofs.Common.{◌≡◌, ℕ, List, Option, take, drop, refl, subst, ◌∙◌}
 use Rattle.st_state.specs.Machine.{Machine, word}
 use Rattle.st_prep.specs.Fetch.{index_words, place_of, reading_of, words_fetched}
-use Rattle.st_prep.specs.Plan.{sight, plan}
+use Rattle.st_prep.specs.Plan.{decode_context, plan}
 use Rattle.st_prep.specs.Reading.{words_read, own_words}
 use Rattle.st_prep.specs.declared.entries.Place.{Place}
 use Rattle.st_prep.specs.declared.entries.Prepared.{Prepared}
@@ -26,15 +26,15 @@ module _ (s : Machine) (table : Option ℕ) (q : Place) (x : List ℕ) (p : Prep
   there = subst (λ q. IsPlannedAt s (index_words s) q p e) at (subst (λ x. IsPlannedAt s x q p e) words h)
 
   pub plan-planned : p ≡ plan s table
-  unfolding plan sight place_of
+  unfolding plan decode_context place_of
   plan-planned = there.plan
 
   pub known-planned : e.known ≡ known_at table s
-  unfolding side_at executes_at executed_code sight
+  unfolding side_at executes_at executed_code decode_context
   known-planned = there.known
 
   pub entry-planned : e.entry ≡ entry table s
-  unfolding entry instruction_words own_count sight place_of
+  unfolding entry instruction_words own_count decode_context place_of
   entry-planned = there.entry ∙ rw plan-planned refl
 
 -- its index-side word, where that is read

@@ -10,7 +10,7 @@ use Rattle.st_rows.specs.Words.{fetch_word, fetch_words}
 use Rattle.st_rows.specs.declared.bus.Bus.{Bus}
 use Rattle.st_rows.specs.declared.entry.Entry.{Entry}
 use Rattle.st_rows.specs.declared.fetching.Fetching.{Fetching}
-use Rattle.st_rows.specs.declared.front.Front.{Front}
+use Rattle.st_rows.specs.declared.issue.IssueState.{IssueState}
 use Rattle.st_rows.specs.declared.log.Made.{Made}
 use Rattle.st_rows.specs.declared.past.Past.{Past}
 use Rattle.st_rows.proofs.Noted.{noted-two}
@@ -52,7 +52,7 @@ module _ (ds : List ℕ) (past : List Past) (from w : ℕ) where
   fetch-end s all zero none h = h
   fetch-end s all (suc n) none h = let no : ⊥ = omega arith in absurd no
 
-module _ (ds : List ℕ) (f : Front) (e : Entry) where
+module _ (ds : List ℕ) (f : IssueState) (e : Entry) where
   start : Fetching
   start = record { bus = f.bus; answered = 0; awaited = 0 }
 

@@ -8,7 +8,7 @@ use Rattle.st_banks.specs.declared.answers.TheConstants.{BANKS}
 use Rattle.st_banks.proofs.BankLemmas.{bank_of-below}
 use Rattle.st_rows.specs.BusTimes.{answer_at, bus_after_read}
 use Rattle.st_rows.specs.Entries.{latest_done}
-use Rattle.st_rows.specs.Words.{bus_sided, side_there}
+use Rattle.st_rows.specs.Words.{bus_after_index_read, side_there}
 use Rattle.st_rows.specs.declared.bus.Bus.{Bus}
 use Rattle.st_rows.specs.declared.past.Past.{Past}
 use Rattle.st_rows.specs.Uses.{behind, behind_use, uses}
@@ -23,8 +23,8 @@ last-answer ds b w a all =
     get_or-set_same b.banks.ticks (bank_of w) x 0 few
 
 pub there-read : (ds : List ℕ) (past : List Past) (b d : Bus) (w a done x : ℕ) → done ≡ latest_done past w → done ≤ a
-    → length d.banks.ticks ≡ BANKS → x ≡ last_of d.banks.ticks w → d ≡ bus_sided ds past b (Some w) a → x ≡ side_there ds past b (Some w) a
-unfolding bus_sided side_there behind uses behind_use
+    → length d.banks.ticks ≡ BANKS → x ≡ last_of d.banks.ticks w → d ≡ bus_after_index_read ds past b (Some w) a → x ≡ side_there ds past b (Some w) a
+unfolding bus_after_index_read side_there behind uses behind_use
 there-read ds past b d w a done x is early all last behind =
     let test : nat_lt a (latest_done past w) ≡ false = le-ltb a (latest_done past w) (omega (arith, is, early)) in
     let read : d ≡ bus_after_read ds b w a = rw test at behind in
@@ -34,6 +34,6 @@ there-read ds past b d w a done x is early all last behind =
     ∙ rw test refl
 
 pub there-read_by : (ds : List ℕ) (past : List Past) (b d : Bus) (side : Option ℕ) (w a done x : ℕ) → side ≡ Some w → done ≡ latest_done past w
-    → done ≤ a → length d.banks.ticks ≡ BANKS → x ≡ last_of d.banks.ticks w → d ≡ bus_sided ds past b side a → x ≡ side_there ds past b side a
+    → done ≤ a → length d.banks.ticks ≡ BANKS → x ≡ last_of d.banks.ticks w → d ≡ bus_after_index_read ds past b side a → x ≡ side_there ds past b side a
 there-read_by ds past b d side w a done x is_some is early all last behind =
     rw is_some (there-read ds past b d w a done x is early all last (rw is_some at behind))

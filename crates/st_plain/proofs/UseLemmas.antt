@@ -14,7 +14,7 @@ use Rattle.st_rows.specs.Words.{fetch_word, fetch_words, read_word, operands_rea
 use Rattle.st_rows.specs.declared.bus.Bus.{Bus}
 use Rattle.st_rows.specs.declared.entry.Entry.{Entry}
 use Rattle.st_rows.specs.declared.entry.WordRun.{WordRun}
-use Rattle.st_rows.specs.declared.front.Front.{Front}
+use Rattle.st_rows.specs.declared.issue.IssueState.{IssueState}
 use Rattle.st_prep.specs.declared.entries.Words.{Words}
 use Rattle.st_rows.specs.declared.fetching.Fetching.{Fetching}
 use Rattle.st_rows.specs.declared.past.Past.{Past}
@@ -111,7 +111,7 @@ module _ (ds : List ℕ) (past : List Past) (s : Fetching) where
   unfolding operand_uses
   put-operands p run kept new is few = put-uses (words_of Operand p run) run.len kept new (omega (arith, wishes-length Operand p run.first run.len)) is few
 
-pub put-side : (ds : List ℕ) (f : Front) (e : Entry) (kept new : Items) → new ≡ uses_with (told ds f.past (index_uses ds f e)) kept → length kept.items + 1 ≤ 48
+pub put-side : (ds : List ℕ) (f : IssueState) (e : Entry) (kept new : Items) → new ≡ uses_with (told ds f.past (index_uses ds f e)) kept → length kept.items + 1 ≤ 48
     → (new.items ≡ kept.items ++ told ds f.past (index_uses ds f e)) × (length new.items ≤ length kept.items + 1)
 put-side ds f e kept new is few = put-uses ds f.past (unused (words_tick ds f e).bus 0) (wish_of e.side (tick_a ds f e)) 1 kept new (one-side e.side) is few
   where
@@ -179,7 +179,7 @@ module _ (ds : List ℕ) (b : Bus) where
       let w = e.own.first + e.own.len in
       both_if e.follows (nat_lt w words_of_storage) (nat_lt (w + 1) words_of_storage) w p
 
-module _ (ds : List ℕ) (f : Front) (e : Entry) where
+module _ (ds : List ℕ) (f : IssueState) (e : Entry) where
   pub words-fetched : (s t all : Fetching) (from late : ℕ) → s ≡ record { bus = f.bus; answered = 0; awaited = 0 } → from ≡ wanted_from f → late ≡ max from f.c
       → t ≡ fetch_words ds f.past s from e.own.first e.own.len → all ≡ fetch_words ds f.past t late e.target.first e.target.len → all ≡ words_tick ds f e
   unfolding words_tick fetch_words
@@ -224,7 +224,7 @@ module _ (ds : List ℕ) (f : Front) (e : Entry) where
         two-noted us vs ws _ _ one_is two_is
 
 -- all words of an entry, noted from nothing on
-pub all-used : (ds : List ℕ) (n : ℕ) (f : Front) (e d : Entry) (side index : Option ℕ) (reads words : Words) (us vs ws : List Use)
+pub all-used : (ds : List ℕ) (n : ℕ) (f : IssueState) (e d : Entry) (side index : Option ℕ) (reads words : Words) (us vs ws : List Use)
     → e ≡ d → side ≡ index → reads ≡ words → us ≡ [] → vs ≡ us ++ formed_uses ds f e side → ws ≡ vs ++ prepared_uses ds n f e reads
     → ws ≡ uses_of_entry ds n f d index words
 unfolding uses_of_entry

@@ -2,7 +2,7 @@
 use Rattle.std.specs.Prelude.{◌≡◌, ℕ, ◌+◌, ◌≤◌, max, List, [], ◌∷◌, Option}
 use Rattle.st_prep.specs.declared.entries.Words.{Words}
 use Rattle.st_rows.specs.declared.entry.Entry.{Entry}
-use Rattle.st_rows.specs.declared.front.Front.{Front}
+use Rattle.st_rows.specs.declared.issue.IssueState.{IssueState}
 use Rattle.st_segment.specs.Entries.{side_to_read}
 use Rattle.st_plain.specs.Uses.{uses_of_entry}
 use Rattle.st_rows.specs.declared.uses.ReadTicks.{ReadTicks}
@@ -46,6 +46,6 @@ AreInTurn w t (u ∷ more) = IsInTurn w t u.supply
 -- Each read of an entry is accepted at the greatest of its three ticks; along its reads wants never
 -- fall, and each has its turn behind the acceptance of the one before it.
 abbrev pub ReadsOfAnEntryComeInTurn : Type 0
-ReadsOfAnEntryComeInTurn = (ds : List ℕ) (n : ℕ) (f : Front) (e : Entry) (side : Option ℕ)
+ReadsOfAnEntryComeInTurn = (ds : List ℕ) (n : ℕ) (f : IssueState) (e : Entry) (side : Option ℕ)
     (reads : Words) → e.side ≡ side_to_read side →
     AreInTurn 0 f.bus.free (uses_of_entry ds n f e side reads)

@@ -5,14 +5,14 @@ use Rattle.st_format.specs.declared.instruction.Instr.{Instr}
 use Rattle.st_state.specs.Machine.{Machine}
 use Rattle.st_prep.specs.Checks.{effective_instr}
 use Rattle.st_prep.specs.Fetch.{place_of, words_fetched}
-use Rattle.st_prep.specs.Plan.{needs, sight}
+use Rattle.st_prep.specs.Plan.{needs, decode_context}
 use Rattle.st_prep.specs.Reading.{is_execute}
 use Rattle.st_prep.specs.declared.entries.Fetched.{Fetched}
 use Rattle.st_rows.specs.Asked.{formed_asked}
 use Rattle.st_rows.specs.BusTimes.{Read}
-use Rattle.st_rows.specs.Rows.{tick_a, tick_y, done_before, reads_of_entry}
+use Rattle.st_rows.specs.Rows.{tick_a, index_arrival, done_before, reads_of_entry}
 use Rattle.st_rows.specs.declared.entry.Entry.{Entry}
-use Rattle.st_rows.specs.declared.front.Front.{Front}
+use Rattle.st_rows.specs.declared.issue.IssueState.{IssueState}
 use Rattle.st_segment.specs.Ahead.{Ahead, plan_of}
 use Rattle.st_plain.specs.declared.known.Code.{Code}
 use Rattle.st_plain.specs.declared.known.Known.{Known}
@@ -21,7 +21,7 @@ use Rattle.st_plain.specs.Uses.{uses_of_entry}
 
 -- the index-side word of the next entry of a state, or of its table instruction
 unfoldable pub side_at : Option ℕ → Machine → Option ℕ
-side_at table s = (needs (sight s (place_of s table))).index_read
+side_at table s = (needs (decode_context s (place_of s table))).index_read
 
 -- it is EX
 unfoldable pub executes_at : Option ℕ → Machine → Bool
@@ -55,7 +55,7 @@ seen_ahead ds n a = record {
   row = a.row;
   known = known_at a.table a.state;
   uses = record {
-    items = uses_of_entry ds n a.front a.entry (side_at a.table a.state) (plan_of a).reads;
+    items = uses_of_entry ds n a.issue a.entry (side_at a.table a.state) (plan_of a).reads;
   };
 }
 
@@ -69,10 +69,10 @@ first_late t (a ∷ rest) = if nat_lt a.row.p t then first_late t rest else a �
 unfoldable pub reads_up_to : List ℕ → ℕ → ℕ → List Ahead → List Read
 reads_up_to ds n t [] = []
 reads_up_to ds n t (a ∷ rest) =
-    if nat_lt a.row.p t then reads_of_entry ds n a.front a.entry ++ reads_up_to ds n t rest
-    else formed_asked ds a.front a.entry
+    if nat_lt a.row.p t then reads_of_entry ds n a.issue a.entry ++ reads_up_to ds n t rest
+    else formed_asked ds a.issue a.entry
 
 -- for how many ticks the entry e behind the front f waits for a level, once its address is formed
 -- and its index-side word is there: until the entry n before is done, whose level it takes over
-unfoldable pub level_wait : List ℕ → ℕ → Front → Entry → ℕ
-level_wait ds n f e = done_before n f.past - max (tick_a ds f e) (tick_y ds f e)
+unfoldable pub level_wait : List ℕ → ℕ → IssueState → Entry → ℕ
+level_wait ds n f e = done_before n f.past - max (tick_a ds f e) (index_arrival ds f e)

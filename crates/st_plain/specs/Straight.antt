@@ -1,7 +1,7 @@
 -- An entry that is planned at once: its words, and what the timetable sees of it.
 use Rattle.std.specs.Prelude.{ℕ, ◌+◌, ◌≡◌, Bool, true, false, List, [], ◌∷◌, ◌++◌, length}
 use Rattle.st_state.specs.Machine.{Machine}
-use Rattle.st_prep.specs.Plan.{sight_of, needs, prepared_entry, side_of}
+use Rattle.st_prep.specs.Plan.{decode_context_of, needs, prepared_entry, side_of}
 use Rattle.st_prep.specs.Reading.{Reading, outcome, words_read, own_words, is_execute}
 use Rattle.st_prep.specs.declared.entries.Place.{Place}
 use Rattle.st_prep.specs.declared.entries.Fetched.{Fetched}
@@ -31,10 +31,10 @@ if_more false w = []
 -- words and by the index words
 pub record IsEntryPlanned (s : Machine) (x : List ℕ) (q : Place) (f : Fetched)
     (own target : WordRun) (p : Prepared) (e : Planned) : Type 0 where
-  pub plan : let v = sight_of q f x s in p ≡ prepared_entry v (side_of s v)
-  pub entry : e.entry ≡ entry_with own target (needs (sight_of q f x s)) p q.table f.fault
+  pub plan : let v = decode_context_of q f x s in p ≡ prepared_entry v (side_of s v)
+  pub entry : e.entry ≡ entry_with own target (needs (decode_context_of q f x s)) p q.table f.fault
   pub known : e.known ≡ record {
-    side = (needs (sight_of q f x s)).index_read;
+    side = (needs (decode_context_of q f x s)).index_read;
     execute = is_execute f.instr.instr;
     code = code_found f;
   }

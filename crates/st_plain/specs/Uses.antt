@@ -12,7 +12,7 @@ use Rattle.st_rows.specs.declared.entry.Entry.{Entry}
 use Rattle.st_rows.specs.declared.entry.WordRun.{WordRun}
 use Rattle.st_rows.specs.declared.entry.WordRuns.{WordRuns}
 use Rattle.st_rows.specs.declared.fetching.Fetching.{Fetching}
-use Rattle.st_rows.specs.declared.front.Front.{Front}
+use Rattle.st_rows.specs.declared.issue.IssueState.{IssueState}
 use Rattle.st_rows.specs.declared.past.Past.{Past}
 use Rattle.st_rows.specs.declared.uses.Role.TheVariants.{Instruction, Index, Operand}
 use Rattle.st_rows.specs.declared.uses.Supply.{Supply}
@@ -27,7 +27,7 @@ instruction_uses ds past s from w n =
     map (use_told ds past) (uses ds past s (wishes Instruction from w n))
 
 -- its own, and behind them those of the target of EX
-unfoldable pub fetch_uses : List ℕ → Front → Entry → List Use
+unfoldable pub fetch_uses : List ℕ → IssueState → Entry → List Use
 fetch_uses ds f e =
     map (use_told ds f.past) (own_uses ds f e) ++ map (use_told ds f.past) (target_uses ds f e)
 
@@ -98,15 +98,15 @@ following_uses ds b e p =
 -- given with the registers among them
 
 -- those that are wanted until its address is formed
-abbrev pub formed_uses : List ℕ → Front → Entry → Option ℕ → List Use
+abbrev pub formed_uses : List ℕ → IssueState → Entry → Option ℕ → List Use
 formed_uses ds f e side =
     fetch_uses ds f e ++ side_uses ds f.past (words_tick ds f e).bus side (tick_a ds f e)
 
 -- and those from its preparation on
-abbrev pub prepared_uses : List ℕ → ℕ → Front → Entry → Words → List Use
+abbrev pub prepared_uses : List ℕ → ℕ → IssueState → Entry → Words → List Use
 prepared_uses ds n f e reads =
     data_uses ds f.past (bus_a ds f e) (tick_p ds n f e) reads e.reads
     ++ following_uses ds (operands ds n f e).bus e (tick_p ds n f e)
 
-unfoldable pub uses_of_entry : List ℕ → ℕ → Front → Entry → Option ℕ → Words → List Use
+unfoldable pub uses_of_entry : List ℕ → ℕ → IssueState → Entry → Option ℕ → Words → List Use
 uses_of_entry ds n f e side reads = formed_uses ds f e side ++ prepared_uses ds n f e reads

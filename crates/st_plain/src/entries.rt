@@ -6,7 +6,7 @@ ghost use Rattle.st_state.specs.Boundary.{forbidden_by};
 ghost use Rattle.st_state.specs.Machine.{IsMachine, word};
 ghost use Rattle.st_state.specs.declared.protection.Access.{Access as AccessOf};
 ghost use Rattle.st_prep.specs.Fetch.{index_words as index_words_of, reading_of, words_fetched as fetched_of};
-ghost use Rattle.st_prep.specs.Plan.{needs as needs_of, plan as plan_of, prepared_entry as prepared_of, sight_of, side_of};
+ghost use Rattle.st_prep.specs.Plan.{needs as needs_of, plan as plan_of, prepared_entry as prepared_of, decode_context_of, side_of};
 ghost use Rattle.st_prep.specs.Ranges.{HasFields, IsPlace, IsFetched, IsNeeds, IsPrepared};
 ghost use Rattle.st_prep.specs.Reading.{Continuation, words_read, own_words, half_of as half_by, with_second as with_second_of, with_first as with_first_of, instruction_at, is_execute as is_execute_of, fetched_plain, allowed_found};
 ghost use Rattle.st_plain.specs.Looking.{known_at};
@@ -98,10 +98,10 @@ fn find(place: &Place, x: &[u64; 16], state: &State) -> Found
 fn prepare_by_side(p: &mut Prepared, fetched: &Fetched, x: &[u64; 16], needs: Needs, state: &State)
     requires place { IsPlace p.old.place }
     requires fetched { IsFetched fetched.now }
-    requires asked { needs ≡ needs_of (sight_of p.old.place fetched.now x.now state.now) }
+    requires asked { needs ≡ needs_of (decode_context_of p.old.place fetched.now x.now state.now) }
     requires shape { IsNeeds needs }
 
-    ensures value { let v = sight_of p.old.place fetched.now x.now state.now in
+    ensures value { let v = decode_context_of p.old.place fetched.now x.now state.now in
         p.new ≡ prepared_of v (side_of state.now v) }
     ensures ranges { IsPrepared p.new }
 {
@@ -116,9 +116,9 @@ fn prepare_by_side(p: &mut Prepared, fetched: &Fetched, x: &[u64; 16], needs: Ne
 fn prepare_found(p: &mut Prepared, fetched: &Fetched, x: &[u64; 16], state: &State) -> Needs
     requires place { IsPlace p.old.place }
     requires fetched { IsFetched fetched.now }
-    ensures value { let v = sight_of p.old.place fetched.now x.now state.now in
+    ensures value { let v = decode_context_of p.old.place fetched.now x.now state.now in
         p.new ≡ prepared_of v (side_of state.now v) }
-    ensures needs { result ≡ needs_of (sight_of p.old.place fetched.now x.now state.now) }
+    ensures needs { result ≡ needs_of (decode_context_of p.old.place fetched.now x.now state.now) }
     ensures ranges { IsPrepared p.new }
 {
     let needs = prepare_without_side(p, fetched, x, state);

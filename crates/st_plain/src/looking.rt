@@ -3,7 +3,7 @@ ghost use Rattle.std.specs.Prelude.{◌≡◌, suc, ◌+◌, ◌-◌, ◌*◌, �
 ghost use Rattle.st_bits.specs.declared.limits.TheConstants.{MOST_DELAY};
 ghost use Rattle.st_state.specs.Machine.{IsMachine};
 ghost use Rattle.st_prep.specs.Ranges.{IsPrepared};
-ghost use Rattle.st_exec.specs.Completion.{guessed_state};
+ghost use Rattle.st_exec.specs.Completion.{predicted_state};
 ghost use Rattle.st_rows.specs.Asked.{bus_after_reads};
 ghost use Rattle.st_rows.specs.Notes.{log_after_reads};
 ghost use Rattle.st_rows.specs.Ranges.{IsTight, most_ticks_of_entry};
@@ -18,7 +18,7 @@ use arrayvec::ArrayVec;
 use st_back::{keep, undo};
 use st_exec::complete_in;
 use st_prep::Prepared;
-use st_rows::{EntryTicks, Front, Log, Timing, Uses};
+use st_rows::{EntryTicks, IssueState, Log, Timing, Uses};
 use st_state::State;
 
 /// An entry that runs ahead.
@@ -38,10 +38,10 @@ pub struct Ahead {
 pub type Aheads = ArrayVec<Ahead, 8>;
 
 /// Makes the guessed step of an entry that is prepared: a branch on an indicator is not taken.
-pub fn guess(p: &Prepared, state: &mut State)
+pub fn prediction(p: &Prepared, state: &mut State)
     requires prepared { IsPrepared p.now }
     requires few { state.old.done < 2 ^ 63 }
-    ensures { state.new ≡ guessed_state p.now state.old }
+    ensures { state.new ≡ predicted_state p.now state.old }
 {
     complete_in(p, state);
     if !p.serial {
@@ -78,17 +78,17 @@ pub struct FoundAhead {
 /// state is then as it was; of the front the bus alone is of use.
 pub fn look(
     state: &mut State,
-    front: &mut Front,
+    issue: &mut IssueState,
     reach: &Reach<'_>,
     log: &mut Log,
     ahead: &mut FoundAhead,
 )
     requires few { state.old.done + reach.now.more < 2 ^ 63 }
-    requires tight { IsTight MOST_DELAY front.old }
-    requires early { front.old.c + most_ticks_of_entry * reach.now.more ≤ 2 ^ 63 + 2 ^ 20 }
-    requires late { reach.now.tick ≤ front.old.c }
+    requires tight { IsTight MOST_DELAY issue.old }
+    requires early { issue.old.c + most_ticks_of_entry * reach.now.more ≤ 2 ^ 63 + 2 ^ 20 }
+    requires late { reach.now.tick ≤ issue.old.c }
     requires first { let n = reach.now.timing.now.levels in reach.now.more < n →
-        reach.now.tick ≤ done_before (n - reach.now.more) front.old.past }
+        reach.now.tick ≤ done_before (n - reach.now.more) issue.old.past }
     requires space { length ahead.old.found.items + reach.now.more ≤ 8 }
 
     ensures state { state.new ≡ state.old }
@@ -96,16 +96,16 @@ pub fn look(
     ensures found { let r = reach.now in let t = r.timing.now in let ds = t.delays.now.list in
         ahead.new.found.items ≡ ahead.old.found.items
         ++ map (seen_ahead ds t.levels) (prepared_before r.tick
-        (ahead_of ds t.levels r.more None state.old front.old)) }
+        (ahead_of ds t.levels r.more None state.old issue.old)) }
     ensures late { let r = reach.now in let t = r.timing.now in let ds = t.delays.now.list in
         ahead.new.late ∷ [] ≡ map (seen_ahead ds t.levels) (first_late r.tick
-        (ahead_of ds t.levels (suc r.more) None state.old front.old)) }
+        (ahead_of ds t.levels (suc r.more) None state.old issue.old)) }
     ensures log { let r = reach.now in let t = r.timing.now in let ds = t.delays.now.list in
         log.new ≡ log_after_reads ds (reads_up_to ds t.levels r.tick
-        (ahead_of ds t.levels (suc r.more) None state.old front.old)) front.old.bus log.old }
+        (ahead_of ds t.levels (suc r.more) None state.old issue.old)) issue.old.bus log.old }
     ensures bus { let r = reach.now in let t = r.timing.now in let ds = t.delays.now.list in
-        front.new.bus ≡ bus_after_reads ds (reads_up_to ds t.levels r.tick
-        (ahead_of ds t.levels (suc r.more) None state.old front.old)) front.old.bus }
+        issue.new.bus ≡ bus_after_reads ds (reads_up_to ds t.levels r.tick
+        (ahead_of ds t.levels (suc r.more) None state.old issue.old)) issue.old.bus }
 {
     let mut p = Prepared::default();
     let planned = plan_entry(None, state, &mut p);
@@ -116,21 +116,21 @@ pub fn look(
     };
     let mut uses = Uses::new();
     let mut begun = Begun::default();
-    begin(&mut begun, front, &next, log, &mut uses);
+    begin(&mut begun, issue, &next, log, &mut uses);
     if begun.formed.p >= reach.tick {
         let mut scratch = Log::new();
         let bus = begun.words.bus;
-        let ticks = finish(front, &next, &mut begun, &mut scratch, &mut uses);
+        let ticks = finish(issue, &next, &mut begun, &mut scratch, &mut uses);
         ahead.late = Ahead {
             plan: p,
             row: ticks,
             known: planned.known,
             uses,
         };
-        front.bus = bus;
+        issue.bus = bus;
         return;
     }
-    let row = finish(front, &next, &mut begun, log, &mut uses);
+    let row = finish(issue, &next, &mut begun, log, &mut uses);
     ahead.found.push(Ahead {
         plan: p,
         row,
@@ -143,7 +143,7 @@ pub fn look(
         tick: reach.tick,
     };
     let kept = keep(&p, state);
-    guess(&p, state);
-    look(state, front, &further, log, ahead);
+    prediction(&p, state);
+    look(state, issue, &further, log, ahead);
     undo(&kept, state);
 }

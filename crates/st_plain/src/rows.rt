@@ -7,8 +7,8 @@ ghost use Rattle.st_banks.specs.Bank.{last_of};
 ghost use Rattle.st_banks.specs.declared.answers.TheConstants.{BANKS as banks_there};
 ghost use Rattle.st_plain.specs.Looking.{level_wait as level_wait_of};
 ghost use Rattle.st_rows.specs.declared.bus.Bus.{Bus as BusOf};
-ghost use Rattle.st_rows.specs.Rows.{words_tick, bus_a, tick_a, tick_p, row_of_entry as row_of, front_after_entry as after_of, reads_of_entry as asked_of};
-ghost use Rattle.st_rows.specs.Words.{fetch_words, bus_sided, side_there as side_there_of};
+ghost use Rattle.st_rows.specs.Rows.{words_tick, bus_a, tick_a, tick_p, row_of_entry as row_of, issue_after_entry as after_of, reads_of_entry as asked_of};
+ghost use Rattle.st_rows.specs.Words.{fetch_words, bus_after_index_read, side_there as side_there_of};
 ghost use Rattle.st_rows.specs.Ranges.{IsEntryInTime, IsTight, IsFetchingWithin, ArePastWithin, IsReadable, most_ticks_of_entry};
 ghost use Rattle.st_rows.specs.declared.log.Made.{Made};
 ghost use Rattle.st_prep.specs.Ranges.{IsRuns};
@@ -20,7 +20,7 @@ use crate::uses::{use_data, use_side_register};
 use st_banks::{BANKS, LastAnswers};
 use st_prep::Prepared;
 use st_rows::{
-    Bus, Entry, EntryTicks, Fetching, Formed, Front, LastEntries, Log, Past, TimedEntry, Timing,
+    Bus, Entry, EntryTicks, Fetching, Formed, IssueState, LastEntries, Log, Past, TimedEntry, Timing,
     Uses, Wanted, WordRun, follow,
 };
 
@@ -87,37 +87,37 @@ pub struct NextEntry<'a> {
 #[inline(always)]
 fn fetch_all(
     words: &mut Fetching,
-    front: &Front,
+    issue: &IssueState,
     next: &NextEntry<'_>,
     log: &mut Log,
     uses: &mut Uses,
 )
-    requires start { words.old ≡ record { bus = front.now.bus; answered = 0; awaited = 0 } }
+    requires start { words.old ≡ record { bus = issue.now.bus; answered = 0; awaited = 0 } }
     requires entry { IsEntryInTime next.now.planned.now.entry }
-    requires tight { IsTight MOST_DELAY front.now }
-    requires early { front.now.c ≤ 2 ^ 63 + 2 ^ 20 }
+    requires tight { IsTight MOST_DELAY issue.now }
+    requires early { issue.now.c ≤ 2 ^ 63 + 2 ^ 20 }
     requires space { length uses.old.items + 4 ≤ 48 }
 
     // The words fetched, the log of their reads, and their uses.
     ensures words { let t = next.now.timing.now in let e = next.now.planned.now.entry in
-        words.new ≡ words_tick t.delays.now.list front.now e }
+        words.new ≡ words_tick t.delays.now.list issue.now e }
     ensures log { let t = next.now.timing.now in let e = next.now.planned.now.entry in
         log.new ≡ log_after_reads t.delays.now.list
-        (fetches_asked t.delays.now.list front.now e) front.now.bus log.old }
+        (fetches_asked t.delays.now.list issue.now e) issue.now.bus log.old }
     ensures uses { let t = next.now.timing.now in let e = next.now.planned.now.entry in
-        uses.new.items ≡ uses.old.items ++ fetch_uses t.delays.now.list front.now e }
+        uses.new.items ≡ uses.old.items ++ fetch_uses t.delays.now.list issue.now e }
     ensures noted { length uses.new.items ≤ length uses.old.items + 4 }
 {
     let timing = next.timing;
     let planned = next.planned;
-    let from = front.wanted_from();
+    let from = issue.wanted_from();
     let mut wanted = Wanted {
         tick: from,
         delays: timing.delays,
-        past: &front.past,
+        past: &issue.past,
     };
     fetch_run(words, &wanted, planned.entry.own, log, uses);
-    let late = from.max(front.c);
+    let late = from.max(issue.c);
     wanted.tick = late;
     fetch_run(words, &wanted, planned.entry.target, log, uses);
 }
@@ -134,7 +134,7 @@ fn last_answer(ticks: &[u64; BANKS], w: u32) -> u64
 // none. The bus is that behind its read.
 fn side_there(past: &LastEntries, side: Option<u32>, a: u64, bus: &Bus) -> u64
     requires storage { IfSome side (λ w. 32 ≤ w) }
-    ensures { (ds : List ℕ) (before : BusOf) → bus.now ≡ bus_sided ds past.now before side a →
+    ensures { (ds : List ℕ) (before : BusOf) → bus.now ≡ bus_after_index_read ds past.now before side a →
         result ≡ side_there_of ds past.now before side a }
 {
     let Some(w) = side else {
@@ -149,17 +149,17 @@ fn side_there(past: &LastEntries, side: Option<u32>, a: u64, bus: &Bus) -> u64
 
 // For how many ticks an entry waits for a level, whose address is formed at `a`. The bus is that
 // behind its index-side word.
-fn level_wait(front: &Front, timing: &Timing<'_>, entry: &Entry, a: u64, bus: &Bus) -> u64
+fn level_wait(issue: &IssueState, timing: &Timing<'_>, entry: &Entry, a: u64, bus: &Bus) -> u64
     requires entry { IsEntryInTime entry.now }
-    ensures { (ds : List ℕ) → a ≡ tick_a ds front.now entry.now →
-        bus.now ≡ bus_a ds front.now entry.now →
-        result ≡ level_wait_of ds timing.now.levels front.now entry.now }
+    ensures { (ds : List ℕ) → a ≡ tick_a ds issue.now entry.now →
+        bus.now ≡ bus_a ds issue.now entry.now →
+        result ≡ level_wait_of ds timing.now.levels issue.now entry.now }
 {
-    let done = front.past.done_before(timing.levels);
+    let done = issue.past.done_before(timing.levels);
     if done <= a {
         return 0;
     }
-    let there = side_there(&front.past, entry.side, a, bus);
+    let there = side_there(&issue.past, entry.side, a, bus);
     done.saturating_sub(a.max(there))
 }
 
@@ -176,82 +176,82 @@ pub struct Begun {
 
 /// Forms the address of the next entry behind a front, and notes the words that it uses until then.
 /// What is begun is that entry, whatever it was.
-pub fn begin(begun: &mut Begun, front: &Front, next: &NextEntry<'_>, log: &mut Log, uses: &mut Uses)
+pub fn begin(begun: &mut Begun, issue: &IssueState, next: &NextEntry<'_>, log: &mut Log, uses: &mut Uses)
     requires entry { IsEntryInTime next.now.planned.now.entry }
-    requires tight { IsTight MOST_DELAY front.now }
-    requires early { front.now.c ≤ 2 ^ 63 + 2 ^ 20 }
+    requires tight { IsTight MOST_DELAY issue.now }
+    requires early { issue.now.c ≤ 2 ^ 63 + 2 ^ 20 }
     requires side { next.now.planned.now.entry.side
         ≡ side_to_read next.now.planned.now.known.side }
     requires space { length uses.old.items + 6 ≤ 48 }
 
     ensures address { let t = next.now.timing.now in let e = next.now.planned.now.entry in
-        begun.new.formed.a ≡ tick_a t.delays.now.list front.now e }
+        begun.new.formed.a ≡ tick_a t.delays.now.list issue.now e }
     ensures tick { let t = next.now.timing.now in let e = next.now.planned.now.entry in
-        begun.new.formed.p ≡ tick_p t.delays.now.list t.levels front.now e }
+        begun.new.formed.p ≡ tick_p t.delays.now.list t.levels issue.now e }
     ensures bus { let t = next.now.timing.now in let e = next.now.planned.now.entry in
-        begun.new.words.bus ≡ bus_a t.delays.now.list front.now e }
+        begun.new.words.bus ≡ bus_a t.delays.now.list issue.now e }
     ensures wait { let t = next.now.timing.now in let e = next.now.planned.now.entry in
-        begun.new.level_wait ≡ level_wait_of t.delays.now.list t.levels front.now e }
+        begun.new.level_wait ≡ level_wait_of t.delays.now.list t.levels issue.now e }
     ensures log { let t = next.now.timing.now in let e = next.now.planned.now.entry in
         log.new ≡ log_after_reads t.delays.now.list
-        (formed_asked t.delays.now.list front.now e) front.now.bus log.old }
+        (formed_asked t.delays.now.list issue.now e) issue.now.bus log.old }
     ensures uses { let t = next.now.timing.now in let e = next.now.planned.now.entry in
         uses.new.items ≡ uses.old.items
-        ++ formed_uses t.delays.now.list front.now e next.now.planned.now.known.side }
+        ++ formed_uses t.delays.now.list issue.now e next.now.planned.now.known.side }
     ensures noted { length uses.new.items ≤ length uses.old.items + 6 }
 {
     let timing = next.timing;
     let planned = next.planned;
     let entry = &planned.entry;
     begun.words = Fetching {
-        bus: front.bus,
+        bus: issue.bus,
         answered: 0,
         awaited: 0,
     };
     let words = &mut begun.words;
-    fetch_all(words, front, next, log, uses);
+    fetch_all(words, issue, next, log, uses);
     let timed = TimedEntry { entry, timing };
-    let formed = front.form(&timed, words, log, uses);
+    let formed = issue.form(&timed, words, log, uses);
     use_side_register(uses, planned.known.side);
-    begun.level_wait = level_wait(front, timing, entry, formed.a, &words.bus);
+    begun.level_wait = level_wait(issue, timing, entry, formed.a, &words.bus);
     begun.formed = formed;
 }
 
 /// Goes on behind the next entry, whose address is formed as `begin` says, gives its row, and notes
 /// the words that it uses from its preparation on. What is begun is used up.
 pub fn finish(
-    front: &mut Front,
+    issue: &mut IssueState,
     next: &NextEntry<'_>,
     begun: &mut Begun,
     log: &mut Log,
     uses: &mut Uses,
 ) -> EntryTicks
     requires entry { IsEntryInTime next.now.planned.now.entry }
-    requires tight { IsTight MOST_DELAY front.old }
-    requires early { front.old.c ≤ 2 ^ 63 + 2 ^ 20 }
+    requires tight { IsTight MOST_DELAY issue.old }
+    requires early { issue.old.c ≤ 2 ^ 63 + 2 ^ 20 }
     requires address { let t = next.now.timing.now in let e = next.now.planned.now.entry in
-        begun.old.formed.a ≡ tick_a t.delays.now.list front.old e }
+        begun.old.formed.a ≡ tick_a t.delays.now.list issue.old e }
     requires tick { let t = next.now.timing.now in let e = next.now.planned.now.entry in
-        begun.old.formed.p ≡ tick_p t.delays.now.list t.levels front.old e }
+        begun.old.formed.p ≡ tick_p t.delays.now.list t.levels issue.old e }
     requires bus { let t = next.now.timing.now in let e = next.now.planned.now.entry in
-        begun.old.words.bus ≡ bus_a t.delays.now.list front.old e }
+        begun.old.words.bus ≡ bus_a t.delays.now.list issue.old e }
     requires runs { IsRuns next.now.plan.now.reads }
     requires space { length uses.old.items + 34 ≤ 48 }
 
     ensures value { let t = next.now.timing.now in let e = next.now.planned.now.entry in
-        result ≡ row_of t.delays.now.list t.levels front.old e }
+        result ≡ row_of t.delays.now.list t.levels issue.old e }
     ensures after { let t = next.now.timing.now in let e = next.now.planned.now.entry in
-        front.new ≡ after_of t.delays.now.list t.levels front.old e }
+        issue.new ≡ after_of t.delays.now.list t.levels issue.old e }
     ensures log { let t = next.now.timing.now in let e = next.now.planned.now.entry in
         (before : List Made) → log.old ≡ log_after_reads t.delays.now.list
-        (formed_asked t.delays.now.list front.old e) front.old.bus before →
+        (formed_asked t.delays.now.list issue.old e) issue.old.bus before →
         log.new ≡ log_after_reads t.delays.now.list
-        (asked_of t.delays.now.list t.levels front.old e) front.old.bus before }
+        (asked_of t.delays.now.list t.levels issue.old e) issue.old.bus before }
     ensures uses { let t = next.now.timing.now in let e = next.now.planned.now.entry in
         uses.new.items ≡ uses.old.items
-        ++ prepared_uses t.delays.now.list t.levels front.old e next.now.plan.now.reads }
-    ensures tight { IsTight MOST_DELAY front.new }
-    ensures bound { front.new.c ≤ front.old.c + most_ticks_of_entry }
+        ++ prepared_uses t.delays.now.list t.levels issue.old e next.now.plan.now.reads }
+    ensures tight { IsTight MOST_DELAY issue.new }
+    ensures bound { issue.new.c ≤ issue.old.c + most_ticks_of_entry }
 {
     let timing = next.timing;
     let planned = next.planned;
@@ -260,17 +260,17 @@ pub fn finish(
     let wanted = Wanted {
         tick: p,
         delays: timing.delays,
-        past: &front.past,
+        past: &issue.past,
     };
     let words = &mut begun.words;
     words.answered = p;
     words.awaited = 0;
     use_data(uses, words, log, &wanted, next);
     let r = words.answered;
-    let c = front.c.max(r) + u64::from(entry.cost);
+    let c = issue.c.max(r) + u64::from(entry.cost);
     follow(&mut words.bus, log, uses, &wanted, entry);
     let row = EntryTicks { a, p, r, c };
-    front.pass(entry, &row, &words.bus);
+    issue.pass(entry, &row, &words.bus);
     row
 }
 

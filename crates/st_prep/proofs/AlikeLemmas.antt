@@ -12,7 +12,7 @@ use Rattle.st_state.specs.Interrupts.{indicator_word}
 use Rattle.st_state.specs.Machine.{Machine, IsMachine, word}
 use Rattle.st_prep.specs.declared.entries.Place.{Place}
 use Rattle.st_prep.specs.Fetch.{index_words, address_by, place_of, reading_of, words_fetched}
-use Rattle.st_prep.specs.Plan.{needs, prepared_entry, sight, state_at_entry, side_word, plan}
+use Rattle.st_prep.specs.Plan.{needs, prepared_entry, decode_context, state_at_entry, side_word, plan}
 use Rattle.st_prep.specs.Reading.{outcome, words_read, reading_at_place}
 use Rattle.st_prep.specs.Alike.{AreAlike, ReadTheSame}
 use Rattle.st_prep.proofs.PlanLemmas.{same_seen}
@@ -54,20 +54,20 @@ same_fetched s t p index bounds enabled words =
     ∙ outcome-same (reading_of s p) (word s) (word t) words
     ∙ sym (fetched-outcome s p)
 
-same_sight : (s t : Machine) (p : Place) → index_words t ≡ index_words s → word t 3 ≡ word s 3 → t.enabled ≡ s.enabled
-    → All (λ w. word t w ≡ word s w) (words_read (reading_of s p) (word s)) → sight t p ≡ sight s p
-unfolding sight
-same_sight s t p index bounds enabled words =
+same_decode_context : (s t : Machine) (p : Place) → index_words t ≡ index_words s → word t 3 ≡ word s 3 → t.enabled ≡ s.enabled
+    → All (λ w. word t w ≡ word s w) (words_read (reading_of s p) (word s)) → decode_context t p ≡ decode_context s p
+unfolding decode_context
+same_decode_context s t p index bounds enabled words =
     same_seen p p _ _ _ _ _ _ _ _ refl (same_fetched s t p index bounds enabled words) index bounds enabled
 
 -- states that look the same at the place of the next entry, with the same index-side word, have the same entry
-same_plan : (s t : Machine) (i : Option ℕ) → place_of t i ≡ place_of s i → sight t (place_of s i) ≡ sight s (place_of s i)
-    → side_word i t (needs (sight s (place_of s i))).index_read ≡ side_word i s (needs (sight s (place_of s i))).index_read
+same_plan : (s t : Machine) (i : Option ℕ) → place_of t i ≡ place_of s i → decode_context t (place_of s i) ≡ decode_context s (place_of s i)
+    → side_word i t (needs (decode_context s (place_of s i))).index_read ≡ side_word i s (needs (decode_context s (place_of s i))).index_read
     → plan t i ≡ plan s i
 unfolding plan
 same_plan s t i place seen side =
-    let v = sight s (place_of s i) in
-    ap (λ u. prepared_entry u (side_word i t (needs u).index_read)) (ap (sight t) place ∙ seen) ∙ ap (prepared_entry v) side
+    let v = decode_context s (place_of s i) in
+    ap (λ u. prepared_entry u (side_word i t (needs u).index_read)) (ap (decode_context t) place ∙ seen) ∙ ap (prepared_entry v) side
 
 -- ---- the same contents of what is read
 
@@ -97,7 +97,7 @@ side_same s t i (Some w) m n h = ap Some (opened_same s t i w m n h)
 pub plan-read : (s t : Machine) (i : Option ℕ) → IsMachine s → IsMachine t → ReadTheSame i s t → plan t i ≡ plan s i
 plan-read s t i m n h =
     same_plan s t i (same_place s t i h.ic h.origin)
-    (same_sight s t (place_of s i) h.index h.bounds h.enabled h.instruction) (side_same s t i _ m n h.side)
+    (same_decode_context s t (place_of s i) h.index h.bounds h.enabled h.instruction) (side_same s t i _ m n h.side)
 
 -- ---- the indicators
 
@@ -119,26 +119,26 @@ same_side s t i None h other = refl
 same_side s t i (Some w) h other = ap Some (same_opened s t i w h (λ e. other (ap Some e)))
 
 -- two states that are alike have the same next entry, unless the indicators are its index-side word
-pub plan-alike : (s t : Machine) (i : Option ℕ) → AreAlike s t → (needs (sight s (place_of s i))).index_read ≢ Some 11
+pub plan-alike : (s t : Machine) (i : Option ℕ) → AreAlike s t → (needs (decode_context s (place_of s i))).index_read ≢ Some 11
     → plan t i ≡ plan s i
 plan-alike s t i h other =
     let p = place_of s i in
     same_plan s t i (same_place s t i h.ic (h.words 2 (omega arith)))
-    (same_sight s t p (same_index_words s t h) (h.words 3 (omega arith)) h.enabled (other_words s t p h))
+    (same_decode_context s t p (same_index_words s t h) (h.words 3 (omega arith)) h.enabled (other_words s t p h))
     (same_side s t i _ h other)
 
 not_register : (w : Option ℕ) → IfSome w (λ n. 32 ≤ n) → w ≢ Some 11
 not_register None h e = cc
 not_register (Some n) h e = let same : n ≡ 11 = cc in omega arith
 
-serial-needs : (s : Machine) (i : Option ℕ) → (plan s i).serial ≡ false → (needs (sight s (place_of s i))).serial ≡ false
+serial-needs : (s : Machine) (i : Option ℕ) → (plan s i).serial ≡ false → (needs (decode_context s (place_of s i))).serial ≡ false
 unfolding plan
 serial-needs s i free =
-    let v = sight s (place_of s i) in sym (same_serial v (side_word i s (needs v).index_read)) ∙ free
+    let v = decode_context s (place_of s i) in sym (same_serial v (side_word i s (needs v).index_read)) ∙ free
 
 -- and where it is not done alone they are none
 pub plan-alike_ahead : (s t : Machine) (i : Option ℕ) → AreAlike s t → (plan s i).serial ≡ false → plan t i ≡ plan s i
 plan-alike_ahead s t i h free =
-    let v = sight s (place_of s i) in
+    let v = decode_context s (place_of s i) in
     let ahead : (needs v).serial ≡ false = serial-needs s i free in
     plan-alike s t i h (not_register (needs v).index_read ((is_needs v).above ahead))

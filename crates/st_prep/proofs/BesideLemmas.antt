@@ -4,7 +4,7 @@ use Rattle.st_state.specs.Machine.{Machine}
 use Rattle.st_state.specs.declared.devices.Order.{Order}
 use Rattle.st_prep.specs.declared.entries.Place.{Place}
 use Rattle.st_prep.specs.Fetch.{index_words, place_of, words_fetched}
-use Rattle.st_prep.specs.Plan.{sight_of, needs, prepared_entry, sight, side_word, plan}
+use Rattle.st_prep.specs.Plan.{decode_context_of, needs, prepared_entry, decode_context, side_word, plan}
 use Rattle.st_prep.specs.Alike.{AreAlike}
 use Rattle.st_prep.specs.BesideOrders.{AreAlikeBesideOrders}
 use Rattle.st_prep.proofs.AlikeLemmas.{plan-alike, plan-alike_ahead}
@@ -20,9 +20,9 @@ fetched-orders : (r q : Option Order) (s : Machine) (p : Place) → words_fetche
 unfolding index_words
 fetched-orders r q s p = fetched-outcome (with_orders r q s) p ∙ sym (fetched-outcome s p)
 
-sight-orders : (r q : Option Order) (s : Machine) (p : Place) → sight (with_orders r q s) p ≡ sight s p
-unfolding sight index_words
-sight-orders r q s p = ap (λ f. sight_of p f (index_words s) s) (fetched-orders r q s p)
+decode_context-orders : (r q : Option Order) (s : Machine) (p : Place) → decode_context (with_orders r q s) p ≡ decode_context s p
+unfolding decode_context index_words
+decode_context-orders r q s p = ap (λ f. decode_context_of p f (index_words s) s) (fetched-orders r q s p)
 
 place-orders : (r q : Option Order) (s : Machine) (t : Option ℕ) → place_of (with_orders r q s) t ≡ place_of s t
 unfolding place_of
@@ -37,8 +37,8 @@ plan-orders : (r q : Option Order) (s : Machine) (t : Option ℕ) → plan (with
 unfolding plan
 plan-orders r q s t =
     let u = with_orders r q s in
-    let v = sight s (place_of s t) in
-    let same : sight u (place_of u t) ≡ v = ap (sight u) (place-orders r q s t) ∙ sight-orders r q s (place_of s t) in
+    let v = decode_context s (place_of s t) in
+    let same : decode_context u (place_of u t) ≡ v = ap (decode_context u) (place-orders r q s t) ∙ decode_context-orders r q s (place_of s t) in
     ap (λ y. prepared_entry y (side_word t u (needs y).index_read)) same
     ∙ ap (prepared_entry v) (side-orders r q s t (needs v).index_read)
 
@@ -58,7 +58,7 @@ alike-orders s t h = record {
 }
 
 pub plan-beside : (s t : Machine) (i : Option ℕ) → AreAlikeBesideOrders s t
-    → (needs (sight s (place_of s i))).index_read ≢ Some 11 → plan t i ≡ plan s i
+    → (needs (decode_context s (place_of s i))).index_read ≢ Some 11 → plan t i ≡ plan s i
 plan-beside s t i h other =
     sym (plan-orders s.reader s.printer t i)
     ∙ plan-alike s (with_orders s.reader s.printer t) i (alike-orders s t h) other

@@ -8,8 +8,8 @@ use Rattle.st_bits.specs.declared.operations.HalfOp.TheVariants.{Lx, Lv, Lc, Lr,
 use Rattle.st_format.specs.declared.instruction.Instr.{Instr}
 use Rattle.st_format.specs.declared.instruction.Instr.TheVariants.{Half, Branch, Floating, Vfl, Connect, Move, BitBranch, IndBranch, StoreCounter, Transfer, Invalid}
 use Rattle.st_index.specs.IndexChange.{with_added, one_less, with_lower_count, selected_sum, is_counting, increment_of, progressive_word}
-use Rattle.st_prep.specs.declared.early.Early.{Early}
-use Rattle.st_prep.specs.EarlyChange.{without_change, change_of_comparison, change_of_index, index_side_word, half_change, progressive_change, change}
+use Rattle.st_prep.specs.declared.speculative.SpeculativeChange.{SpeculativeChange}
+use Rattle.st_prep.specs.SpeculativeChanges.{without_change, change_of_comparison, change_of_index, index_side_word, half_change, progressive_change, change}
 use Rattle.st_prep.specs.Ranges.{HasFields, IsChange}
 use Rattle.st_prep.proofs.Choices.{of_choice}
 
@@ -56,8 +56,8 @@ progressed-below p x a word =
 -- ---- changes
 
 -- an index word that is changed, if one is, has a number, and is a word before and after
-abbrev pub Fits : Early → Type 0
-Fits early = IfSome early.index IsChange
+abbrev pub Fits : SpeculativeChange → Type 0
+Fits speculative = IfSome speculative.index IsChange
 
 refilled-below : (r : Option ℕ) (y : ℕ) → IfSome r (λ w. w < 2 ^ 64) → y < 2 ^ 64 → unwrap_or r y < 2 ^ 64
 refilled-below None y some word = word

@@ -5,15 +5,15 @@ use Rattle.st_format.specs.declared.instruction.Instr.{Instr}
 use Rattle.st_format.specs.declared.instruction.Instr.TheVariants.{Half, Branch, Floating, Vfl, Connect, Move, BitBranch, IndBranch, StoreCounter, Transfer, Invalid}
 use Rattle.st_state.specs.Machine.{Machine, IsMachine, word}
 use Rattle.st_prep.specs.declared.entries.Words.{Words}
-use Rattle.st_prep.specs.EarlyChange.{effective, side}
+use Rattle.st_prep.specs.SpeculativeChanges.{effective, side}
 use Rattle.st_prep.specs.Entry.{no_words, field_words, operand_words, words_moved_from, reads_field, reads}
 use Rattle.st_prep.specs.Checks.{effective_instr}
 use Rattle.st_prep.specs.Fetch.{index_words, place_of}
-use Rattle.st_prep.specs.Plan.{Sight, aim_at, aim, needs_by, needs, suppressed_entry, entry_at, prepared_by, prepared_entry, sight, side_word, plan}
+use Rattle.st_prep.specs.Plan.{DecodeContext, resolved_at, resolved, needs_by, needs, suppressed_entry, entry_at, prepared_by, prepared_entry, decode_context, side_word, plan}
 use Rattle.st_prep.specs.Ranges.{HasFields}
 use Rattle.st_prep.specs.Reading.{words_read as instruction_words, reading_at_place, index_side_words}
 use Rattle.st_prep.proofs.Choices.{of_choice}
-use Rattle.st_prep.proofs.PlanLemmas.{sight-fits}
+use Rattle.st_prep.proofs.PlanLemmas.{decode_context-fits}
 use Rattle.st_prep.proofs.PreparedLemmas.{IsSight, executed-shape}
 use Rattle.st_prep.proofs.ReadingLemmas.{reading-few}
 
@@ -60,30 +60,30 @@ few-read x (StoreCounter a i second) e s = omega arith
 few-read x (Transfer w a i n) e s = omega arith
 few-read x (Invalid first second full) e s = omega arith
 
-few-by_fault : (f : Option ℕ) (s : Sight) (r : Option ℕ) → IsSight s
-    → (prepared_by f s.place (aim s) s.x r).reads.len + (prepared_by f s.place (aim s) s.x r).reads.len2
-    + index_side_words (needs_by f (aim s)).index_read
+few-by_fault : (f : Option ℕ) (s : DecodeContext) (r : Option ℕ) → IsSight s
+    → (prepared_by f s.place (resolved s) s.x r).reads.len + (prepared_by f s.place (resolved s) s.x r).reads.len2
+    + index_side_words (needs_by f (resolved s)).index_read
     ≤ 32
-unfolding entry_at suppressed_entry aim aim_at
+unfolding entry_at suppressed_entry resolved resolved_at
 few-by_fault None s r k =
     few-read s.x (effective_instr s.fetched) (effective s.x (effective_instr s.fetched)) (executed-shape s.fetched k.fetched)
 few-by_fault (Some i) s r k = omega arith
 
-few-prepared : (s : Sight) (r : Option ℕ) → IsSight s
+few-prepared : (s : DecodeContext) (r : Option ℕ) → IsSight s
     → (prepared_entry s r).reads.len + (prepared_entry s r).reads.len2 + index_side_words (needs s).index_read ≤ 32
-unfolding prepared_entry needs aim
-few-prepared s r k = few-by_fault (aim s).fault s r k
+unfolding prepared_entry needs resolved
+few-prepared s r k = few-by_fault (resolved s).fault s r k
 
 -- an entry of a state reads 36 words at most
 pub few-plan : (s : Machine) (t : Option ℕ) → IsMachine s → IfSome t (λ i. i < 64)
     → length (instruction_words (reading_at_place (index_words s) (word s 3) s.enabled (place_of s t)) (word s))
-    + index_side_words (needs (sight s (place_of s t))).index_read + ((plan s t).reads.len + (plan s t).reads.len2) ≤ 36
+    + index_side_words (needs (decode_context s (place_of s t))).index_read + ((plan s t).reads.len + (plan s t).reads.len2) ≤ 36
 unfolding plan
 few-plan s t m some =
     let p = place_of s t in
-    let v = sight s p in
+    let v = decode_context s p in
     omega (
       arith,
-      few-prepared v (side_word t s (needs v).index_read) (sight-fits s t m some),
+      few-prepared v (side_word t s (needs v).index_read) (decode_context-fits s t m some),
       (reading-few (index_words s) (word s 3) s.enabled p (word s)).few,
     )

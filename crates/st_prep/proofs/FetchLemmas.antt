@@ -11,7 +11,7 @@ use Rattle.st_state.specs.Boundary.{forbidden_by, is_invalid_word, is_protected}
 use Rattle.st_state.specs.declared.protection.Access.TheVariants.{Fetch}
 use Rattle.st_prep.specs.declared.entries.Place.{Place}
 use Rattle.st_prep.specs.declared.fetching.FoundInstruction.{FoundInstruction}
-use Rattle.st_prep.specs.EarlyChange.{effective}
+use Rattle.st_prep.specs.SpeculativeChanges.{effective}
 use Rattle.st_prep.specs.Reading.{Reading, Finds, Reads, outcome, half_of, Continuation, with_second, with_first, read_after, instruction_at, is_execute, with_target, fetched_alone, own_use, reading_at_place}
 use Rattle.st_prep.specs.Fetch.{words_fetched}
 use Rattle.st_prep.specs.Ranges.{HasFields, IsFoundInRange, IsFetched}

@@ -8,22 +8,22 @@ use Rattle.st_prep.specs.declared.entries.Place.{Place}
 use Rattle.st_prep.specs.declared.entries.Fetched.{Fetched}
 use Rattle.st_prep.specs.declared.entries.Prepared.{Prepared}
 use Rattle.st_prep.specs.Fetch.{index_words, place_of, words_fetched}
-use Rattle.st_prep.specs.Plan.{Sight, sight, sight_of, needs, plan, entry_by}
+use Rattle.st_prep.specs.Plan.{DecodeContext, decode_context, decode_context_of, needs, plan, entry_by}
 use Rattle.st_prep.specs.Reading.{outcome, is_execute, reading_at_place}
 
 -- what is seen of the state then
 seen : (s : Machine) (t : Option ℕ) (place : Place) (x : List ℕ) (f : Fetched) → place ≡ place_of s t → x ≡ index_words s
-    → f ≡ outcome (reading_at_place x (word s 3) s.enabled place) (word s) → sight_of place f x s ≡ sight s (place_of s t)
-unfolding sight words_fetched place_of
+    → f ≡ outcome (reading_at_place x (word s 3) s.enabled place) (word s) → decode_context_of place f x s ≡ decode_context s (place_of s t)
+unfolding decode_context words_fetched place_of
 seen s t place x f hp hx hf =
-    ap (λ (g : Fetched). sight_of place g x s) hf
-    ∙ ap (λ (y : List ℕ). sight_of place (outcome (reading_at_place y (word s 3) s.enabled place) (word s)) y s) hx
-    ∙ ap (λ (p : Place). sight_of p (outcome (reading_at_place (index_words s) (word s 3) s.enabled p) (word s)) (index_words s) s) hp
+    ap (λ (g : Fetched). decode_context_of place g x s) hf
+    ∙ ap (λ (y : List ℕ). decode_context_of place (outcome (reading_at_place y (word s 3) s.enabled place) (word s)) y s) hx
+    ∙ ap (λ (p : Place). decode_context_of p (outcome (reading_at_place (index_words s) (word s 3) s.enabled p) (word s)) (index_words s) s) hp
 
 -- what is filled in at the place of the next entry is the plan of it
 pub filled-plan : (s : Machine) (t : Option ℕ) (q : Prepared) (place : Place) (x : List ℕ) (f : Fetched) → place ≡ place_of s t
     → x ≡ index_words s → f ≡ outcome (reading_at_place x (word s 3) s.enabled place) (word s) → q ≡ entry_by s place f x → q ≡ plan s t
-unfolding plan sight words_fetched place_of
+unfolding plan decode_context words_fetched place_of
 filled-plan s t q place x f hp hx hf h =
     h
     ∙ ap (λ (g : Fetched). entry_by s place g x) hf
@@ -33,8 +33,8 @@ filled-plan s t q place x f hp hx hf h =
 -- and its index-side word that of the next entry
 pub filled-side : (s : Machine) (t side : Option ℕ) (place : Place) (x : List ℕ) (f : Fetched) → place ≡ place_of s t
     → x ≡ index_words s → f ≡ outcome (reading_at_place x (word s 3) s.enabled place) (word s)
-    → side ≡ (needs (sight_of place f x s)).index_read → side ≡ (needs (sight s (place_of s t))).index_read
-filled-side s t side place x f hp hx hf h = h ∙ ap (λ (v : Sight). (needs v).index_read) (seen s t place x f hp hx hf)
+    → side ≡ (needs (decode_context_of place f x s)).index_read → side ≡ (needs (decode_context s (place_of s t))).index_read
+filled-side s t side place x f hp hx hf h = h ∙ ap (λ (v : DecodeContext). (needs v).index_read) (seen s t place x f hp hx hf)
 
 -- no full word is EX
 pub whole-plain : (op : FullOp) (first second : ℕ) → is_execute (full_word_instruction op first second) ≡ false

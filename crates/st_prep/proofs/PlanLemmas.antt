@@ -16,10 +16,10 @@ use Rattle.st_format.specs.declared.instruction.Decoded.{Decoded}
 use Rattle.st_format.specs.Formats.{decoded_entry}
 use Rattle.st_prep.specs.declared.entries.Fetched.{Fetched}
 use Rattle.st_prep.specs.declared.fetching.FoundInstruction.{FoundInstruction}
-use Rattle.st_prep.specs.EarlyChange.{effective}
+use Rattle.st_prep.specs.SpeculativeChanges.{effective}
 use Rattle.st_prep.specs.Reading.{Reading, Finds, outcome, half_of, Continuation, with_second, with_first, read_after, instruction_at, is_execute, with_target, fetched_alone, own_use, reading_at_place}
 use Rattle.st_prep.specs.Fetch.{index_words, address_by, place_of, words_fetched}
-use Rattle.st_prep.specs.Plan.{Sight, needs, prepared_entry, sight, state_at_entry, side_word, side_of, plan, IsSeen}
+use Rattle.st_prep.specs.Plan.{DecodeContext, needs, prepared_entry, decode_context, state_at_entry, side_word, side_of, plan, IsSeen}
 use Rattle.st_prep.specs.Ranges.{IsPlace, IsPrepared}
 use Rattle.st_prep.proofs.Choices.{of_choice}
 use Rattle.st_prep.proofs.FetchLemmas.{fetched-fits}
@@ -80,9 +80,9 @@ place-fits : (s : Machine) (t : Option ℕ) → IsMachine s → IfSome t (λ i. 
 unfolding place_of
 place-fits s t m some = record { counter = m.counter; address = address-below t s m; table = some }
 
-pub sight-fits : (s : Machine) (t : Option ℕ) → IsMachine s → IfSome t (λ i. i < 64) → IsSight (sight s (place_of s t))
-unfolding sight
-sight-fits s t m some = record {
+pub decode_context-fits : (s : Machine) (t : Option ℕ) → IsMachine s → IfSome t (λ i. i < 64) → IsSight (decode_context s (place_of s t))
+unfolding decode_context
+decode_context-fits s t m some = record {
   place = place-fits s t m some;
   fetched = fetched-fits s (place_of s t);
   words = λ j. index_words-below s j m;
@@ -92,28 +92,28 @@ sight-fits s t m some = record {
 pub plan-prepared : (s : Machine) (t : Option ℕ) → IsMachine s → IfSome t (λ i. i < 64) → IsPrepared (plan s t)
 unfolding plan
 plan-prepared s t m some =
-    is_prepared _ _ (sight-fits s t m some) (side_word-below t s (needs (sight s (place_of s t))).index_read m)
+    is_prepared _ _ (decode_context-fits s t m some) (side_word-below t s (needs (decode_context s (place_of s t))).index_read m)
 
 -- ---- states that look the same
 
 pub same_seen : (p q : Place) (f g : Fetched) (x y : List ℕ) (b c : ℕ) (m n : Bool) → p ≡ q → f ≡ g → x ≡ y → b ≡ c → m ≡ n
-    → ◌≡◌ {A = Sight} (record { place = p; fetched = f; x = x; bounds = b; enabled = m })
+    → ◌≡◌ {A = DecodeContext} (record { place = p; fetched = f; x = x; bounds = b; enabled = m })
     (record { place = q; fetched = g; x = y; bounds = c; enabled = n })
 same_seen p q f g x y b c m n e1 e2 e3 e4 e5 = cc
 
-pub sight-seen : (s : Machine) (v : Sight) → IsSeen s v → sight s (place_of s v.place.table) ≡ v
-unfolding sight
-sight-seen s v h =
+pub decode_context-seen : (s : Machine) (v : DecodeContext) → IsSeen s v → decode_context s (place_of s v.place.table) ≡ v
+unfolding decode_context
+decode_context-seen s v h =
     same_seen _ v.place _ v.fetched _ v.x _ v.bounds _ v.enabled h.place
     (ap (words_fetched s) h.place ∙ h.fetched) h.words h.bounds h.enabled
 
 -- an entry that is prepared by what a state looks like is the state's next one
-pub prepared-plan : (s : Machine) (v : Sight) (r : Option ℕ) → IsSeen s v → r ≡ side_of s v
+pub prepared-plan : (s : Machine) (v : DecodeContext) (r : Option ℕ) → IsSeen s v → r ≡ side_of s v
     → prepared_entry v r ≡ plan s v.place.table
 unfolding plan
 prepared-plan s v r h e =
     ap (prepared_entry v) e
-    ∙ ap (λ u. prepared_entry u (side_word v.place.table s (needs u).index_read)) (sym (sight-seen s v h))
+    ∙ ap (λ u. prepared_entry u (side_word v.place.table s (needs u).index_read)) (sym (decode_context-seen s v h))
 
 -- ---- EX
 
@@ -175,7 +175,7 @@ or-second false b h = h
 
 -- and is done alone
 pub target-serial : (s : Machine) (i : Option ℕ) → is_some (words_fetched s (place_of s i)).target ≡ true → (plan s i).serial ≡ true
-unfolding plan sight
+unfolding plan decode_context
 target-serial s i h =
     let p = place_of s i in
     alone-serial _ _ (or-second (is_some p.table) (is_execute (words_fetched s p).instr.instr) (fetched-target s p h))

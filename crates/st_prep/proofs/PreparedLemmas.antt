@@ -9,14 +9,14 @@ use Rattle.st_format.specs.Formats.{is_valid}
 use Rattle.st_state.specs.declared.protection.Access.TheVariants.{Read, Write}
 use Rattle.st_prep.specs.declared.entries.Place.{Place}
 use Rattle.st_prep.specs.declared.entries.Fetched.{Fetched}
-use Rattle.st_prep.specs.declared.entries.Aim.{Aim}
+use Rattle.st_prep.specs.declared.entries.ResolvedEntry.{ResolvedEntry}
 use Rattle.st_prep.specs.declared.entries.Needs.{Needs}
 use Rattle.st_prep.specs.declared.entries.Prepared.{Prepared}
-use Rattle.st_prep.specs.EarlyChange.{effective, change}
-use Rattle.st_prep.specs.Entry.{reads, words_written, counter_behind, acts_alone, has_register, is_register}
+use Rattle.st_prep.specs.SpeculativeChanges.{effective, change}
+use Rattle.st_prep.specs.Entry.{reads, words_written, counter_behind, is_serial_operation, has_register, is_register}
 use Rattle.st_prep.specs.Reading.{is_execute}
 use Rattle.st_prep.specs.Checks.{effective_instr, forbidden_side, forbidden_words, forbidden_area, operation_invalid, execute_exception, fault}
-use Rattle.st_prep.specs.Plan.{Sight, is_alone, aim_at, aim, is_serial, needs_by, needs, asks, suppressed_entry, entry_at, prepared_by, prepared_entry}
+use Rattle.st_prep.specs.Plan.{DecodeContext, is_alone, resolved_at, resolved, is_serial, needs_by, needs, asks, suppressed_entry, entry_at, prepared_by, prepared_entry}
 use Rattle.st_prep.specs.Ranges.{HasFields, IsPlace, IsFetched, IsPrepared, IsNeeds}
 use Rattle.st_format.proofs.Spelled.{or-left, or-right}
 use Rattle.st_prep.proofs.Choices.{none-left, none-right}
@@ -26,7 +26,7 @@ use Rattle.st_prep.proofs.ChangeLemmas.{change-fits}
 use Rattle.st_prep.proofs.OutcomeLemmas.{next-below, after-below, value-fits, zero-fits, cost-fits}
 
 -- what is seen of a state is in its ranges
-pub record IsSight (s : Sight) : Type 0 where
+pub record IsSight (s : DecodeContext) : Type 0 where
   pub place : IsPlace s.place
   pub fetched : IsFetched s.fetched
   pub words : (j : ℕ) → get_or s.x j 0 < 2 ^ 64
@@ -41,14 +41,14 @@ unfolding effective_instr
 executed-shape f h = of_target f.target f.instr h.own h.target
 
 -- an entry that passes all checks
-record Passes (a : Aim) (b : ℕ) (en : Bool) : Type 0 where
+record Passes (a : ResolvedEntry) (b : ℕ) (en : Bool) : Type 0 where
   operation : operation_invalid a.instr ≡ None
   side : forbidden_side b en a.side ≡ None
   reads : forbidden_words b en Read a.reads ≡ None
   writes : forbidden_words b en Write a.writes ≡ None
   area : forbidden_area b en a.instr a.e ≡ None
 
-passes : (a : Aim) (b : ℕ) (en : Bool) → fault a b en ≡ None → Passes a b en
+passes : (a : ResolvedEntry) (b : ℕ) (en : Bool) → fault a b en ≡ None → Passes a b en
 unfolding fault
 passes a b en h =
     let past_fetch = none-right a.fault _ h in
@@ -82,22 +82,22 @@ above_side : (w : Option ℕ) → is_register w ≡ false → IfSome w (λ n. 32
 above_side None h = tt
 above_side (Some n) h = ltb-false n 32 h
 
-record Runs (a : Aim) : Type 0 where
+record Runs (a : ResolvedEntry) : Type 0 where
   alone : a.alone ≡ false
-  operation : acts_alone a.instr ≡ false
+  operation : is_serial_operation a.instr ≡ false
   side : is_register a.side ≡ false
   reads : has_register a.reads ≡ false
   writes : has_register a.writes ≡ false
 
-runs : (a : Aim) → is_serial a ≡ false → Runs a
+runs : (a : ResolvedEntry) → is_serial a ≡ false → Runs a
 unfolding is_serial
 runs a h =
     let before_writes = or-left _ (has_register a.writes) h in
     let before_reads = or-left _ (has_register a.reads) before_writes in
     let before_side = or-left _ (is_register a.side) before_reads in
     record {
-      alone = or-left a.alone (acts_alone a.instr) before_side;
-      operation = or-right a.alone (acts_alone a.instr) before_side;
+      alone = or-left a.alone (is_serial_operation a.instr) before_side;
+      operation = or-right a.alone (is_serial_operation a.instr) before_side;
       side = or-right _ (is_register a.side) before_reads;
       reads = or-right _ (has_register a.reads) before_writes;
       writes = or-right _ (has_register a.writes) h;
@@ -108,9 +108,9 @@ not_table place f h = no_table place.table (or-left (is_some place.table) (is_ex
 
 -- ---- all entries
 
-entry-prepared : (s : Sight) (r : Option ℕ) → IsSight s → IfSome r (λ w. w < 2 ^ 64)
-    → Passes (aim_at s.place s.fetched s.x) s.bounds s.enabled → IsPrepared (entry_at s.place (aim s) s.x r)
-unfolding entry_at aim aim_at
+entry-prepared : (s : DecodeContext) (r : Option ℕ) → IsSight s → IfSome r (λ w. w < 2 ^ 64)
+    → Passes (resolved_at s.place s.fetched s.x) s.bounds s.enabled → IsPrepared (entry_at s.place (resolved s) s.x r)
+unfolding entry_at resolved resolved_at
 entry-prepared s r k some p =
     let instr = effective_instr s.fetched in
     let e = effective s.x instr in
@@ -139,7 +139,7 @@ entry-prepared s r k some p =
         area = area-inside s.bounds s.enabled instr e p.area;
       };
       suppressed = λ h. cc;
-      ahead = λ h. let q = runs (aim s) h in record {
+      ahead = λ h. let q = runs (resolved s) h in record {
         table = not_table s.place s.fetched q.alone;
         operation = λ _. q.operation;
         reads = words-above (reads instr e) q.reads;
@@ -147,8 +147,8 @@ entry-prepared s r k some p =
       };
     }
 
-suppressed-prepared : (s : Sight) (i : ℕ) → IsSight s → IsPrepared (suppressed_entry s.place (aim s) i)
-unfolding suppressed_entry aim aim_at
+suppressed-prepared : (s : DecodeContext) (i : ℕ) → IsSight s → IsPrepared (suppressed_entry s.place (resolved s) i)
+unfolding suppressed_entry resolved resolved_at
 suppressed-prepared s i k = record {
   place = k.place;
   shape = executed-shape s.fetched k.fetched;
@@ -172,19 +172,19 @@ suppressed-prepared s i k = record {
   };
 }
 
-passes_by : (s : Sight) → (aim s).fault ≡ None → Passes (aim_at s.place s.fetched s.x) s.bounds s.enabled
-unfolding aim
-passes_by s h = passes (aim_at s.place s.fetched s.x) s.bounds s.enabled h
+passes_by : (s : DecodeContext) → (resolved s).fault ≡ None → Passes (resolved_at s.place s.fetched s.x) s.bounds s.enabled
+unfolding resolved
+passes_by s h = passes (resolved_at s.place s.fetched s.x) s.bounds s.enabled h
 
-by_fault : (f : Option ℕ) (s : Sight) (r : Option ℕ) → (aim s).fault ≡ f → IsSight s → IfSome r (λ w. w < 2 ^ 64)
-    → IsPrepared (prepared_by f s.place (aim s) s.x r)
+by_fault : (f : Option ℕ) (s : DecodeContext) (r : Option ℕ) → (resolved s).fault ≡ f → IsSight s → IfSome r (λ w. w < 2 ^ 64)
+    → IsPrepared (prepared_by f s.place (resolved s) s.x r)
 by_fault None s r e k some = entry-prepared s r k some (passes_by s e)
 by_fault (Some i) s r e k some = suppressed-prepared s i k
 
 -- whatever is prepared is in its ranges
-pub is_prepared : (s : Sight) (r : Option ℕ) → IsSight s → IfSome r (λ w. w < 2 ^ 64) → IsPrepared (prepared_entry s r)
-unfolding prepared_entry aim
-is_prepared s r k some = by_fault (aim s).fault s r refl k some
+pub is_prepared : (s : DecodeContext) (r : Option ℕ) → IsSight s → IfSome r (λ w. w < 2 ^ 64) → IsPrepared (prepared_entry s r)
+unfolding prepared_entry resolved
+is_prepared s r k some = by_fault (resolved s).fault s r refl k some
 
 -- ---- needs
 
@@ -193,33 +193,33 @@ unfolding forbidden_side
 allowed_side b en None h = tt
 allowed_side b en (Some n) h = allowed-inside b en Read n h
 
-needs_by_fault : (f : Option ℕ) (s : Sight) → (aim s).fault ≡ f → IsNeeds (needs_by f (aim s))
-unfolding aim aim_at
+needs_by_fault : (f : Option ℕ) (s : DecodeContext) → (resolved s).fault ≡ f → IsNeeds (needs_by f (resolved s))
+unfolding resolved resolved_at
 needs_by_fault None s e = record {
   inside = allowed_side s.bounds s.enabled _ (passes_by s e).side;
-  above = λ h. above_side _ (runs (aim s) h).side;
+  above = λ h. above_side _ (runs (resolved s) h).side;
 }
 needs_by_fault (Some i) s e = record { inside = tt; above = λ _. tt }
 
 -- whatever is needed is a word of storage
-pub is_needs : (s : Sight) → IsNeeds (needs s)
-unfolding needs aim
-is_needs s = needs_by_fault (aim s).fault s refl
+pub is_needs : (s : DecodeContext) → IsNeeds (needs s)
+unfolding needs resolved
+is_needs s = needs_by_fault (resolved s).fault s refl
 
-same_by_fault : (f : Option ℕ) (p : Place) (a : Aim) (x : List ℕ) (r : Option ℕ)
+same_by_fault : (f : Option ℕ) (p : Place) (a : ResolvedEntry) (x : List ℕ) (r : Option ℕ)
     → (prepared_by f p a x r).serial ≡ (needs_by f a).serial
 unfolding entry_at suppressed_entry
 same_by_fault None p a x r = refl
 same_by_fault (Some i) p a x r = refl
 
 -- what is looked up and what is prepared agree on what is done alone
-pub same_serial : (s : Sight) (r : Option ℕ) → (prepared_entry s r).serial ≡ (needs s).serial
+pub same_serial : (s : DecodeContext) (r : Option ℕ) → (prepared_entry s r).serial ≡ (needs s).serial
 unfolding prepared_entry needs
-same_serial s r = same_by_fault _ s.place (aim s) s.x r
+same_serial s r = same_by_fault _ s.place (resolved s) s.x r
 
 -- ---- the index-side word
 
-read-by_fault : (f : Option ℕ) (p : Place) (a : Aim) (x : List ℕ) (r q : Option ℕ)
+read-by_fault : (f : Option ℕ) (p : Place) (a : ResolvedEntry) (x : List ℕ) (r q : Option ℕ)
     → prepared_by f p a x r
     ≡ record (prepared_by f p a x q) { index = (prepared_by f p a x r).index; ind = (prepared_by f p a x r).ind }
 unfolding entry_at
@@ -227,32 +227,32 @@ read-by_fault None p a x r q = refl
 read-by_fault (Some i) p a x r q = refl
 
 -- what is read there shows in the index change and its indicators alone
-pub prepared-read : (s : Sight) (r q : Option ℕ)
+pub prepared-read : (s : DecodeContext) (r q : Option ℕ)
     → prepared_entry s r ≡ record (prepared_entry s q) { index = (prepared_entry s r).index; ind = (prepared_entry s r).ind }
 unfolding prepared_entry
-prepared-read s r q = read-by_fault _ s.place (aim s) s.x r q
+prepared-read s r q = read-by_fault _ s.place (resolved s) s.x r q
 
-changed_by_fault : (f : Option ℕ) (p : Place) (a : Aim) (x : List ℕ) (r q : Option ℕ) → is_some (needs_by f a).index_read ≡ true
+changed_by_fault : (f : Option ℕ) (p : Place) (a : ResolvedEntry) (x : List ℕ) (r q : Option ℕ) → is_some (needs_by f a).index_read ≡ true
     → let e = prepared_by f p a x q in record e { index = (change x e.instr e.e r).index; ind = (change x e.instr e.e r).ind } ≡ prepared_by f p a x r
 unfolding entry_at
 changed_by_fault None p a x r q some = refl
 changed_by_fault (Some i) p a x r q some = absurd (cc)
 
 -- where one is read, an entry becomes what another word makes of it by its early change alone
-pub changed-read : (s : Sight) (r q : Option ℕ) (p : Prepared) → asks s ≡ true → p ≡ prepared_entry s q
+pub changed-read : (s : DecodeContext) (r q : Option ℕ) (p : Prepared) → asks s ≡ true → p ≡ prepared_entry s q
     → record p { index = (change s.x p.instr p.e r).index; ind = (change s.x p.instr p.e r).ind } ≡ prepared_entry s r
 unfolding needs prepared_entry
-changed-read s r q p some is = rw is (changed_by_fault _ s.place (aim s) s.x r q some)
+changed-read s r q p some is = rw is (changed_by_fault _ s.place (resolved s) s.x r q some)
 
-entered_by_fault : (f : Option ℕ) (p : Place) (a : Aim) (x : List ℕ) (q : Option ℕ) → is_some (needs_by f a).index_read ≡ true
+entered_by_fault : (f : Option ℕ) (p : Place) (a : ResolvedEntry) (x : List ℕ) (q : Option ℕ) → is_some (needs_by f a).index_read ≡ true
     → (prepared_by f p a x q).suppressed ≡ false
 unfolding entry_at
 entered_by_fault None p a x q some = refl
 entered_by_fault (Some i) p a x q some = absurd (cc)
 
-pub asks-entered : (s : Sight) (q : Option ℕ) (p : Prepared) → asks s ≡ true → p ≡ prepared_entry s q → p.suppressed ≡ false
+pub asks-entered : (s : DecodeContext) (q : Option ℕ) (p : Prepared) → asks s ≡ true → p ≡ prepared_entry s q → p.suppressed ≡ false
 unfolding needs prepared_entry
-asks-entered s q p some is = rw is (entered_by_fault _ s.place (aim s) s.x q some)
+asks-entered s q p some is = rw is (entered_by_fault _ s.place (resolved s) s.x q some)
 
 -- it stays in its ranges
 pub changed-fits : (p : Prepared) (x : List ℕ) (r : Option ℕ) → IsPrepared p → p.suppressed ≡ false
@@ -282,37 +282,37 @@ alone-left : (a b c d e : Bool) → a ≡ true → (a || b || c || d || e) ≡ t
 alone-left true b c d e h = refl
 alone-left false b c d e h = cc
 
-alone-by_fault : (f : Option ℕ) (a : Aim) → a.alone ≡ true → (needs_by f a).serial ≡ true
+alone-by_fault : (f : Option ℕ) (a : ResolvedEntry) → a.alone ≡ true → (needs_by f a).serial ≡ true
 unfolding is_serial
 alone-by_fault None a h = alone-left a.alone _ _ _ _ h
 alone-by_fault (Some i) a h = h
 
 -- what is alone even where it is suppressed is done alone
-pub alone-serial : (s : Sight) (r : Option ℕ) → is_alone s.place s.fetched ≡ true → (prepared_entry s r).serial ≡ true
-unfolding needs aim aim_at
-alone-serial s r h = same_serial s r ∙ alone-by_fault _ (aim s) h
+pub alone-serial : (s : DecodeContext) (r : Option ℕ) → is_alone s.place s.fetched ≡ true → (prepared_entry s r).serial ≡ true
+unfolding needs resolved resolved_at
+alone-serial s r h = same_serial s r ∙ alone-by_fault _ (resolved s) h
 
 -- ---- by what an entry is aimed at
 
-pub look-needs : (a : Aim) (v : Sight) (n : Needs) → n ≡ needs_by a.fault a → a ≡ aim v → n ≡ needs v
+pub look-needs : (a : ResolvedEntry) (v : DecodeContext) (n : Needs) → n ≡ needs_by a.fault a → a ≡ resolved v → n ≡ needs v
 unfolding needs
 look-needs a v n e h = e ∙ ap (λ b. needs_by b.fault b) h
 
-pub side-inside : (a : Aim) (v : Sight) (n : Needs) → n ≡ needs_by a.fault a → a ≡ aim v
+pub side-inside : (a : ResolvedEntry) (v : DecodeContext) (n : Needs) → n ≡ needs_by a.fault a → a ≡ resolved v
     → IfSome n.index_read (λ w. w < words_of_storage)
 side-inside a v n e h = (subst IsNeeds (sym (look-needs a v n e h)) (is_needs v)).inside
 
-pub fill-prepared : (a : Aim) (v : Sight) (p : Prepared) (r : Option ℕ) → p ≡ prepared_by a.fault v.place a v.x r → a ≡ aim v
+pub fill-prepared : (a : ResolvedEntry) (v : DecodeContext) (p : Prepared) (r : Option ℕ) → p ≡ prepared_by a.fault v.place a v.x r → a ≡ resolved v
     → p ≡ prepared_entry v r
 unfolding prepared_entry
 fill-prepared a v p r e h = e ∙ ap (λ b. prepared_by b.fault v.place b v.x r) h
 
-pub filled-fits : (v : Sight) (p : Prepared) (r : Option ℕ) → p ≡ prepared_entry v r → IsSight v → IfSome r (λ w. w < 2 ^ 64)
+pub filled-fits : (v : DecodeContext) (p : Prepared) (r : Option ℕ) → p ≡ prepared_entry v r → IsSight v → IfSome r (λ w. w < 2 ^ 64)
     → IsPrepared p
 filled-fits v p r e k some = subst IsPrepared (sym e) (is_prepared v r k some)
 
 -- an entry stands where it stood before it was filled in
-pub filled-place : (f : Option ℕ) (place : Place) (a : Aim) (x : List ℕ) (r : Option ℕ)
+pub filled-place : (f : Option ℕ) (place : Place) (a : ResolvedEntry) (x : List ℕ) (r : Option ℕ)
     → (prepared_by f place a x r).place ≡ place
 unfolding entry_at suppressed_entry
 filled-place None place a x r = refl

@@ -12,7 +12,7 @@ use Rattle.st_prep.specs.declared.entries.Place.{Place}
 use Rattle.st_prep.specs.declared.entries.Fetched.{Fetched}
 use Rattle.st_prep.specs.declared.entries.Fetching.TheVariants.{Next, Found}
 use Rattle.st_prep.specs.declared.fetching.FoundInstruction.{FoundInstruction}
-use Rattle.st_prep.specs.EarlyChange.{effective}
+use Rattle.st_prep.specs.SpeculativeChanges.{effective}
 use Rattle.st_prep.specs.Fetch.{index_words, words_fetched}
 use Rattle.st_prep.specs.Reading.{Reading, Finds, Reads, outcome, words_read, own_words, left_after, fetching_of, half_of, Continuation, with_second, with_first, read_after, instruction_at, is_execute, with_target, own_use, reading_at_place}
 use Rattle.st_format.proofs.Spelled.{or-right}

@@ -3,7 +3,7 @@ use Rattle.std.specs.Prelude.{ℕ, ◌≡◌, ◌≢◌, All, IfSome, Option, le
 use Rattle.st_bits.specs.declared.register.TheConstants.{INTERRUPT_ADDRESS, BOUNDS, INDICATORS}
 use Rattle.st_state.specs.Machine.{Machine, word}
 use Rattle.st_prep.specs.Fetch.{index_words, place_of, reading_of}
-use Rattle.st_prep.specs.Plan.{needs, sight}
+use Rattle.st_prep.specs.Plan.{needs, decode_context}
 use Rattle.st_prep.specs.Reading.{words_read}
 
 -- two states in which the next entry, or the table instruction of an interrupt, reads the same: the
@@ -17,7 +17,7 @@ pub record ReadTheSame (table : Option ℕ) (s t : Machine) : Type 0 where
   pub enabled : t.enabled ≡ s.enabled
   pub instruction : All (λ w. word t w ≡ word s w)
       (words_read (reading_of s (place_of s table)) (word s))
-  pub side : IfSome (needs (sight s (place_of s table))).index_read (λ w. word t w ≡ word s w)
+  pub side : IfSome (needs (decode_context s (place_of s table))).index_read (λ w. word t w ≡ word s w)
 
 -- two states that differ in their indicators alone: all but these is the same
 pub record AreAlike (s t : Machine) : Type 0 where

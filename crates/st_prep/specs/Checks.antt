@@ -11,7 +11,7 @@ use Rattle.st_state.specs.declared.protection.Access.{Access}
 use Rattle.st_state.specs.declared.protection.Access.TheVariants.{Read, Write}
 use Rattle.st_prep.specs.declared.entries.Fetched.{Fetched}
 use Rattle.st_prep.specs.declared.entries.Words.{Words}
-use Rattle.st_prep.specs.declared.entries.Aim.{Aim}
+use Rattle.st_prep.specs.declared.entries.ResolvedEntry.{ResolvedEntry}
 use Rattle.st_prep.specs.Reading.{is_execute}
 
 -- the instruction that is executed: the target of EX, or else the instruction itself
@@ -66,7 +66,7 @@ first_found (check ∷ next ∷ checks) = option_or check (first_found (next ∷
 -- the indicator of the first check that fails: the instruction's words and those of the target of
 -- EX, the operation, EX of EX, the index-side word, each word read, each word written, the area of
 -- an order (which reads and writes no other words)
-unfoldable pub fault : Aim → ℕ → Bool → Option ℕ
+unfoldable pub fault : ResolvedEntry → ℕ → Bool → Option ℕ
 fault a bounds enabled = first_found
     (a.fault
     ∷ operation_invalid a.instr

@@ -159,19 +159,19 @@ cost _ = 1
 -- ---- entries that are done alone
 
 -- the operations of which each is
-abbrev pub is_alone_branch : BranchOp → Bool
-is_alone_branch Be = true
-is_alone_branch Bd = true
-is_alone_branch Bew = true
-is_alone_branch _ = false
+abbrev pub is_serial_branch : BranchOp → Bool
+is_serial_branch Be = true
+is_serial_branch Bd = true
+is_serial_branch Bew = true
+is_serial_branch _ = false
 
-unfoldable pub acts_alone : Instr → Bool
-acts_alone (Branch op address i) = is_alone_branch op
-acts_alone (Move swap address i second count) = true
-acts_alone (BitBranch sense change address i second) = true
-acts_alone (StoreCounter address i second) = true
-acts_alone (Transfer write address i count) = true
-acts_alone _ = false
+unfoldable pub is_serial_operation : Instr → Bool
+is_serial_operation (Branch op address i) = is_serial_branch op
+is_serial_operation (Move swap address i second count) = true
+is_serial_operation (BitBranch sense change address i second) = true
+is_serial_operation (StoreCounter address i second) = true
+is_serial_operation (Transfer write address i count) = true
+is_serial_operation _ = false
 
 -- a register is among the words
 unfoldable pub has_register : Words → Bool

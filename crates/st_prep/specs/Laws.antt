@@ -4,7 +4,7 @@ use Rattle.st_bits.specs.Indicators.{IsIndicatorIfAny}
 use Rattle.st_bits.specs.declared.register.TheConstants.{INDICATORS}
 use Rattle.st_bits.specs.Storage.{words_of_storage}
 use Rattle.st_state.specs.Machine.{Machine, IsMachine, word}
-use Rattle.st_prep.specs.Plan.{Sight, needs, prepared_entry, sight, plan as plan_of}
+use Rattle.st_prep.specs.Plan.{DecodeContext, needs, prepared_entry, decode_context, plan as plan_of}
 use Rattle.st_prep.specs.declared.entries.Place.{Place}
 use Rattle.st_prep.specs.Ranges.{IsPrepared}
 use Rattle.st_prep.specs.Fetch.{place_of, reading_of, words_fetched}
@@ -21,12 +21,12 @@ PlansAreInRange = (s : Machine) (t : Option ℕ) → IsMachine s → IsIndicator
 
 -- An entry is prepared as one that is done alone exactly where it was looked at as one.
 abbrev pub LooksAgree : Type 0
-LooksAgree = (v : Sight) (read : Option ℕ) → (prepared_entry v read).serial ≡ (needs v).serial
+LooksAgree = (v : DecodeContext) (read : Option ℕ) → (prepared_entry v read).serial ≡ (needs v).serial
 
 -- The index-side word shows in the change of an index word and its indicators alone: all else of an
 -- entry is the same whatever stands there.
 abbrev pub IndexSideWordsChangeIndexWordsAlone : Type 0
-IndexSideWordsChangeIndexWordsAlone = (v : Sight) (r q : Option ℕ)
+IndexSideWordsChangeIndexWordsAlone = (v : DecodeContext) (r q : Option ℕ)
     → prepared_entry v r
     ≡ record (prepared_entry v q) {
       index = (prepared_entry v r).index;
@@ -70,7 +70,7 @@ PlansDependOnWhatIsRead = (s u : Machine) (t : Option ℕ) → IsMachine s → I
 -- indicators is its index-side word; such an entry is done alone.
 pub record IndicatorsAreNotSeen : Type 0 where
   pub plan : (s u : Machine) (t : Option ℕ) → AreAlike s u
-      → (needs (sight s (place_of s t))).index_read ≢ Some INDICATORS → plan_of u t ≡ plan_of s t
+      → (needs (decode_context s (place_of s t))).index_read ≢ Some INDICATORS → plan_of u t ≡ plan_of s t
   pub ahead : (s u : Machine) (t : Option ℕ) → AreAlike s u → (plan_of s t).serial ≡ false
       → plan_of u t ≡ plan_of s t
 
@@ -79,7 +79,7 @@ abbrev pub EntriesRead36WordsAtMost : Type 0
 EntriesRead36WordsAtMost = (s : Machine) (t : Option ℕ) → IsMachine s → IsIndicatorIfAny t
     → let p = place_of s t in
     length (words_read (reading_of s p) (word s))
-    + index_side_words (needs (sight s p)).index_read
+    + index_side_words (needs (decode_context s p)).index_read
     + ((plan_of s t).reads.len + (plan_of s t).reads.len2) ≤ 36
 
 -- An entry that is neither T nor SWAP reads two operand words at most, in one run, and writes two
@@ -97,6 +97,6 @@ pub record OperandsAreFew : Type 0 where
 -- alone.
 pub record OrdersAreNotSeen : Type 0 where
   pub plan : (s u : Machine) (t : Option ℕ) → AreAlikeBesideOrders s u
-      → (needs (sight s (place_of s t))).index_read ≢ Some INDICATORS → plan_of u t ≡ plan_of s t
+      → (needs (decode_context s (place_of s t))).index_read ≢ Some INDICATORS → plan_of u t ≡ plan_of s t
   pub ahead : (s u : Machine) (t : Option ℕ) → AreAlikeBesideOrders s u
       → (plan_of s t).serial ≡ false → plan_of u t ≡ plan_of s t

@@ -1,4 +1,4 @@
-pub mod EarlyChange
+pub mod SpeculativeChanges
 pub mod Entry
 pub mod Fetch
 pub mod Checks

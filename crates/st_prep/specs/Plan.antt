@@ -8,24 +8,24 @@ use Rattle.st_prep.specs.declared.entries.Place.{Place}
 use Rattle.st_prep.specs.declared.entries.Fetched.{Fetched}
 use Rattle.st_prep.specs.declared.entries.Needs.{Needs}
 use Rattle.st_prep.specs.declared.entries.Prepared.{Prepared}
-use Rattle.st_prep.specs.declared.entries.Aim.{Aim}
-use Rattle.st_prep.specs.EarlyChange.{effective, side, change}
-use Rattle.st_prep.specs.Entry.{no_words, reads, words_written, counter_behind, counter_after, value_stored, cost, acts_alone, has_register, is_register}
+use Rattle.st_prep.specs.declared.entries.ResolvedEntry.{ResolvedEntry}
+use Rattle.st_prep.specs.SpeculativeChanges.{effective, side, change}
+use Rattle.st_prep.specs.Entry.{no_words, reads, words_written, counter_behind, counter_after, value_stored, cost, is_serial_operation, has_register, is_register}
 use Rattle.st_prep.specs.Reading.{is_execute}
 use Rattle.st_prep.specs.Fetch.{index_words, place_of, words_fetched}
 use Rattle.st_prep.specs.Checks.{effective_instr, fault}
 
 -- what preparation sees of a state: the place of the entry, what is fetched there, the sixteen
 -- index words, the register of the bounds, and whether interrupts are enabled
-pub record Sight : Type 0 where
+pub record DecodeContext : Type 0 where
   pub place : Place
   pub fetched : Fetched
   pub x : List ℕ
   pub bounds : ℕ
   pub enabled : Bool
 
-abbrev pub sight_of : Place → Fetched → List ℕ → Machine → Sight
-sight_of place fetched x s = record {
+abbrev pub decode_context_of : Place → Fetched → List ℕ → Machine → DecodeContext
+decode_context_of place fetched x s = record {
   place = place;
   fetched = fetched;
   x = x;
@@ -41,8 +41,8 @@ is_alone place f = is_some place.table || is_execute f.instr.instr
 
 -- what an entry is aimed at, before it is checked: its fault is that of its words. EX has the
 -- length of one half-word, whatever its target
-unfoldable pub aim_at : Place → Fetched → List ℕ → Aim
-aim_at place f x =
+unfoldable pub resolved_at : Place → Fetched → List ℕ → ResolvedEntry
+resolved_at place f x =
     let instr = effective_instr f in
     let e = effective x instr in
     record {
@@ -57,30 +57,30 @@ aim_at place f x =
     }
 
 -- what it is aimed at, and the first check that it fails
-unfoldable pub aim : Sight → Aim
-aim s =
-    let a = aim_at s.place s.fetched s.x in record a { fault = fault a s.bounds s.enabled }
+unfoldable pub resolved : DecodeContext → ResolvedEntry
+resolved s =
+    let a = resolved_at s.place s.fetched s.x in record a { fault = fault a s.bounds s.enabled }
 
 -- an entry is done alone where its operation says so, and where a register is among its words
-unfoldable pub is_serial : Aim → Bool
+unfoldable pub is_serial : ResolvedEntry → Bool
 is_serial a =
-    a.alone || acts_alone a.instr || is_register a.side || has_register a.reads
+    a.alone || is_serial_operation a.instr || is_register a.side || has_register a.reads
     || has_register a.writes
 
 -- the index-side word that is to be read, and whether the entry is done alone
-abbrev pub needs_by : Option ℕ → Aim → Needs
+abbrev pub needs_by : Option ℕ → ResolvedEntry → Needs
 needs_by (Some i) a = record { index_read = None; serial = a.alone }
 needs_by None a = record { index_read = a.side; serial = is_serial a }
 
-unfoldable pub needs : Sight → Needs
-needs s = let a = aim s in needs_by a.fault a
+unfoldable pub needs : DecodeContext → Needs
+needs s = let a = resolved s in needs_by a.fault a
 
 -- whether an index-side word is to be read
-abbrev pub asks : Sight → Bool
+abbrev pub asks : DecodeContext → Bool
 asks s = is_some (needs s).index_read
 
 -- an entry with a fault: its indicator comes on, and nothing else but the counter changes
-unfoldable pub suppressed_entry : Place → Aim → ℕ → Prepared
+unfoldable pub suppressed_entry : Place → ResolvedEntry → ℕ → Prepared
 suppressed_entry place a i = record {
   place = place;
   instr = a.instr;
@@ -97,17 +97,17 @@ suppressed_entry place a i = record {
 }
 
 -- an entry without one, its index-side word being read
-unfoldable pub entry_at : Place → Aim → List ℕ → Option ℕ → Prepared
+unfoldable pub entry_at : Place → ResolvedEntry → List ℕ → Option ℕ → Prepared
 entry_at place a x read =
     let following = counter_behind place a.halves in
-    let early = change x a.instr a.e read in
+    let speculative = change x a.instr a.e read in
     record {
       place = place;
       instr = a.instr;
       e = a.e;
       following = counter_after a.instr x a.e place.counter following;
-      index = early.index;
-      ind = early.ind;
+      index = speculative.index;
+      ind = speculative.ind;
       suppressed = false;
       reads = a.reads;
       writes = a.writes;
@@ -116,18 +116,18 @@ entry_at place a x read =
       serial = is_serial a;
     }
 
-abbrev pub prepared_by : Option ℕ → Place → Aim → List ℕ → Option ℕ → Prepared
+abbrev pub prepared_by : Option ℕ → Place → ResolvedEntry → List ℕ → Option ℕ → Prepared
 prepared_by (Some i) place a x read = suppressed_entry place a i
 prepared_by None place a x read = entry_at place a x read
 
-unfoldable pub prepared_entry : Sight → Option ℕ → Prepared
-prepared_entry s read = let a = aim s in prepared_by a.fault s.place a s.x read
+unfoldable pub prepared_entry : DecodeContext → Option ℕ → Prepared
+prepared_entry s read = let a = resolved s in prepared_by a.fault s.place a s.x read
 
 -- ---- from a state
 
 -- what is seen of a state at a place
-unfoldable pub sight : Machine → Place → Sight
-sight s place = sight_of place (words_fetched s place) (index_words s) s
+unfoldable pub decode_context : Machine → Place → DecodeContext
+decode_context s place = decode_context_of place (words_fetched s place) (index_words s) s
 
 -- an interrupt turns off the indicator that it takes, and ends a wait
 abbrev pub state_at_entry : Option ℕ → Machine → Machine
@@ -142,10 +142,10 @@ side_word table s w = option_map (word (state_at_entry table s)) w
 -- the next entry of a state, or the table instruction of the interrupt that it takes
 unfoldable pub plan : Machine → Option ℕ → Prepared
 plan s table =
-    let v = sight s (place_of s table) in prepared_entry v (side_word table s (needs v).index_read)
+    let v = decode_context s (place_of s table) in prepared_entry v (side_word table s (needs v).index_read)
 
 -- a state looks so, at the place of its next entry or of its table instruction
-pub record IsSeen (s : Machine) (v : Sight) : Type 0 where
+pub record IsSeen (s : Machine) (v : DecodeContext) : Type 0 where
   pub place : place_of s v.place.table ≡ v.place
   pub fetched : words_fetched s v.place ≡ v.fetched
   pub words : index_words s ≡ v.x
@@ -153,9 +153,9 @@ pub record IsSeen (s : Machine) (v : Sight) : Type 0 where
   pub enabled : s.enabled ≡ v.enabled
 
 -- the index-side word of an entry of the state, where one is read
-abbrev pub side_of : Machine → Sight → Option ℕ
+abbrev pub side_of : Machine → DecodeContext → Option ℕ
 side_of s v = side_word v.place.table s (needs v).index_read
 
 -- the entry of a state at a place, by what is fetched there and the index words
 abbrev pub entry_by : Machine → Place → Fetched → List ℕ → Prepared
-entry_by s place f x = let v = sight_of place f x s in prepared_entry v (side_of s v)
+entry_by s place f x = let v = decode_context_of place f x s in prepared_entry v (side_of s v)

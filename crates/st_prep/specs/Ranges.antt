@@ -16,10 +16,10 @@ use Rattle.st_prep.specs.declared.fetching.Part.{Part}
 use Rattle.st_prep.specs.declared.fetching.Part.TheVariants.{Wants, Has}
 use Rattle.st_prep.specs.declared.entries.Needs.{Needs}
 use Rattle.st_prep.specs.declared.entries.Words.{Words}
-use Rattle.st_prep.specs.declared.entries.Aim.{Aim}
+use Rattle.st_prep.specs.declared.entries.ResolvedEntry.{ResolvedEntry}
 use Rattle.st_prep.specs.declared.entries.IndexChange.{IndexChange}
 use Rattle.st_prep.specs.declared.entries.Prepared.{Prepared}
-use Rattle.st_prep.specs.Entry.{no_words, reads, words_written, acts_alone}
+use Rattle.st_prep.specs.Entry.{no_words, reads, words_written, is_serial_operation}
 
 -- the counter and the address are half-word addresses, and the indicator is one
 pub record IsPlace (p : Place) : Type 0 where
@@ -61,7 +61,7 @@ pub record IsRuns (w : Words) : Type 0 where
   pub few2 : w.len2 ≤ 16
 
 -- an instruction with its fields, addresses, runs of words, and an indicator
-pub record IsAim (a : Aim) : Type 0 where
+pub record IsAim (a : ResolvedEntry) : Type 0 where
   pub shape : HasFields a.instr
   pub address : a.e < 2 ^ 24
   pub reads : IsRuns a.reads
@@ -124,7 +124,7 @@ pub record IsSuppressed (p : Prepared) : Type 0 where
 -- register among its words
 pub record IsAhead (p : Prepared) : Type 0 where
   pub table : p.place.table ≡ None
-  pub operation : p.suppressed ≡ false → acts_alone p.instr ≡ false
+  pub operation : p.suppressed ≡ false → is_serial_operation p.instr ≡ false
   pub reads : AreAbove p.reads
   pub writes : AreAbove p.writes
 

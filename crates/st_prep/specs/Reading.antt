@@ -17,7 +17,7 @@ use Rattle.st_prep.specs.declared.entries.Fetching.TheVariants.{Next, Found}
 use Rattle.st_prep.specs.declared.fetching.FoundInstruction.{FoundInstruction}
 use Rattle.st_prep.specs.declared.fetching.Part.{Part}
 use Rattle.st_prep.specs.declared.fetching.Part.TheVariants.{Wants, Has}
-use Rattle.st_prep.specs.EarlyChange.{effective}
+use Rattle.st_prep.specs.SpeculativeChanges.{effective}
 
 -- ---- readings
 

@@ -1,6 +1,6 @@
 //! Effective addresses.
 ghost use Rattle.std.specs.Prelude.{◌≡◌, ◌<◌, ◌^◌};
-ghost use Rattle.st_prep.specs.EarlyChange.{index_operand as index_part_of, half_word_address as half_address_of, full_word_address as bit_address_of, field_address as field_address_of, effective as effective_of};
+ghost use Rattle.st_prep.specs.SpeculativeChanges.{index_operand as index_part_of, half_word_address as half_address_of, full_word_address as bit_address_of, field_address as field_address_of, effective as effective_of};
 ghost use Rattle.st_prep.specs.Ranges.{HasFields};
 
 use st_format::Instr;

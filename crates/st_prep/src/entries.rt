@@ -61,7 +61,7 @@ pub struct Words {
 
 /// What an entry is aimed at, found once and then passed on.
 #[derive(Clone, Copy, Debug, PartialEq, Eq)]
-pub struct Aim {
+pub struct ResolvedEntry {
     /// The instruction that is executed: of EX the target, where it could be fetched.
     pub instr: Instr,
     /// The effective address, a bit address below 2^24.

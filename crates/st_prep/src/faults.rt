@@ -8,7 +8,7 @@ ghost use Rattle.st_bits.specs.declared.register.TheConstants.{BOUNDS};
 ghost use Rattle.st_state.specs.Boundary.{indicator_of_access};
 ghost use Rattle.st_prep.specs.Checks.{effective_instr as effective_instr_of, forbidden_run as forbidden_run_of, forbidden_words as forbidden_words_of, forbidden_side as forbidden_side_of, forbidden_area as forbidden_area_of, area_access as area_access_of, operation_invalid, execute_exception, fault as fault_of};
 
-use crate::entries::{Aim, Fetched, Words};
+use crate::entries::{ResolvedEntry, Fetched, Words};
 use crate::fetching::is_execute;
 use st_bits::indicators::{ADDRESS_INVALID, EXECUTE_EXCEPTION, OPERATION_INVALID};
 use st_bits::register::FIRST_STORAGE_WORD;
@@ -128,15 +128,15 @@ fn operation_fault(instr: &Instr) -> Option<u8>
 
 /// The indicator of the first check that an entry fails, `aim.fault` being that of its words.
 #[inline(always)]
-pub fn fault(aim: &Aim, state: &State) -> Option<u8>
-    requires { IsAim aim.now }
-    ensures value { result ≡ fault_of aim.now (word state.now BOUNDS) state.now.enabled }
+pub fn fault(resolved: &ResolvedEntry, state: &State) -> Option<u8>
+    requires { IsAim resolved.now }
+    ensures value { result ≡ fault_of resolved.now (word state.now BOUNDS) state.now.enabled }
     ensures bound { IsIndicatorIfAny result }
 {
-    aim.fault
-        .or(operation_fault(&aim.instr))
-        .or(forbidden_side(state, aim.side))
-        .or(forbidden_words(state, Access::Read, aim.reads))
-        .or(forbidden_words(state, Access::Write, aim.writes))
-        .or(forbidden_area(state, &aim.instr, aim.e))
+    resolved.fault
+        .or(operation_fault(&resolved.instr))
+        .or(forbidden_side(state, resolved.side))
+        .or(forbidden_words(state, Access::Read, resolved.reads))
+        .or(forbidden_words(state, Access::Write, resolved.writes))
+        .or(forbidden_area(state, &resolved.instr, resolved.e))
 }

@@ -1,7 +1,7 @@
 //! The counter behind an entry, what it stores, its cost, and whether it is done alone.
 ghost use Rattle.std.specs.Prelude.{◌≡◌, ◌<◌, ◌^◌};
 ghost use Rattle.st_prep.specs.Entry.{counter_behind as next_of, after_count as after_count_of, after_half as after_half_of, after_branch as after_branch_of, counter_after as after_of};
-ghost use Rattle.st_prep.specs.Entry.{stored_part as stored_part_of, value_stored as value_of, binary_cost as binary_cost_of, decimal_cost as decimal_cost_of, cost as cost_of, acts_alone as acts_alone_of};
+ghost use Rattle.st_prep.specs.Entry.{stored_part as stored_part_of, value_stored as value_of, binary_cost as binary_cost_of, decimal_cost as decimal_cost_of, cost as cost_of, is_serial_operation as acts_alone_of};
 ghost use Rattle.st_prep.specs.Ranges.{HasFields};
 
 use crate::entries::Place;
@@ -143,7 +143,7 @@ pub fn cost(instr: &Instr) -> u8
 
 /// Whether an instruction is one of those that are done alone.
 #[inline(always)]
-pub fn acts_alone(instr: &Instr) -> bool
+pub fn is_serial_operation(instr: &Instr) -> bool
     ensures { result ≡ acts_alone_of instr.now }
 {
     matches!(

@@ -4,19 +4,19 @@ ghost use Rattle.st_bits.specs.Indicators.{indicator as indicator_of, IsIndicato
 ghost use Rattle.st_bits.specs.Storage.{words_of_storage};
 ghost use Rattle.st_state.specs.Machine.{Machine, IsMachine, word};
 ghost use Rattle.st_state.specs.Interrupts.{indicator_word};
-ghost use Rattle.st_prep.specs.EarlyChange.{words_after};
-ghost use Rattle.st_prep.specs.Plan.{Sight, sight_of, is_alone as is_alone_of, aim_at as aimed_of, aim as aim_of, is_serial as is_serial_of, needs_by, needs as needs_of, asks, suppressed_entry as suppressed_of, entry_at as entry_of, prepared_by, prepared_entry as prepared_of, plan as plan_of, state_at_entry, side_word as side_word_of, side_of, IsSeen, entry_by, sight};
+ghost use Rattle.st_prep.specs.SpeculativeChanges.{words_after};
+ghost use Rattle.st_prep.specs.Plan.{DecodeContext, decode_context_of, is_alone as is_alone_of, resolved_at as aimed_of, resolved as resolved_of, is_serial as is_serial_of, needs_by, needs as needs_of, asks, suppressed_entry as suppressed_of, entry_at as entry_of, prepared_by, prepared_entry as prepared_of, plan as plan_of, state_at_entry, side_word as side_word_of, side_of, IsSeen, entry_by, decode_context};
 ghost use Rattle.st_prep.specs.Fetch.{place_of as place_by};
 ghost use Rattle.st_format.specs.Formats.{spelled_as};
 ghost use Rattle.st_prep.specs.Reading.{is_execute as is_execute_of};
 ghost use Rattle.st_prep.specs.Ranges.{IsPlace, IsFetched, IsAim, IsNeeds, IsChange, IsPrepared};
 
 use crate::addresses::effective_address;
-use crate::early::{change, side};
-use crate::entries::{Aim, Fetched, IndexChange, Needs, Place, Prepared};
+use crate::speculative::{change, side};
+use crate::entries::{ResolvedEntry, Fetched, IndexChange, Needs, Place, Prepared};
 use crate::faults::{effective_instr, fault};
 use crate::fetching::{fetch_all, index_words, is_execute, place_of};
-use crate::outcome::{acts_alone, after, cost, next, value};
+use crate::outcome::{is_serial_operation, after, cost, next, value};
 use crate::runs::{has_register, is_register, none, reads, writes};
 use st_bits::register::INDICATORS;
 use st_bits::{HalfOp, Ind, indicator};
@@ -33,14 +33,14 @@ fn is_alone(place: &Place, fetched: &Fetched) -> bool
 
 // What an entry is aimed at, before it is checked.
 #[inline(always)]
-fn aimed(place: &Place, fetched: &Fetched, x: &[u64; 16]) -> Aim
+fn aimed(place: &Place, fetched: &Fetched, x: &[u64; 16]) -> ResolvedEntry
     requires { IsFetched fetched.now }
     ensures value { result ≡ aimed_of place.now fetched.now x.now }
     ensures ranges { IsAim result }
 {
     let instr = effective_instr(fetched);
     let e = effective_address(instr, x);
-    Aim {
+    ResolvedEntry {
         instr: *instr,
         e,
         halves: fetched.instr.halves,
@@ -54,41 +54,41 @@ fn aimed(place: &Place, fetched: &Fetched, x: &[u64; 16]) -> Aim
 
 // What an entry is aimed at, and the first check that it fails.
 #[inline(always)]
-fn aim(place: &Place, fetched: &Fetched, x: &[u64; 16], state: &State) -> Aim
+fn resolved(place: &Place, fetched: &Fetched, x: &[u64; 16], state: &State) -> ResolvedEntry
     requires { IsFetched fetched.now }
-    ensures value { result ≡ aim_of (sight_of place.now fetched.now x.now state.now) }
+    ensures value { result ≡ resolved_of (decode_context_of place.now fetched.now x.now state.now) }
     ensures ranges { IsAim result }
 {
-    let mut aim = aimed(place, fetched, x);
-    aim.fault = fault(&aim, state);
-    aim
+    let mut resolved = aimed(place, fetched, x);
+    resolved.fault = fault(&resolved, state);
+    resolved
 }
 
 // Whether an entry that is not suppressed is done alone.
 #[inline(always)]
-fn is_serial(aim: &Aim) -> bool
-    ensures { result ≡ is_serial_of aim.now }
+fn is_serial(resolved: &ResolvedEntry) -> bool
+    ensures { result ≡ is_serial_of resolved.now }
 {
-    aim.alone
-        || acts_alone(&aim.instr)
-        || is_register(aim.side)
-        || has_register(aim.reads)
-        || has_register(aim.writes)
+    resolved.alone
+        || is_serial_operation(&resolved.instr)
+        || is_register(resolved.side)
+        || has_register(resolved.reads)
+        || has_register(resolved.writes)
 }
 
 // What an entry needs.
 #[inline(always)]
-fn needs(aim: &Aim) -> Needs
-    ensures { result ≡ needs_by aim.now.fault aim.now }
+fn needs(resolved: &ResolvedEntry) -> Needs
+    ensures { result ≡ needs_by resolved.now.fault resolved.now }
 {
-    match aim.fault {
+    match resolved.fault {
         Some(_) => Needs {
             index_read: None,
-            serial: aim.alone,
+            serial: resolved.alone,
         },
         None => Needs {
-            index_read: aim.side,
-            serial: is_serial(aim),
+            index_read: resolved.side,
+            serial: is_serial(resolved),
         },
     }
 }
@@ -97,26 +97,26 @@ fn needs(aim: &Aim) -> Needs
 /// index words, and of `state` only the boundary register and the mark for interrupts count.
 pub fn look(place: &Place, fetched: &Fetched, x: &[u64; 16], state: &State) -> Needs
     requires { IsFetched fetched.now }
-    ensures value { result ≡ needs_of (sight_of place.now fetched.now x.now state.now) }
+    ensures value { result ≡ needs_of (decode_context_of place.now fetched.now x.now state.now) }
     ensures ranges { IsNeeds result }
 
     // It is what the next entry of each state needs that looks so.
-    ensures states { let v = sight_of place.now fetched.now x.now state.now in
-        (s : Machine) → IsSeen s v → result ≡ needs_of (sight s (place_by s place.now.table)) }
+    ensures states { let v = decode_context_of place.now fetched.now x.now state.now in
+        (s : Machine) → IsSeen s v → result ≡ needs_of (decode_context s (place_by s place.now.table)) }
 {
-    needs(&aim(place, fetched, x, state))
+    needs(&resolved(place, fetched, x, state))
 }
 
 // Fills in an entry that is suppressed by the indicator `i`.
 #[inline(never)]
-fn suppress(aim: &Aim, i: u8, p: &mut Prepared)
+fn suppress(resolved: &ResolvedEntry, i: u8, p: &mut Prepared)
     requires place { p.old.place.counter < 2 ^ 19 }
     requires indicator { i < 64 }
-    ensures { p.new ≡ suppressed_of p.old.place aim.now i }
+    ensures { p.new ≡ suppressed_of p.old.place resolved.now i }
 {
-    p.instr = aim.instr;
+    p.instr = resolved.instr;
     p.e = 0;
-    p.following = next(&p.place, aim.halves);
+    p.following = next(&p.place, resolved.halves);
     p.index = None;
     p.ind = Ind {
         on: indicator(i),
@@ -127,47 +127,47 @@ fn suppress(aim: &Aim, i: u8, p: &mut Prepared)
     p.writes = none();
     p.value = 0;
     p.cost = 1;
-    p.serial = aim.alone;
+    p.serial = resolved.alone;
 }
 
 // Fills in an entry that is not suppressed; `read` is its index-side word.
 #[inline(always)]
-fn enter(aim: &Aim, x: &[u64; 16], read: Option<u64>, serial: bool, p: &mut Prepared)
-    requires serial { serial ≡ is_serial_of aim.now }
+fn enter(resolved: &ResolvedEntry, x: &[u64; 16], read: Option<u64>, serial: bool, p: &mut Prepared)
+    requires serial { serial ≡ is_serial_of resolved.now }
     requires place { p.old.place.counter < 2 ^ 19 }
-    requires aim { IsAim aim.now }
-    ensures { p.new ≡ entry_of p.old.place aim.now x.now read }
+    requires resolved { IsAim resolved.now }
+    ensures { p.new ≡ entry_of p.old.place resolved.now x.now read }
 {
-    let following = next(&p.place, aim.halves);
-    let early = change(&aim.instr, x, aim.e, read);
-    p.instr = aim.instr;
-    p.e = aim.e;
-    p.following = after(&aim.instr, x, aim.e, p.place.counter, following);
-    p.index = early.index;
-    p.ind = early.ind;
+    let following = next(&p.place, resolved.halves);
+    let speculative = change(&resolved.instr, x, resolved.e, read);
+    p.instr = resolved.instr;
+    p.e = resolved.e;
+    p.following = after(&resolved.instr, x, resolved.e, p.place.counter, following);
+    p.index = speculative.index;
+    p.ind = speculative.ind;
     p.suppressed = false;
-    p.reads = aim.reads;
-    p.writes = aim.writes;
-    p.value = value(&aim.instr, x, following);
-    p.cost = cost(&aim.instr);
+    p.reads = resolved.reads;
+    p.writes = resolved.writes;
+    p.value = value(&resolved.instr, x, following);
+    p.cost = cost(&resolved.instr);
     p.serial = serial;
 }
 
 // Fills in the entry that stands at `p.place`, before the index words are changed by it.
 #[inline(always)]
-fn fill(aim: &Aim, x: &[u64; 16], read: Option<u64>, serial: bool, p: &mut Prepared)
-    requires serial { serial ≡ (needs_by aim.now.fault aim.now).serial }
+fn fill(resolved: &ResolvedEntry, x: &[u64; 16], read: Option<u64>, serial: bool, p: &mut Prepared)
+    requires serial { serial ≡ (needs_by resolved.now.fault resolved.now).serial }
     requires place { p.old.place.counter < 2 ^ 19 }
-    requires aim { IsAim aim.now }
-    ensures { p.new ≡ prepared_by aim.now.fault p.old.place aim.now x.now read }
+    requires resolved { IsAim resolved.now }
+    ensures { p.new ≡ prepared_by resolved.now.fault p.old.place resolved.now x.now read }
 {
-    match aim.fault {
+    match resolved.fault {
         Some(i) => {
             // A copy, so that `aim` need not stand in memory for it.
-            let aim = *aim;
-            suppress(&aim, i, p)
+            let resolved = *resolved;
+            suppress(&resolved, i, p)
         }
-        None => enter(aim, x, read, serial, p),
+        None => enter(resolved, x, read, serial, p),
     }
 }
 
@@ -190,20 +190,20 @@ pub fn prepare_in(
 )
     requires place { IsPlace p.old.place }
     requires fetched { IsFetched fetched.now }
-    requires asked { is_some read ≡ asks (sight_of p.old.place fetched.now x.old state.now) }
+    requires asked { is_some read ≡ asks (decode_context_of p.old.place fetched.now x.old state.now) }
 
-    ensures value { p.new ≡ prepared_of (sight_of p.old.place fetched.now x.old state.now) read }
+    ensures value { p.new ≡ prepared_of (decode_context_of p.old.place fetched.now x.old state.now) read }
     ensures ranges { IsPrepared p.new }
     ensures words { x.new ≡ words_after x.old p.new.index }
 
     // It is the next entry of each state that looks so.
-    ensures states { let v = sight_of p.old.place fetched.now x.old state.now in
+    ensures states { let v = decode_context_of p.old.place fetched.now x.old state.now in
         (s : Machine) → IsSeen s v → read ≡ side_of s v → p.new ≡ plan_of s p.old.place.table }
 {
     read_shape(read);
-    let aim = aim(&p.place, fetched, x, state);
-    let serial = needs(&aim).serial;
-    fill(&aim, x, read, serial, p);
+    let resolved = resolved(&p.place, fetched, x, state);
+    let serial = needs(&resolved).serial;
+    fill(&resolved, x, read, serial, p);
     change_index(p.index, x);
 }
 
@@ -220,16 +220,16 @@ pub fn prepare_without_side(
     requires place { IsPlace p.old.place }
     requires fetched { IsFetched fetched.now }
 
-    ensures value { let v = sight_of p.old.place fetched.now x.now state.now in
+    ensures value { let v = decode_context_of p.old.place fetched.now x.now state.now in
         p.new ≡ prepared_of v (option_map (λ w. 0) (needs_of v).index_read) }
-    ensures needs { result ≡ needs_of (sight_of p.old.place fetched.now x.now state.now) }
+    ensures needs { result ≡ needs_of (decode_context_of p.old.place fetched.now x.now state.now) }
     ensures place { p.new.place ≡ p.old.place }
     ensures ranges { IsPrepared p.new }
     ensures shape { IsNeeds result }
 {
-    let aim = aim(&p.place, fetched, x, state);
-    let needs = needs(&aim);
-    fill(&aim, x, zero_for(needs.index_read), needs.serial, p);
+    let resolved = resolved(&p.place, fetched, x, state);
+    let needs = needs(&resolved);
+    fill(&resolved, x, zero_for(needs.index_read), needs.serial, p);
     needs
 }
 
@@ -237,15 +237,15 @@ pub fn prepare_without_side(
 /// prepared by whatever stood in its place.
 pub fn change_by_side(p: &mut Prepared, x: &[u64; 16], read: Option<u64>)
     requires { IsPrepared p.old }
-    ensures value { (v : Sight) (other : Option ℕ) → v.x ≡ x.now → asks v ≡ true →
+    ensures value { (v : DecodeContext) (other : Option ℕ) → v.x ≡ x.now → asks v ≡ true →
         p.old ≡ prepared_of v other → p.new ≡ prepared_of v read }
-    ensures ranges { (v : Sight) (other : Option ℕ) → v.x ≡ x.now → asks v ≡ true →
+    ensures ranges { (v : DecodeContext) (other : Option ℕ) → v.x ≡ x.now → asks v ≡ true →
         p.old ≡ prepared_of v other → IsPrepared p.new }
 {
     read_shape(read);
-    let early = change(&p.instr, x, p.e, read);
-    p.index = early.index;
-    p.ind = early.ind;
+    let speculative = change(&p.instr, x, p.e, read);
+    p.index = speculative.index;
+    p.ind = speculative.ind;
 }
 
 // A word of zeros in the place of an index-side word, where one is asked for.
@@ -281,14 +281,14 @@ pub fn prepare(
 ) -> Prepared
     requires place { IsPlace place.now }
     requires fetched { IsFetched fetched.now }
-    requires asked { is_some read ≡ asks (sight_of place.now fetched.now x.old state.now) }
+    requires asked { is_some read ≡ asks (decode_context_of place.now fetched.now x.old state.now) }
 
-    ensures value { result ≡ prepared_of (sight_of place.now fetched.now x.old state.now) read }
+    ensures value { result ≡ prepared_of (decode_context_of place.now fetched.now x.old state.now) read }
     ensures ranges { IsPrepared result }
     ensures words { x.new ≡ words_after x.old result.index }
 
     // It is the next entry of each state that looks so.
-    ensures states { let v = sight_of place.now fetched.now x.old state.now in
+    ensures states { let v = decode_context_of place.now fetched.now x.old state.now in
         (s : Machine) → IsSeen s v → read ≡ side_of s v → result ≡ plan_of s place.now.table }
 {
     let mut p = Prepared::default();
@@ -349,13 +349,13 @@ fn fill_fetched(fetched: &Fetched, x: &[u64; 16], state: &State, p: &mut Prepare
     requires place { IsPlace p.old.place }
     requires fetched { IsFetched fetched.now }
     ensures value { p.new ≡ entry_by state.now p.old.place fetched.now x.now }
-    ensures side { let v = sight_of p.old.place fetched.now x.now state.now in
+    ensures side { let v = decode_context_of p.old.place fetched.now x.now state.now in
         result ≡ (needs_of v).index_read }
 {
-    let aim = aim(&p.place, fetched, x, state);
-    let needs = needs(&aim);
+    let resolved = resolved(&p.place, fetched, x, state);
+    let needs = needs(&resolved);
     let read = side_word(state, p.place.table, needs.index_read);
-    fill(&aim, x, read, needs.serial, p);
+    fill(&resolved, x, read, needs.serial, p);
     needs.index_read
 }
 
@@ -365,7 +365,7 @@ pub fn plan_in(table: Option<u8>, state: &State, p: &mut Prepared) -> Option<u32
     requires { IsIndicatorIfAny table }
     ensures value { p.new ≡ plan_of state.now table }
     ensures ranges { IsPrepared p.new }
-    ensures side { result ≡ (needs_of (sight state.now (place_by state.now table))).index_read }
+    ensures side { result ≡ (needs_of (decode_context state.now (place_by state.now table))).index_read }
     ensures machine { IsMachine state.now }
 {
     p.place = place_of(state, table);

@@ -9,11 +9,11 @@ use Rattle.std.proofs.lemmas.List.Folds.{list_any-append}
 use Rattle.st_banks.specs.declared.answers.LastAnswers.{LastAnswers}
 use Rattle.st_rows.specs.Entries.{latest_done, no_runs}
 use Rattle.st_rows.specs.Ranges.{IsEntryInTime}
-use Rattle.st_rows.specs.Rows.{front_after_entry, wanted_from, words_tick, address_tick, tick_a, tick_p, tick_c, preparation_tick}
+use Rattle.st_rows.specs.Rows.{issue_after_entry, wanted_from, words_tick, address_tick, tick_a, tick_p, tick_c, preparation_tick}
 use Rattle.st_rows.specs.Words.{fetch_words}
 use Rattle.st_rows.specs.declared.entry.Entry.{Entry}
 use Rattle.st_rows.specs.declared.fetching.Fetching.{Fetching}
-use Rattle.st_rows.specs.declared.front.Front.{Front}
+use Rattle.st_rows.specs.declared.issue.IssueState.{IssueState}
 use Rattle.st_rows.proofs.Within.{latest-within}
 use Rattle.st_plain.specs.Looking.{level_wait}
 use Rattle.st_plain.specs.Uses.{instruction_uses, fetch_uses, side_uses, formed_uses}
@@ -23,26 +23,26 @@ use Rattle.st_reasons.specs.Reasons.{because, is_stored, side_writer, reason_of_
 use Rattle.st_reasons.specs.Words.{is_role, is_answered_at}
 use Rattle.st_reasons.proofs.Linked.{turn_at, AreLinked}
 use Rattle.st_reasons.specs.Paths.{is_side_read, IsPath, PathEnds, IsForAddress}
-use Rattle.st_reasons.specs.Segments.{Told, IsTold, front_of, last_uses}
-use Rattle.st_reasons.proofs.PathLemmas.{CameBy, AreCaused, AreKnown, IsRowFront, words-known, words-path, nothing-done, none-came, done-ends, or-path}
+use Rattle.st_reasons.specs.Segments.{Told, IsTold, issue_of, last_uses}
+use Rattle.st_reasons.proofs.PathLemmas.{CameBy, AreCaused, AreKnown, IsRowIssue, words-known, words-path, nothing-done, none-came, done-ends, or-path}
 use Rattle.st_reasons.proofs.Chains.{pour-append}
 use Rattle.st_reasons.proofs.CoverLaw.{before-turn, opening-within}
 use Rattle.st_reasons.proofs.EachUse.{words-length}
-use Rattle.st_reasons.proofs.SegmentLemmas.{linked-cut, segment-behind, front-order}
+use Rattle.st_reasons.proofs.SegmentLemmas.{linked-cut, segment-behind, issue-order}
 use Rattle.st_reasons.proofs.Truth.{deep_uses, deep-is, deep-early}
 use Rattle.st_rows.specs.Uses.{uses}
 
-words-long : (ds : List ℕ) (f : Front) (from : ℕ) (s : Fetching) (w n : ℕ) → length (instruction_uses ds f.past s from w n) ≡ n
+words-long : (ds : List ℕ) (f : IssueState) (from : ℕ) (s : Fetching) (w n : ℕ) → length (instruction_uses ds f.past s from w n) ≡ n
 words-long ds f from s w n = words-length ds f.past from s w n
 
-others-caused : (f : Front) (own : ℕ) (xs ys : List Use) → All (λ (u : Use). is_role Instruction u.role ≡ false) xs → AreCaused f own ys → AreCaused f own (xs ++ ys)
+others-caused : (f : IssueState) (own : ℕ) (xs ys : List Use) → All (λ (u : Use). is_role Instruction u.role ≡ false) xs → AreCaused f own ys → AreCaused f own (xs ++ ys)
 unfolding AreCaused
 others-caused f own [] ys all caused = caused
 others-caused f own (x ∷ xs) ys all caused =
     let none : is_role Instruction x.role ≡ false = All-head (λ (u : Use). is_role Instruction u.role ≡ false) x xs all in
     ((λ role is. absurd (cc)), others-caused f own xs ys (All-tail (λ (u : Use). is_role Instruction u.role ≡ false) x xs all) caused)
 
-module _ (ds : List ℕ) (f : Front) (e : Entry) (fits : IsEntryInTime e) (order : f.p ≤ f.c) where
+module _ (ds : List ℕ) (f : IssueState) (e : Entry) (fits : IsEntryInTime e) (order : f.p ≤ f.c) where
   fetches-known : AreKnown f e.own.len (words_tick ds f e) (reverse (fetch_uses ds f e) ++ [])
   unfolding fetch_uses words_tick AreCaused fetch_words instruction_uses
   fetches-known =
@@ -141,7 +141,7 @@ module _ (ds : List ℕ) (f : Front) (e : Entry) (fits : IsEntryInTime e) (order
     abbrev t : ℕ
     t = tick_a ds f e - 1
 
-    pub address-path : (base : ℕ) (before : List Use) → AreLinked base before → turn_at base before ≡ f.bus.free → base ≤ f.p → IsRowFront f
+    pub address-path : (base : ℕ) (before : List Use) → AreLinked base before → turn_at base before ≡ f.bus.free → base ≤ f.p → IsRowIssue f
         → IsPath f e.own.len before e.serial words t (reason_of_address f e t before words)
     address-path base before linked turn low row =
         or-path f e.own.len before e.serial words t (reason_done f e.serial t words) (reason_of_words f e.own.len before t words)
@@ -162,39 +162,39 @@ module _ (ds : List ℕ) (n : ℕ) (banks : LastAnswers) (start : ℕ) where
   opening-none : (k w : ℕ) → latest_done (replicate k (record { c = 0; writes = no_runs })) w ≡ 0
   opening-none k w = omega (arith, latest-within 0 (replicate k (record { c = 0; writes = no_runs })) w (record { each = opening-within 0 k }))
 
-  pub row-front : (older : List Told) → All IsTold older → IsRowFront (front_of ds n banks start older)
-  unfolding front_of front_after_entry tick_c tick_p preparation_tick
-  row-front [] all = record { eight = refl; later = λ behind. absurd (cc); first = λ is. (refl, λ w. opening-none 8 w) }
-  row-front (x ∷ older) all = record {
-    eight = omega (arith, length-take 7 (front_of ds n banks start older).past, (row-front older (All-tail IsTold x older all)).eight);
+  pub row-issue : (older : List Told) → All IsTold older → IsRowIssue (issue_of ds n banks start older)
+  unfolding issue_of issue_after_entry tick_c tick_p preparation_tick
+  row-issue [] all = record { eight = refl; later = λ behind. absurd (cc); first = λ is. (refl, λ w. opening-none 8 w) }
+  row-issue (x ∷ older) all = record {
+    eight = omega (arith, length-take 7 (issue_of ds n banks start older).past, (row-issue older (All-tail IsTold x older all)).eight);
     later = λ behind. omega arith;
     first = λ is.
         let zero_tick = eqb-true _ _ is in
         let no : ⊥ = omega (arith, zero_tick, (All-head IsTold x older all).entry.costs.0) in absurd no;
   }
 
-  side-others : (f : Front) (e : Entry) (side : Option ℕ) → All (λ (u : Use). is_role Instruction u.role ≡ false) (reverse (side_uses ds f.past (words_tick ds f e).bus side (tick_a ds f e)))
+  side-others : (f : IssueState) (e : Entry) (side : Option ℕ) → All (λ (u : Use). is_role Instruction u.role ≡ false) (reverse (side_uses ds f.past (words_tick ds f e).bus side (tick_a ds f e)))
   unfolding side_uses uses
   side-others f e None = All-nil (λ (u : Use). is_role Instruction u.role ≡ false)
   side-others f e (Some w) = All-cons (λ (u : Use). is_role Instruction u.role ≡ false) _ [] refl (All-nil (λ (u : Use). is_role Instruction u.role ≡ false))
 
-  because-is : (f : Front) (e : Entry) (a p wait : ℕ) (words before : List Use) → wait ≡ 0 → side_writer words ≡ None
+  because-is : (f : IssueState) (e : Entry) (a p wait : ℕ) (words before : List Use) → wait ≡ 0 → side_writer words ≡ None
       → because f e a p wait words before ≡ reason_of_address f e (a - 1) (reverse before) (reverse words)
   unfolding because
   because-is f e a p wait us before none alone =
       rw none (ap (λ o. reason_of_side o a (reason_of_address f e (a - 1) (reverse before) (reverse us))) alone)
 
 pub for-address : (ds : List ℕ) (n : ℕ) (banks : LastAnswers) (start : ℕ) (older : List Told) (x : Told) → All IsTold (x ∷ older)
-    → level_wait ds n (front_of ds n banks start older) x.entry ≡ 0
-    → side_writer (formed_uses ds (front_of ds n banks start older) x.entry x.side) ≡ None
-    → (tick_p ds n (front_of ds n banks start older) x.entry ≡ tick_a ds (front_of ds n banks start older) x.entry + 1)
-    ⊎ (list_any (is_side_read (tick_a ds (front_of ds n banks start older) x.entry) (tick_p ds n (front_of ds n banks start older) x.entry - 1))
-    (formed_uses ds (front_of ds n banks start older) x.entry x.side) ≡ true)
-    → IsForAddress ds n (front_of ds n banks start older) x.entry (formed_uses ds (front_of ds n banks start older) x.entry x.side) (last_uses ds n banks start older)
-    (because (front_of ds n banks start older) x.entry (tick_a ds (front_of ds n banks start older) x.entry) (tick_p ds n (front_of ds n banks start older) x.entry)
-    (level_wait ds n (front_of ds n banks start older) x.entry) (formed_uses ds (front_of ds n banks start older) x.entry x.side) (last_uses ds n banks start older))
+    → level_wait ds n (issue_of ds n banks start older) x.entry ≡ 0
+    → side_writer (formed_uses ds (issue_of ds n banks start older) x.entry x.side) ≡ None
+    → (tick_p ds n (issue_of ds n banks start older) x.entry ≡ tick_a ds (issue_of ds n banks start older) x.entry + 1)
+    ⊎ (list_any (is_side_read (tick_a ds (issue_of ds n banks start older) x.entry) (tick_p ds n (issue_of ds n banks start older) x.entry - 1))
+    (formed_uses ds (issue_of ds n banks start older) x.entry x.side) ≡ true)
+    → IsForAddress ds n (issue_of ds n banks start older) x.entry (formed_uses ds (issue_of ds n banks start older) x.entry x.side) (last_uses ds n banks start older)
+    (because (issue_of ds n banks start older) x.entry (tick_a ds (issue_of ds n banks start older) x.entry) (tick_p ds n (issue_of ds n banks start older) x.entry)
+    (level_wait ds n (issue_of ds n banks start older) x.entry) (formed_uses ds (issue_of ds n banks start older) x.entry x.side) (last_uses ds n banks start older))
 for-address ds n banks start older x all none alone prepared =
-    let f = front_of ds n banks start older in
+    let f = issue_of ds n banks start older in
     let e = x.entry in
     let tail = All-tail IsTold x older all in
     let side = side_uses ds f.past (words_tick ds f e).bus x.side (tick_a ds f e) in
@@ -202,9 +202,9 @@ for-address ds n banks start older x all none alone prepared =
     let deep = deep_uses ds n banks start older in
     let is = segment-behind ds n banks start older tail in
     let linked = linked-cut start (reverse before) deep (subst (AreLinked start) (deep-is ds n banks start older) is.linked) in
-    let path = address-path ds f e (All-head IsTold x older all).entry (front-order ds n banks start older).1 (reverse side) (side-others ds n banks start f e x.side)
+    let path = address-path ds f e (All-head IsTold x older all).entry (issue-order ds n banks start older).1 (reverse side) (side-others ds n banks start f e x.side)
     (turn_at start deep) (reverse before) linked (before-turn ds n banks start older x all f.c (omega arith)) (deep-early ds n banks start older tail)
-    (row-front ds n banks start older tail) in
+    (row-issue ds n banks start older tail) in
     let whole : reverse (formed_uses ds f e x.side) ≡ reverse side ++ reverse (fetch_uses ds f e) = reverse-append (fetch_uses ds f e) side in
     record {
       unlevelled = none;

@@ -16,7 +16,7 @@ use Rattle.st_rows.proofs.Laws.{rows_make_their_reads}
 use Rattle.st_rows.specs.Supplies.{read_ticks}
 use Rattle.st_rows.specs.declared.uses.ReadTicks.{ReadTicks}
 use Rattle.st_rows.specs.declared.uses.Use.{Use}
-use Rattle.st_reasons.specs.Segments.{Told, IsTold, front_of, uses_behind, all_uses}
+use Rattle.st_reasons.specs.Segments.{Told, IsTold, issue_of, uses_behind, all_uses}
 use Rattle.st_reasons.specs.Served.{Served, served, reads_told, busy_until, AreBankedBehind}
 use Rattle.st_reasons.specs.Words.{is_read, read_of}
 use Rattle.st_reasons.proofs.BusLemmas.{told-of-entry}
@@ -116,11 +116,11 @@ module _ (banks : LastAnswers) where
 -- ---- the segment
 
 module _ (ds : List ℕ) (n : ℕ) (banks : LastAnswers) (start : ℕ) (whole : length banks.ticks ≡ BANKS) where
-  segment-banked : (rows : List Told) → All IsTold rows → AreBanked banks (front_of ds n banks start rows).bus (all_uses ds n banks start rows)
-  unfolding front_of all_uses uses_behind AreBankedBehind busy_until
+  segment-banked : (rows : List Told) → All IsTold rows → AreBanked banks (issue_of ds n banks start rows).bus (all_uses ds n banks start rows)
+  unfolding issue_of all_uses uses_behind AreBankedBehind busy_until
   segment-banked [] all = record { each = tt; until = λ w. refl; whole = whole }
   segment-banked (x ∷ rows) all =
-      let f = front_of ds n banks start rows in
+      let f = issue_of ds n banks start rows in
       let e = x.entry in
       let is = segment-banked rows (All-tail IsTold x rows all) in
       subst (λ b. AreBanked banks b (reverse (uses_behind ds n banks start rows x) ++ all_uses ds n banks start rows)) (rows_make_their_reads.bus ds n f e)

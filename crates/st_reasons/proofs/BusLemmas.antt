@@ -13,7 +13,7 @@ use Rattle.st_rows.specs.Uses.{behind_use, reads_of, uses, wishes}
 use Rattle.st_rows.specs.declared.bus.Bus.{Bus}
 use Rattle.st_rows.specs.declared.entry.Entry.{Entry}
 use Rattle.st_rows.specs.declared.fetching.Fetching.{Fetching}
-use Rattle.st_rows.specs.declared.front.Front.{Front}
+use Rattle.st_rows.specs.declared.issue.IssueState.{IssueState}
 use Rattle.st_rows.specs.declared.past.Past.{Past}
 use Rattle.st_rows.proofs.Served.{served-word, served-words, served-data, served-operands, served-inside, served-fetches, served-runs, served-formed}
 use Rattle.st_segment.specs.Entries.{side_to_read}
@@ -120,7 +120,7 @@ module _ (ds : List ℕ) where
         | inr m ↦ rw (following-is ds b e p, asked-is ds b e p, m) (none-told b)
       ]
 
-  fetches-told : (f : Front) (e : Entry) → reads_told (fetch_uses ds f e) ≡ served ds (fetches_asked ds f e) f.bus
+  fetches-told : (f : IssueState) (e : Entry) → reads_told (fetch_uses ds f e) ≡ served ds (fetches_asked ds f e) f.bus
   unfolding fetch_uses fetches_asked words_asked fetch_words instruction_uses
   fetches-told f e =
       let start : Fetching = record { bus = f.bus; answered = 0; awaited = 0 } in
@@ -134,7 +134,7 @@ module _ (ds : List ℕ) where
   behind-registers : (w n : ℕ) (us : List Use) → reads_told (register_uses w n ++ us) ≡ reads_told us
   behind-registers w n us = told-append (register_uses w n) us ∙ ap (λ zs. zs ++ reads_told us) (registers-told w n)
 
-  runs-told : (n : ℕ) (f : Front) (e : Entry) (reads : Words)
+  runs-told : (n : ℕ) (f : IssueState) (e : Entry) (reads : Words)
       → reads_told (data_uses ds f.past (bus_a ds f e) (tick_p ds n f e) reads e.reads) ≡ served ds (runs_asked f.past e.reads (tick_p ds n f e)) (bus_a ds f e)
   unfolding data_uses
   runs-told n f e reads =
@@ -148,7 +148,7 @@ module _ (ds : List ℕ) where
       (served-operands ds f.past p begun e.reads.one.first e.reads.one.len)
       (behind-registers _ _ (operand_uses ds f.past one p e.reads.two.first e.reads.two.len) ∙ operands-told f.past p one e.reads.two.first e.reads.two.len)
 
-pub told-of-entry : (ds : List ℕ) (n : ℕ) (f : Front) (e : Entry) (side : Option ℕ) (reads : Words) → e.side ≡ side_to_read side
+pub told-of-entry : (ds : List ℕ) (n : ℕ) (f : IssueState) (e : Entry) (side : Option ℕ) (reads : Words) → e.side ≡ side_to_read side
     → reads_told (uses_of_entry ds n f e side reads) ≡ served ds (reads_of_entry ds n f e) f.bus
 unfolding uses_of_entry
 told-of-entry ds n f e side reads is =

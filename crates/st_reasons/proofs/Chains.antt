@@ -8,8 +8,8 @@ use Rattle.st_bits.specs.Storage.{words_of_storage}
 use Rattle.st_fetch.specs.Planned.{tick_of, asked_for}
 use Rattle.st_fetch.specs.declared.fetched.AskedWord.{AskedWord}
 use Rattle.st_rows.specs.BusTimes.{answer_at, bus_after_read, bus_after_request, requested_if, answer_if, answer_tick_on}
-use Rattle.st_rows.specs.Rows.{wanted_from, words_tick, tick_a, address_tick, bus_a, tick_p, operands, front_after_entry}
-use Rattle.st_rows.specs.Words.{fetch_word, fetch_words, bus_sided, read_word, read_words, request_inside, operands_read, bus_followed, is_forwarded}
+use Rattle.st_rows.specs.Rows.{wanted_from, words_tick, tick_a, address_tick, bus_a, tick_p, operands, issue_after_entry}
+use Rattle.st_rows.specs.Words.{fetch_word, fetch_words, bus_after_index_read, read_word, read_words, request_inside, operands_read, bus_after_prefetch, is_forwarded}
 use Rattle.st_rows.specs.Uses.{behind, behind_use, uses, wishes, forwarded_at}
 use Rattle.st_rows.specs.declared.bus.Bus.{Bus}
 use Rattle.st_rows.specs.declared.fetching.Fetching.{Fetching}
@@ -20,7 +20,7 @@ use Rattle.st_plain.specs.Uses.{instruction_uses, fetch_uses, side_uses, registe
 use Rattle.st_rows.specs.Supplies.{read_ticks, fetch_supply, storage_supply, writer_back}
 use Rattle.st_prep.specs.declared.entries.Words.{Words}
 use Rattle.st_rows.specs.declared.entry.Entry.{Entry}
-use Rattle.st_rows.specs.declared.front.Front.{Front}
+use Rattle.st_rows.specs.declared.issue.IssueState.{IssueState}
 use Rattle.st_rows.proofs.Parts.{a-p}
 use Rattle.st_rows.specs.declared.uses.Role.{Role}
 use Rattle.st_rows.specs.declared.uses.Role.TheVariants.{Instruction, Index, Operand, Following}
@@ -51,7 +51,7 @@ pub record AreBehind (base : ℕ) (b : Bus) (v : ℕ) (us : List Use) : Type 0 w
   pub brought : AreBrought us
   pub held : (w t : ℕ) → 32 ≤ w → tick_of b.held.words w ≡ Some t → list_any (brings w t) us ≡ true
 
-wanted-late : (f : Front) → f.p ≤ wanted_from f
+wanted-late : (f : IssueState) → f.p ≤ wanted_from f
 wanted-late f = cond_both f.serial (max f.p f.c) f.p (λ w. f.p ≤ w) (λ y. omega arith) (λ m. omega arith)
 
 module _ (base : ℕ) where
@@ -209,8 +209,8 @@ module _ (base : ℕ) where
     -- ---- the index-side word
 
     side-behind : (past : List Past) (b : Bus) (v a : ℕ) (side : Option ℕ) (us : List Use) → v ≤ a → AreBehind base b v us
-        → AreBehind base (bus_sided ds past b (side_to_read side) a) a (reverse (side_uses ds past b side a) ++ us)
-    unfolding side_uses side_to_read bus_sided is_read is_held_until behind uses behind_use
+        → AreBehind base (bus_after_index_read ds past b (side_to_read side) a) a (reverse (side_uses ds past b side a) ++ us)
+    unfolding side_uses side_to_read bus_after_index_read is_read is_held_until behind uses behind_use
     side-behind past b v a None us low are = later b v a us low are
     side-behind past b v a (Some w) us low are = elim (cases_Bool (nat_lt w 32)) [
       | inl y ↦
@@ -249,17 +249,17 @@ module _ (base : ℕ) where
         (inside-behind d (w + 1) p (reverse (inside_uses ds b w p) ++ us) (inside-behind b w p us are))
 
     following-behind : (b : Bus) (e : Entry) (p : ℕ) (us : List Use) → AreBehind base b p us
-        → AreBehind base (bus_followed ds b e p) p (reverse (following_uses ds b e p) ++ us)
+        → AreBehind base (bus_after_prefetch ds b e p) p (reverse (following_uses ds b e p) ++ us)
     following-behind b e p us are =
         rw (followed-is ds b e p, following-told ds b e p) (following-if e.follows b (e.own.first + e.own.len) p us are)
 
     -- ---- all words of an entry
 
-    answered-early : (f : Front) (e : Entry) → max f.p (words_tick ds f e).answered ≤ tick_a ds f e
+    answered-early : (f : IssueState) (e : Entry) → max f.p (words_tick ds f e).answered ≤ tick_a ds f e
     unfolding tick_a address_tick
     answered-early f e = omega arith
 
-    module _ (n : ℕ) (f : Front) (e : Entry) where
+    module _ (n : ℕ) (f : IssueState) (e : Entry) where
       -- the invariant after the instruction words
       pub fetch-behind : (us : List Use) → AreBehind base f.bus f.p us
           → AreBehind base (words_tick ds f e).bus (max f.p (words_tick ds f e).answered) (reverse (fetch_uses ds f e) ++ us)
@@ -277,7 +277,7 @@ module _ (base : ℕ) where
 
       formed-behind : (side : Option ℕ) (us : List Use) → e.side ≡ side_to_read side → AreBehind base f.bus f.p us
           → AreBehind base (bus_a ds f e) (tick_a ds f e) (reverse (formed_uses ds f e side) ++ us)
-      unfolding fetch_uses words_tick bus_a fetch_words bus_sided instruction_uses
+      unfolding fetch_uses words_tick bus_a fetch_words bus_after_index_read instruction_uses
       formed-behind side us is are =
           let start : Fetching = record { bus = f.bus; answered = 0; awaited = 0 } in
           let late = max (wanted_from f) f.c in
@@ -289,14 +289,14 @@ module _ (base : ℕ) where
           let first = words-behind f.past (wanted_from f) f.p start e.own.first e.own.len us (wanted-late f) (later f.bus f.p (max f.p 0) us (omega arith) are) in
           let second = words-behind f.past late f.p own e.target.first e.target.len (reverse one ++ us) (omega (arith, wanted-late f)) first in
           let third = side-behind f.past words.bus (max f.p words.answered) (tick_a ds f e) side (reverse two ++ (reverse one ++ us)) (answered-early f e) second in
-          let same : bus_sided ds f.past words.bus (side_to_read side) (tick_a ds f e) ≡ bus_sided ds f.past words.bus e.side (tick_a ds f e) = ap (λ s. bus_sided ds f.past words.bus s (tick_a ds f e)) (sym is) in
+          let same : bus_after_index_read ds f.past words.bus (side_to_read side) (tick_a ds f e) ≡ bus_after_index_read ds f.past words.bus e.side (tick_a ds f e) = ap (λ s. bus_after_index_read ds f.past words.bus s (tick_a ds f e)) (sym is) in
           let poured : reverse ((one ++ two) ++ three) ++ us ≡ reverse three ++ (reverse two ++ (reverse one ++ us)) =
           pour-append (one ++ two) three us ∙ ap (λ xs. reverse three ++ xs) (pour-append one two us) in
-          subst (AreBehind base (bus_sided ds f.past words.bus e.side (tick_a ds f e)) (tick_a ds f e)) (sym poured)
+          subst (AreBehind base (bus_after_index_read ds f.past words.bus e.side (tick_a ds f e)) (tick_a ds f e)) (sym poured)
           (subst (λ b. AreBehind base b (tick_a ds f e) (reverse three ++ (reverse two ++ (reverse one ++ us)))) same third)
 
       prepared-behind : (reads : Words) (us : List Use) → AreBehind base (bus_a ds f e) (tick_a ds f e) us
-          → AreBehind base (bus_followed ds (operands ds n f e).bus e (tick_p ds n f e)) (tick_p ds n f e) (reverse (prepared_uses ds n f e reads) ++ us)
+          → AreBehind base (bus_after_prefetch ds (operands ds n f e).bus e (tick_p ds n f e)) (tick_p ds n f e) (reverse (prepared_uses ds n f e reads) ++ us)
       unfolding data_uses operands operands_read read_words
       prepared-behind reads us are =
           let p = tick_p ds n f e in
@@ -317,12 +317,12 @@ module _ (base : ℕ) where
           let poured : reverse (((xs ++ ys) ++ (zs ++ ws)) ++ vs) ++ us ≡ reverse vs ++ (reverse ws ++ (reverse zs ++ (reverse ys ++ (reverse xs ++ us)))) =
           pour-append ((xs ++ ys) ++ (zs ++ ws)) vs us ∙ ap (λ q. reverse vs ++ q) (pour-append (xs ++ ys) (zs ++ ws) us
           ∙ pour-append zs ws (reverse (xs ++ ys) ++ us) ∙ ap (λ q. reverse ws ++ (reverse zs ++ q)) (pour-append xs ys us)) in
-          subst (AreBehind base (bus_followed ds two.bus e p) p) (sym poured) a5
+          subst (AreBehind base (bus_after_prefetch ds two.bus e p) p) (sym poured) a5
 
       pub entry-behind : (side : Option ℕ) (reads : Words) (us : List Use) → e.side ≡ side_to_read side → AreBehind base f.bus f.p us
-          → AreBehind base (front_after_entry ds n f e).bus (front_after_entry ds n f e).p (reverse (uses_of_entry ds n f e side reads) ++ us)
-      unfolding uses_of_entry front_after_entry bus_followed
+          → AreBehind base (issue_after_entry ds n f e).bus (issue_after_entry ds n f e).p (reverse (uses_of_entry ds n f e side reads) ++ us)
+      unfolding uses_of_entry issue_after_entry bus_after_prefetch
       entry-behind side reads us is are =
-          subst (AreBehind base (bus_followed ds (operands ds n f e).bus e (tick_p ds n f e)) (tick_p ds n f e))
+          subst (AreBehind base (bus_after_prefetch ds (operands ds n f e).bus e (tick_p ds n f e)) (tick_p ds n f e))
           (sym (pour-append (formed_uses ds f e side) (prepared_uses ds n f e reads) us))
           (prepared-behind reads (reverse (formed_uses ds f e side) ++ us) (formed-behind side us is are))

@@ -11,11 +11,11 @@ use Rattle.st_fetch.specs.Planned.{tick_of}
 use Rattle.st_prep.specs.declared.entries.Words.{Words}
 use Rattle.st_rows.specs.Entries.{latest_done, no_runs}
 use Rattle.st_rows.specs.Ranges.{ArePastWithin}
-use Rattle.st_rows.specs.Rows.{front_after_entry, row_of_entry, words_tick, tick_a, bus_a, tick_p, tick_c, operands}
+use Rattle.st_rows.specs.Rows.{issue_after_entry, row_of_entry, words_tick, tick_a, bus_a, tick_p, tick_c, operands}
 use Rattle.st_rows.specs.Words.{is_forwarded}
 use Rattle.st_rows.specs.declared.bus.Bus.{Bus}
 use Rattle.st_rows.specs.declared.entry.Entry.{Entry}
-use Rattle.st_rows.specs.declared.front.Front.{Front}
+use Rattle.st_rows.specs.declared.issue.IssueState.{IssueState}
 use Rattle.st_rows.specs.declared.past.Past.{Past}
 use Rattle.st_rows.proofs.Within.{latest-within, past-weaker}
 use Rattle.st_ledger.specs.Charges.{stage_at}
@@ -34,12 +34,12 @@ use Rattle.st_reasons.specs.Words.{IsReadInTime, read_of, is_role, is_instructio
 use Rattle.st_reasons.proofs.InTime.{uses-in-time}
 use Rattle.st_reasons.specs.Causes.{FallTo}
 use Rattle.st_reasons.proofs.Linked.{turn_at, want_at, AreLinked}
-use Rattle.st_reasons.specs.Segments.{Told, IsTold, front_of, uses_behind, last_uses}
+use Rattle.st_reasons.specs.Segments.{Told, IsTold, issue_of, uses_behind, last_uses}
 use Rattle.st_reasons.proofs.Covers.{IsDataBy, AreWantedAtAnswers, data-fall, fetch-fall, fetch-bus, bus-fall}
 use Rattle.st_reasons.proofs.ChargeEnds.{end_of, index-after, operand-after}
 use Rattle.st_reasons.proofs.CoverRows.{wants-low, fetches-wanted, address-awaits, preparation-awaits, operands-await, storage-want}
 use Rattle.st_reasons.proofs.EachUse.{other_uses, two-parts, each-fetch, each-other}
-use Rattle.st_reasons.proofs.SegmentLemmas.{linked-cut, linked-drop, turn-cut, want-cut, segment-behind, front-order}
+use Rattle.st_reasons.proofs.SegmentLemmas.{linked-cut, linked-drop, turn-cut, want-cut, segment-behind, issue-order}
 use Rattle.st_reasons.proofs.Truth.{others-no-words, deep_uses, deep-is, two-linked, base-early, four-is}
 use Rattle.st_reasons.proofs.WordLemmas.{all-reversed}
 
@@ -83,7 +83,7 @@ other-never : (role r : Role) (w t : ℕ) (s : Supply) → is_role role r ≡ fa
 unfolding is_answered_at
 other-never role r w t s none = and_left _ _ none
 
-module _ (ds : List ℕ) (n : ℕ) (f : Front) (e : Entry) (side : Option ℕ) (reads : Words) (from t : ℕ) where
+module _ (ds : List ℕ) (n : ℕ) (f : IssueState) (e : Entry) (side : Option ℕ) (reads : Words) (from t : ℕ) where
   index-by : tick_a ds f e ≤ from → All (IsDataBy Index from t) (uses_of_entry ds n f e side reads)
   unfolding other_uses
   index-by low =
@@ -147,11 +147,11 @@ opening-within m (suc k) = All-cons (λ (p : Past). p.c ≤ m) _ _ (omega arith)
 -- ---- the segment
 
 module _ (ds : List ℕ) (n : ℕ) (banks : LastAnswers) (start : ℕ) where
-  pub past-within : (older : List Told) → ArePastWithin (front_of ds n banks start older).c (front_of ds n banks start older).past
-  unfolding front_of front_after_entry tick_c
+  pub past-within : (older : List Told) → ArePastWithin (issue_of ds n banks start older).c (issue_of ds n banks start older).past
+  unfolding issue_of issue_after_entry tick_c
   past-within [] = record { each = opening-within start 8 }
   past-within (x ∷ older) =
-      let f = front_of ds n banks start older in
+      let f = issue_of ds n banks start older in
       let c = max f.c (operands ds n f x.entry).answered + x.entry.cost in
       record {
         each = All-cons (λ (p : Past). p.c ≤ c) _ _ (omega arith)
@@ -161,11 +161,11 @@ module _ (ds : List ℕ) (n : ℕ) (banks : LastAnswers) (start : ℕ) where
   last-in-time : (older : List Told) → All IsReadInTime (last_uses ds n banks start older)
   unfolding last_uses uses_behind
   last-in-time [] = All-nil IsReadInTime
-  last-in-time (x ∷ older) = uses-in-time ds n (front_of ds n banks start older) x.entry x.side x.reads
+  last-in-time (x ∷ older) = uses-in-time ds n (issue_of ds n banks start older) x.entry x.side x.reads
 
-  module _ (older : List Told) (x : Told) (all : All IsTold (x ∷ older)) (from : ℕ) (late : (front_of ds n banks start older).c ≤ from) where
-    abbrev f : Front
-    f = front_of ds n banks start older
+  module _ (older : List Told) (x : Told) (all : All IsTold (x ∷ older)) (from : ℕ) (late : (issue_of ds n banks start older).c ≤ from) where
+    abbrev f : IssueState
+    f = issue_of ds n banks start older
 
     abbrev e : Entry
     e = x.entry
@@ -182,7 +182,7 @@ module _ (ds : List ℕ) (n : ℕ) (banks : LastAnswers) (start : ℕ) where
         let linked = subst (AreLinked start) (deep-is ds n banks start older) is.linked in
         let low : want_at (reverse before ++ deep_uses ds n banks start older) ≤ f.p = subst (λ us. want_at us ≤ f.p) (deep-is ds n banks start older) is.want in
         wants-low (turn_at start (deep_uses ds n banks start older)) from (reverse before) (linked-cut start (reverse before) (deep_uses ds n banks start older) linked)
-        (omega (arith, low, want-cut (reverse before) (deep_uses ds n banks start older), (front-order ds n banks start older).1, late))
+        (omega (arith, low, want-cut (reverse before) (deep_uses ds n banks start older), (issue-order ds n banks start older).1, late))
 
     pub before-turn : turn_at (turn_at start (deep_uses ds n banks start older)) (reverse before) ≡ f.bus.free
     before-turn =
@@ -225,7 +225,7 @@ module _ (ds : List ℕ) (n : ℕ) (banks : LastAnswers) (start : ℕ) where
         (others-wanted from (reverse few) (reverse (fetch_uses ds f e))
         (all-reversed (λ (u : Use). is_instruction u.role ≡ false) few
         (All-take (λ (u : Use). is_instruction u.role ≡ false) _ (other_uses ds n f e x.side x.reads) (others-no-words ds n f e x.side x.reads)))
-        (fetches-wanted ds from f e writers-low (front-order ds n banks start older).1 late))
+        (fetches-wanted ds from f e writers-low (issue-order ds n banks start older).1 late))
 
     four-in-time : All IsReadInTime (reverse four)
     unfolding uses_behind
@@ -250,7 +250,7 @@ module _ (ds : List ℕ) (n : ℕ) (banks : LastAnswers) (start : ℕ) where
 
     instruction-covers : (to : ℕ) → to ≡ tick_a ds f e - 1 → from < to → FallTo from to (fetch_waits from to (reverse before) (reverse four))
     instruction-covers to at some =
-        elim (address-awaits ds from f e writers-low (front-order ds n banks start older).1 late (omega (arith, some, at))) [
+        elim (address-awaits ds from f e writers-low (issue-order ds n banks start older).1 late (omega (arith, some, at))) [
           | inl there ↦
               words-cover to some (ap (list_any (is_answered_at Instruction to)) four-reversed
               ∙ list_any-append (is_answered_at Instruction to) (reverse few) (reverse (fetch_uses ds f e))

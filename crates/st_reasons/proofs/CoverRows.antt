@@ -10,14 +10,14 @@ use Rattle.st_fetch.specs.Planned.{tick_of}
 use Rattle.st_rows.specs.BusTimes.{answer_at, answer_if, answer_tick_on, bus_after_read, bus_after_request}
 use Rattle.st_rows.specs.Entries.{latest_done}
 use Rattle.st_rows.specs.Ranges.{ArePastWithin}
-use Rattle.st_rows.specs.Rows.{wanted_from, words_tick, address_tick, done_before, completion_of, preparation_tick, operands, tick_a, tick_y, bus_a, tick_p}
+use Rattle.st_rows.specs.Rows.{wanted_from, words_tick, address_tick, done_before, completion_of, preparation_tick, operands, tick_a, index_arrival, bus_a, tick_p}
 use Rattle.st_rows.specs.Words.{fetch_word, fetch_words, fill_at, side_there, read_word, read_words, operands_read, is_forwarded}
 use Rattle.st_rows.specs.Uses.{behind, behind_use, uses, wishes, forwarded_at}
 use Rattle.st_prep.specs.declared.entries.Words.{Words}
 use Rattle.st_rows.specs.declared.bus.Bus.{Bus}
 use Rattle.st_rows.specs.declared.entry.Entry.{Entry}
 use Rattle.st_rows.specs.declared.fetching.Fetching.{Fetching}
-use Rattle.st_rows.specs.declared.front.Front.{Front}
+use Rattle.st_rows.specs.declared.issue.IssueState.{IssueState}
 use Rattle.st_rows.specs.declared.past.Past.{Past}
 use Rattle.st_rows.proofs.Within.{latest-within}
 use Rattle.st_segment.specs.Entries.{side_to_read}
@@ -103,7 +103,7 @@ module _ (ds : List ℕ) (from : ℕ) (past : List Past) (writers : (w : ℕ) �
       subst (AreAnswered from (fetch_words ds past next first (w + 1) n)) (sym (pour-cons u (instruction_uses ds past next first (w + 1) n) us))
       (words-answered first next (w + 1) n (u ∷ us) early here)
 
-module _ (ds : List ℕ) (from : ℕ) (f : Front) (e : Entry) (writers : (w : ℕ) → latest_done f.past w ≤ from) (prepared : f.p ≤ f.c) (late : f.c ≤ from) where
+module _ (ds : List ℕ) (from : ℕ) (f : IssueState) (e : Entry) (writers : (w : ℕ) → latest_done f.past w ≤ from) (prepared : f.p ≤ f.c) (late : f.c ≤ from) where
   fetches-answered : AreAnswered from (words_tick ds f e) (reverse (fetch_uses ds f e) ++ [])
   unfolding fetch_uses words_tick AreWantedAtAnswers fetch_words instruction_uses
   fetches-answered =
@@ -202,16 +202,16 @@ completion-within m [] j is = omega arith
 completion-within m (p ∷ past) zero is = All-head (λ (p : Past). p.c ≤ m) p past is.each
 completion-within m (p ∷ past) (suc j) is = completion-within m past j (record { each = All-tail (λ (p : Past). p.c ≤ m) p past is.each })
 
-module _ (ds : List ℕ) (n : ℕ) (from : ℕ) (f : Front) (e : Entry) (within : ArePastWithin f.c f.past) (late : f.c ≤ from) where
+module _ (ds : List ℕ) (n : ℕ) (from : ℕ) (f : IssueState) (e : Entry) (within : ArePastWithin f.c f.past) (late : f.c ≤ from) where
   writers : (w : ℕ) → latest_done f.past w ≤ from
   writers w = omega (arith, late, latest-within f.c f.past w within)
 
-  prepared-is : tick_p ds n f e ≡ max (max (tick_a ds f e) (tick_y ds f e)) (done_before n f.past) + 1
+  prepared-is : tick_p ds n f e ≡ max (max (tick_a ds f e) (index_arrival ds f e)) (done_before n f.past) + 1
   unfolding tick_p preparation_tick
   prepared-is = refl
 
-  sided-is : side_there ds f.past (words_tick ds f e).bus e.side (tick_a ds f e) ≡ tick_y ds f e
-  unfolding tick_y side_there
+  sided-is : side_there ds f.past (words_tick ds f e).bus e.side (tick_a ds f e) ≡ index_arrival ds f e
+  unfolding index_arrival side_there
   sided-is = refl
 
   side-there : (side : Option ℕ) (t : ℕ) → side_there ds f.past (words_tick ds f e).bus (side_to_read side) (tick_a ds f e) ≡ t → from < t
@@ -233,7 +233,7 @@ module _ (ds : List ℕ) (n : ℕ) (from : ℕ) (f : Front) (e : Entry) (within 
   pub preparation-awaits : (side : Option ℕ) → e.side ≡ side_to_read side → tick_a ds f e ≤ from → from < tick_p ds n f e - 1
       → list_any (is_answered_at Index (tick_p ds n f e - 1)) (side_uses ds f.past (words_tick ds f e).bus side (tick_a ds f e)) ≡ true
   preparation-awaits side is after behind =
-      let y-is : tick_y ds f e ≡ tick_p ds n f e - 1 = omega (arith, prepared-is, completion-within f.c f.past (n - 1) within, late, after, behind) in
+      let y-is : index_arrival ds f e ≡ tick_p ds n f e - 1 = omega (arith, prepared-is, completion-within f.c f.past (n - 1) within, late, after, behind) in
       side-there side (tick_p ds n f e - 1) (ap (λ s. side_there ds f.past (words_tick ds f e).bus s (tick_a ds f e)) (sym is) ∙ sided-is ∙ y-is) behind
 
   operands-are : (read_words ds f.past (read_words ds f.past (record { bus = bus_a ds f e; answered = tick_p ds n f e; awaited = 0 }) (tick_p ds n f e) e.reads.one.first e.reads.one.len)

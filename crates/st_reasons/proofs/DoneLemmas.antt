@@ -6,9 +6,9 @@ use Rattle.std.proofs.lemmas.List.{length-take}
 use Rattle.std.proofs.lemmas.List.Elements.{All-head, All-tail}
 use Rattle.st_banks.specs.declared.answers.LastAnswers.{LastAnswers}
 use Rattle.st_rows.specs.Entries.{no_runs}
-use Rattle.st_rows.specs.Rows.{completion_of, front_after_entry, tick_c}
+use Rattle.st_rows.specs.Rows.{completion_of, issue_after_entry, tick_c}
 use Rattle.st_rows.specs.declared.past.Past.{Past}
-use Rattle.st_reasons.specs.Segments.{Told, IsTold, front_of}
+use Rattle.st_reasons.specs.Segments.{Told, IsTold, issue_of}
 use Rattle.st_reasons.proofs.CoverLaw.{past-within}
 
 -- ---- the completion of one of some entries
@@ -37,13 +37,13 @@ gone-each past k many = beyond-each (take 7 past) k (omega (arith, length-take 7
 -- ---- the segment
 
 module _ (ds : List ℕ) (n : ℕ) (banks : LastAnswers) (start : ℕ) where
-  pub done-apart : (rows : List Told) (i j : ℕ) → All IsTold rows → i < j → 1 ≤ completion_of (front_of ds n banks start rows).past j
-      → completion_of (front_of ds n banks start rows).past j < completion_of (front_of ds n banks start rows).past i
-  unfolding front_of front_after_entry tick_c
+  pub done-apart : (rows : List Told) (i j : ℕ) → All IsTold rows → i < j → 1 ≤ completion_of (issue_of ds n banks start rows).past j
+      → completion_of (issue_of ds n banks start rows).past j < completion_of (issue_of ds n banks start rows).past i
+  unfolding issue_of issue_after_entry tick_c
   done-apart [] i j all order some = let no : ⊥ = omega (arith, some, none-each 8 j) in absurd no
   done-apart (x ∷ rows) i zero all order some = let no : ⊥ = omega (arith, order) in absurd no
   done-apart (x ∷ rows) zero (suc j) all order some =
-      let f = front_of ds n banks start rows in
+      let f = issue_of ds n banks start rows in
       elim (cases_lt j 7) [
         | inr many ↦ let no : ⊥ = omega (arith, some, gone-each f.past j many) in absurd no
         | inl few ↦
@@ -55,7 +55,7 @@ module _ (ds : List ℕ) (n : ℕ) (banks : LastAnswers) (start : ℕ) where
             )
       ]
   done-apart (x ∷ rows) (suc i) (suc j) all order some =
-      let f = front_of ds n banks start rows in
+      let f = issue_of ds n banks start rows in
       elim (cases_lt j 7) [
         | inr many ↦ let no : ⊥ = omega (arith, some, gone-each f.past j many) in absurd no
         | inl few ↦

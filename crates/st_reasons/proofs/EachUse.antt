@@ -14,7 +14,7 @@ use Rattle.st_rows.specs.declared.entry.Entry.{Entry}
 use Rattle.st_rows.specs.declared.entry.WordRun.{WordRun}
 use Rattle.st_rows.specs.declared.entry.WordRuns.{WordRuns}
 use Rattle.st_rows.specs.declared.fetching.Fetching.{Fetching}
-use Rattle.st_rows.specs.declared.front.Front.{Front}
+use Rattle.st_rows.specs.declared.issue.IssueState.{IssueState}
 use Rattle.st_rows.specs.declared.past.Past.{Past}
 use Rattle.st_rows.specs.declared.uses.Role.TheVariants.{Instruction, Index, Operand, Following}
 use Rattle.st_rows.specs.declared.uses.Supply.TheVariants.{Register}
@@ -34,7 +34,7 @@ module _ (P : Use → Type 0) (ds : List ℕ) where
       All-cons P _ _ (is w (omega arith) (omega arith) (tick_of s.bus.held.words w) s.bus (max (max from s.answered) s.awaited))
       (each-word past from (fetch_word ds past s w from) (w + 1) n (λ v least most. is v (omega arith) (omega arith)))
 
-  pub each-fetch : (f : Front) (e : Entry)
+  pub each-fetch : (f : IssueState) (e : Entry)
       → ((v : ℕ) → e.own.first ≤ v → v < e.own.first + e.own.len → (o : Option ℕ) (b : Bus) (want : ℕ) → P (record { role = Instruction; word = v; supply = fetch_supply o ds b v want }))
       → ((v : ℕ) → e.target.first ≤ v → v < e.target.first + e.target.len → (o : Option ℕ) (b : Bus) (want : ℕ) → P (record { role = Instruction; word = v; supply = fetch_supply o ds b v want }))
       → All P (fetch_uses ds f e)
@@ -47,7 +47,7 @@ module _ (P : Use → Type 0) (ds : List ℕ) where
       (each-word f.past (wanted_from f) start e.own.first e.own.len own)
       (each-word f.past late behind e.target.first e.target.len target)
 
-  module _ (n : ℕ) (f : Front) (e : Entry) (register : (w : ℕ) → P (record { role = Operand; word = w; supply = Register }))
+  module _ (n : ℕ) (f : IssueState) (e : Entry) (register : (w : ℕ) → P (record { role = Operand; word = w; supply = Register }))
       (operand : (b : Bus) (w : ℕ) → P (record { role = Operand; word = w; supply = storage_supply ds f.past b w (tick_p ds n f e) }))
       (following : (b : Bus) (w : ℕ) → P (record { role = Following; word = w; supply = fetch_supply (tick_of b.held.words w) ds b w (tick_p ds n f e) })) where
     each-register : (w k : ℕ) → All P (register_uses w k)
@@ -118,7 +118,7 @@ unfolding instruction_uses uses wishes fetch_word
 words-length ds past from s w zero = refl
 words-length ds past from s w (suc n) = omega (arith, words-length ds past from (fetch_word ds past s w from) (w + 1) n)
 
-pub fetch-length : (ds : List ℕ) (f : Front) (e : Entry) → length (fetch_uses ds f e) ≡ e.own.len + e.target.len
+pub fetch-length : (ds : List ℕ) (f : IssueState) (e : Entry) → length (fetch_uses ds f e) ≡ e.own.len + e.target.len
 unfolding fetch_uses instruction_uses fetch_words
 fetch-length ds f e =
     let start : Fetching = record { bus = f.bus; answered = 0; awaited = 0 } in
@@ -133,10 +133,10 @@ fetch-length ds f e =
 
 -- ---- the words of an entry in two parts
 
-unfoldable pub other_uses : List ℕ → ℕ → Front → Entry → Option ℕ → Words → List Use
+unfoldable pub other_uses : List ℕ → ℕ → IssueState → Entry → Option ℕ → Words → List Use
 other_uses ds n f e side reads = side_uses ds f.past (words_tick ds f e).bus side (tick_a ds f e) ++ prepared_uses ds n f e reads
 
-pub two-parts : (ds : List ℕ) (n : ℕ) (f : Front) (e : Entry) (side : Option ℕ) (reads : Words)
+pub two-parts : (ds : List ℕ) (n : ℕ) (f : IssueState) (e : Entry) (side : Option ℕ) (reads : Words)
     → uses_of_entry ds n f e side reads ≡ fetch_uses ds f e ++ other_uses ds n f e side reads
 unfolding uses_of_entry other_uses
 two-parts ds n f e side reads = append_assoc (fetch_uses ds f e) _ _

@@ -11,7 +11,7 @@ use Rattle.st_rows.specs.Rows.{tick_a, tick_p}
 use Rattle.st_rows.specs.Words.{is_forwarded}
 use Rattle.st_rows.specs.declared.bus.Bus.{Bus}
 use Rattle.st_rows.specs.declared.entry.Entry.{Entry}
-use Rattle.st_rows.specs.declared.front.Front.{Front}
+use Rattle.st_rows.specs.declared.issue.IssueState.{IssueState}
 use Rattle.st_rows.specs.declared.past.Past.{Past}
 use Rattle.st_rows.specs.declared.uses.Role.{Role}
 use Rattle.st_rows.specs.declared.uses.Role.TheVariants.{Instruction, Index, Operand, Following}
@@ -44,14 +44,14 @@ register role w = record { wanted = omega arith; answered = omega arith }
 
 -- ---- all words
 
-others-in-time : (ds : List ℕ) (n : ℕ) (f : Front) (e : Entry) (o : Option ℕ) (reads : Words) → All IsReadInTime (other_uses ds n f e o reads)
+others-in-time : (ds : List ℕ) (n : ℕ) (f : IssueState) (e : Entry) (o : Option ℕ) (reads : Words) → All IsReadInTime (other_uses ds n f e o reads)
 unfolding other_uses
 others-in-time ds n f e o reads =
     each-other IsReadInTime ds n f e (λ w. register Operand w) (λ b w. stored Operand ds f.past b w (tick_p ds n f e))
     (λ b w. fetched (tick_of b.held.words w) Following ds b w (tick_p ds n f e))
     (λ w. register Index w) (λ b w. stored Index ds f.past b w (tick_a ds f e)) o reads
 
-pub uses-in-time : (ds : List ℕ) (n : ℕ) (f : Front) (e : Entry) (o : Option ℕ) (reads : Words) → All IsReadInTime (uses_of_entry ds n f e o reads)
+pub uses-in-time : (ds : List ℕ) (n : ℕ) (f : IssueState) (e : Entry) (o : Option ℕ) (reads : Words) → All IsReadInTime (uses_of_entry ds n f e o reads)
 uses-in-time ds n f e o reads =
     subst (All IsReadInTime) (sym (two-parts ds n f e o reads))
     (All-append IsReadInTime (fetch_uses ds f e) (other_uses ds n f e o reads)

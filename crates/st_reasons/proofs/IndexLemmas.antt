@@ -7,10 +7,10 @@ use Rattle.std.proofs.lemmas.List.Elements.{All-head, All-tail}
 use Rattle.st_banks.specs.declared.answers.LastAnswers.{LastAnswers}
 use Rattle.st_prep.specs.declared.entries.Words.{Words}
 use Rattle.st_rows.specs.Ranges.{AreDelaysUpTo, IsTight}
-use Rattle.st_rows.specs.Rows.{opening_front, row_of_entry, words_tick, tick_a}
+use Rattle.st_rows.specs.Rows.{opening_issue, row_of_entry, words_tick, tick_a}
 use Rattle.st_rows.specs.declared.bus.Bus.{Bus}
 use Rattle.st_rows.specs.declared.entry.Entry.{Entry}
-use Rattle.st_rows.specs.declared.front.Front.{Front}
+use Rattle.st_rows.specs.declared.issue.IssueState.{IssueState}
 use Rattle.st_rows.specs.declared.past.Past.{Past}
 use Rattle.st_rows.proofs.Tight.{free-a, tight-after}
 use Rattle.st_ledger.specs.Charges.{charges, stage_at}
@@ -19,7 +19,7 @@ use Rattle.st_ledger.specs.declared.charges.Stage.TheVariants.{Index as AtIndex}
 use Rattle.st_ledger.proofs.Sums.{charges-stages}
 use Rattle.st_plain.specs.Uses.{fetch_uses, side_uses, prepared_uses, uses_of_entry}
 use Rattle.st_reasons.specs.Waits.{stage_waits, charge_waits}
-use Rattle.st_reasons.specs.Segments.{Told, IsTold, front_of, uses_behind, last_uses, all_uses}
+use Rattle.st_reasons.specs.Segments.{Told, IsTold, issue_of, uses_behind, last_uses, all_uses}
 use Rattle.st_reasons.proofs.Chains.{fetch-behind}
 use Rattle.st_reasons.proofs.ChargeEnds.{end_of, row-ends, index-after, both}
 use Rattle.st_reasons.proofs.EachUse.{each-fetch, each-prepared}
@@ -90,10 +90,10 @@ index-no-turn base from t before fetches u all linked early =
 
 -- ---- the segment
 
-roles-fetch : (ds : List ℕ) (f : Front) (e : Entry) → All (λ (u : Use). is_role Index u.role ≡ false) (fetch_uses ds f e)
+roles-fetch : (ds : List ℕ) (f : IssueState) (e : Entry) → All (λ (u : Use). is_role Index u.role ≡ false) (fetch_uses ds f e)
 roles-fetch ds f e = each-fetch (λ (u : Use). is_role Index u.role ≡ false) ds f e (λ v a b o c d. refl) (λ v a b o c d. refl)
 
-roles-prepared : (ds : List ℕ) (n : ℕ) (f : Front) (e : Entry) (reads : Words) → All (λ (u : Use). is_role Index u.role ≡ false) (prepared_uses ds n f e reads)
+roles-prepared : (ds : List ℕ) (n : ℕ) (f : IssueState) (e : Entry) (reads : Words) → All (λ (u : Use). is_role Index u.role ≡ false) (prepared_uses ds n f e reads)
 roles-prepared ds n f e reads = each-prepared (λ (u : Use). is_role Index u.role ≡ false) ds n f e (λ w. refl) (λ b w. refl) (λ b w. refl) reads
 
 side-one : (ds : List ℕ) (past : List Past) (b : Bus) (side : Option ℕ) (a base from t : ℕ) (before fetches : List Use) → All (λ (u : Use). is_role Index u.role ≡ false) fetches
@@ -103,19 +103,19 @@ unfolding side_uses stalled_for uses
 side-one ds past b None a base from t before fetches all linked early = rw (data-none Index from t before fetches all) refl
 side-one ds past b (Some w) a base from t before fetches all linked early = index-no-turn base from t before fetches _ all linked early
 
-module _ (most : ℕ) (ds : List ℕ) (are : AreDelaysUpTo most ds) (n : ℕ) (banks : LastAnswers) (start : ℕ) (opening : IsTight most (opening_front banks start)) where
-  segment-tight : (older : List Told) → All IsTold older → IsTight most (front_of ds n banks start older)
-  unfolding front_of
+module _ (most : ℕ) (ds : List ℕ) (are : AreDelaysUpTo most ds) (n : ℕ) (banks : LastAnswers) (start : ℕ) (opening : IsTight most (opening_issue banks start)) where
+  segment-tight : (older : List Told) → All IsTold older → IsTight most (issue_of ds n banks start older)
+  unfolding issue_of
   segment-tight [] all = opening
   segment-tight (x ∷ older) all =
-      tight-after most ds are n (front_of ds n banks start older) x.entry (All-head IsTold x older all).entry (segment-tight older (All-tail IsTold x older all))
+      tight-after most ds are n (issue_of ds n banks start older) x.entry (All-head IsTold x older all).entry (segment-tight older (All-tail IsTold x older all))
 
   module _ (older : List Told) (x : Told) (all : All IsTold (x ∷ older)) (from t : ℕ) where
-    no-turn-from : tick_a ds (front_of ds n banks start older) x.entry ≤ from
+    no-turn-from : tick_a ds (issue_of ds n banks start older) x.entry ≤ from
         → stalled_for Turn (data_waits Index from t (reverse (last_uses ds n banks start older)) (reverse (uses_behind ds n banks start older x))) ≡ 0
     unfolding uses_behind uses_of_entry
     no-turn-from after =
-        let f = front_of ds n banks start older in
+        let f = issue_of ds n banks start older in
         let e = x.entry in
         let before = last_uses ds n banks start older in
         let deep = deep_uses ds n banks start older in
@@ -140,8 +140,8 @@ module _ (most : ℕ) (ds : List ℕ) (are : AreDelaysUpTo most ds) (n : ℕ) (b
         (all-reversed (λ (u : Use). is_role Index u.role ≡ false) fetches (roles-fetch ds f e)) linked early
 
 -- a charge of the stage begins at the tick of the address or later
-charge-no-turn : (most : ℕ) (ds : List ℕ) (are : AreDelaysUpTo most ds) (n : ℕ) (banks : LastAnswers) (start : ℕ) (opening : IsTight most (opening_front banks start))
-    (older : List Told) (x : Told) (all : All IsTold (x ∷ older)) (c : Charge) → tick_a ds (front_of ds n banks start older) x.entry ≤ c.from → c.stage ≡ AtIndex
+charge-no-turn : (most : ℕ) (ds : List ℕ) (are : AreDelaysUpTo most ds) (n : ℕ) (banks : LastAnswers) (start : ℕ) (opening : IsTight most (opening_issue banks start))
+    (older : List Told) (x : Told) (all : All IsTold (x ∷ older)) (c : Charge) → tick_a ds (issue_of ds n banks start older) x.entry ≤ c.from → c.stage ≡ AtIndex
     → stalled_for Turn (charge_waits c (uses_behind ds n banks start older x) (last_uses ds n banks start older)) ≡ 0
 unfolding stage_waits
 charge-no-turn most ds are n banks start opening older x all c after is =
@@ -149,12 +149,12 @@ charge-no-turn most ds are n banks start opening older x all c after is =
     ∙ no-turn-from most ds are n banks start opening older x all c.from c.to after
 
 pub no-turns : (most : ℕ) (ds : List ℕ) (n t : ℕ) (banks : LastAnswers) (start : ℕ) (older : List Told) (x : Told) → AreDelaysUpTo most ds
-    → IsTight most (opening_front banks start) → All IsTold (x ∷ older)
+    → IsTight most (opening_issue banks start) → All IsTold (x ∷ older)
     → All (λ (c : Charge). c.stage ≡ AtIndex → stalled_for Turn (charge_waits c (uses_behind ds n banks start older x) (last_uses ds n banks start older)) ≡ 0)
-    (charges t (front_of ds n banks start older) (row_of_entry ds n (front_of ds n banks start older) x.entry))
+    (charges t (issue_of ds n banks start older) (row_of_entry ds n (issue_of ds n banks start older) x.entry))
 unfolding row_of_entry
 no-turns most ds n t banks start older x are opening all =
-    let f = front_of ds n banks start older in
+    let f = issue_of ds n banks start older in
     let row = row_of_entry ds n f x.entry in
     both (λ (c : Charge). (c.from < c.to) × (c.to ≡ end_of f.c row c.stage)) (λ (c : Charge). (u : ℕ) → c.from < u → u ≤ c.to → stage_at f.c row u ≡ c.stage)
     (λ (c : Charge). c.stage ≡ AtIndex → stalled_for Turn (charge_waits c (uses_behind ds n banks start older x) (last_uses ds n banks start older)) ≡ 0)

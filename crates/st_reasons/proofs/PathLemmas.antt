@@ -9,7 +9,7 @@ use Rattle.st_rows.specs.Entries.{latest_done, is_among}
 use Rattle.st_rows.specs.Rows.{completion_of, done_before}
 use Rattle.st_rows.specs.Words.{fetch_word, fetch_words}
 use Rattle.st_rows.specs.declared.fetching.Fetching.{Fetching}
-use Rattle.st_rows.specs.declared.front.Front.{Front}
+use Rattle.st_rows.specs.declared.issue.IssueState.{IssueState}
 use Rattle.st_rows.specs.declared.past.Past.{Past}
 use Rattle.st_rows.specs.declared.uses.Role.TheVariants.{Instruction}
 use Rattle.st_rows.specs.declared.uses.Use.{Use}
@@ -17,8 +17,8 @@ use Rattle.st_plain.specs.Uses.{instruction_uses}
 use Rattle.st_rows.specs.Supplies.{fetch_supply}
 use Rattle.st_reasons.specs.Reasons.{row_reason, back_to, is_first, is_written, is_stored, reason_done, reason_in_order, reason_of_bus, reason_or, reason_of_words}
 use Rattle.st_reasons.specs.Words.{is_read, read_of, is_role, is_instruction, is_answered_at, decides}
-use Rattle.st_reasons.specs.declared.because.Because.{Because}
-use Rattle.st_reasons.specs.declared.because.Because.TheVariants.{Prefetch}
+use Rattle.st_reasons.specs.declared.because.StallCause.{StallCause}
+use Rattle.st_reasons.specs.declared.because.StallCause.TheVariants.{Prefetch}
 use Rattle.st_reasons.specs.declared.because.Reason.TheVariants.{Serial, Store}
 use Rattle.st_reasons.specs.Paths.{is_serial_at, is_store_at, is_bus_at, is_read_between, IsNothingDone, IsNothingThere, IsFirstAnswered, IsNoneAnswered, EndsByRow, EndsAt, IsPath, PathEnds, PathGoesOn}
 use Rattle.st_reasons.proofs.Linked.{turn_at, AreLinked}
@@ -32,13 +32,13 @@ use Rattle.st_rows.specs.Uses.{behind, behind_use, uses, wishes}
 
 -- an event came at the tick: the preparation of the row before, its completion if that is awaited,
 -- the completion of a writer, or an answer
-abbrev pub CameBy : Front → Bool → ℕ → List Use → Type 0
+abbrev pub CameBy : IssueState → Bool → ℕ → List Use → Type 0
 CameBy f alone t words =
     (t ≡ f.p) ⊎ (((t ≡ f.c) × ((alone || f.serial) ≡ true))
     ⊎ ((list_any (is_stored f.past t) words ≡ true) ⊎ (list_any (is_answered_at Instruction t) words ≡ true)))
 
 -- each instruction word that is read was wanted at a tick with an event
-unfoldable pub AreCaused : Front → ℕ → List Use → Type 0
+unfoldable pub AreCaused : IssueState → ℕ → List Use → Type 0
 AreCaused f own [] = Unit {0}
 AreCaused f own (u ∷ earlier) =
     (is_role Instruction u.role ≡ true → is_read u.supply ≡ true
@@ -88,14 +88,14 @@ back-found past t j low is =
 
 -- the requirements on a front: its past has eight entries, only the first entry of a segment is
 -- prepared at tick 0, and nothing completes before that entry
-pub record IsRowFront (f : Front) : Type 0 where
+pub record IsRowIssue (f : IssueState) : Type 0 where
   pub eight : length f.past ≡ 8
   pub later : is_first f ≡ false → 1 ≤ f.p
   pub first : is_first f ≡ true → (f.c ≡ f.p) × ((w : ℕ) → latest_done f.past w ≡ 0)
 
 -- ---- ends
 
-stored-by : (f : Front) (t : ℕ) (us : List Use) → list_any (is_stored f.past t) us ≡ true → (w : ℕ) × (latest_done f.past w ≡ t)
+stored-by : (f : IssueState) (t : ℕ) (us : List Use) → list_any (is_stored f.past t) us ≡ true → (w : ℕ) × (latest_done f.past w ≡ t)
 unfolding is_stored
 stored-by f t [] some = absurd (cc)
 stored-by f t (u ∷ us) some = elim (or_cases (is_instruction u.role && is_written f.past t u.word) (list_any (is_stored f.past t) us) some) [
@@ -103,20 +103,20 @@ stored-by f t (u ∷ us) some = elim (or_cases (is_instruction u.role && is_writ
   | inr there ↦ stored-by f t us there
 ]
 
-some-ends : (f : Front) (alone : Bool) (before words : List Use) (t : ℕ) (a b : Because) → Some a ≡ Some b → EndsAt f alone before words t a → EndsAt f alone before words t b
+some-ends : (f : IssueState) (alone : Bool) (before words : List Use) (t : ℕ) (a b : StallCause) → Some a ≡ Some b → EndsAt f alone before words t a → EndsAt f alone before words t b
 some-ends f alone before words t a b is ends = let same : a ≡ b = cc in subst (λ c. EndsAt f alone before words t c) same ends
 
 -- the result of reason_done is the end of a path
-pub done-ends : (f : Front) (alone : Bool) (before words : List Use) (t : ℕ) (b : Because) → IsRowFront f → f.p ≤ t
+pub done-ends : (f : IssueState) (alone : Bool) (before words : List Use) (t : ℕ) (b : StallCause) → IsRowIssue f → f.p ≤ t
     → reason_done f alone t words ≡ Some b → EndsAt f alone before words t b
 unfolding reason_done EndsAt EndsByRow
 done-ends f alone before words t b row late =
-    cond_both (is_first f) _ _ (λ (r : Option Because). r ≡ Some b → EndsAt f alone before words t b)
+    cond_both (is_first f) _ _ (λ (r : Option StallCause). r ≡ Some b → EndsAt f alone before words t b)
     (λ y is. absurd (cc))
     (λ m. let behind : not (is_first f) ≡ true = ap not m in
-    cond_both (nat_eq t f.c && (alone || f.serial)) _ _ (λ (r : Option Because). r ≡ Some b → EndsAt f alone before words t b)
+    cond_both (nat_eq t f.c && (alone || f.serial)) _ _ (λ (r : Option StallCause). r ≡ Some b → EndsAt f alone before words t b)
     (λ y is. some-ends f alone before words t (row_reason Serial (if f.serial then 1 else 0) t (t - f.p)) b is ((refl, and_from _ _ behind y, refl), refl))
-    (λ k. cond_both (list_any (is_stored f.past t) words) _ _ (λ (r : Option Because). r ≡ Some b → EndsAt f alone before words t b)
+    (λ k. cond_both (list_any (is_stored f.past t) words) _ _ (λ (r : Option StallCause). r ≡ Some b → EndsAt f alone before words t b)
     (λ y is.
     let by = stored-by f t words y in
     let some : 1 ≤ latest_done f.past by.0 = omega (arith, by.1, late, row.later m) in
@@ -133,18 +133,18 @@ done-ends f alone before words t b row late =
     (λ j is. absurd (cc))))
 
 -- if reason_done has no result, no completion that counts came
-pub nothing-done : (f : Front) (alone : Bool) (words : List Use) (t : ℕ) → reason_done f alone t words ≡ None → IsNothingDone f alone t words
+pub nothing-done : (f : IssueState) (alone : Bool) (words : List Use) (t : ℕ) → reason_done f alone t words ≡ None → IsNothingDone f alone t words
 unfolding reason_done
 nothing-done f alone words t =
-    cond_both (is_first f) _ _ (λ (r : Option Because). r ≡ None → IsNothingDone f alone t words)
+    cond_both (is_first f) _ _ (λ (r : Option StallCause). r ≡ None → IsNothingDone f alone t words)
     (λ y is. record { serial = and_left _ _ (ap not y); store = and_left _ _ (ap not y) })
-    (λ m. cond_both (nat_eq t f.c && (alone || f.serial)) _ _ (λ (r : Option Because). r ≡ None → IsNothingDone f alone t words)
+    (λ m. cond_both (nat_eq t f.c && (alone || f.serial)) _ _ (λ (r : Option StallCause). r ≡ None → IsNothingDone f alone t words)
     (λ y is. absurd (cc))
-    (λ k. cond_both (list_any (is_stored f.past t) words) _ _ (λ (r : Option Because). r ≡ None → IsNothingDone f alone t words)
+    (λ k. cond_both (list_any (is_stored f.past t) words) _ _ (λ (r : Option StallCause). r ≡ None → IsNothingDone f alone t words)
     (λ y is. absurd (cc))
     (λ j is. record { serial = and_right _ _ k; store = and_right _ _ j })))
 
-in-order-ends : (f : Front) (alone : Bool) (before words : List Use) (t : ℕ) → IsNothingThere f alone t words → t ≡ f.p → EndsAt f alone before words t (reason_in_order f)
+in-order-ends : (f : IssueState) (alone : Bool) (before words : List Use) (t : ℕ) → IsNothingThere f alone t words → t ≡ f.p → EndsAt f alone before words t (reason_in_order f)
 unfolding reason_in_order EndsAt EndsByRow
 in-order-ends f alone before words t none at = elim (cases_Bool (is_first f)) [
   | inl y ↦ rw y (none, y, at, sym at)
@@ -152,7 +152,7 @@ in-order-ends f alone before words t none at = elim (cases_Bool (is_first f)) [
 ]
 
 -- the last read of the rows before ends a path
-bus-ends : (f : Front) (alone : Bool) (base t : ℕ) (all before words : List Use) → AreLinked base before → turn_at base before ≡ f.bus.free → base ≤ f.p
+bus-ends : (f : IssueState) (alone : Bool) (base t : ℕ) (all before words : List Use) → AreLinked base before → turn_at base before ≡ f.bus.free → base ≤ f.p
     → ((p : Use → Bool) → list_any p before ≡ true → list_any p all ≡ true)
     → IsNothingDone f alone t words → IsNoneAnswered t words
     → (t ≡ f.p) ⊎ ((f.bus.free ≡ t + 1) × (f.p < t)) → EndsAt f alone all words t (reason_of_bus f t before)
@@ -206,7 +206,7 @@ bus-ends f alone base t all (u ∷ older) words linked turn low among done answe
 ]
 
 -- ---- if no completion is found, none came
-pub none-came : (f : Front) (alone : Bool) (words : List Use) (t : ℕ) → IsRowFront f → f.p ≤ t → IsNothingDone f alone t words
+pub none-came : (f : IssueState) (alone : Bool) (words : List Use) (t : ℕ) → IsRowIssue f → f.p ≤ t → IsNothingDone f alone t words
     → CameBy f alone t words → (t ≡ f.p) ⊎ (list_any (is_answered_at Instruction t) words ≡ true)
 none-came f alone words t row late none came = elim came [
   | inl at ↦ inl at
@@ -234,14 +234,14 @@ none-came f alone words t row late none came = elim came [
 
 -- ---- over the instruction words
 
-pub or-path : (f : Front) (own : ℕ) (before : List Use) (alone : Bool) (words : List Use) (t : ℕ) (o : Option Because) (r : Because)
-    → ((b : Because) → o ≡ Some b → IsPath f own before alone words t b) → (o ≡ None → IsPath f own before alone words t r)
+pub or-path : (f : IssueState) (own : ℕ) (before : List Use) (alone : Bool) (words : List Use) (t : ℕ) (o : Option StallCause) (r : StallCause)
+    → ((b : StallCause) → o ≡ Some b → IsPath f own before alone words t b) → (o ≡ None → IsPath f own before alone words t r)
     → IsPath f own before alone words t (reason_or o r)
 or-path f own before alone words t (Some b) r some none = some b refl
 or-path f own before alone words t None r some none = none refl
 
-module _ (f : Front) (own base : ℕ) (before : List Use) (linked : AreLinked base before) (turn : turn_at base before ≡ f.bus.free) (low : base ≤ f.p)
-    (row : IsRowFront f) where
+module _ (f : IssueState) (own base : ℕ) (before : List Use) (linked : AreLinked base before) (turn : turn_at base before ≡ f.bus.free) (low : base ≤ f.p)
+    (row : IsRowIssue f) where
   -- `all` are the instruction words so far, of which the later ones have been skipped
   pub words-path : (alone : Bool) (all later words : List Use) (t : ℕ) → all ≡ later ++ words → AreCaused f own words
       → IsNothingDone f alone t all → (list_any (is_answered_at Instruction t) all ≡ true → list_any (is_answered_at Instruction t) words ≡ true)
@@ -295,12 +295,12 @@ unfolding is_read read_of
 fetch-want-is ds None s w want is = refl
 fetch-want-is ds (Some a) s w want is = absurd (cc)
 
-pub record AreKnown (f : Front) (own : ℕ) (s : Fetching) (us : List Use) : Type 0 where
+pub record AreKnown (f : IssueState) (own : ℕ) (s : Fetching) (us : List Use) : Type 0 where
   pub answers : (s.answered ≡ 0) ⊎ (list_any (is_answered_at Instruction s.answered) us ≡ true)
   pub awaited : (s.awaited ≡ 0) ⊎ (list_any (is_stored f.past s.awaited) us ≡ true)
   pub caused : AreCaused f own us
 
-module _ (ds : List ℕ) (f : Front) (own : ℕ) where
+module _ (ds : List ℕ) (f : IssueState) (own : ℕ) where
   came-first : (first : ℕ) (us : List Use) → (first ≡ f.p) ⊎ ((first ≡ f.c) × ((f.serial ≡ true) ⊎ (own ≤ length us))) → CameBy f (nat_le own (length us)) first us
   came-first first us by = elim by [
     | inl at ↦ inl at

@@ -8,12 +8,12 @@ use Rattle.st_rows.specs.BusTimes.{answer_at}
 use Rattle.std.proofs.lemmas.List.Elements.{All-head, All-tail}
 use Rattle.st_banks.specs.declared.answers.LastAnswers.{LastAnswers}
 use Rattle.st_rows.specs.Entries.{latest_done}
-use Rattle.st_rows.specs.Rows.{words_tick, tick_a, tick_y, tick_p, preparation_tick, done_before}
+use Rattle.st_rows.specs.Rows.{words_tick, tick_a, index_arrival, tick_p, preparation_tick, done_before}
 use Rattle.st_rows.specs.Words.{side_there, fill_at, is_forwarded}
 use Rattle.st_rows.specs.Uses.{behind, behind_use, uses}
 use Rattle.st_rows.specs.declared.bus.Bus.{Bus}
 use Rattle.st_rows.specs.declared.entry.Entry.{Entry}
-use Rattle.st_rows.specs.declared.front.Front.{Front}
+use Rattle.st_rows.specs.declared.issue.IssueState.{IssueState}
 use Rattle.st_rows.specs.declared.past.Past.{Past}
 use Rattle.st_segment.specs.Entries.{side_to_read}
 use Rattle.st_plain.specs.Looking.{level_wait}
@@ -24,7 +24,7 @@ use Rattle.st_rows.specs.declared.uses.Writer.{Writer}
 use Rattle.st_reasons.specs.Paths.{is_side_read, IsForLevel, IsForForwarding, IsReason, ForLevel, ForForwarding, ForAddress}
 use Rattle.st_reasons.specs.ReasonLaws.{NoTwoRowsAreDoneAtOnce, ReasonsAreTrue}
 use Rattle.st_reasons.specs.Reasons.{because, back_to, side_writer, writer_of_supply}
-use Rattle.st_reasons.specs.Segments.{Told, IsTold, front_of, last_uses}
+use Rattle.st_reasons.specs.Segments.{Told, IsTold, issue_of, last_uses}
 use Rattle.st_reasons.specs.Words.{is_index, is_read, read_of}
 use Rattle.st_reasons.specs.declared.because.Reason.TheVariants.{Level, Forwarding}
 use Rattle.st_reasons.proofs.AddressPath.{for-address}
@@ -35,7 +35,7 @@ use Rattle.st_reasons.proofs.WriterLemmas.{writer-done}
 
 -- ---- levels
 
-for-level : (ds : List ℕ) (n : ℕ) (f : Front) (e : Entry) → 1 ≤ n → n ≤ 8 → 0 < level_wait ds n f e
+for-level : (ds : List ℕ) (n : ℕ) (f : IssueState) (e : Entry) → 1 ≤ n → n ≤ 8 → 0 < level_wait ds n f e
     → IsForLevel ds n f e (record { reason = Level; back = back_to (tick_p ds n f e - 1) f.past; tick = tick_p ds n f e - 1; late = level_wait ds n f e })
 unfolding tick_p preparation_tick level_wait
 for-level ds n f e least most some =
@@ -49,7 +49,7 @@ for-level ds n f e least most some =
       some = some;
     }
 
-prepared-late : (ds : List ℕ) (n : ℕ) (f : Front) (e : Entry) → tick_p ds n f e ≡ max (tick_a ds f e) (tick_y ds f e) + 1 + level_wait ds n f e
+prepared-late : (ds : List ℕ) (n : ℕ) (f : IssueState) (e : Entry) → tick_p ds n f e ≡ max (tick_a ds f e) (index_arrival ds f e) + 1 + level_wait ds n f e
 unfolding tick_p preparation_tick level_wait
 prepared-late ds n f e = omega arith
 
@@ -90,25 +90,25 @@ side-forwarded ds past b (Some v) a w is = elim (cases_Bool (nat_lt v 32)) [
       rw above (storage-writer ds past b v a w (sym one ∙ is))
 ]
 
-fetches-no-writer : (ds : List ℕ) (f : Front) (e : Entry) → All (λ (u : Use). is_index u.role ≡ false) (fetch_uses ds f e)
+fetches-no-writer : (ds : List ℕ) (f : IssueState) (e : Entry) → All (λ (u : Use). is_index u.role ≡ false) (fetch_uses ds f e)
 fetches-no-writer ds f e = each-fetch (λ (u : Use). is_index u.role ≡ false) ds f e (λ v a b o c d. refl) (λ v a b o c d. refl)
 
-sided-is : (ds : List ℕ) (f : Front) (e : Entry) → side_there ds f.past (words_tick ds f e).bus e.side (tick_a ds f e) ≡ tick_y ds f e
-unfolding tick_y side_there
+sided-is : (ds : List ℕ) (f : IssueState) (e : Entry) → side_there ds f.past (words_tick ds f e).bus e.side (tick_a ds f e) ≡ index_arrival ds f e
+unfolding index_arrival side_there
 sided-is ds f e = refl
 
 pub for-forwarding : (ds : List ℕ) (n : ℕ) (banks : LastAnswers) (start : ℕ) (older : List Told) (x : Told) (w : Writer) → All IsTold (x ∷ older)
-    → level_wait ds n (front_of ds n banks start older) x.entry ≡ 0
-    → side_writer (formed_uses ds (front_of ds n banks start older) x.entry x.side) ≡ Some w
-    → IsForForwarding ds n (front_of ds n banks start older) x.entry (formed_uses ds (front_of ds n banks start older) x.entry x.side)
-    (record { reason = Forwarding; back = w.back; tick = w.done; late = w.done - tick_a ds (front_of ds n banks start older) x.entry })
+    → level_wait ds n (issue_of ds n banks start older) x.entry ≡ 0
+    → side_writer (formed_uses ds (issue_of ds n banks start older) x.entry x.side) ≡ Some w
+    → IsForForwarding ds n (issue_of ds n banks start older) x.entry (formed_uses ds (issue_of ds n banks start older) x.entry x.side)
+    (record { reason = Forwarding; back = w.back; tick = w.done; late = w.done - tick_a ds (issue_of ds n banks start older) x.entry })
 for-forwarding ds n banks start older x w all none is =
-    let f = front_of ds n banks start older in
+    let f = issue_of ds n banks start older in
     let e = x.entry in
     let side = side_uses ds f.past (words_tick ds f e).bus x.side (tick_a ds f e) in
     let at = side-forwarded ds f.past (words_tick ds f e).bus x.side (tick_a ds f e) w
     (sym (no-writer (fetch_uses ds f e) side (fetches-no-writer ds f e)) ∙ is) in
-    let y_is : tick_y ds f e ≡ w.done =
+    let y_is : index_arrival ds f e ≡ w.done =
     sym (sided-is ds f e) ∙ ap (λ s. side_there ds f.past (words_tick ds f e).bus s (tick_a ds f e)) (All-head IsTold x older all).side ∙ at.0 in
     record {
       reason = refl;
@@ -143,19 +143,19 @@ side-read ds past b (Some v) a none late = elim (cases_Bool (nat_lt v 32)) [
 ]
 
 prepared-behind : (ds : List ℕ) (n : ℕ) (banks : LastAnswers) (start : ℕ) (older : List Told) (x : Told) → All IsTold (x ∷ older)
-    → level_wait ds n (front_of ds n banks start older) x.entry ≡ 0
-    → side_writer (formed_uses ds (front_of ds n banks start older) x.entry x.side) ≡ None
-    → (tick_p ds n (front_of ds n banks start older) x.entry ≡ tick_a ds (front_of ds n banks start older) x.entry + 1)
-    ⊎ (list_any (is_side_read (tick_a ds (front_of ds n banks start older) x.entry) (tick_p ds n (front_of ds n banks start older) x.entry - 1))
-    (formed_uses ds (front_of ds n banks start older) x.entry x.side) ≡ true)
+    → level_wait ds n (issue_of ds n banks start older) x.entry ≡ 0
+    → side_writer (formed_uses ds (issue_of ds n banks start older) x.entry x.side) ≡ None
+    → (tick_p ds n (issue_of ds n banks start older) x.entry ≡ tick_a ds (issue_of ds n banks start older) x.entry + 1)
+    ⊎ (list_any (is_side_read (tick_a ds (issue_of ds n banks start older) x.entry) (tick_p ds n (issue_of ds n banks start older) x.entry - 1))
+    (formed_uses ds (issue_of ds n banks start older) x.entry x.side) ≡ true)
 prepared-behind ds n banks start older x all none is =
-    let f = front_of ds n banks start older in
+    let f = issue_of ds n banks start older in
     let e = x.entry in
     let a = tick_a ds f e in
     let bus = (words_tick ds f e).bus in
     let side = side_uses ds f.past bus x.side a in
     let there = side_there ds f.past bus (side_to_read x.side) a in
-    let y_is : tick_y ds f e ≡ there = sym (sided-is ds f e) ∙ ap (λ s. side_there ds f.past bus s a) (All-head IsTold x older all).side in
+    let y_is : index_arrival ds f e ≡ there = sym (sided-is ds f e) ∙ ap (λ s. side_there ds f.past bus s a) (All-head IsTold x older all).side in
     elim (cases_lt a there) [
       | inl late ↦
           let at : there ≡ tick_p ds n f e - 1 = omega (arith, prepared-late ds n f e, none, y_is, late) in
@@ -168,11 +168,11 @@ prepared-behind ds n banks start older x all none is =
 -- ---- the law
 
 by-side : (ds : List ℕ) (n : ℕ) (banks : LastAnswers) (start : ℕ) (older : List Told) (x : Told) (o : Option Writer) → All IsTold (x ∷ older)
-    → level_wait ds n (front_of ds n banks start older) x.entry ≡ 0
-    → side_writer (formed_uses ds (front_of ds n banks start older) x.entry x.side) ≡ o
-    → IsReason ds n (front_of ds n banks start older) x.entry (formed_uses ds (front_of ds n banks start older) x.entry x.side) (last_uses ds n banks start older)
-    (because (front_of ds n banks start older) x.entry (tick_a ds (front_of ds n banks start older) x.entry) (tick_p ds n (front_of ds n banks start older) x.entry)
-    (level_wait ds n (front_of ds n banks start older) x.entry) (formed_uses ds (front_of ds n banks start older) x.entry x.side) (last_uses ds n banks start older))
+    → level_wait ds n (issue_of ds n banks start older) x.entry ≡ 0
+    → side_writer (formed_uses ds (issue_of ds n banks start older) x.entry x.side) ≡ o
+    → IsReason ds n (issue_of ds n banks start older) x.entry (formed_uses ds (issue_of ds n banks start older) x.entry x.side) (last_uses ds n banks start older)
+    (because (issue_of ds n banks start older) x.entry (tick_a ds (issue_of ds n banks start older) x.entry) (tick_p ds n (issue_of ds n banks start older) x.entry)
+    (level_wait ds n (issue_of ds n banks start older) x.entry) (formed_uses ds (issue_of ds n banks start older) x.entry x.side) (last_uses ds n banks start older))
 unfolding because
 by-side ds n banks start older x None all none is = ForAddress _ (for-address ds n banks start older x all none is (prepared-behind ds n banks start older x all none is))
 by-side ds n banks start older x (Some w) all none is =
@@ -184,7 +184,7 @@ no_two_rows_are_done_at_once ds n banks start rows i j all order some = done-apa
 pub reasons_are_true : ReasonsAreTrue
 unfolding because
 reasons_are_true ds n banks start older x least most all =
-    let f = front_of ds n banks start older in
+    let f = issue_of ds n banks start older in
     elim (cases_Bool (nat_lt 0 (level_wait ds n f x.entry))) [
       | inl y ↦ rw y (ForLevel _ (for-level ds n f x.entry least most (ltb-true _ _ y)))
       | inr m ↦ by-side ds n banks start older x (side_writer (formed_uses ds f x.entry x.side)) all (omega (arith, ltb-false _ _ m)) refl

@@ -7,7 +7,7 @@ use Rattle.std.proofs.lemmas.List.Elements.{All-head, All-tail}
 use Rattle.std.proofs.lemmas.List.Folds.{list_any-append}
 use Rattle.st_banks.specs.declared.answers.LastAnswers.{LastAnswers}
 use Rattle.st_fetch.specs.Planned.{tick_of, no_word}
-use Rattle.st_rows.specs.Rows.{opening_front, front_after_entry, tick_a, tick_p, tick_c, address_tick, preparation_tick}
+use Rattle.st_rows.specs.Rows.{opening_issue, issue_after_entry, tick_a, tick_p, tick_c, address_tick, preparation_tick}
 use Rattle.st_rows.proofs.Awaited.{ready-after}
 use Rattle.st_rows.specs.declared.uses.Role.TheVariants.{Instruction}
 use Rattle.st_rows.specs.declared.uses.Supply.{Supply}
@@ -18,7 +18,7 @@ use Rattle.st_reasons.specs.Words.{is_read, read_of, is_instruction, is_answered
 use Rattle.st_reasons.specs.Causes.{is_cause, has_cause}
 use Rattle.st_reasons.proofs.Linked.{turn_at, want_at, AreLinked}
 use Rattle.st_reasons.specs.Served.{AreBrought, brings, is_held_until}
-use Rattle.st_reasons.specs.Segments.{Told, IsTold, front_of, uses_behind, all_uses}
+use Rattle.st_reasons.specs.Segments.{Told, IsTold, issue_of, uses_behind, all_uses}
 use Rattle.st_reasons.proofs.Chains.{AreBehind, entry-behind}
 use Rattle.st_reasons.proofs.WaitLemmas.{AreOnTheirWay}
 use Rattle.st_reasons.proofs.WordLemmas.{decided-role, decided-answer, decided-first, turn-read, turn-other}
@@ -158,7 +158,7 @@ words-on-their-way us base from before deep (u ∷ earlier) linked low among all
 -- ---- the segment so far
 
 module _ (ds : List ℕ) (n : ℕ) (banks : LastAnswers) (start : ℕ) where
-  opening-behind : AreBehind start (opening_front banks start).bus (opening_front banks start).p []
+  opening-behind : AreBehind start (opening_issue banks start).bus (opening_issue banks start).p []
   unfolding AreLinked AreBrought turn_at want_at
   opening-behind = record {
     linked = tt;
@@ -170,23 +170,23 @@ module _ (ds : List ℕ) (n : ℕ) (banks : LastAnswers) (start : ℕ) where
   }
 
   pub segment-behind : (older : List Told) → All IsTold older
-      → AreBehind start (front_of ds n banks start older).bus (front_of ds n banks start older).p (all_uses ds n banks start older)
-  unfolding front_of all_uses uses_behind
+      → AreBehind start (issue_of ds n banks start older).bus (issue_of ds n banks start older).p (all_uses ds n banks start older)
+  unfolding issue_of all_uses uses_behind
   segment-behind [] all = opening-behind
   segment-behind (x ∷ older) all =
-      entry-behind start ds n (front_of ds n banks start older) x.entry x.side x.reads (all_uses ds n banks start older)
+      entry-behind start ds n (issue_of ds n banks start older) x.entry x.side x.reads (all_uses ds n banks start older)
       (All-head IsTold x older all).side (segment-behind older (All-tail IsTold x older all))
 
   -- the ticks of the front are in their order
-  pub front-order : (older : List Told) → (start ≤ (front_of ds n banks start older).p) × ((front_of ds n banks start older).p ≤ (front_of ds n banks start older).c)
-  unfolding front_of front_after_entry tick_c tick_p preparation_tick tick_a address_tick
-  front-order [] = (omega arith, omega arith)
-  front-order (x ∷ older) =
-      let f = front_of ds n banks start older in
-      let at = front-order older in
+  pub issue-order : (older : List Told) → (start ≤ (issue_of ds n banks start older).p) × ((issue_of ds n banks start older).p ≤ (issue_of ds n banks start older).c)
+  unfolding issue_of issue_after_entry tick_c tick_p preparation_tick tick_a address_tick
+  issue-order [] = (omega arith, omega arith)
+  issue-order (x ∷ older) =
+      let f = issue_of ds n banks start older in
+      let at = issue-order older in
       (omega (arith, at), omega (arith, ready-after ds n f x.entry))
 
   -- the bus is free of the reads of all rows except the last when the last one is prepared
-  pub deep-free : (x : Told) (older : List Told) → (front_of ds n banks start older).bus.free ≤ (front_of ds n banks start (x ∷ older)).p
-  unfolding front_of front_after_entry tick_p preparation_tick tick_a address_tick
+  pub deep-free : (x : Told) (older : List Told) → (issue_of ds n banks start older).bus.free ≤ (issue_of ds n banks start (x ∷ older)).p
+  unfolding issue_of issue_after_entry tick_p preparation_tick tick_a address_tick
   deep-free x older = omega arith

@@ -16,7 +16,7 @@ use Rattle.st_rows.specs.Ranges.{IsEntryInTime}
 use Rattle.st_rows.specs.declared.bus.Bus.{Bus}
 use Rattle.st_rows.specs.declared.past.Past.{Past}
 use Rattle.st_rows.specs.declared.entry.Entry.{Entry}
-use Rattle.st_rows.specs.declared.front.Front.{Front}
+use Rattle.st_rows.specs.declared.issue.IssueState.{IssueState}
 use Rattle.st_rows.specs.declared.uses.Role.{Role}
 use Rattle.st_rows.specs.declared.uses.Role.TheVariants.{Instruction, Index, Operand, Following}
 use Rattle.st_rows.specs.declared.uses.Supply.{Supply}
@@ -29,29 +29,29 @@ use Rattle.st_reasons.specs.Waits.{data_waits, fetch_waits}
 use Rattle.st_reasons.specs.Causes.{IsTrueOf}
 use Rattle.st_reasons.proofs.Linked.{turn_at, AreLinked}
 use Rattle.st_reasons.specs.Served.{AreBrought}
-use Rattle.st_reasons.specs.Segments.{Told, IsTold, front_of, uses_behind, last_uses, all_uses}
-use Rattle.st_reasons.proofs.SegmentLemmas.{linked-drop, brought-drop, linked-cut, others-on-their-way, words-on-their-way, segment-behind, front-order, deep-free}
+use Rattle.st_reasons.specs.Segments.{Told, IsTold, issue_of, uses_behind, last_uses, all_uses}
+use Rattle.st_reasons.proofs.SegmentLemmas.{linked-drop, brought-drop, linked-cut, others-on-their-way, words-on-their-way, segment-behind, issue-order, deep-free}
 use Rattle.st_reasons.proofs.WaitLemmas.{AreAmong, AreOnTheirWay, data-true, fetch-true}
 use Rattle.st_reasons.proofs.EachUse.{other_uses, two-parts, each-fetch, each-other, fetch-length}
 use Rattle.st_reasons.proofs.WordLemmas.{all-reversed}
 
-pub others-no-words : (ds : List ℕ) (n : ℕ) (f : Front) (e : Entry) (side : Option ℕ) (reads : Words)
+pub others-no-words : (ds : List ℕ) (n : ℕ) (f : IssueState) (e : Entry) (side : Option ℕ) (reads : Words)
     → All (λ (u : Use). is_instruction u.role ≡ false) (other_uses ds n f e side reads)
 unfolding other_uses
 others-no-words ds n f e side reads =
     each-other (λ (u : Use). is_instruction u.role ≡ false) ds n f e (λ w. refl) (λ b w. refl) (λ b w. refl) (λ w. refl) (λ b w. refl) side reads
 
-pub fetches-are-words : (ds : List ℕ) (f : Front) (e : Entry) → All (λ (u : Use). is_instruction u.role ≡ true) (fetch_uses ds f e)
+pub fetches-are-words : (ds : List ℕ) (f : IssueState) (e : Entry) → All (λ (u : Use). is_instruction u.role ≡ true) (fetch_uses ds f e)
 fetches-are-words ds f e =
     each-fetch (λ (u : Use). is_instruction u.role ≡ true) ds f e (λ v least most o b want. refl) (λ v least most o b want. refl)
 
-pub fetches-are-above : (ds : List ℕ) (f : Front) (e : Entry) → IsEntryInTime e → All (λ (u : Use). 32 ≤ u.word) (fetch_uses ds f e)
+pub fetches-are-above : (ds : List ℕ) (f : IssueState) (e : Entry) → IsEntryInTime e → All (λ (u : Use). 32 ≤ u.word) (fetch_uses ds f e)
 fetches-are-above ds f e is =
     each-fetch (λ (u : Use). 32 ≤ u.word) ds f e
     (λ v least most o b want. omega (arith, least, most, is.own.above (omega (arith, least, most))))
     (λ v least most o b want. omega (arith, least, most, is.target.above (omega (arith, least, most))))
 
-pub first-four : (ds : List ℕ) (n : ℕ) (f : Front) (e : Entry) (side : Option ℕ) (reads : Words) → IsEntryInTime e
+pub first-four : (ds : List ℕ) (n : ℕ) (f : IssueState) (e : Entry) (side : Option ℕ) (reads : Words) → IsEntryInTime e
     → take 4 (uses_of_entry ds n f e side reads)
     ≡ fetch_uses ds f e ++ take (4 - (e.own.len + e.target.len)) (other_uses ds n f e side reads)
 first-four ds n f e side reads is =
@@ -67,7 +67,7 @@ drop-behind (x ∷ xs) ys (suc k) low =
     let e : suc k - suc (length xs) ≡ k - length xs = omega arith in
     drop-behind xs ys k (omega (arith, low)) ∙ ap (λ m. drop m ys) (sym e)
 
-pub others-after-four : (ds : List ℕ) (n : ℕ) (f : Front) (e : Entry) (side : Option ℕ) (reads : Words) → IsEntryInTime e
+pub others-after-four : (ds : List ℕ) (n : ℕ) (f : IssueState) (e : Entry) (side : Option ℕ) (reads : Words) → IsEntryInTime e
     → All (λ (u : Use). is_instruction u.role ≡ false) (drop 4 (uses_of_entry ds n f e side reads))
 others-after-four ds n f e side reads is =
     subst (All (λ (u : Use). is_instruction u.role ≡ false))
@@ -96,7 +96,7 @@ module _ (role : Role) (t : ℕ) (not_word : (s : Supply) (w : ℕ) → is_answe
   unfolding IsReadData is_answered_at
   storage-data ds past b r w a is = storage-answered ds past b w a t (and_parts _ (is_answered t (storage_supply ds past b w a)) is).1
 
-  pub data-is-read : (ds : List ℕ) (n : ℕ) (f : Front) (e : Entry) (side : Option ℕ) (reads : Words)
+  pub data-is-read : (ds : List ℕ) (n : ℕ) (f : IssueState) (e : Entry) (side : Option ℕ) (reads : Words)
       → All (λ (u : Use). is_answered_at role t u ≡ true → is_read u.supply ≡ true) (uses_of_entry ds n f e side reads)
   unfolding IsReadData other_uses is_answered_at
   data-is-read ds n f e side reads =
@@ -112,12 +112,12 @@ module _ (role : Role) (t : ℕ) (not_word : (s : Supply) (w : ℕ) → is_answe
       (λ w is. let no = register-answered t in let both = (and_parts (is_role role Index) (is_answered t Register) is).1 in absurd (cc))
       (λ b w. storage-data ds f.past b Index w (tick_a ds f e)) side reads))
 
-pub index-is-read : (t : ℕ) (ds : List ℕ) (n : ℕ) (f : Front) (e : Entry) (side : Option ℕ) (reads : Words)
+pub index-is-read : (t : ℕ) (ds : List ℕ) (n : ℕ) (f : IssueState) (e : Entry) (side : Option ℕ) (reads : Words)
     → All (λ (u : Use). is_answered_at Index t u ≡ true → is_read u.supply ≡ true) (uses_of_entry ds n f e side reads)
 unfolding is_answered_at
 index-is-read t ds n f e side reads = data-is-read Index t (λ s w. refl) (λ s w. refl) ds n f e side reads
 
-pub operand-is-read : (t : ℕ) (ds : List ℕ) (n : ℕ) (f : Front) (e : Entry) (side : Option ℕ) (reads : Words)
+pub operand-is-read : (t : ℕ) (ds : List ℕ) (n : ℕ) (f : IssueState) (e : Entry) (side : Option ℕ) (reads : Words)
     → All (λ (u : Use). is_answered_at Operand t u ≡ true → is_read u.supply ≡ true) (uses_of_entry ds n f e side reads)
 unfolding is_answered_at
 operand-is-read t ds n f e side reads = data-is-read Operand t (λ s w. refl) (λ s w. refl) ds n f e side reads
@@ -135,15 +135,15 @@ module _ (ds : List ℕ) (n : ℕ) (banks : LastAnswers) (start : ℕ) where
   deep-is [] = refl
   deep-is (x ∷ older) = refl
 
-  pub deep-early : (older : List Told) → All IsTold older → turn_at start (deep_uses older) ≤ (front_of ds n banks start older).p
+  pub deep-early : (older : List Told) → All IsTold older → turn_at start (deep_uses older) ≤ (issue_of ds n banks start older).p
   unfolding deep_uses turn_at
-  deep-early [] all = (front-order ds n banks start []).0
+  deep-early [] all = (issue-order ds n banks start []).0
   deep-early (x ∷ older) all =
       omega (arith, (segment-behind ds n banks start older (All-tail IsTold x older all)).turn, deep-free ds n banks start x older)
 
   module _ (older : List Told) (x : Told) (all : All IsTold (x ∷ older)) where
-    abbrev f : Front
-    f = front_of ds n banks start older
+    abbrev f : IssueState
+    f = issue_of ds n banks start older
 
     abbrev uses : List Use
     uses = uses_behind ds n banks start older x
@@ -180,7 +180,7 @@ module _ (ds : List ℕ) (n : ℕ) (banks : LastAnswers) (start : ℕ) where
 
     module _ (from : ℕ) (late : f.c ≤ from) where
       pub base-early : turn_at start (deep_uses older) ≤ from
-      base-early = omega (arith, late, deep-early older (All-tail IsTold x older all), (front-order ds n banks start older).1)
+      base-early = omega (arith, late, deep-early older (All-tail IsTold x older all), (issue-order ds n banks start older).1)
 
       pub data-wait-true : (role : Role) (t : ℕ) → All (λ (u : Use). is_answered_at role t u ≡ true → is_read u.supply ≡ true) uses
           → All (IsTrueOf us) (data_waits role from t (reverse before) (reverse uses))
@@ -197,7 +197,7 @@ module _ (ds : List ℕ) (n : ℕ) (banks : LastAnswers) (start : ℕ) where
 
       pub four-is : take 4 uses ≡ words ++ few
       unfolding uses_behind
-      four-is = first-four ds n (front_of ds n banks start older) x.entry x.side x.reads (All-head IsTold x older all).entry
+      four-is = first-four ds n (issue_of ds n banks start older) x.entry x.side x.reads (All-head IsTold x older all).entry
 
       uses-split : reverse uses ≡ reverse (drop 4 uses) ++ reverse (take 4 uses)
       uses-split = ap reverse (sym (take-append-drop 4 uses)) ∙ reverse-append (take 4 uses) (drop 4 uses)

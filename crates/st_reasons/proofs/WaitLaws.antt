@@ -6,7 +6,7 @@ use Rattle.std.proofs.lemmas.List.Elements.{All-nil, All-cons, All-head, All-tai
 use Rattle.st_banks.specs.declared.answers.LastAnswers.{LastAnswers}
 use Rattle.st_rows.specs.Rows.{row_of_entry, tick_a, tick_p, tick_c, preparation_tick}
 use Rattle.st_rows.specs.declared.entry.Entry.{Entry}
-use Rattle.st_rows.specs.declared.front.Front.{Front}
+use Rattle.st_rows.specs.declared.issue.IssueState.{IssueState}
 use Rattle.st_rows.proofs.Awaited.{ready-after}
 use Rattle.st_ledger.specs.Charges.{charges, stage_at}
 use Rattle.st_ledger.specs.declared.charges.Charge.{Charge}
@@ -18,7 +18,7 @@ use Rattle.st_reasons.specs.Sums.{is_parted}
 use Rattle.st_reasons.specs.Waits.{stage_waits, charge_waits}
 use Rattle.st_reasons.specs.Causes.{IsTrueOf, FallTo}
 use Rattle.st_reasons.specs.WaitLaws.{ReadsToldAreThoseOfTheBus, BanksAreHeldByTheReadBefore, HeldWordsAreBrought, ForwardedWordsAreWritten, InstructionWordsAreFirst, WaitsAreTrue, WaitsCoverTheirCharge, WaitsEndBeforeTheirRow, WaitsAddUpToTheirStage, IndexWordsWaitForNoTurn}
-use Rattle.st_reasons.specs.Segments.{Told, IsTold, front_of, uses_behind, last_uses, all_uses}
+use Rattle.st_reasons.specs.Segments.{Told, IsTold, issue_of, uses_behind, last_uses, all_uses}
 use Rattle.st_ledger.specs.Charges.{is_stage, ticks_for, stage_number}
 use Rattle.st_rows.specs.declared.uses.Use.{Use}
 use Rattle.st_reasons.specs.Sums.{stalled_for, row_stalled, is_stall}
@@ -57,14 +57,14 @@ index_words_wait_for_no_turn most ds n t banks start older x are opening all = n
 -- ---- waits are true
 
 module _ (ds : List ℕ) (n : ℕ) (banks : LastAnswers) (start : ℕ) (older : List Told) (x : Told) (all : All IsTold (x ∷ older)) where
-  stage-true : (stage : Stage) (from to : ℕ) → (is_parted stage ≡ true → (front_of ds n banks start older).c ≤ from)
+  stage-true : (stage : Stage) (from to : ℕ) → (is_parted stage ≡ true → (issue_of ds n banks start older).c ≤ from)
       → All (IsTrueOf (all_uses ds n banks start (x ∷ older))) (stage_waits stage from to (uses_behind ds n banks start older x) (last_uses ds n banks start older))
   unfolding stage_waits uses_behind
   stage-true AtInstruction from to late = fetch-wait-true ds n banks start older x all from (late refl) to
   stage-true AtIndex from to late =
-      data-wait-true ds n banks start older x all from (late refl) Index to (index-is-read to ds n (front_of ds n banks start older) x.entry x.side x.reads)
+      data-wait-true ds n banks start older x all from (late refl) Index to (index-is-read to ds n (issue_of ds n banks start older) x.entry x.side x.reads)
   stage-true AtOperand from to late =
-      data-wait-true ds n banks start older x all from (late refl) Operand to (operand-is-read to ds n (front_of ds n banks start older) x.entry x.side x.reads)
+      data-wait-true ds n banks start older x all from (late refl) Operand to (operand-is-read to ds n (issue_of ds n banks start older) x.entry x.side x.reads)
   stage-true Restart from to late = All-nil (IsTrueOf (all_uses ds n banks start (x ∷ older)))
   stage-true Address from to late = All-nil (IsTrueOf (all_uses ds n banks start (x ∷ older)))
   stage-true Preparing from to late = All-nil (IsTrueOf (all_uses ds n banks start (x ∷ older)))
@@ -72,7 +72,7 @@ module _ (ds : List ℕ) (n : ℕ) (banks : LastAnswers) (start : ℕ) (older : 
 
 pub waits_are_true : WaitsAreTrue
 waits_are_true ds n t banks start older x all =
-    let f = front_of ds n banks start older in
+    let f = issue_of ds n banks start older in
     All-weaker (λ (c : Charge). is_parted c.stage ≡ true → f.c ≤ c.from)
     (λ (c : Charge). All (IsTrueOf (all_uses ds n banks start (x ∷ older))) (charge_waits c (uses_behind ds n banks start older x) (last_uses ds n banks start older)))
     (λ c late. stage-true ds n banks start older x all c.stage c.from c.to late)
@@ -82,7 +82,7 @@ waits_are_true ds n t banks start older x all =
 
 pub waits_cover_their_charge : WaitsCoverTheirCharge
 waits_cover_their_charge ds n t banks start older x all =
-    let f = front_of ds n banks start older in
+    let f = issue_of ds n banks start older in
     let row = row_of_entry ds n f x.entry in
     both (λ (c : Charge). (c.from < c.to) × (c.to ≡ end_of f.c row c.stage))
     (λ (c : Charge). (is_parted c.stage ≡ true → f.c ≤ c.from) × ((u : ℕ) → c.from < u → u ≤ c.to → stage_at f.c row u ≡ c.stage))
@@ -96,7 +96,7 @@ waits_cover_their_charge ds n t banks start older x all =
 
 -- ---- waits end before the row completes
 
-prepared-after : (ds : List ℕ) (n : ℕ) (f : Front) (e : Entry) → tick_a ds f e < tick_p ds n f e
+prepared-after : (ds : List ℕ) (n : ℕ) (f : IssueState) (e : Entry) → tick_a ds f e < tick_p ds n f e
 unfolding tick_p preparation_tick
 prepared-after ds n f e = omega arith
 
@@ -106,7 +106,7 @@ fall-ends from to c [] early fall = All-nil (λ (w : Wait). w.to < c)
 fall-ends from to c (x ∷ xs) early fall =
     All-cons (λ (w : Wait). w.to < c) x xs (omega (arith, fall.0, early)) (fall-ends from x.from c xs (omega (arith, fall.0, fall.1, early)) fall.2)
 
-stage-early : (ds : List ℕ) (n : ℕ) (f : Front) (e : Entry) (s : Stage) → 1 ≤ e.cost → is_parted s ≡ true
+stage-early : (ds : List ℕ) (n : ℕ) (f : IssueState) (e : Entry) (s : Stage) → 1 ≤ e.cost → is_parted s ≡ true
     → end_of f.c (row_of_entry ds n f e) s < (row_of_entry ds n f e).c
 unfolding end_of row_of_entry tick_c tick_p preparation_tick
 stage-early ds n f e AtInstruction some parted = omega (arith, some, ready-after ds n f e, prepared-after ds n f e)
@@ -129,7 +129,7 @@ no-waits P AtOperand from to uses before none = absurd (cc)
 
 pub waits_end_before_their_row : WaitsEndBeforeTheirRow
 waits_end_before_their_row ds n t banks start older x all =
-    let f = front_of ds n banks start older in
+    let f = issue_of ds n banks start older in
     let row = row_of_entry ds n f x.entry in
     let uses = uses_behind ds n banks start older x in
     let before = last_uses ds n banks start older in
@@ -192,6 +192,6 @@ stage-three s uses before (x ∷ xs) parted all =
 
 pub waits_add_up_to_their_stage : WaitsAddUpToTheirStage
 waits_add_up_to_their_stage ds n t banks start older x s all parted =
-    let f = front_of ds n banks start older in
+    let f = issue_of ds n banks start older in
     stage-three s (uses_behind ds n banks start older x) (last_uses ds n banks start older) (charges t f (row_of_entry ds n f x.entry)) parted
     (waits_cover_their_charge ds n t banks start older x all)

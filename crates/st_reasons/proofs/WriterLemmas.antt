@@ -12,7 +12,7 @@ use Rattle.st_rows.specs.Rows.{completion_of, done_before, tick_a, tick_p}
 use Rattle.st_rows.specs.Words.{is_forwarded}
 use Rattle.st_rows.specs.declared.bus.Bus.{Bus}
 use Rattle.st_rows.specs.declared.entry.Entry.{Entry}
-use Rattle.st_rows.specs.declared.front.Front.{Front}
+use Rattle.st_rows.specs.declared.issue.IssueState.{IssueState}
 use Rattle.st_rows.specs.declared.past.Past.{Past}
 use Rattle.st_plain.specs.Uses.{fetch_uses, uses_of_entry}
 use Rattle.st_rows.specs.Supplies.{fetch_supply, storage_supply, one_behind, writer_back}
@@ -99,14 +99,14 @@ register-by : (role : Role) (past : List Past) (v : ℕ) → IsWrittenBy past (r
 unfolding writer_of_supply
 register-by role past v w is = absurd (cc)
 
-others-written : (ds : List ℕ) (n : ℕ) (f : Front) (e : Entry) (side : Option ℕ) (reads : Words) → All (IsWrittenBy f.past) (other_uses ds n f e side reads)
+others-written : (ds : List ℕ) (n : ℕ) (f : IssueState) (e : Entry) (side : Option ℕ) (reads : Words) → All (IsWrittenBy f.past) (other_uses ds n f e side reads)
 unfolding other_uses
 others-written ds n f e side reads =
     each-other (IsWrittenBy f.past) ds n f e (λ v. register-by Operand f.past v) (λ b v. stored-by Operand ds f.past b v (tick_p ds n f e))
     (λ b v. fetched-by (tick_of b.held.words v) Following ds f.past b v (tick_p ds n f e)) (λ v. register-by Index f.past v)
     (λ b v. stored-by Index ds f.past b v (tick_a ds f e)) side reads
 
-pub uses-written : (ds : List ℕ) (n : ℕ) (f : Front) (e : Entry) (side : Option ℕ) (reads : Words) → All (IsWrittenBy f.past) (uses_of_entry ds n f e side reads)
+pub uses-written : (ds : List ℕ) (n : ℕ) (f : IssueState) (e : Entry) (side : Option ℕ) (reads : Words) → All (IsWrittenBy f.past) (uses_of_entry ds n f e side reads)
 uses-written ds n f e side reads =
     subst (All (IsWrittenBy f.past)) (sym (two-parts ds n f e side reads))
     (All-append (IsWrittenBy f.past) (fetch_uses ds f e) (other_uses ds n f e side reads)

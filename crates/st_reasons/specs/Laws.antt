@@ -3,7 +3,7 @@ use Rattle.std.specs.Prelude.{ℕ, ◌-◌, ◌≤◌, List, All, Option}
 use Rattle.st_ledger.specs.declared.charges.Charge.{Charge}
 use Rattle.st_prep.specs.declared.entries.Words.{Words}
 use Rattle.st_rows.specs.declared.entry.Entry.{Entry}
-use Rattle.st_rows.specs.declared.front.Front.{Front}
+use Rattle.st_rows.specs.declared.issue.IssueState.{IssueState}
 use Rattle.st_plain.specs.Uses.{uses_of_entry}
 use Rattle.st_rows.specs.declared.uses.Use.{Use}
 use Rattle.st_reasons.specs.Words.{IsReadInTime}
@@ -19,5 +19,5 @@ WaitsAreWithinTheirCharge = (x : Charge) (uses before : List Use) →
 -- Each word that an entry reads is accepted when it is wanted or later, and answered no earlier
 -- than that.
 abbrev pub ReadsOfAnEntryAreInTime : Type 0
-ReadsOfAnEntryAreInTime = (ds : List ℕ) (n : ℕ) (f : Front) (e : Entry) (side : Option ℕ)
+ReadsOfAnEntryAreInTime = (ds : List ℕ) (n : ℕ) (f : IssueState) (e : Entry) (side : Option ℕ)
     (reads : Words) → All IsReadInTime (uses_of_entry ds n f e side reads)

@@ -8,14 +8,14 @@ use Rattle.st_plain.specs.Looking.{level_wait}
 use Rattle.st_plain.specs.Uses.{formed_uses}
 use Rattle.st_reasons.specs.Paths.{IsReason}
 use Rattle.st_reasons.specs.Reasons.{because}
-use Rattle.st_reasons.specs.Segments.{Told, IsTold, front_of, last_uses}
+use Rattle.st_reasons.specs.Segments.{Told, IsTold, issue_of, last_uses}
 
 -- No two rows of a segment complete at the same tick, so a distance in rows identifies the row that
 -- completed at a tick.
 abbrev pub NoTwoRowsAreDoneAtOnce : Type 0
 NoTwoRowsAreDoneAtOnce = (ds : List ℕ) (n : ℕ) (banks : LastAnswers) (start : ℕ)
     (rows : List Told) (i j : ℕ) → All IsTold rows → i < j →
-    let past = (front_of ds n banks start rows).past in
+    let past = (issue_of ds n banks start rows).past in
     1 ≤ completion_of past j → completion_of past j < completion_of past i
 
 -- The cause that the ledger names did delay the row: a level, a row that wrote its index-side word,
@@ -25,7 +25,7 @@ NoTwoRowsAreDoneAtOnce = (ds : List ℕ) (n : ℕ) (banks : LastAnswers) (start 
 abbrev pub ReasonsAreTrue : Type 0
 ReasonsAreTrue = (ds : List ℕ) (n : ℕ) (banks : LastAnswers) (start : ℕ) (older : List Told)
     (x : Told) → 1 ≤ n → n ≤ 8 → All IsTold (x ∷ older) →
-    let f = front_of ds n banks start older in
+    let f = issue_of ds n banks start older in
     let words = formed_uses ds f x.entry x.side in
     let before = last_uses ds n banks start older in
     IsReason ds n f x.entry words before (because f x.entry (tick_a ds f x.entry)

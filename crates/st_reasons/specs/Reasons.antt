@@ -6,7 +6,7 @@ use Rattle.st_bits.specs.declared.register.TheConstants.{FIRST_STORAGE_WORD}
 use Rattle.st_rows.specs.Entries.{latest_done}
 use Rattle.st_rows.specs.Rows.{done_before}
 use Rattle.st_rows.specs.declared.entry.Entry.{Entry}
-use Rattle.st_rows.specs.declared.front.Front.{Front}
+use Rattle.st_rows.specs.declared.issue.IssueState.{IssueState}
 use Rattle.st_rows.specs.declared.past.Past.{Past}
 use Rattle.st_rows.specs.declared.uses.Role.TheVariants.{Instruction}
 use Rattle.st_rows.specs.declared.uses.Supply.{Supply}
@@ -14,14 +14,14 @@ use Rattle.st_rows.specs.declared.uses.Supply.TheVariants.{Read, Held, Forwarded
 use Rattle.st_rows.specs.declared.uses.Use.{Use}
 use Rattle.st_rows.specs.declared.uses.Writer.{Writer}
 use Rattle.st_reasons.specs.Words.{is_read, read_of, is_instruction, is_index, decides}
-use Rattle.st_reasons.specs.declared.because.Because.{Because}
-use Rattle.st_reasons.specs.declared.because.Because.TheVariants.{Start, Prefetch, Earlier}
+use Rattle.st_reasons.specs.declared.because.StallCause.{StallCause}
+use Rattle.st_reasons.specs.declared.because.StallCause.TheVariants.{Start, Prefetch, Earlier}
 use Rattle.st_reasons.specs.declared.because.Reason.{Reason}
 use Rattle.st_reasons.specs.declared.because.Reason.TheVariants.{Serial, Store, Level, Forwarding, Bus, Order}
 
 -- a cause with its reason, its distance in rows, the tick at which the path ends, and the greatest
 -- number of ticks by which it delayed the row
-abbrev pub row_reason : Reason → ℕ → ℕ → ℕ → Because
+abbrev pub row_reason : Reason → ℕ → ℕ → ℕ → StallCause
 row_reason reason back tick late =
     Earlier (record { reason = reason; back = back; tick = tick; late = late })
 
@@ -31,7 +31,7 @@ back_to t past = unwrap_or (find (λ k. nat_eq (done_before k past) t)
     (1 ∷ 2 ∷ 3 ∷ 4 ∷ 5 ∷ 6 ∷ 7 ∷ 8 ∷ [])) 0
 
 -- whether no entry of the segment precedes the one after this front
-abbrev pub is_first : Front → Bool
+abbrev pub is_first : IssueState → Bool
 is_first f = nat_eq (done_before 1 f.past) 0
 
 -- ---- the events at a tick
@@ -46,7 +46,7 @@ is_stored past t u = is_instruction u.role && is_written past t u.word
 
 -- the cause of a completion at tick t: the entry before, if it is serialized or the awaited words
 -- must come after it; or an entry that wrote one of these words
-unfoldable pub reason_done : Front → Bool → ℕ → List Use → Option Because
+unfoldable pub reason_done : IssueState → Bool → ℕ → List Use → Option StallCause
 reason_done f alone t words =
     if is_first f then None
     else if nat_eq t f.c && (alone || f.serial)
@@ -56,12 +56,12 @@ reason_done f alone t words =
     else None
 
 -- the cause without other events: the start of the segment, or the preparation of the entry before
-unfoldable pub reason_in_order : Front → Because
+unfoldable pub reason_in_order : IssueState → StallCause
 reason_in_order f = if is_first f then Start f.p else row_reason Order 1 f.p 0
 
 -- the cause at tick t if no word was answered: the last read of the row before, if it was accepted
 -- at t, after that row was prepared; else the order
-unfoldable pub reason_of_bus : Front → ℕ → List Use → Because
+unfoldable pub reason_of_bus : IssueState → ℕ → List Use → StallCause
 reason_of_bus f t [] = reason_in_order f
 reason_of_bus f t (u ∷ older) =
     if is_read u.supply
@@ -73,14 +73,14 @@ reason_of_bus f t (u ∷ older) =
 -- ---- the path
 
 -- the first cause if it is present, else the second
-abbrev pub reason_or : Option Because → Because → Because
+abbrev pub reason_or : Option StallCause → StallCause → StallCause
 reason_or (Some reason) other = reason
 reason_or None other = other
 
 -- the cause on the path from tick t backwards: if an instruction word was answered at t, an earlier
 -- row requested it, or the path continues at its want. `own` is the number of instruction words
 -- outside the target of EX, which must come after the entry before
-unfoldable pub reason_of_words : Front → ℕ → List Use → ℕ → List Use → Because
+unfoldable pub reason_of_words : IssueState → ℕ → List Use → ℕ → List Use → StallCause
 reason_of_words f own before t [] = reason_of_bus f t before
 reason_of_words f own before t (u ∷ earlier) =
     if decides Instruction t u earlier
@@ -93,7 +93,7 @@ reason_of_words f own before t (u ∷ earlier) =
 
 -- the cause on the path from tick t on, at which everything was available that the address is
 -- formed from
-abbrev pub reason_of_address : Front → Entry → ℕ → List Use → List Use → Because
+abbrev pub reason_of_address : IssueState → Entry → ℕ → List Use → List Use → StallCause
 reason_of_address f e t before words =
     reason_or (reason_done f e.serial t words) (reason_of_words f e.own.len before t words)
 
@@ -111,7 +111,7 @@ unfoldable pub side_writer : List Use → Option Writer
 side_writer [] = None
 side_writer (u ∷ uses) = if is_index u.role then writer_of_supply u.supply else side_writer uses
 
-abbrev pub reason_of_side : Option Writer → ℕ → Because → Because
+abbrev pub reason_of_side : Option Writer → ℕ → StallCause → StallCause
 reason_of_side (Some w) a other = row_reason Forwarding w.back w.done (w.done - a)
 reason_of_side None a other = other
 
@@ -120,7 +120,7 @@ reason_of_side None a other = other
 -- or else the cause of the address. `words` are the words that it uses until its address is formed,
 -- and `before` those of the row before, none for the first row of a segment; both are in the order
 -- of their reads
-unfoldable pub because : Front → Entry → ℕ → ℕ → ℕ → List Use → List Use → Because
+unfoldable pub because : IssueState → Entry → ℕ → ℕ → ℕ → List Use → List Use → StallCause
 because f e a p wait words before =
     if nat_lt 0 wait then row_reason Level (back_to (p - 1) f.past) (p - 1) wait
     else reason_of_side (side_writer words) a

@@ -3,9 +3,9 @@ use Rattle.std.specs.Prelude.{ℕ, ◌≡◌, List, [], ◌∷◌, ◌++◌, rev
 use Rattle.st_banks.specs.declared.answers.LastAnswers.{LastAnswers}
 use Rattle.st_prep.specs.declared.entries.Words.{Words}
 use Rattle.st_rows.specs.Ranges.{IsEntryInTime}
-use Rattle.st_rows.specs.Rows.{opening_front, front_after_entry, row_of_entry}
+use Rattle.st_rows.specs.Rows.{opening_issue, issue_after_entry, row_of_entry}
 use Rattle.st_rows.specs.declared.entry.Entry.{Entry}
-use Rattle.st_rows.specs.declared.front.Front.{Front}
+use Rattle.st_rows.specs.declared.issue.IssueState.{IssueState}
 use Rattle.st_segment.specs.Entries.{side_to_read}
 use Rattle.st_ledger.specs.Charges.{charges}
 use Rattle.st_ledger.specs.declared.charges.Charge.{Charge}
@@ -29,13 +29,13 @@ pub record IsTold (x : Told) : Type 0 where
 -- these banks; the entries are listed youngest first
 module _ (ds : List ℕ) (n : ℕ) (banks : LastAnswers) (start : ℕ) where
   -- the front after these entries
-  unfoldable pub front_of : List Told → Front
-  front_of [] = opening_front banks start
-  front_of (x ∷ older) = front_after_entry ds n (front_of older) x.entry
+  unfoldable pub issue_of : List Told → IssueState
+  issue_of [] = opening_issue banks start
+  issue_of (x ∷ older) = issue_after_entry ds n (issue_of older) x.entry
 
   -- the words that an entry after these uses, in the order of their reads
   unfoldable pub uses_behind : List Told → Told → List Use
-  uses_behind older x = uses_of_entry ds n (front_of older) x.entry x.side x.reads
+  uses_behind older x = uses_of_entry ds n (issue_of older) x.entry x.side x.reads
 
   -- the words that the last entry uses; none if there is no entry
   unfoldable pub last_uses : List Told → List Use
@@ -50,7 +50,7 @@ module _ (ds : List ℕ) (n : ℕ) (banks : LastAnswers) (start : ℕ) where
   -- the charges of an entry after these, if the run's last entry completed at this tick
   abbrev pub charges_behind_all : ℕ → List Told → Told → List Charge
   charges_behind_all t older x =
-      charges t (front_of older) (row_of_entry ds n (front_of older) x.entry)
+      charges t (issue_of older) (row_of_entry ds n (issue_of older) x.entry)
 
   -- the waits of one charge of an entry after these
   abbrev pub waits_behind : List Told → Told → Charge → List Wait

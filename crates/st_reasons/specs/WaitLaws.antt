@@ -6,9 +6,9 @@ use Rattle.st_banks.specs.declared.answers.LastAnswers.{LastAnswers}
 use Rattle.st_banks.specs.declared.answers.TheConstants.{BANKS}
 use Rattle.st_prep.specs.declared.entries.Words.{Words}
 use Rattle.st_rows.specs.Ranges.{AreDelaysUpTo, IsTight, IsEntryInTime}
-use Rattle.st_rows.specs.Rows.{opening_front, row_of_entry, reads_of_entry}
+use Rattle.st_rows.specs.Rows.{opening_issue, row_of_entry, reads_of_entry}
 use Rattle.st_rows.specs.declared.entry.Entry.{Entry}
-use Rattle.st_rows.specs.declared.front.Front.{Front}
+use Rattle.st_rows.specs.declared.issue.IssueState.{IssueState}
 use Rattle.st_segment.specs.Entries.{side_to_read}
 use Rattle.st_ledger.specs.Charges.{ticks_for}
 use Rattle.st_ledger.specs.declared.charges.Charge.{Charge}
@@ -17,7 +17,7 @@ use Rattle.st_ledger.specs.declared.charges.Stage.TheVariants.{Index}
 use Rattle.st_plain.specs.Uses.{uses_of_entry}
 use Rattle.st_rows.specs.declared.uses.Use.{Use}
 use Rattle.st_reasons.specs.Causes.{IsTrueOf, FallTo}
-use Rattle.st_reasons.specs.Segments.{Told, IsTold, front_of, uses_behind, last_uses, all_uses, charges_behind_all, waits_behind}
+use Rattle.st_reasons.specs.Segments.{Told, IsTold, issue_of, uses_behind, last_uses, all_uses, charges_behind_all, waits_behind}
 use Rattle.st_reasons.specs.Served.{served, reads_told, AreBankedBehind, AreBrought, IsWrittenBy}
 use Rattle.st_reasons.specs.Sums.{is_parted, stalled_for, row_stalled}
 use Rattle.st_reasons.specs.Words.{is_instruction}
@@ -30,7 +30,7 @@ use Rattle.st_reasons.specs.declared.waits.Wait.{Wait}
 -- The reads among the words of an entry are its reads in the timetable, in their order, each with
 -- the ticks at which the bus and its bank become free.
 abbrev pub ReadsToldAreThoseOfTheBus : Type 0
-ReadsToldAreThoseOfTheBus = (ds : List ℕ) (n : ℕ) (f : Front) (e : Entry) (side : Option ℕ)
+ReadsToldAreThoseOfTheBus = (ds : List ℕ) (n : ℕ) (f : IssueState) (e : Entry) (side : Option ℕ)
     (reads : Words) → e.side ≡ side_to_read side →
     reads_told (uses_of_entry ds n f e side reads) ≡ served ds (reads_of_entry ds n f e) f.bus
 
@@ -50,12 +50,12 @@ HeldWordsAreBrought = (ds : List ℕ) (n : ℕ) (banks : LastAnswers) (start : �
 -- Each word that is forwarded comes from the row that the ledger names, which writes the word and
 -- completes at that tick.
 abbrev pub ForwardedWordsAreWritten : Type 0
-ForwardedWordsAreWritten = (ds : List ℕ) (n : ℕ) (f : Front) (e : Entry) (side : Option ℕ)
+ForwardedWordsAreWritten = (ds : List ℕ) (n : ℕ) (f : IssueState) (e : Entry) (side : Option ℕ)
     (reads : Words) → All (IsWrittenBy f.past) (uses_of_entry ds n f e side reads)
 
 -- The first four words that an entry uses include all its instruction words.
 abbrev pub InstructionWordsAreFirst : Type 0
-InstructionWordsAreFirst = (ds : List ℕ) (n : ℕ) (f : Front) (e : Entry) (side : Option ℕ)
+InstructionWordsAreFirst = (ds : List ℕ) (n : ℕ) (f : IssueState) (e : Entry) (side : Option ℕ)
     (reads : Words) → IsEntryInTime e →
     All (λ (u : Use). is_instruction u.role ≡ false)
     (drop 4 (uses_of_entry ds n f e side reads))
@@ -85,7 +85,7 @@ abbrev pub WaitsEndBeforeTheirRow : Type 0
 WaitsEndBeforeTheirRow = (ds : List ℕ) (n t : ℕ) (banks : LastAnswers) (start : ℕ)
     (older : List Told) (x : Told) → All IsTold (x ∷ older) →
     All (λ (c : Charge). All (λ (w : Wait).
-    w.to < (row_of_entry ds n (front_of ds n banks start older) x.entry).c)
+    w.to < (row_of_entry ds n (issue_of ds n banks start older) x.entry).c)
     (waits_behind ds n banks start older x c)) (charges_behind_all ds n banks start t older x)
 
 -- For each stage with waits, its turns, banks and storage waits add up to its ticks.
@@ -100,7 +100,7 @@ WaitsAddUpToTheirStage = (ds : List ℕ) (n t : ℕ) (banks : LastAnswers) (star
 -- An index-side word never waits for a turn.
 abbrev pub IndexWordsWaitForNoTurn : Type 0
 IndexWordsWaitForNoTurn = (most : ℕ) (ds : List ℕ) (n t : ℕ) (banks : LastAnswers) (start : ℕ)
-    (older : List Told) (x : Told) → AreDelaysUpTo most ds → IsTight most (opening_front banks start)
+    (older : List Told) (x : Told) → AreDelaysUpTo most ds → IsTight most (opening_issue banks start)
     → All IsTold (x ∷ older) →
     All (λ (c : Charge). c.stage ≡ Index →
     stalled_for Turn (waits_behind ds n banks start older x c) ≡ 0)

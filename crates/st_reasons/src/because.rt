@@ -1,6 +1,6 @@
 //! Finds the cause for which a row was not prepared earlier.
 ghost use Rattle.std.specs.Prelude.{◌≡◌, ◌-◌, ◌≤◌, nat_eq, find, reverse, All, unwrap_or};
-ghost use Rattle.st_reasons.specs.declared.because.Because.TheVariants.{Prefetch as PrefetchOf};
+ghost use Rattle.st_reasons.specs.declared.because.StallCause.TheVariants.{Prefetch as PrefetchOf};
 ghost use Rattle.std.specs.List.{list_any};
 ghost use Rattle.st_rows.specs.Rows.{done_before};
 ghost use Rattle.st_reasons.specs.Reasons.{row_reason, back_to as back_by, is_first as is_first_of, is_written as is_written_of, is_stored as is_stored_of, reason_done, reason_in_order, reason_of_bus, reason_of_words, reason_of_address, writer_of_supply as writer_by, side_writer as side_writer_of, because as because_of};
@@ -8,7 +8,7 @@ ghost use Rattle.st_reasons.specs.Reasons.{row_reason, back_to as back_by, is_fi
 use crate::uses::{decides, is_index, is_instruction, is_read, last_use, read_of};
 use st_bits::register::FIRST_STORAGE_WORD;
 use st_plain::Begun;
-use st_rows::{Entry, Front, LastEntries, Role, Supply, Use, Writer};
+use st_rows::{Entry, IssueState, LastEntries, Role, Supply, Use, Writer};
 
 /// The kind of dependence of a row on an earlier row that delayed it.
 #[derive(Clone, Copy, Debug, PartialEq, Eq)]
@@ -50,7 +50,7 @@ pub struct Prefetched {
 
 /// The cause for which a row was not prepared earlier.
 #[derive(Clone, Copy, Debug, PartialEq, Eq)]
-pub enum Because {
+pub enum StallCause {
     /// The row's segment starts at this tick.
     Start(u64),
     /// An earlier row requested one of the row's instruction words.
@@ -61,10 +61,10 @@ pub enum Because {
 
 // The cause with these parts.
 #[inline(always)]
-fn earlier_reason(reason: Reason, back: u8, tick: u64, late: u64) -> Because
+fn earlier_reason(reason: Reason, back: u8, tick: u64, late: u64) -> StallCause
     ensures { result ≡ row_reason reason back tick late }
 {
-    Because::Earlier(Cause {
+    StallCause::Earlier(Cause {
         reason,
         back,
         tick,
@@ -99,10 +99,10 @@ fn back_to(t: u64, past: &LastEntries) -> u8
 
 // Whether the entry after this front is the first of its segment.
 #[inline(always)]
-fn is_first(front: &Front) -> bool
-    ensures { result ≡ is_first_of front.now }
+fn is_first(issue: &IssueState) -> bool
+    ensures { result ≡ is_first_of issue.now }
 {
-    front.past.done_before(1) == 0
+    issue.past.done_before(1) == 0
 }
 
 // Whether the latest writer of a word of storage completes at tick `t`.
@@ -139,92 +139,92 @@ fn is_any_stored(past: &LastEntries, t: u64, uses: &[Use]) -> bool
 // The cause that a completion at tick `t` gives: the entry before, if it or this entry is
 // serialized, or an entry that wrote one of these words.
 #[inline(always)]
-fn done_at(front: &Front, alone: bool, t: u64, words: &[Use]) -> Option<Because>
-    ensures { result ≡ reason_done front.now alone t (reverse words.now) }
+fn done_at(issue: &IssueState, alone: bool, t: u64, words: &[Use]) -> Option<StallCause>
+    ensures { result ≡ reason_done issue.now alone t (reverse words.now) }
 {
-    if is_first(front) {
+    if is_first(issue) {
         return None;
     }
-    let late = t.saturating_sub(front.p);
-    if t == front.c && (alone || front.serial) {
-        return Some(earlier_reason(Reason::Serial, u8::from(front.serial), t, late));
+    let late = t.saturating_sub(issue.p);
+    if t == issue.c && (alone || issue.serial) {
+        return Some(earlier_reason(Reason::Serial, u8::from(issue.serial), t, late));
     }
-    if is_any_stored(&front.past, t, words) {
-        return Some(earlier_reason(Reason::Store, back_to(t, &front.past), t, late));
+    if is_any_stored(&issue.past, t, words) {
+        return Some(earlier_reason(Reason::Store, back_to(t, &issue.past), t, late));
     }
     None
 }
 
 // The cause without any other dependence: the start of the segment, or the preparation of the entry
 // before.
-fn in_order(front: &Front) -> Because
-    ensures { result ≡ reason_in_order front.now }
+fn in_order(issue: &IssueState) -> StallCause
+    ensures { result ≡ reason_in_order issue.now }
 {
-    if is_first(front) {
-        return Because::Start(front.p);
+    if is_first(issue) {
+        return StallCause::Start(issue.p);
     }
-    earlier_reason(Reason::Order, 1, front.p, 0)
+    earlier_reason(Reason::Order, 1, issue.p, 0)
 }
 
 // The cause `Bus` if the last read of the row before was accepted at tick `t`, after that row was
 // prepared; else the cause from the order.
-fn bus_or_order(front: &Front, t: u64, before: &[Use]) -> Because
-    ensures { result ≡ reason_of_bus front.now t (reverse before.now) }
+fn bus_or_order(issue: &IssueState, t: u64, before: &[Use]) -> StallCause
+    ensures { result ≡ reason_of_bus issue.now t (reverse before.now) }
 {
     let Some((last, earlier)) = last_use(before) else {
-        return in_order(front);
+        return in_order(issue);
     };
     if !is_read(&last.supply) {
-        return bus_or_order(front, t, earlier);
+        return bus_or_order(issue, t, earlier);
     }
     let read = read_of(&last.supply);
-    if read.accept == t && front.p < t {
-        return earlier_reason(Reason::Bus, 1, read.want, t.saturating_sub(front.p));
+    if read.accept == t && issue.p < t {
+        return earlier_reason(Reason::Bus, 1, read.want, t.saturating_sub(issue.p));
     }
-    in_order(front)
+    in_order(issue)
 }
 
 // The cause of an instruction word that an earlier row requested.
 #[inline(always)]
-fn asked_before(front: &Front, word: u32, t: u64) -> Because
-    ensures { result ≡ PrefetchOf (record { word = word; late = t - front.now.p }) }
+fn asked_before(issue: &IssueState, word: u32, t: u64) -> StallCause
+    ensures { result ≡ PrefetchOf (record { word = word; late = t - issue.now.p }) }
 {
-    Because::Prefetch(Prefetched {
+    StallCause::Prefetch(Prefetched {
         word,
-        late: t.saturating_sub(front.p),
+        late: t.saturating_sub(issue.p),
     })
 }
 
 // The cause for which the words requested so far came late, on the path from tick `t` backwards.
-fn of_words(front: &Front, own: u8, t: u64, words: &[Use], before: &[Use]) -> Because
+fn of_words(issue: &IssueState, own: u8, t: u64, words: &[Use], before: &[Use]) -> StallCause
     ensures { result
-        ≡ reason_of_words front.now own (reverse before.now) t (reverse words.now) }
+        ≡ reason_of_words issue.now own (reverse before.now) t (reverse words.now) }
 {
     let Some((last, earlier)) = last_use(words) else {
-        return bus_or_order(front, t, before);
+        return bus_or_order(issue, t, before);
     };
     if !decides(Role::Instruction, t, last, earlier) {
-        return of_words(front, own, t, earlier, before);
+        return of_words(issue, own, t, earlier, before);
     }
     if !is_read(&last.supply) {
-        return asked_before(front, last.word, t);
+        return asked_before(issue, last.word, t);
     }
     let want = read_of(&last.supply).want;
     let of_target = usize::from(own) <= earlier.len();
-    match done_at(front, of_target, want, earlier) {
+    match done_at(issue, of_target, want, earlier) {
         Some(reason) => reason,
-        None => of_words(front, own, want, earlier, before),
+        None => of_words(issue, own, want, earlier, before),
     }
 }
 
 // The cause for which the address was not formed earlier; it is formed at the tick after `t`.
-fn of_address(front: &Front, entry: &Entry, t: u64, words: &[Use], before: &[Use]) -> Because
-    ensures { result ≡ reason_of_address front.now entry.now t (reverse before.now)
+fn of_address(issue: &IssueState, entry: &Entry, t: u64, words: &[Use], before: &[Use]) -> StallCause
+    ensures { result ≡ reason_of_address issue.now entry.now t (reverse before.now)
         (reverse words.now) }
 {
-    match done_at(front, entry.serial, t, words) {
+    match done_at(issue, entry.serial, t, words) {
         Some(reason) => reason,
-        None => of_words(front, entry.own.len, t, words, before),
+        None => of_words(issue, entry.own.len, t, words, before),
     }
 }
 
@@ -256,20 +256,20 @@ fn side_writer(uses: &[Use]) -> Option<Writer>
 /// the entry uses until its address is formed, and `before` those of the row before it in its
 /// segment; the first row of a segment has none before it.
 pub fn find_reason(
-    front: &Front,
+    issue: &IssueState,
     entry: &Entry,
     begun: &Begun,
     words: &[Use],
     before: &[Use],
-) -> Because
-    ensures { result ≡ because_of front.now entry.now begun.now.formed.a begun.now.formed.p
+) -> StallCause
+    ensures { result ≡ because_of issue.now entry.now begun.now.formed.a begun.now.formed.p
         begun.now.level_wait words.now before.now }
 {
     if begun.level_wait > 0 {
         let done = begun.formed.p.saturating_sub(1);
         return earlier_reason(
             Reason::Level,
-            back_to(done, &front.past),
+            back_to(done, &issue.past),
             done,
             begun.level_wait,
         );
@@ -282,6 +282,6 @@ pub fn find_reason(
             writer.done,
             writer.done.saturating_sub(a),
         ),
-        None => of_address(front, entry, a.saturating_sub(1), words, before),
+        None => of_address(issue, entry, a.saturating_sub(1), words, before),
     }
 }

@@ -8,12 +8,12 @@ use Rattle.st_rows.specs.declared.bus.Bus.{Bus}
 use Rattle.st_refine.specs.HeldReads.{held_by, held_of_reads}
 
 -- the first n items of a list that is followed by the first m of another
-front-kept : (n m : ℕ) (xs ys : List AskedWord) → n ≤ m → take n (xs ++ take m ys) ≡ take n (xs ++ ys)
-front-kept zero m xs ys few = refl
-front-kept (suc n) zero xs ys few = absurd (omega (arith, few))
-front-kept (suc n) (suc m) [] [] few = refl
-front-kept (suc n) (suc m) [] (y ∷ ys) few = ap (λ rest. y ∷ rest) (front-kept n m [] ys (omega (arith, few)))
-front-kept (suc n) (suc m) (x ∷ xs) ys few = ap (λ rest. x ∷ rest) (front-kept n (suc m) xs ys (omega (arith, few)))
+issue-kept : (n m : ℕ) (xs ys : List AskedWord) → n ≤ m → take n (xs ++ take m ys) ≡ take n (xs ++ ys)
+issue-kept zero m xs ys few = refl
+issue-kept (suc n) zero xs ys few = absurd (omega (arith, few))
+issue-kept (suc n) (suc m) [] [] few = refl
+issue-kept (suc n) (suc m) [] (y ∷ ys) few = ap (λ rest. y ∷ rest) (issue-kept n m [] ys (omega (arith, few)))
+issue-kept (suc n) (suc m) (x ∷ xs) ys few = ap (λ rest. x ∷ rest) (issue-kept n (suc m) xs ys (omega (arith, few)))
 
 -- the first n items of a list of n items
 whole : (xs : List AskedWord) (n : ℕ) → length xs ≡ n → take n xs ≡ xs
@@ -47,5 +47,5 @@ held-words ds (r ∷ reads) b same =
     let more = held_of_reads ds reads next in
     held-words ds reads next (held-four ds b r same)
     ∙ ap (λ words. take 4 (more ++ words)) (held-one ds b r same)
-    ∙ front-kept 4 4 more (held_by ds b r ++ b.held.words) (omega arith)
+    ∙ issue-kept 4 4 more (held_by ds b r ++ b.held.words) (omega arith)
     ∙ ap (take 4) (sym (append_assoc more (held_by ds b r) b.held.words))

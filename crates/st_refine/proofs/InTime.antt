@@ -15,13 +15,13 @@ use Rattle.st_exec.specs.Transfer.{all_stored, read_in, printed_out}
 use Rattle.st_banks.specs.declared.answers.LastAnswers.{LastAnswers}
 use Rattle.st_banks.specs.declared.answers.TheConstants.{BANKS}
 use Rattle.st_rows.specs.Ranges.{AreDelaysUpTo, IsEntryInTime, IsTight, IsNear}
-use Rattle.st_rows.specs.Rows.{row_of_entry, opening_front, address_tick, preparation_tick, tick_a, tick_p, tick_c}
+use Rattle.st_rows.specs.Rows.{row_of_entry, opening_issue, address_tick, preparation_tick, tick_a, tick_p, tick_c}
 use Rattle.st_rows.specs.Asked.{made_before}
 use Rattle.st_rows.specs.BusTimes.{Read}
 use Rattle.st_rows.specs.declared.bus.Bus.{Bus}
 use Rattle.st_rows.specs.declared.entry.Entry.{Entry}
 use Rattle.st_rows.specs.declared.past.Past.{Past}
-use Rattle.st_rows.specs.declared.front.Front.{Front}
+use Rattle.st_rows.specs.declared.issue.IssueState.{IssueState}
 use Rattle.st_rows.proofs.Awaited.{ready-after}
 use Rattle.st_rows.proofs.Served.{made-bounds}
 use Rattle.st_rows.proofs.Stages.{c-within}
@@ -36,7 +36,7 @@ use Rattle.st_refine.proofs.Kept.{ticks_made, IsIdle, IsPhase, IsKept, idle-of, 
 
 -- ---- fronts
 
-pub opening-tight : (most start : ℕ) (banks : LastAnswers) → All (λ t. t ≤ start + most) banks.ticks → IsTight most (opening_front banks start)
+pub opening-tight : (most start : ℕ) (banks : LastAnswers) → All (λ t. t ≤ start + most) banks.ticks → IsTight most (opening_issue banks start)
 opening-tight most start banks soon = record {
   prepared = omega arith;
   done = record { each = All-replicate (λ (entry : Past). entry.c ≤ start) 8 _ (omega arith) };
@@ -48,11 +48,11 @@ opening-tight most start banks soon = record {
   };
 }
 
-pub free-before_done : (ds : List ℕ) (n : ℕ) (f : Front) (e : Entry) → IsEntryInTime e → f.bus.free ≤ (row_of_entry ds n f e).c
+pub free-before_done : (ds : List ℕ) (n : ℕ) (f : IssueState) (e : Entry) → IsEntryInTime e → f.bus.free ≤ (row_of_entry ds n f e).c
 unfolding row_of_entry tick_a tick_p tick_c address_tick preparation_tick
 free-before_done ds n f e is = omega (arith, is.costs.0, ready-after ds n f e)
 
-row-within : (most : ℕ) (ds : List ℕ) (n : ℕ) (f : Front) (e : Entry) → AreDelaysUpTo most ds → IsEntryInTime e → IsTight most f
+row-within : (most : ℕ) (ds : List ℕ) (n : ℕ) (f : IssueState) (e : Entry) → AreDelaysUpTo most ds → IsEntryInTime e → IsTight most f
     → (row_of_entry ds n f e).c ≤ f.c + 40 * most + 65
 unfolding row_of_entry
 row-within most ds n f e are is tight = c-within most ds are f e is tight n
@@ -68,15 +68,15 @@ made-soon most ds t reads b are near free =
 -- ---- the invariant of the ticks, with a bound of the delays
 
 pub record IsWithin (most : ℕ) (m : Overlap) (made since : ℕ) : Type 0 where
-  pub tight : IsTight most m.front
+  pub tight : IsTight most m.issue
   pub banks : IfSome m.closing (λ b. All (λ t. t ≤ m.now + most) b.ticks)
   pub ticks : made ≡ ticks_made m
-  pub near : m.front.c + since ≤ made + 8
+  pub near : m.issue.c + since ≤ made + 8
   pub fresh : IsSome m.closing → since ≡ 0
 
 pub levels-few : (m : Overlap) → length (levels_of m) ≤ m.levels
 unfolding levels_of
-levels-few m = few-before m.delays m.levels m.now m.levels m.taken (state_ahead m) m.front
+levels-few m = few-before m.delays m.levels m.now m.levels m.taken (state_ahead m) m.issue
 
 left-soon : (most : ℕ) (m : Overlap) (c : Option LastAnswers) → IsSome c → IfSome c (λ b. All (λ t. t ≤ m.now + most) b.ticks)
     → All (λ t. t ≤ m.now + most) (banks_left c).ticks
@@ -84,7 +84,7 @@ left-soon most m None some soon = absurd (cc some)
 left-soon most m (Some banks) some soon = soon
 
 opened : Overlap → Overlap
-opened m = record m { front = opening_front (banks_left m.closing) (m.now + 1 + length (levels_of m)); ended = true }
+opened m = record m { issue = opening_issue (banks_left m.closing) (m.now + 1 + length (levels_of m)); ended = true }
 
 -- ---- each call
 
@@ -138,7 +138,7 @@ unfolding machine_after_settling
 within-settled most made since m is owed w = elim (closing-cases m.closing) [
   | inl none ↦ let idle : IsIdle m = subst (λ c. IsPhase c m) none is.phase in
       subst (λ (x : Overlap). IsWithin most x made since) (sym (settled-idle_is m idle)) (within-passed most made since m owed w)
-  | inr some ↦ within-settled_fresh (interrupt_due m) m.missed (rests m.state) most made since m is some w
+  | inr some ↦ within-settled_fresh (interrupt_due m) m.mispredicted (rests m.state) most made since m is some w
 ]
 
 within-ticked : (most made since : ℕ) (m : Overlap) → AreDelaysUpTo most m.delays → IsKept m → m.owed ≡ false → IsWithin most m made since
@@ -157,11 +157,11 @@ within-ticked most made since m are is over w =
         → IsWithin most (if b then machine_after_completion m else record m { owed = true; closing = None }) (made + 1) (if b then 0 else since + 1)
     by-done true fits now done =
         let e = oldest_entry m in
-        let due : (row_of_entry m.delays m.levels m.front e).c ≡ m.now = eqb-true (row_of_entry m.delays m.levels m.front e).c m.now done in
-        let free : m.front.bus.free ≤ m.now = omega (arith, due, free-before_done m.delays m.levels m.front e fits) in
+        let due : (row_of_entry m.delays m.levels m.issue e).c ≡ m.now = eqb-true (row_of_entry m.delays m.levels m.issue e).c m.now done in
+        let free : m.issue.bus.free ≤ m.now = omega (arith, due, free-before_done m.delays m.levels m.issue e fits) in
         record {
-          tight = tight-after most m.delays are m.levels m.front e fits w.tight;
-          banks = made-soon most m.delays m.now _ m.front.bus are w.tight.near free;
+          tight = tight-after most m.delays are m.levels m.issue e fits w.tight;
+          banks = made-soon most m.delays m.now _ m.issue.bus are w.tight.near free;
           ticks = ap (λ k. k + 1) now;
           near = omega (arith, now, due, after-oldest m);
           fresh = λ some. refl;
@@ -189,7 +189,7 @@ settled_by-delays None None false m = refl
 
 pub settled-delays : (m : Overlap) → (machine_after_settling m).delays ≡ m.delays
 unfolding machine_after_settling
-settled-delays m = settled_by-delays (interrupt_due m) m.missed (rests m.state) m
+settled-delays m = settled_by-delays (interrupt_due m) m.mispredicted (rests m.state) m
 
 read-within : (most made since w : ℕ) (m : Overlap) (card : Option (List ℕ)) → IsKept m → IsSome m.closing → IsWithin most m made since
     → IsWithin most (read_in_by w card m) made since
@@ -231,7 +231,7 @@ in-time m made since most from are =
     elim (closing-cases m.closing) [
       | inl none ↦ let idle : IsIdle m = subst (λ c. IsPhase c m) none is.phase in
           let fits = entry-ranges m.taken m.state is.machine is.indicator in
-          omega (arith, w.ticks, w.near, idle.early, row-within most m.delays m.levels m.front (entry m.taken m.state) are fits w.tight)
+          omega (arith, w.ticks, w.near, idle.early, row-within most m.delays m.levels m.issue (entry m.taken m.state) are fits w.tight)
       | inr some ↦ omega (arith, w.fresh some)
     ]
 
@@ -244,7 +244,7 @@ done-early m made since most from are over =
     let is = kept from in
     let idle = (idle-of m is over).1 in
     let fits = entry-ranges m.taken m.state is.machine is.indicator in
-    omega (arith, w.ticks, w.near, idle.early, row-within most m.delays m.levels m.front (entry m.taken m.state) are fits w.tight)
+    omega (arith, w.ticks, w.near, idle.early, row-within most m.delays m.levels m.issue (entry m.taken m.state) are fits w.tight)
 
 -- the number of ticks is within the bound of the completed instructions and the ticks since the
 -- last one
@@ -290,7 +290,7 @@ settled_by-state None None false m = refl
 
 pub settled-state : (m : Overlap) → (machine_after_settling m).state ≡ m.state
 unfolding machine_after_settling
-settled-state m = settled_by-state (interrupt_due m) m.missed (rests m.state) m
+settled-state m = settled_by-state (interrupt_due m) m.mispredicted (rests m.state) m
 
 counted : (most : ℕ) {m : Overlap} {made since : ℕ} → IsReached m made since → AreDelaysUpTo most m.delays → IsCounted (64 * (most + 4)) made since m
 counted most (Starts ds n s can) are = omega arith

@@ -13,7 +13,7 @@ use Rattle.st_exec.specs.Transfer.{read_in, printed_out}
 use Rattle.st_exec.proofs.MachineKept.{kept-completed}
 use Rattle.st_banks.specs.declared.answers.LastAnswers.{LastAnswers}
 use Rattle.st_rows.specs.Ranges.{AreDelaysUpTo}
-use Rattle.st_rows.specs.Rows.{row_of_entry, opening_front, front_after_entry}
+use Rattle.st_rows.specs.Rows.{row_of_entry, opening_issue, issue_after_entry}
 use Rattle.st_segment.specs.Entries.{entry}
 use Rattle.st_ahead.specs.Overlap.{Overlap, machine_at_start, state_ahead, with_counter, oldest_entry, oldest_row, levels_of, interrupt_due}
 use Rattle.st_ahead.specs.Calls.{is_done, machine_after_completion, machine_after_tick, banks_left, machine_after_segment, machine_after_pass, machine_after_settling, settled_by, signalled_by, read_in_by, MaySignal, MayServe}
@@ -32,14 +32,14 @@ ticks_made m = if m.owed then m.now + 1 else m.now
 
 -- the completion tick of the next entry of the state
 abbrev pub next_row : Overlap → ℕ
-next_row m = (row_of_entry m.delays m.levels m.front (entry m.taken m.state)).c
+next_row m = (row_of_entry m.delays m.levels m.issue (entry m.taken m.state)).c
 
 -- no entry completed at this tick, or the tick is settled
 pub record IsIdle (m : Overlap) : Type 0 where
   pub table : m.taken ≡ interrupt m.state
   pub awake : rests m.state ≡ false
   pub going : m.ended ≡ false
-  pub right : m.missed ≡ None
+  pub right : m.mispredicted ≡ None
   pub early : ticks_made m ≤ next_row m
   pub unstarted : m.owed ≡ false → m.now ≡ 0 → (m.state.enabled ≡ false) × (m.state.waiting ≡ false)
 
@@ -47,8 +47,8 @@ pub record IsIdle (m : Overlap) : Type 0 where
 pub record IsFresh (m : Overlap) : Type 0 where
   pub owed : m.owed ≡ true
   pub none : m.taken ≡ None
-  pub last : m.ended ≡ false → m.front.c ≡ m.now
-  pub start : m.ended ≡ true → (m.now + 1 ≤ m.front.p) × (m.now + 1 ≤ m.front.c)
+  pub last : m.ended ≡ false → m.issue.c ≡ m.now
+  pub start : m.ended ≡ true → (m.now + 1 ≤ m.issue.p) × (m.now + 1 ≤ m.issue.c)
 
 abbrev pub IsPhase : Option LastAnswers → Overlap → Type 0
 IsPhase None m = IsIdle m
@@ -60,7 +60,7 @@ pub record IsKept (m : Overlap) : Type 0 where
   pub delays : AreDelaysUpTo 255 m.delays
   pub machine : IsMachine m.state
   pub indicator : IfSome m.taken (λ i. i < 64)
-  pub counter : IfSome m.missed (λ h. h < 2 ^ 19)
+  pub counter : IfSome m.mispredicted (λ h. h < 2 ^ 19)
   pub phase : IsPhase m.closing m
 
 -- an idle and a fresh machine are distinguished by whether a settle is owed
@@ -150,18 +150,18 @@ seen-by : (over : Bool) (behind : Option ℕ) (s : Machine) → over ≡ false �
 seen-by over None s going right = of_choice (λ u. u ≡ s) over s s refl refl
 seen-by over (Some h) s going right = absurd (cc right)
 
-pub seen-idle : (m : Overlap) → m.ended ≡ false → m.missed ≡ None → state_ahead m ≡ m.state
+pub seen-idle : (m : Overlap) → m.ended ≡ false → m.mispredicted ≡ None → state_ahead m ≡ m.state
 unfolding state_ahead
-seen-idle m going right = seen-by m.ended m.missed m.state going right
+seen-idle m going right = seen-by m.ended m.mispredicted m.state going right
 
 -- the row of the oldest entry is that of the next entry of the state
 pub row-idle : (m : Overlap) → IsIdle m → (oldest_row m).c ≡ next_row m
 unfolding oldest_row
-row-idle m is = ap (λ s. (row_of_entry m.delays m.levels m.front (entry m.taken s)).c) (seen-idle m is.going is.right)
+row-idle m is = ap (λ s. (row_of_entry m.delays m.levels m.issue (entry m.taken s)).c) (seen-idle m is.going is.right)
 
-missed-by : (b : Bool) (h : ℕ) → h < 2 ^ 19 → IfSome (if b then Some h else None) (λ i. i < 2 ^ 19)
-missed-by true h below = below
-missed-by false h below = tt
+mispredicted-by : (b : Bool) (h : ℕ) → h < 2 ^ 19 → IfSome (if b then Some h else None) (λ i. i < 2 ^ 19)
+mispredicted-by true h below = below
+mispredicted-by false h below = tt
 
 pub made-settled : (owed : Bool) (now : ℕ) → owed ≡ false → (if owed then now + 1 else now) ≡ now
 made-settled true now is = absurd (cc is)
@@ -171,9 +171,9 @@ pub made-owed : (owed : Bool) (now : ℕ) → owed ≡ true → (if owed then no
 made-owed true now is = refl
 made-owed false now is = absurd (cc is)
 
-pub after-oldest : (m : Overlap) → (front_after_entry m.delays m.levels m.front (oldest_entry m)).c ≡ (oldest_row m).c
+pub after-oldest : (m : Overlap) → (issue_after_entry m.delays m.levels m.issue (oldest_entry m)).c ≡ (oldest_row m).c
 unfolding oldest_row
-after-oldest m = after-c m.delays m.levels m.front (oldest_entry m)
+after-oldest m = after-c m.delays m.levels m.issue (oldest_entry m)
 
 pub kept-ticked : (m : Overlap) → IsKept m → m.owed ≡ false → IsKept (machine_after_tick m)
 unfolding machine_after_tick machine_after_completion
@@ -191,7 +191,7 @@ kept-ticked m is settled =
       delays = is.delays;
       machine = kept-completed (plan m.state m.taken) m.state p is.machine;
       indicator = tt;
-      counter = missed-by _ (plan m.state m.taken).following p.following;
+      counter = mispredicted-by _ (plan m.state m.taken).following p.following;
       phase = record {
         owed = refl;
         none = refl;
@@ -224,7 +224,7 @@ pub kept-ended : (m : Overlap) → IsKept m → IsSome m.closing → IsKept (mac
 unfolding machine_after_segment
 kept-ended m is some =
     let fresh = fresh-of m is some in
-    cond_both m.ended m (record m { front = opening_front (banks_left m.closing) (m.now + 1 + length (levels_of m)); ended = true }) IsKept
+    cond_both m.ended m (record m { issue = opening_issue (banks_left m.closing) (m.now + 1 + length (levels_of m)); ended = true }) IsKept
     (λ over. is)
     (λ going. record {
       some = is.some;
@@ -247,7 +247,7 @@ pub record IsEnded (m e : Overlap) : Type 0 where
   pub levels : e.levels ≡ m.levels
   pub state : e.state ≡ m.state
   pub taken : e.taken ≡ m.taken
-  pub behind : e.missed ≡ m.missed
+  pub behind : e.mispredicted ≡ m.mispredicted
   pub now : e.now ≡ m.now
   pub owed : e.owed ≡ m.owed
   pub ended : e.ended ≡ true
@@ -257,7 +257,7 @@ pub record IsEnded (m e : Overlap) : Type 0 where
 pub ended-rest : (m : Overlap) → IsEnded m (machine_after_segment m)
 unfolding machine_after_segment
 ended-rest m =
-    cond_both m.ended m (record m { front = opening_front (banks_left m.closing) (m.now + 1 + length (levels_of m)); ended = true }) (IsEnded m)
+    cond_both m.ended m (record m { issue = opening_issue (banks_left m.closing) (m.now + 1 + length (levels_of m)); ended = true }) (IsEnded m)
     (λ over. assumption)
     (λ going. assumption)
 
@@ -273,7 +273,7 @@ kept-stopped m is = assumption (stopped-phase m.closing m is.phase)
 
 -- the machine after a tick passes
 kept-passed : (m : Overlap) → 1 ≤ m.levels → m.levels ≤ 8 → AreDelaysUpTo 255 m.delays → IsMachine m.state → m.taken ≡ interrupt m.state
-    → rests m.state ≡ false → m.now ≤ m.front.c → IsKept (machine_after_pass m)
+    → rests m.state ≡ false → m.now ≤ m.issue.c → IsKept (machine_after_pass m)
 kept-passed m some few delays machine table awake late =
     let below : IfSome m.taken (λ i. i < 64) = subst (λ t. IfSome t (λ i. i < 64)) (sym table) (interrupt-below m.state) in
     record {
@@ -288,13 +288,13 @@ kept-passed m some few delays machine table awake late =
         awake = awake;
         going = refl;
         right = refl;
-        early = omega (arith, late, done-behind m.delays m.levels m.taken m.state m.front machine below);
+        early = omega (arith, late, done-behind m.delays m.levels m.taken m.state m.issue machine below);
         unstarted = λ settled first. absurd (omega (arith, first));
       };
     }
 
 -- after a completion, the C of the front, or a later opening, is not before the tick
-pub late-fresh : (m : Overlap) → IsFresh m → (b : Bool) → m.ended ≡ b → m.now ≤ m.front.c
+pub late-fresh : (m : Overlap) → IsFresh m → (b : Bool) → m.ended ≡ b → m.now ≤ m.issue.c
 late-fresh m fresh true over = omega (arith, (fresh.start over).1)
 late-fresh m fresh false going = omega (arith, fresh.last going)
 
@@ -374,7 +374,7 @@ pub kept-settled : (m : Overlap) → IsKept m → m.owed ≡ true → IsKept (ma
 unfolding machine_after_settling
 kept-settled m is owed = elim (closing-cases m.closing) [
   | inl none ↦ let idle : IsIdle m = subst (λ c. IsPhase c m) none is.phase in subst IsKept (sym (settled-idle_is m idle)) (settled-idle m is idle owed)
-  | inr some ↦ settled-fresh (interrupt_due m) m.missed (rests m.state) m is some refl refl
+  | inr some ↦ settled-fresh (interrupt_due m) m.mispredicted (rests m.state) m is some refl refl
 ]
 
 -- ---- external events
@@ -460,7 +460,7 @@ settled_by-stopped None None false m = refl
 
 pub settled-stopped : (m : Overlap) → (machine_after_settling m).stopped ≡ m.stopped
 unfolding machine_after_settling
-settled-stopped m = settled_by-stopped (interrupt_due m) m.missed (rests m.state) m
+settled-stopped m = settled_by-stopped (interrupt_due m) m.mispredicted (rests m.state) m
 
 pub ticked-stopped : (m : Overlap) → (machine_after_tick m).stopped ≡ m.stopped
 unfolding machine_after_tick machine_after_completion

@@ -15,10 +15,10 @@ use Rattle.st_refine.proofs.HeldLemmas.{held-words}
 use Rattle.st_refine.proofs.ReadLemmas.{have-first}
 use Rattle.st_refine.proofs.LentLemmas.{ring-count, ring-level, ring-word, ring-slot, ring-undone, index-shown}
 use Rattle.st_refine.specs.Openings.{Signalled, ReadIn, PrintedOut}
-use Rattle.st_refine.proofs.OpeningLemmas.{stands-started, stands-ticked, stands-goes, stands-changed, stands-ended, stands-stopped, ended-again, stands-interrupt, stands-missed, waits-ended, stands-card}
+use Rattle.st_refine.proofs.OpeningLemmas.{stands-started, stands-ticked, stands-goes, stands-changed, stands-ended, stands-stopped, ended-again, stands-interrupt, stands-mispredicted, waits-ended, stands-card}
 use Rattle.st_refine.proofs.RowLemmas.{rows-done, levels-ahead, levels-told, next-told}
-use Rattle.st_refine.proofs.RefinedLemmas.{table-is, tick-state, tick-oldest, tick-row, tick-times, tick-missed, tick-passed, goes-more, interrupt-unwinds, missed-unwinds, waits-unwinds, stop-unwinds, card-unwinds, start-unwound}
-use Rattle.st_refine.proofs.SplitLemmas.{shown-done, shown-tick, shown-index, shown-none, shown-eight, shown-level, shown-behind, seen-settled, seen-missed, seen-ended}
+use Rattle.st_refine.proofs.RefinedLemmas.{table-is, tick-state, tick-oldest, tick-row, tick-times, tick-mispredicted, tick-passed, goes-more, interrupt-unwinds, mispredicted-unwinds, waits-unwinds, stop-unwinds, card-unwinds, start-unwound}
+use Rattle.st_refine.proofs.SplitLemmas.{shown-done, shown-tick, shown-index, shown-none, shown-eight, shown-level, shown-behind, seen-settled, seen-mispredicted, seen-ended}
 use Rattle.st_exec.specs.Transfer.{read_in, printed_out}
 use Rattle.st_exec.proofs.BesideEntries.{beside-printed, beside-no_card}
 use Rattle.st_refine.proofs.StillLemmas.{still-done, still-signalled}
@@ -135,7 +135,7 @@ openings_follow = record {
   stop = λ m j o changes is. stands-stopped (machine_after_segment m) j o changes is;
   last = λ m made since from over may. cc (sym over ∙ stands-settled from may.settled);
   interrupt = λ m made since i d ic k o xs from owed is stands. stands-interrupt m i d ic k o xs is stands;
-  missed = λ m made since k o xs from owed is stands. stands-missed m k o xs owed is stands;
+  mispredicted = λ m made since k o xs from owed is stands. stands-mispredicted m k o xs owed is stands;
   waits = waits-ended;
   card = stands-card;
 }
@@ -165,7 +165,7 @@ completions_are_steps = record {
         ap (λ (r : Row). r.r) is.1 ∙ told.1,
         ap (λ (r : Row). r.c) is.1 ∙ told.2,
       );
-  missed = λ m row is. tick-missed m is.0;
+  mispredicted = λ m row is. tick-mispredicted m is.0;
   passed = λ m is. tick-passed m is;
 }
 
@@ -174,7 +174,7 @@ levels_are_unwound = record {
   settle = settled-state;
   goes = goes-more;
   interrupt = interrupt-unwinds;
-  missed = missed-unwinds;
+  mispredicted = mispredicted-unwinds;
   waits = waits-unwinds;
   stop = stop-unwinds;
   card = card-unwinds;
@@ -192,7 +192,7 @@ the_state_is_split = record {
   level = shown-level;
   behind = shown-behind;
   state = seen-settled;
-  missed = seen-missed;
+  mispredicted = seen-mispredicted;
   ended = seen-ended;
 }
 

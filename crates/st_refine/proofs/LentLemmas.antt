@@ -11,17 +11,17 @@ use Rattle.st_prep.specs.Fetch.{index_words}
 use Rattle.st_prep.specs.FewWords.{is_transmission}
 use Rattle.st_prep.specs.Plan.{plan}
 use Rattle.st_prep.specs.declared.entries.Prepared.{Prepared}
-use Rattle.st_exec.specs.Completion.{guess}
-use Rattle.st_rows.specs.Rows.{row_of_entry, front_after_entry}
+use Rattle.st_exec.specs.Completion.{prediction}
+use Rattle.st_rows.specs.Rows.{row_of_entry, issue_after_entry}
 use Rattle.st_rows.specs.Words.{fills}
-use Rattle.st_rows.specs.declared.front.Front.{Front}
+use Rattle.st_rows.specs.declared.issue.IssueState.{IssueState}
 use Rattle.st_ring.specs.Unwinding.{index_words_after, Kept, unwound}
 use Rattle.st_ring.specs.declared.level.Level.{Level}
 use Rattle.st_ring.proofs.Unwindings.{made-undone}
 use Rattle.st_segment.specs.Entries.{entry}
 use Rattle.st_segment.specs.Alone.{RunAhead}
 use Rattle.st_segment.specs.Guesses.{guesses, table_behind, split_words}
-use Rattle.st_segment.specs.Ahead.{Ahead, next_ahead, ahead, front_behind}
+use Rattle.st_segment.specs.Ahead.{Ahead, next_ahead, ahead, issue_behind}
 use Rattle.st_segment.proofs.GuessLemmas.{behind-none}
 use Rattle.st_ring.specs.Slots.{fill_tick, is_there, slot_of, slots_of, IsKeptSlot as IsSlotKept}
 use Rattle.st_ring.specs.Levels.{AreLevels}
@@ -30,7 +30,7 @@ use Rattle.st_ring.proofs.UndoLemmas.{levels-keep}
 use Rattle.st_ahead.specs.Overlap.{Overlap, state_ahead, oldest_row, levels_of, last_tick_made}
 use Rattle.st_ahead.specs.Shown.{IsLevelOf, AreLevelsOf, lent_index_words, view_at_tick}
 use Rattle.st_refine.specs.Reached.{IsReached}
-use Rattle.st_refine.specs.Refined.{state_before, table_before, front_before, fills_at}
+use Rattle.st_refine.specs.Refined.{state_before, table_before, issue_before, fills_at}
 use Rattle.st_refine.proofs.LevelLists.{done-behind, most-ahead}
 use Rattle.st_refine.proofs.Kept.{IsIdle, IsPhase, IsKept, fresh-of, kept, row-idle, closing-cases, late-fresh}
 use Rattle.st_refine.proofs.SplitLemmas.{seen-machine, seen-index, shown-last, levels-are}
@@ -41,30 +41,30 @@ pub ring-count : (m : Overlap) (ring : List Level) → AreLevelsOf m ring → le
 ring-count m ring are = sym (AllZip-long _ ring (levels_of m) are)
 
 ring-are : (m : Overlap) (ring : List Level) → AreLevelsOf m ring
-    → AllZip (IsLevelOf m.delays m.levels (last_tick_made m)) ring (ahead m.delays m.levels (length ring) m.taken (state_ahead m) m.front)
+    → AllZip (IsLevelOf m.delays m.levels (last_tick_made m)) ring (ahead m.delays m.levels (length ring) m.taken (state_ahead m) m.issue)
 ring-are m ring are =
     subst (λ (xs : List Ahead). AllZip (IsLevelOf m.delays m.levels (last_tick_made m)) ring xs)
-    (levels-are m ∙ ap (λ k. ahead m.delays m.levels k m.taken (state_ahead m) m.front) (sym (ring-count m ring are))) are
+    (levels-are m ∙ ap (λ k. ahead m.delays m.levels k m.taken (state_ahead m) m.issue) (sym (ring-count m ring are))) are
 
-level-at : (ds : List ℕ) (n tick k j : ℕ) (t : Option ℕ) (s : Machine) (f : Front) (ring : List Level) (level : Level)
+level-at : (ds : List ℕ) (n tick k j : ℕ) (t : Option ℕ) (s : Machine) (f : IssueState) (ring : List Level) (level : Level)
     → AllZip (IsLevelOf ds n tick) ring (ahead ds n j t s f) → slice_get ring k ≡ Some level
-    → IsLevelOf ds n tick level (next_ahead ds n (table_behind k t) (guesses k t s) (front_behind ds n k t s f))
-unfolding ahead guesses front_behind
+    → IsLevelOf ds n tick level (next_ahead ds n (table_behind k t) (guesses k t s) (issue_behind ds n k t s f))
+unfolding ahead guesses issue_behind
 level-at ds n tick k zero t s f [] level are there = absurd (cc there)
 level-at ds n tick k zero t s f (x ∷ xs) level are there = absurd are
 level-at ds n tick k (suc j) t s f [] level are there = absurd are
 level-at ds n tick zero (suc j) t s f (x ∷ xs) level are there = let same : x ≡ level = cc there in subst (λ l. IsLevelOf ds n tick l (next_ahead ds n t s f)) same are.0
 level-at ds n tick (suc k) (suc j) t s f (x ∷ xs) level are there =
-    let u = guess t s in
-    let g = front_after_entry ds n f (entry t s) in
-    subst (λ i. IsLevelOf ds n tick level (next_ahead ds n i (guesses k None u) (front_behind ds n k None u g))) (behind-none k)
+    let u = prediction t s in
+    let g = issue_after_entry ds n f (entry t s) in
+    subst (λ i. IsLevelOf ds n tick level (next_ahead ds n i (guesses k None u) (issue_behind ds n k None u g))) (behind-none k)
     (level-at ds n tick k j None u g xs level are.1 there)
 
 pub ring-level : (m : Overlap) (ring : List Level) (level : Level) (k : ℕ) → AreLevelsOf m ring → slice_get ring k ≡ Some level
     → IsLevelOf m.delays m.levels (last_tick_made m) level
-    (next_ahead m.delays m.levels (table_before k m) (state_before k m) (front_before k m))
+    (next_ahead m.delays m.levels (table_before k m) (state_before k m) (issue_before k m))
 ring-level m ring level k are there =
-    level-at m.delays m.levels (last_tick_made m) k (length ring) m.taken (state_ahead m) m.front ring level (ring-are m ring are) there
+    level-at m.delays m.levels (last_tick_made m) k (length ring) m.taken (state_ahead m) m.issue ring level (ring-are m ring are) there
 
 -- ---- the slots
 
@@ -138,41 +138,41 @@ ring-slot m ring level k slot are there two =
 -- ---- undoing
 
 -- the planned rows of the levels
-rows_of : List ℕ → ℕ → ℕ → Option ℕ → Machine → Front → List PlannedRow
+rows_of : List ℕ → ℕ → ℕ → Option ℕ → Machine → IssueState → List PlannedRow
 rows_of ds n zero t s f = []
 rows_of ds n (suc k) t s f =
     let r = row_of_entry ds n f (entry t s) in
-    record { front = record { marker = record {}; value = f }; r = r.r; c = r.c; fills = fills ds n f (entry t s) }
-    ∷ rows_of ds n k None (guess t s) (front_after_entry ds n f (entry t s))
+    record { issue = record { marker = record {}; value = f }; r = r.r; c = r.c; fills = fills ds n f (entry t s) }
+    ∷ rows_of ds n k None (prediction t s) (issue_after_entry ds n f (entry t s))
 
 -- a slot that has its word keeps it
 kept-full : (there : Option ℕ) → IsSlotKept there there
 kept-full None = tt
 kept-full (Some w) = refl
 
-levels-from : (ds : List ℕ) (n tick : ℕ) (t : Option ℕ) (s : Machine) (f : Front) (ring : List Level)
+levels-from : (ds : List ℕ) (n tick : ℕ) (t : Option ℕ) (s : Machine) (f : IssueState) (ring : List Level)
     → AllZip (IsLevelOf ds n tick) ring (ahead ds n (length ring) t s f)
-    → AreLevels ds n tick t s f (front_behind ds n (length ring) t s f) ring (rows_of ds n (length ring) t s f)
-unfolding ahead front_behind AreLevels rows_of
+    → AreLevels ds n tick t s f (issue_behind ds n (length ring) t s f) ring (rows_of ds n (length ring) t s f)
+unfolding ahead issue_behind AreLevels rows_of
 levels-from ds n tick t s f [] are = refl
 levels-from ds n tick t s f (x ∷ xs) are = (
   record {
     prepared = are.0.prepared;
     p = are.0.p;
     have = record { first = _; second = _; slots = are.0.have; kept_first = kept-full _; kept_second = kept-full _ };
-    front = refl;
+    issue = refl;
     r = refl;
     c = refl;
     fills = refl;
   },
-  levels-from ds n tick None (guess t s) (front_after_entry ds n f (entry t s)) xs are.1,
+  levels-from ds n tick None (prediction t s) (issue_after_entry ds n f (entry t s)) xs are.1,
 )
 
 pub oldest-late : (m : Overlap) → IsKept m → m.now ≤ (oldest_row m).c
 unfolding oldest_row
 oldest-late m is = elim (closing-cases m.closing) [
   | inl none ↦ let idle : IsIdle m = subst (λ c. IsPhase c m) none is.phase in omega (arith, row-idle m idle, idle.early, made-late m.owed m.now)
-  | inr some ↦ omega (arith, late-fresh m (fresh-of m is some) m.ended refl, done-behind m.delays m.levels m.taken (state_ahead m) m.front (seen-machine m is) is.indicator)
+  | inr some ↦ omega (arith, late-fresh m (fresh-of m is some) m.ended refl, done-behind m.delays m.levels m.taken (state_ahead m) m.issue (seen-machine m is) is.indicator)
 ]
   where
     made-late : (owed : Bool) (now : ℕ) → now ≤ (if owed then now + 1 else now)
@@ -182,7 +182,7 @@ oldest-late m is = elim (closing-cases m.closing) [
 pub run-levels : (m : Overlap) → IsKept m → RunAhead (length (levels_of m) - 1) m.taken (state_ahead m)
 unfolding levels_of oldest_row
 run-levels m is =
-    most-ahead m.delays m.levels _ m.now m.levels m.taken (state_ahead m) m.front (seen-machine m is) is.indicator (oldest-late m is) refl
+    most-ahead m.delays m.levels _ m.now m.levels m.taken (state_ahead m) m.issue (seen-machine m is) is.indicator (oldest-late m is) refl
 
 index-is : (m : Overlap) (k : ℕ) → k ≡ length (levels_of m) → split_words k m.taken (state_ahead m) ≡ lent_index_words m
 unfolding lent_index_words
@@ -194,8 +194,8 @@ ring-undone m ticks since ring from are =
     let is = kept from in
     let many = ring-count m ring are in
     let run = subst (λ k. RunAhead (k - 1) m.taken (state_ahead m)) (sym many) (run-levels m is) in
-    let levels = levels-from m.delays m.levels (last_tick_made m) m.taken (state_ahead m) m.front ring (ring-are m ring are) in
-    let keep = levels-keep m.delays m.levels (last_tick_made m) m.taken (state_ahead m) m.front _ ring _ (index_words m.state)
+    let levels = levels-from m.delays m.levels (last_tick_made m) m.taken (state_ahead m) m.issue ring (ring-are m ring are) in
+    let keep = levels-keep m.delays m.levels (last_tick_made m) m.taken (state_ahead m) m.issue _ ring _ (index_words m.state)
     (seen-machine m is) is.indicator levels run (sym (seen-index m)) in
     let whole : index_words_after (index_words m.state) ring ≡ lent_index_words m = keep.1 ∙ index-is m (length ring) many in
     (keep.0, whole, ap (λ (x : List ℕ). unwound x ring) (sym whole) ∙ made-undone (index_words m.state) ring keep.0)

@@ -4,15 +4,15 @@ use Rattle.std.proofs.Common.{◌≡◌, ℕ, zero, suc, ◌<◌, ◌≤◌, Boo
 use Rattle.std.proofs.lemmas.List.Elements.{All-nil, All-cons, All-append}
 use Rattle.std.proofs.lemmas.Bool.{ltb-false}
 use Rattle.st_state.specs.Machine.{Machine}
-use Rattle.st_exec.specs.Completion.{guess}
+use Rattle.st_exec.specs.Completion.{prediction}
 use Rattle.st_banks.specs.declared.answers.LastAnswers.{LastAnswers}
 use Rattle.st_rows.specs.Asked.{fetches_asked, data_of, bus_after_reads, made_before}
 use Rattle.st_rows.specs.BusTimes.{accept_at, Read, after_one}
 use Rattle.st_rows.specs.Notes.{notes_of_reads, note}
-use Rattle.st_rows.specs.Rows.{row_of_entry, front_after_entry, wanted_from, address_tick, operands, tick_a, tick_p, reads_of_entry}
+use Rattle.st_rows.specs.Rows.{row_of_entry, issue_after_entry, wanted_from, address_tick, operands, tick_a, tick_p, reads_of_entry}
 use Rattle.st_rows.specs.declared.bus.Bus.{Bus}
 use Rattle.st_rows.specs.declared.entry.Entry.{Entry}
-use Rattle.st_rows.specs.declared.front.Front.{Front}
+use Rattle.st_rows.specs.declared.issue.IssueState.{IssueState}
 use Rattle.st_rows.specs.declared.log.Made.{Made}
 use Rattle.st_rows.proofs.Each.{each-fetch, each-side, each-operand, each-following, each-of-data}
 use Rattle.st_rows.proofs.MadeLemmas.{before-cases, free-one, made-more}
@@ -23,7 +23,7 @@ use Rattle.st_segment.specs.Ahead.{ahead, reads_before}
 use Rattle.st_ahead.specs.Forecast.{asked_ahead}
 use Rattle.st_ahead.specs.Overlap.{Overlap}
 use Rattle.st_refine.specs.Laws.{AreFirstReads}
-use Rattle.st_refine.specs.Openings.{Opening, Outside, StandsAt, state_after, front_at, reads_after, banks_behind, reads_of_segment}
+use Rattle.st_refine.specs.Openings.{Opening, ExternalEvents, StandsAt, state_after, issue_at, reads_after, banks_behind, reads_of_segment}
 use Rattle.st_refine.specs.Reached.{IsReached}
 use Rattle.st_refine.proofs.Kept.{fresh-of, kept}
 
@@ -89,22 +89,22 @@ if-any : (P : ℕ → Type 0) (side : Option ℕ) → ((w : ℕ) → P w) → If
 if-any P None all = tt
 if-any P (Some w) all = all w
 
-wanted-late : (t : ℕ) (f : Front) → t ≤ f.p → t ≤ wanted_from f
+wanted-late : (t : ℕ) (f : IssueState) → t ≤ f.p → t ≤ wanted_from f
 wanted-late t f late = by f.serial
   where
     by : (b : Bool) → t ≤ (if b then max f.p f.c else f.p)
     by true = omega (arith, late)
     by false = late
 
-address-behind : (ds : List ℕ) (n : ℕ) (f : Front) (e : Entry) → f.p < tick_a ds f e
+address-behind : (ds : List ℕ) (n : ℕ) (f : IssueState) (e : Entry) → f.p < tick_a ds f e
 unfolding tick_a address_tick
 address-behind ds n f e = omega arith
 
-prepared-behind : (ds : List ℕ) (n : ℕ) (f : Front) (e : Entry) → f.p < (row_of_entry ds n f e).p
+prepared-behind : (ds : List ℕ) (n : ℕ) (f : IssueState) (e : Entry) → f.p < (row_of_entry ds n f e).p
 unfolding row_of_entry
 prepared-behind ds n f e = omega (arith, address-behind ds n f e, a-p ds n f e)
 
-asked-late : (ds : List ℕ) (n t : ℕ) (f : Front) (e : Entry) → t ≤ f.p → All (λ (r : Read). t ≤ r.want) (reads_of_entry ds n f e)
+asked-late : (ds : List ℕ) (n t : ℕ) (f : IssueState) (e : Entry) → t ≤ f.p → All (λ (r : Read). t ≤ r.want) (reads_of_entry ds n f e)
 asked-late ds n t f e late =
     let P : Read → Type 0 = λ (r : Read). t ≤ r.want in
     let want : t ≤ wanted_from f = wanted-late t f late in
@@ -118,77 +118,77 @@ asked-late ds n t f e late =
     subst (λ (xs : List Read). All (λ (r : Read). t ≤ r.want) xs) (sym (asked-parts ds n f e))
     (All-append P (fetches_asked ds f e) (data_of ds n f e) fetches others)
 
-ahead-late : (ds : List ℕ) (n t k : ℕ) (i : Option ℕ) (s : Machine) (f : Front) → t ≤ f.p → All (λ (r : Read). t ≤ r.want) (asked_ahead ds n k i s f)
-unfolding front_after_entry row_of_entry ahead
+ahead-late : (ds : List ℕ) (n t k : ℕ) (i : Option ℕ) (s : Machine) (f : IssueState) → t ≤ f.p → All (λ (r : Read). t ≤ r.want) (asked_ahead ds n k i s f)
+unfolding issue_after_entry row_of_entry ahead
 ahead-late ds n t zero i s f late = All-nil (λ (r : Read). t ≤ r.want)
 ahead-late ds n t (suc k) i s f late =
     let e = entry i s in
-    All-append (λ (r : Read). t ≤ r.want) (reads_of_entry ds n f e) (asked_ahead ds n k None (guess i s) (front_after_entry ds n f e)) (asked-late ds n t f e late)
-    (ahead-late ds n t k None (guess i s) (front_after_entry ds n f e) (omega (arith, late, prepared-behind ds n f e)))
+    All-append (λ (r : Read). t ≤ r.want) (reads_of_entry ds n f e) (asked_ahead ds n k None (prediction i s) (issue_after_entry ds n f e)) (asked-late ds n t f e late)
+    (ahead-late ds n t k None (prediction i s) (issue_after_entry ds n f e) (omega (arith, late, prepared-behind ds n f e)))
 
-behind-late : (ds : List ℕ) (n t k : ℕ) (i : Option ℕ) (s : Machine) (f : Front) → t ≤ (row_of_entry ds n f (entry i s)).p
-    → All (λ (r : Read). t ≤ r.want) (asked_ahead ds n k None (guess i s) (front_after_entry ds n f (entry i s)))
-unfolding front_after_entry row_of_entry
-behind-late ds n t k i s f late = ahead-late ds n t k None (guess i s) (front_after_entry ds n f (entry i s)) late
+behind-late : (ds : List ℕ) (n t k : ℕ) (i : Option ℕ) (s : Machine) (f : IssueState) → t ≤ (row_of_entry ds n f (entry i s)).p
+    → All (λ (r : Read). t ≤ r.want) (asked_ahead ds n k None (prediction i s) (issue_after_entry ds n f (entry i s)))
+unfolding issue_after_entry row_of_entry
+behind-late ds n t k i s f late = ahead-late ds n t k None (prediction i s) (issue_after_entry ds n f (entry i s)) late
 
 -- the reads of entries after the first one that is not prepared before the tick do not affect the
 -- reads before it
-ahead-made : (ds : List ℕ) (n t k : ℕ) (i : Option ℕ) (s : Machine) (f : Front) (front : List Read) (b : Bus)
-    → made_before ds t (front ++ reads_before ds n t (ahead ds n k i s f)) b ≡ made_before ds t (front ++ asked_ahead ds n k i s f) b
+ahead-made : (ds : List ℕ) (n t k : ℕ) (i : Option ℕ) (s : Machine) (f : IssueState) (issue : List Read) (b : Bus)
+    → made_before ds t (issue ++ reads_before ds n t (ahead ds n k i s f)) b ≡ made_before ds t (issue ++ asked_ahead ds n k i s f) b
 unfolding ahead reads_before
-ahead-made ds n t zero i s f front b = refl
-ahead-made ds n t (suc k) i s f front b = by (nat_lt (row_of_entry ds n f (entry i s)).p t) refl (ahead-made ds n t k None (guess i s) (front_after_entry ds n f (entry i s)) (front ++ reads_of_entry ds n f (entry i s)) b)
+ahead-made ds n t zero i s f issue b = refl
+ahead-made ds n t (suc k) i s f issue b = by (nat_lt (row_of_entry ds n f (entry i s)).p t) refl (ahead-made ds n t k None (prediction i s) (issue_after_entry ds n f (entry i s)) (issue ++ reads_of_entry ds n f (entry i s)) b)
   where
     by : (early : Bool) → nat_lt (row_of_entry ds n f (entry i s)).p t ≡ early
-        → made_before ds t ((front ++ reads_of_entry ds n f (entry i s)) ++ reads_before ds n t (ahead ds n k None (guess i s) (front_after_entry ds n f (entry i s)))) b
-        ≡ made_before ds t ((front ++ reads_of_entry ds n f (entry i s)) ++ asked_ahead ds n k None (guess i s) (front_after_entry ds n f (entry i s))) b
-        → made_before ds t (front ++ (reads_of_entry ds n f (entry i s)
-        ++ (if early then reads_before ds n t (ahead ds n k None (guess i s) (front_after_entry ds n f (entry i s))) else []))) b
-        ≡ made_before ds t (front ++ (reads_of_entry ds n f (entry i s) ++ asked_ahead ds n k None (guess i s) (front_after_entry ds n f (entry i s)))) b
+        → made_before ds t ((issue ++ reads_of_entry ds n f (entry i s)) ++ reads_before ds n t (ahead ds n k None (prediction i s) (issue_after_entry ds n f (entry i s)))) b
+        ≡ made_before ds t ((issue ++ reads_of_entry ds n f (entry i s)) ++ asked_ahead ds n k None (prediction i s) (issue_after_entry ds n f (entry i s))) b
+        → made_before ds t (issue ++ (reads_of_entry ds n f (entry i s)
+        ++ (if early then reads_before ds n t (ahead ds n k None (prediction i s) (issue_after_entry ds n f (entry i s))) else []))) b
+        ≡ made_before ds t (issue ++ (reads_of_entry ds n f (entry i s) ++ asked_ahead ds n k None (prediction i s) (issue_after_entry ds n f (entry i s)))) b
     by true is rest =
-        ap (λ xs. made_before ds t xs b) (sym (append_assoc front (reads_of_entry ds n f (entry i s)) (reads_before ds n t (ahead ds n k None (guess i s) (front_after_entry ds n f (entry i s))))))
+        ap (λ xs. made_before ds t xs b) (sym (append_assoc issue (reads_of_entry ds n f (entry i s)) (reads_before ds n t (ahead ds n k None (prediction i s) (issue_after_entry ds n f (entry i s))))))
         ∙ rest
-        ∙ ap (λ xs. made_before ds t xs b) (append_assoc front (reads_of_entry ds n f (entry i s)) (asked_ahead ds n k None (guess i s) (front_after_entry ds n f (entry i s))))
+        ∙ ap (λ xs. made_before ds t xs b) (append_assoc issue (reads_of_entry ds n f (entry i s)) (asked_ahead ds n k None (prediction i s) (issue_after_entry ds n f (entry i s))))
     by false is rest =
-        let more = asked_ahead ds n k None (guess i s) (front_after_entry ds n f (entry i s)) in
+        let more = asked_ahead ds n k None (prediction i s) (issue_after_entry ds n f (entry i s)) in
         let late : t ≤ (row_of_entry ds n f (entry i s)).p = ltb-false (row_of_entry ds n f (entry i s)).p t is in
-        ap (λ xs. made_before ds t (front ++ xs) b) (append-nil (reads_of_entry ds n f (entry i s)))
-        ∙ sym (made-more ds t (front ++ reads_of_entry ds n f (entry i s)) more b (behind-late ds n t k i s f late))
-        ∙ ap (λ xs. made_before ds t xs b) (append_assoc front (reads_of_entry ds n f (entry i s)) more)
+        ap (λ xs. made_before ds t (issue ++ xs) b) (append-nil (reads_of_entry ds n f (entry i s)))
+        ∙ sym (made-more ds t (issue ++ reads_of_entry ds n f (entry i s)) more b (behind-late ds n t k i s f late))
+        ∙ ap (λ xs. made_before ds t xs b) (append_assoc issue (reads_of_entry ds n f (entry i s)) more)
 
 -- ---- the banks at a completion
 
-banks-first : (ds : List ℕ) (n : ℕ) (o : Opening) (xs : List Outside) (j : ℕ)
-    → banks_behind ds n o xs (suc j) ≡ (made_before ds (front_at ds n o xs (suc j)).c (reads_of_segment ds n o xs j) o.front.bus).banks
-unfolding banks_behind reads_of_segment reads_after front_at front_after_entry row_of_entry
+banks-first : (ds : List ℕ) (n : ℕ) (o : Opening) (xs : List ExternalEvents) (j : ℕ)
+    → banks_behind ds n o xs (suc j) ≡ (made_before ds (issue_at ds n o xs (suc j)).c (reads_of_segment ds n o xs j) o.issue.bus).banks
+unfolding banks_behind reads_of_segment reads_after issue_at issue_after_entry row_of_entry
 banks-first ds n o xs j =
     let s = state_after o xs j in
     let t = table_behind j o.table in
-    let f = front_at ds n o xs j in
+    let f = issue_at ds n o xs j in
     let e = entry t s in
     let c = (row_of_entry ds n f e).c in
     let first = reads_after ds n o xs j in
-    let more = asked_ahead ds n (suc n) None (guess t s) (front_after_entry ds n f e) in
-    ap (λ (ys : List Read). (made_before ds c ys o.front.bus).banks)
-    (sym (append_assoc first (reads_of_entry ds n f e) (reads_before ds n c (ahead ds n (suc n) None (guess t s) (front_after_entry ds n f e)))))
-    ∙ ap (λ (b : Bus). b.banks) (ahead-made ds n c (suc n) None (guess t s) (front_after_entry ds n f e) (first ++ reads_of_entry ds n f e) o.front.bus)
+    let more = asked_ahead ds n (suc n) None (prediction t s) (issue_after_entry ds n f e) in
+    ap (λ (ys : List Read). (made_before ds c ys o.issue.bus).banks)
+    (sym (append_assoc first (reads_of_entry ds n f e) (reads_before ds n c (ahead ds n (suc n) None (prediction t s) (issue_after_entry ds n f e)))))
+    ∙ ap (λ (b : Bus). b.banks) (ahead-made ds n c (suc n) None (prediction t s) (issue_after_entry ds n f e) (first ++ reads_of_entry ds n f e) o.issue.bus)
 
-pub have-first : (m : Overlap) (made since j : ℕ) (o : Opening) (xs : List Outside) → IsReached m made since → StandsAt o xs (suc j) m → m.ended ≡ false
-    → IfSome m.closing (λ banks. (first : List Read) × AreFirstReads m.delays m.now (reads_of_segment m.delays m.levels o xs j) o.front.bus first
-    × (banks ≡ (bus_after_reads m.delays first o.front.bus).banks))
+pub have-first : (m : Overlap) (made since j : ℕ) (o : Opening) (xs : List ExternalEvents) → IsReached m made since → StandsAt o xs (suc j) m → m.ended ≡ false
+    → IfSome m.closing (λ banks. (first : List Read) × AreFirstReads m.delays m.now (reads_of_segment m.delays m.levels o xs j) o.issue.bus first
+    × (banks ≡ (bus_after_reads m.delays first o.issue.bus).banks))
 have-first m made since j o xs from is going = by m.closing refl (is.banks going)
   where
     by : (c : Option LastAnswers) → m.closing ≡ c → IfSome c (λ b. b ≡ banks_behind m.delays m.levels o xs (suc j))
-        → IfSome c (λ banks. (first : List Read) × AreFirstReads m.delays m.now (reads_of_segment m.delays m.levels o xs j) o.front.bus first
-        × (banks ≡ (bus_after_reads m.delays first o.front.bus).banks))
+        → IfSome c (λ banks. (first : List Read) × AreFirstReads m.delays m.now (reads_of_segment m.delays m.levels o xs j) o.issue.bus first
+        × (banks ≡ (bus_after_reads m.delays first o.issue.bus).banks))
     by None none same = tt
     by (Some banks) some same =
         let fresh = fresh-of m (kept from) (rw some refl) in
-        let at : (front_at m.delays m.levels o xs (suc j)).c ≡ m.now = ap (λ (f : Front). f.c) (sym is.front) ∙ fresh.last going in
-        let parts = split m.delays m.now (reads_of_segment m.delays m.levels o xs j) o.front.bus in (
+        let at : (issue_at m.delays m.levels o xs (suc j)).c ≡ m.now = ap (λ (f : IssueState). f.c) (sym is.issue) ∙ fresh.last going in
+        let parts = split m.delays m.now (reads_of_segment m.delays m.levels o xs j) o.issue.bus in (
           parts.first,
           parts.are,
           same ∙ banks-first m.delays m.levels o xs j
-              ∙ ap (λ (k : ℕ). (made_before m.delays k (reads_of_segment m.delays m.levels o xs j) o.front.bus).banks) at
+              ∙ ap (λ (k : ℕ). (made_before m.delays k (reads_of_segment m.delays m.levels o xs j) o.issue.bus).banks) at
               ∙ ap (λ (b : Bus). b.banks) parts.made,
         )

@@ -5,21 +5,21 @@ use Rattle.std.proofs.lemmas.Bool.{eqb-true, cond_both}
 use Rattle.st_state.specs.Machine.{Machine}
 use Rattle.st_prep.specs.Fetch.{address_by}
 use Rattle.st_prep.specs.Plan.{plan}
-use Rattle.st_exec.specs.Completion.{state_after_execution, guess, is_missed}
+use Rattle.st_exec.specs.Completion.{state_after_execution, prediction, is_mispredicted}
 use Rattle.st_exec.specs.Step.{interrupt, rests, step, address}
 use Rattle.st_exec.specs.Transfer.{read_in}
 use Rattle.st_exec.proofs.StepLemmas.{step-done}
-use Rattle.st_rows.specs.Rows.{row_of_entry, opening_front, front_after_entry}
+use Rattle.st_rows.specs.Rows.{row_of_entry, opening_issue, issue_after_entry}
 use Rattle.st_segment.specs.Entries.{entry}
 use Rattle.st_segment.specs.Guesses.{guesses}
-use Rattle.st_segment.specs.Ahead.{next_ahead, ahead, prepared_before, front_behind}
-use Rattle.st_segment.proofs.StepLemmas.{guess-right, guess-missed}
+use Rattle.st_segment.specs.Ahead.{next_ahead, ahead, prepared_before, issue_behind}
+use Rattle.st_segment.proofs.StepLemmas.{prediction-right, prediction-mispredicted}
 use Rattle.st_ahead.specs.Overlap.{Overlap, machine_at_start, state_ahead, with_counter, oldest_row, levels_of, interrupt_due}
-use Rattle.st_ahead.specs.Calls.{is_done, row_done, missed_counter, machine_after_completion, machine_after_tick, drop_count, banks_left, machine_after_segment, run_ended, machine_after_pass, machine_after_settling, settled_by, answer, answer_by, read_in_by, dropped_by, MayServe}
+use Rattle.st_ahead.specs.Calls.{is_done, row_done, mispredicted_counter, machine_after_completion, machine_after_tick, drop_count, banks_left, machine_after_segment, run_ended, machine_after_pass, machine_after_settling, settled_by, answer, answer_by, read_in_by, dropped_by, MayServe}
 use Rattle.st_ahead.specs.Shown.{view_at_tick}
-use Rattle.st_ahead.specs.declared.events.Settled.TheVariants.{Goes, Interrupt, Missed, Waits}
+use Rattle.st_ahead.specs.declared.events.Settled.TheVariants.{Goes, Interrupt, Mispredicted, Waits}
 use Rattle.st_ahead.proofs.Settling.{due-taken}
-use Rattle.st_ahead.proofs.Standing.{guess-seen}
+use Rattle.st_ahead.proofs.Standing.{prediction-seen}
 use Rattle.st_refine.specs.Reached.{IsReached, MayTick}
 use Rattle.st_refine.specs.Refined.{row_before, IsUnwound, AddsOneAtMost}
 use Rattle.st_refine.proofs.LevelLists.{none-before, one-more, done-levels}
@@ -41,7 +41,7 @@ completed-tick : (m : Overlap) → (view_at_tick (machine_after_completion m)).t
 unfolding machine_after_completion view_at_tick
 completed-tick m = refl
 
-completed-behind : (m : Overlap) → (machine_after_completion m).missed ≡ missed_counter m
+completed-behind : (m : Overlap) → (machine_after_completion m).mispredicted ≡ mispredicted_counter m
 unfolding machine_after_completion
 completed-behind m = refl
 
@@ -56,7 +56,7 @@ tick-state m made since from may done =
 
 -- the levels after the oldest one
 completed-levels : (m : Overlap) → IsKept m → IsIdle m → is_done m ≡ true
-    → levels_of m ≡ next_ahead m.delays m.levels m.taken m.state m.front ∷ levels_of (machine_after_completion m)
+    → levels_of m ≡ next_ahead m.delays m.levels m.taken m.state m.issue ∷ levels_of (machine_after_completion m)
 unfolding levels_of machine_after_completion state_ahead oldest_row
 completed-levels m is idle done =
     let ds = m.delays in
@@ -64,25 +64,25 @@ completed-levels m is idle done =
     let t = m.taken in
     let s = m.state in
     let same : state_ahead m ≡ s = seen-idle m idle.going idle.right in
-    let g = front_after_entry ds n m.front (entry t s) in
-    let due : (row_of_entry ds n m.front (entry t s)).c ≡ m.now =
-    ap (λ u. (row_of_entry ds n m.front (entry t u)).c) (sym same) ∙ eqb-true (row_of_entry ds n m.front (entry t (state_ahead m))).c m.now done in
-    let next : with_counter (missed_counter m) (state_after_execution t s) ≡ guess t s =
-    guess-seen t s (state_after_execution t s) (is_missed (plan s t) s) (missed_counter m) refl refl refl
-    (guess-right t s is.machine is.indicator) (guess-missed t s is.machine is.indicator) in
-    ap (λ u. prepared_before m.now (ahead ds n n t u m.front)) same
-    ∙ done-levels ds n m.now t s m.front is.machine is.indicator is.some is.few due
-    ∙ ap (λ u. next_ahead ds n t s m.front ∷ prepared_before m.now (ahead ds n n None u g)) (sym next)
-    ∙ ap (λ u. next_ahead ds n t s m.front ∷ prepared_before m.now (ahead ds n n None (with_counter (missed_counter m) (state_after_execution t s)) (front_after_entry ds n m.front (entry t u)))) (sym same)
-    ∙ ap (λ b. next_ahead ds n t s m.front ∷ prepared_before m.now (ahead ds n n None
-    (if b then state_after_execution t s else with_counter (missed_counter m) (state_after_execution t s)) (front_after_entry ds n m.front (entry t (state_ahead m))))) (sym idle.going)
+    let g = issue_after_entry ds n m.issue (entry t s) in
+    let due : (row_of_entry ds n m.issue (entry t s)).c ≡ m.now =
+    ap (λ u. (row_of_entry ds n m.issue (entry t u)).c) (sym same) ∙ eqb-true (row_of_entry ds n m.issue (entry t (state_ahead m))).c m.now done in
+    let next : with_counter (mispredicted_counter m) (state_after_execution t s) ≡ prediction t s =
+    prediction-seen t s (state_after_execution t s) (is_mispredicted (plan s t) s) (mispredicted_counter m) refl refl refl
+    (prediction-right t s is.machine is.indicator) (prediction-mispredicted t s is.machine is.indicator) in
+    ap (λ u. prepared_before m.now (ahead ds n n t u m.issue)) same
+    ∙ done-levels ds n m.now t s m.issue is.machine is.indicator is.some is.few due
+    ∙ ap (λ u. next_ahead ds n t s m.issue ∷ prepared_before m.now (ahead ds n n None u g)) (sym next)
+    ∙ ap (λ u. next_ahead ds n t s m.issue ∷ prepared_before m.now (ahead ds n n None (with_counter (mispredicted_counter m) (state_after_execution t s)) (issue_after_entry ds n m.issue (entry t u)))) (sym same)
+    ∙ ap (λ b. next_ahead ds n t s m.issue ∷ prepared_before m.now (ahead ds n n None
+    (if b then state_after_execution t s else with_counter (mispredicted_counter m) (state_after_execution t s)) (issue_after_entry ds n m.issue (entry t (state_ahead m))))) (sym idle.going)
 
 pub tick-oldest : (m : Overlap) (made since : ℕ) → IsReached m made since → MayTick m → is_done m ≡ true
-    → levels_of m ≡ next_ahead m.delays m.levels m.taken m.state m.front ∷ levels_of (machine_after_tick m)
+    → levels_of m ≡ next_ahead m.delays m.levels m.taken m.state m.issue ∷ levels_of (machine_after_tick m)
 tick-oldest m made since from may done =
     let is = kept from in
     completed-levels m is (idle-of m is may.settled).1 done
-    ∙ ap (λ (x : Overlap). next_ahead m.delays m.levels m.taken m.state m.front ∷ levels_of x) (sym (ticked-done m done))
+    ∙ ap (λ (x : Overlap). next_ahead m.delays m.levels m.taken m.state m.issue ∷ levels_of x) (sym (ticked-done m done))
 
 address-is : (t : Option ℕ) (s : Machine) → t ≡ interrupt s → (plan s t).place.address ≡ address s
 unfolding address
@@ -98,11 +98,11 @@ tick-row m made since from may done = (
 
 pub tick-times : (m : Overlap) → is_done m ≡ true
     → ((row_done m).p ≡ (row_before 0 m).p) × ((row_done m).r ≡ (row_before 0 m).r) × ((row_done m).c ≡ (row_before 0 m).c)
-unfolding oldest_row front_behind guesses
+unfolding oldest_row issue_behind guesses
 tick-times m done = (refl, refl, sym (eqb-true (oldest_row m).c m.now done))
 
-pub tick-missed : (m : Overlap) → is_done m ≡ true → (machine_after_tick m).missed ≡ missed_counter m
-tick-missed m done = ap (λ (x : Overlap). x.missed) (ticked-done m done) ∙ completed-behind m
+pub tick-mispredicted : (m : Overlap) → is_done m ≡ true → (machine_after_tick m).mispredicted ≡ mispredicted_counter m
+tick-mispredicted m done = ap (λ (x : Overlap). x.mispredicted) (ticked-done m done) ∙ completed-behind m
 
 passed-levels : (m : Overlap) → levels_of (record m { owed = true; closing = None }) ≡ levels_of m
 unfolding levels_of state_ahead
@@ -136,12 +136,12 @@ taken-by None behind true m i d ic k is = absurd (cc is)
 taken-by None (Some h) false m i d ic k is = absurd (cc is)
 taken-by None None false m i d ic k is = absurd (cc is)
 
-pub missed-by : (due behind : Option ℕ) (resting : Bool) (m : Overlap) (k : ℕ) → answer_by due resting behind m ≡ Missed k
+pub mispredicted-by : (due behind : Option ℕ) (resting : Bool) (m : Overlap) (k : ℕ) → answer_by due resting behind m ≡ Mispredicted k
     → (due ≡ None) × (resting ≡ false) × IsSome behind × (k ≡ drop_count m)
-missed-by (Some j) behind resting m k is = absurd (cc is)
-missed-by None behind true m k is = absurd (cc is)
-missed-by None (Some h) false m k is = let f : drop_count m ≡ k = cc is in (refl, refl, refl, sym f)
-missed-by None None false m k is = absurd (cc is)
+mispredicted-by (Some j) behind resting m k is = absurd (cc is)
+mispredicted-by None behind true m k is = absurd (cc is)
+mispredicted-by None (Some h) false m k is = let f : drop_count m ≡ k = cc is in (refl, refl, refl, sym f)
+mispredicted-by None None false m k is = absurd (cc is)
 
 pub waits-by : (due behind : Option ℕ) (resting : Bool) (m : Overlap) → answer_by due resting behind m ≡ Waits → (due ≡ None) × (resting ≡ true)
 waits-by (Some j) behind resting m is = absurd (cc is)
@@ -151,16 +151,16 @@ waits-by None None false m is = absurd (cc is)
 
 -- ---- the segment continues
 
-pub settled-goes : (m : Overlap) → (interrupt_due m ≡ None) × (rests m.state ≡ false) × (m.missed ≡ None) → machine_after_settling m ≡ machine_after_pass m
+pub settled-goes : (m : Overlap) → (interrupt_due m ≡ None) × (rests m.state ≡ false) × (m.mispredicted ≡ None) → machine_after_settling m ≡ machine_after_pass m
 unfolding machine_after_settling
 settled-goes m why = rw (why.0, why.1, why.2) refl
 
-passed-more : (m : Overlap) → m.missed ≡ None → AddsOneAtMost (levels_of m) (levels_of (machine_after_pass m))
+passed-more : (m : Overlap) → m.mispredicted ≡ None → AddsOneAtMost (levels_of m) (levels_of (machine_after_pass m))
 unfolding levels_of state_ahead
 passed-more m right =
-    let new = prepared_before (m.now + 1) (ahead m.delays m.levels m.levels m.taken m.state m.front) in
-    subst (λ s. AddsOneAtMost (prepared_before m.now (ahead m.delays m.levels m.levels m.taken s m.front)) new) (same m.ended m.missed right)
-    (one-more m.delays m.levels m.now m.levels m.taken m.state m.front)
+    let new = prepared_before (m.now + 1) (ahead m.delays m.levels m.levels m.taken m.state m.issue) in
+    subst (λ s. AddsOneAtMost (prepared_before m.now (ahead m.delays m.levels m.levels m.taken s m.issue)) new) (same m.ended m.mispredicted right)
+    (one-more m.delays m.levels m.now m.levels m.taken m.state m.issue)
   where
     same : (b : Bool) (h : Option ℕ) → h ≡ None → m.state ≡ (if b then m.state else with_counter h m.state)
     same true h none = refl
@@ -170,22 +170,22 @@ passed-more m right =
 pub goes-more : (m : Overlap) → answer m ≡ Goes → AddsOneAtMost (levels_of m) (levels_of (machine_after_settling m))
 unfolding answer
 goes-more m is =
-    let why = goes-by (interrupt_due m) m.missed (rests m.state) m is in
+    let why = goes-by (interrupt_due m) m.mispredicted (rests m.state) m is in
     subst (λ (x : Overlap). AddsOneAtMost (levels_of m) (levels_of x)) (sym (settled-goes m why)) (passed-more m why.2)
 
 -- ---- the segment ends
 
 -- there are no levels if the front's P is not before the tick
-pub empty-levels : (m : Overlap) → m.now ≤ m.front.p + 2 → levels_of m ≡ []
+pub empty-levels : (m : Overlap) → m.now ≤ m.issue.p + 2 → levels_of m ≡ []
 unfolding levels_of
-empty-levels m early = none-before m.delays m.levels m.now m.levels m.taken (state_ahead m) m.front early
+empty-levels m early = none-before m.delays m.levels m.now m.levels m.taken (state_ahead m) m.issue early
 
-unwound-by : (m : Overlap) → m.now ≤ m.front.p + 2 → IsUnwound m
+unwound-by : (m : Overlap) → m.now ≤ m.issue.p + 2 → IsUnwound m
 unwound-by m early =
     let none = empty-levels m early in
     record { levels = none; index = shown-none m (ap length none) }
 
-ended-late : (m : Overlap) → IsKept m → IsSome m.closing → m.now + 1 ≤ (machine_after_segment m).front.p
+ended-late : (m : Overlap) → IsKept m → IsSome m.closing → m.now + 1 ≤ (machine_after_segment m).issue.p
 ended-late m is some =
     let rest = ended-rest m in
     let fresh = fresh-of (machine_after_segment m) (kept-ended m is some) (subst IsSome (sym rest.closing) some) in
@@ -221,10 +221,10 @@ none-some : (o : Option ℕ) → o ≡ None → IsSome o → ⊥
 none-some None none some = cc some
 none-some (Some h) none some = cc none
 
-closing-missed : (m : Overlap) → IsKept m → IsSome m.missed → IsSome m.closing
-closing-missed m is missed = elim (closing-cases m.closing) [
+closing-mispredicted : (m : Overlap) → IsKept m → IsSome m.mispredicted → IsSome m.closing
+closing-mispredicted m is mispredicted = elim (closing-cases m.closing) [
   | inl none ↦ let idle : IsIdle m = subst (λ c. IsPhase c m) none is.phase in
-      absurd (none-some m.missed idle.right missed)
+      absurd (none-some m.mispredicted idle.right mispredicted)
   | inr some ↦ some
 ]
 
@@ -236,7 +236,7 @@ closing-rests m is resting = elim (closing-cases m.closing) [
 
 pub settled-taken : (m : Overlap) (i : ℕ) → interrupt_due m ≡ Some i → machine_after_settling m ≡ machine_after_pass (record (machine_after_segment m) { taken = Some i })
 unfolding machine_after_settling
-settled-taken m i due = ap (λ t. settled_by t (rests m.state) m.missed m) due
+settled-taken m i due = ap (λ t. settled_by t (rests m.state) m.mispredicted m) due
 
 pub interrupt-unwinds : (m : Overlap) (made since i d ic k : ℕ) → IsReached m made since → m.owed ≡ true → answer m ≡ Interrupt i d ic k
     → (interrupt m.state ≡ Some i) × (d ≡ m.state.done) × (ic ≡ m.state.ic) × (k ≡ length (levels_of m)) × ((machine_after_settling m).taken ≡ Some i)
@@ -244,7 +244,7 @@ pub interrupt-unwinds : (m : Overlap) (made since i d ic k : ℕ) → IsReached 
 unfolding answer
 interrupt-unwinds m made since i d ic k from owed is =
     let kept_is = kept from in
-    let told = taken-by (interrupt_due m) m.missed (rests m.state) m i d ic k is in
+    let told = taken-by (interrupt_due m) m.mispredicted (rests m.state) m i d ic k is in
     let some = closing-due m i kept_is told.0 in
     let after_it = settled-taken m i told.0 in (
       (due-taken m i told.0).1,
@@ -255,19 +255,19 @@ interrupt-unwinds m made since i d ic k from owed is =
       subst IsUnwound (sym after_it) (unwound-passed m (Some i) kept_is some),
     )
 
-pub settled-missed : (m : Overlap) (behind : Option ℕ) → interrupt_due m ≡ None → rests m.state ≡ false → IsSome behind
+pub settled-mispredicted : (m : Overlap) (behind : Option ℕ) → interrupt_due m ≡ None → rests m.state ≡ false → IsSome behind
     → settled_by (interrupt_due m) (rests m.state) behind m ≡ machine_after_pass (machine_after_segment m)
-settled-missed m None due goes missed = absurd (cc missed)
-settled-missed m (Some h) due goes missed = rw (due, goes) refl
+settled-mispredicted m None due goes mispredicted = absurd (cc mispredicted)
+settled-mispredicted m (Some h) due goes mispredicted = rw (due, goes) refl
 
-pub missed-unwinds : (m : Overlap) (made since k : ℕ) → IsReached m made since → m.owed ≡ true → answer m ≡ Missed k
+pub mispredicted-unwinds : (m : Overlap) (made since k : ℕ) → IsReached m made since → m.owed ≡ true → answer m ≡ Mispredicted k
     → (k ≡ length (levels_of m)) × IsUnwound (machine_after_settling m)
 unfolding answer machine_after_settling
-missed-unwinds m made since k from owed is =
+mispredicted-unwinds m made since k from owed is =
     let kept_is = kept from in
-    let told = missed-by (interrupt_due m) m.missed (rests m.state) m k is in
-    let some = closing-missed m kept_is told.2 in
-    let after_it = settled-missed m m.missed told.0 told.1 told.2 in (
+    let told = mispredicted-by (interrupt_due m) m.mispredicted (rests m.state) m k is in
+    let some = closing-mispredicted m kept_is told.2 in
+    let after_it = settled-mispredicted m m.mispredicted told.0 told.1 told.2 in (
       told.3 ∙ dropped-is m kept_is some,
       subst IsUnwound (sym after_it) (unwound-passed m (machine_after_segment m).taken kept_is some),
     )
@@ -277,9 +277,9 @@ pub waits-unwinds : (m : Overlap) (made since : ℕ) → IsReached m made since 
 unfolding answer machine_after_settling
 waits-unwinds m made since from owed is =
     let kept_is = kept from in
-    let told = waits-by (interrupt_due m) m.missed (rests m.state) m is in
+    let told = waits-by (interrupt_due m) m.mispredicted (rests m.state) m is in
     let some = closing-rests m kept_is told.1 in
-    let after_it : settled_by (interrupt_due m) (rests m.state) m.missed m ≡ machine_after_segment m = rw (told.0, told.1) refl in
+    let after_it : settled_by (interrupt_due m) (rests m.state) m.mispredicted m ≡ machine_after_segment m = rw (told.0, told.1) refl in
     (told.1, subst IsUnwound (sym after_it) (unwound-ended m kept_is some))
 
 -- the number of levels to flush, if the segment has not ended before
@@ -291,7 +291,7 @@ dropped-going m going =
 unwound-going : (m : Overlap) → m.ended ≡ false → IsUnwound (run_ended m)
 unfolding machine_after_segment
 unwound-going m going =
-    let m' = record m { front = opening_front (banks_left m.closing) (m.now + 1 + length (levels_of m)); ended = true } in
+    let m' = record m { issue = opening_issue (banks_left m.closing) (m.now + 1 + length (levels_of m)); ended = true } in
     cond_both m.ended m m' (λ (x : Overlap). IsUnwound (record x { stopped = true })) (λ over. absurd (cc (sym over ∙ going))) (λ on. unwound-by (record m' { stopped = true }) (omega arith))
 
 pub stop-unwinds : (m : Overlap) (made since : ℕ) → IsReached m made since → m.owed ≡ true

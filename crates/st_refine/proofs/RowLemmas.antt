@@ -2,9 +2,9 @@
 use Rattle.std.specs.Prelude.{if◌then◌else◌, ◌-◌}
 use Rattle.std.proofs.Common.{◌≡◌, ℕ, zero, suc, ◌+◌, ◌<◌, ◌≤◌, Bool, true, false, List, length, inl, inr, Option, refl, sym, subst, ◌∙◌, ap, ap₂, arith}
 use Rattle.st_state.specs.Machine.{Machine}
-use Rattle.st_rows.specs.Rows.{front_after_entry, tick_c}
+use Rattle.st_rows.specs.Rows.{issue_after_entry, tick_c}
 use Rattle.st_rows.specs.declared.entry.Entry.{Entry}
-use Rattle.st_rows.specs.declared.front.Front.{Front}
+use Rattle.st_rows.specs.declared.issue.IssueState.{IssueState}
 use Rattle.st_segment.specs.Entries.{entry}
 use Rattle.st_segment.specs.Ahead.{ahead, prepared_before}
 use Rattle.st_segment.specs.Guesses.{table_behind}
@@ -12,7 +12,7 @@ use Rattle.st_rows.proofs.MadeLemmas.{before-cases}
 use Rattle.st_ahead.specs.Overlap.{Overlap, state_ahead, oldest_row, levels_of, last_tick_made}
 use Rattle.st_refine.specs.Reached.{IsReached}
 use Rattle.st_refine.specs.Refined.{row_before}
-use Rattle.st_refine.specs.Openings.{Opening, Outside, state_after, front_at, StandsAt}
+use Rattle.st_refine.specs.Openings.{Opening, ExternalEvents, state_after, issue_at, StandsAt}
 use Rattle.st_refine.proofs.LevelLists.{done-behind, level-early, behind-late, level-later}
 use Rattle.st_refine.proofs.Kept.{IsIdle, IsPhase, IsKept, fresh-of, kept, row-idle, closing-cases, late-fresh}
 use Rattle.st_refine.proofs.SplitLemmas.{seen-machine}
@@ -20,34 +20,34 @@ use Rattle.st_refine.proofs.LentLemmas.{oldest-late}
 
 -- ---- completed entries
 
-front-later : (ds : List ℕ) (n : ℕ) (f : Front) (e : Entry) → f.c ≤ (front_after_entry ds n f e).c
-unfolding front_after_entry tick_c
-front-later ds n f e = omega arith
+issue-later : (ds : List ℕ) (n : ℕ) (f : IssueState) (e : Entry) → f.c ≤ (issue_after_entry ds n f e).c
+unfolding issue_after_entry tick_c
+issue-later ds n f e = omega arith
 
-fronts-rise : (ds : List ℕ) (n : ℕ) (o : Opening) (xs : List Outside) (i j : ℕ) → i ≤ j
-    → (front_at ds n o xs i).c ≤ (front_at ds n o xs j).c
-unfolding front_at
-fronts-rise ds n o xs i zero few = let same : i ≡ 0 = omega (arith, few) in subst (λ k. (front_at ds n o xs k).c ≤ o.front.c) (sym same) (omega arith)
-fronts-rise ds n o xs i (suc j) few =
-    let f = front_at ds n o xs j in
-    let later = front-later ds n f (entry (table_behind j o.table) (state_after o xs j)) in
+issues-rise : (ds : List ℕ) (n : ℕ) (o : Opening) (xs : List ExternalEvents) (i j : ℕ) → i ≤ j
+    → (issue_at ds n o xs i).c ≤ (issue_at ds n o xs j).c
+unfolding issue_at
+issues-rise ds n o xs i zero few = let same : i ≡ 0 = omega (arith, few) in subst (λ k. (issue_at ds n o xs k).c ≤ o.issue.c) (sym same) (omega arith)
+issues-rise ds n o xs i (suc j) few =
+    let f = issue_at ds n o xs j in
+    let later = issue-later ds n f (entry (table_behind j o.table) (state_after o xs j)) in
     elim (before-cases i (suc j)) [
-      | inl below ↦ let before = fronts-rise ds n o xs i j (omega (arith, below.1)) in omega (arith, before, later)
+      | inl below ↦ let before = issues-rise ds n o xs i j (omega (arith, below.1)) in omega (arith, before, later)
       | inr over ↦ let same : i ≡ suc j = omega (arith, over.1, few) in at-place i same
     ]
   where
-    at-place : (k : ℕ) → k ≡ suc j → (front_at ds n o xs k).c ≤ (front_at ds n o xs (suc j)).c
-    at-place k same = subst (λ l. (front_at ds n o xs k).c ≤ (front_at ds n o xs l).c) same (omega arith)
+    at-place : (k : ℕ) → k ≡ suc j → (issue_at ds n o xs k).c ≤ (issue_at ds n o xs (suc j)).c
+    at-place k same = subst (λ l. (issue_at ds n o xs k).c ≤ (issue_at ds n o xs l).c) same (omega arith)
 
-pub rows-done : (m : Overlap) (i j : ℕ) (o : Opening) (xs : List Outside) → StandsAt o xs j m → i < j
-    → (front_at m.delays m.levels o xs (suc i)).c ≤ last_tick_made m
+pub rows-done : (m : Overlap) (i j : ℕ) (o : Opening) (xs : List ExternalEvents) → StandsAt o xs j m → i < j
+    → (issue_at m.delays m.levels o xs (suc i)).c ≤ last_tick_made m
 rows-done m i j o xs is early =
     let some : 1 ≤ j = omega (arith, early) in
     omega (
       arith,
       is.done some,
-      ap (λ (f : Front). f.c) is.front,
-      fronts-rise m.delays m.levels o xs (suc i) j (omega (arith, early)),
+      ap (λ (f : IssueState). f.c) is.issue,
+      issues-rise m.delays m.levels o xs (suc i) j (omega (arith, early)),
     )
 
 -- ---- levels
@@ -64,10 +64,10 @@ last-now false now = omega arith
 oldest-behind : (m : Overlap) → IsKept m → last_tick_made m < (oldest_row m).c
 unfolding oldest_row
 oldest-behind m is =
-    let behind = done-behind m.delays m.levels m.taken (state_ahead m) m.front (seen-machine m is) is.indicator in
+    let behind = done-behind m.delays m.levels m.taken (state_ahead m) m.issue (seen-machine m is) is.indicator in
     elim (closing-cases m.closing) [
       | inl none ↦ let idle : IsIdle m = subst (λ c. IsPhase c m) none is.phase in
-          last-idle m.owed m.now _ m.front.c (omega (arith, row-idle m idle, idle.early)) behind
+          last-idle m.owed m.now _ m.issue.c (omega (arith, row-idle m idle, idle.early)) behind
       | inr some ↦ omega (arith, last-now m.owed m.now, late-fresh m (fresh-of m is some) m.ended refl, behind)
     ]
 
@@ -76,8 +76,8 @@ pub levels-told : (m : Overlap) (made since k : ℕ) → IsReached m made since 
 unfolding levels_of oldest_row
 levels-told m made since k from few =
     let is = kept from in (
-      level-early m.delays m.levels k m.now m.levels m.taken (state_ahead m) m.front few,
-      level-later m.delays m.levels k (last_tick_made m) m.taken (state_ahead m) m.front (seen-machine m is) is.indicator (oldest-behind m is),
+      level-early m.delays m.levels k m.now m.levels m.taken (state_ahead m) m.issue few,
+      level-later m.delays m.levels k (last_tick_made m) m.taken (state_ahead m) m.issue (seen-machine m is) is.indicator (oldest-behind m is),
     )
 
 pub next-told : (m : Overlap) (made since : ℕ) → IsReached m made since
@@ -85,15 +85,15 @@ pub next-told : (m : Overlap) (made since : ℕ) → IsReached m made since
 unfolding levels_of oldest_row
 next-told m made since from =
     let is = kept from in (
-      behind-late m.delays m.levels _ m.now m.taken (state_ahead m) m.front is.some is.few (oldest-late m is) refl,
-      level-later m.delays m.levels _ (last_tick_made m) m.taken (state_ahead m) m.front (seen-machine m is) is.indicator (oldest-behind m is),
+      behind-late m.delays m.levels _ m.now m.taken (state_ahead m) m.issue is.some is.few (oldest-late m is) refl,
+      level-later m.delays m.levels _ (last_tick_made m) m.taken (state_ahead m) m.issue (seen-machine m is) is.indicator (oldest-behind m is),
     )
 
-pub levels-ahead : (m : Overlap) (j : ℕ) (o : Opening) (xs : List Outside) → StandsAt o xs j m → state_ahead m ≡ m.state
+pub levels-ahead : (m : Overlap) (j : ℕ) (o : Opening) (xs : List ExternalEvents) → StandsAt o xs j m → state_ahead m ≡ m.state
     → levels_of m
-    ≡ prepared_before m.now (ahead m.delays m.levels m.levels (table_behind j o.table) (state_after o xs j) (front_at m.delays m.levels o xs j))
+    ≡ prepared_before m.now (ahead m.delays m.levels m.levels (table_behind j o.table) (state_after o xs j) (issue_at m.delays m.levels o xs j))
 unfolding levels_of
 levels-ahead m j o xs is same =
-    let at = λ (t : Option ℕ) (s : Machine) (f : Front). prepared_before m.now (ahead m.delays m.levels m.levels t s f) in
-    ap (λ t. at t (state_ahead m) m.front) is.table
-    ∙ ap₂ (λ s f. at (table_behind j o.table) s f) (same ∙ is.state) is.front
+    let at = λ (t : Option ℕ) (s : Machine) (f : IssueState). prepared_before m.now (ahead m.delays m.levels m.levels t s f) in
+    ap (λ t. at t (state_ahead m) m.issue) is.table
+    ∙ ap₂ (λ s f. at (table_behind j o.table) s f) (same ∙ is.state) is.issue

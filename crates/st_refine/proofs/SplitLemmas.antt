@@ -5,20 +5,20 @@ use Rattle.std.proofs.lemmas.List.{length-append, length-map, length-replicate}
 use Rattle.st_bits.specs.declared.register.TheConstants.{FIRST_INDEX_WORD}
 use Rattle.st_state.specs.Machine.{Machine, IsMachine, word}
 use Rattle.st_prep.specs.Fetch.{address_by, index_words, place_of}
-use Rattle.st_prep.specs.Plan.{plan, aim, sight, side_word, needs, prepared_entry, prepared_by, suppressed_entry, entry_at as entry_of}
+use Rattle.st_prep.specs.Plan.{plan, resolved, decode_context, side_word, needs, prepared_entry, prepared_by, suppressed_entry, entry_at as entry_of}
 use Rattle.st_prep.specs.Ranges.{IsChange}
-use Rattle.st_prep.specs.declared.entries.Aim.{Aim}
+use Rattle.st_prep.specs.declared.entries.ResolvedEntry.{ResolvedEntry}
 use Rattle.st_prep.specs.declared.entries.Place.{Place}
 use Rattle.st_prep.specs.declared.entries.IndexChange.{IndexChange}
 use Rattle.st_prep.proofs.PlanLemmas.{plan-prepared}
-use Rattle.st_exec.specs.Completion.{guess}
+use Rattle.st_exec.specs.Completion.{prediction}
 use Rattle.st_exec.proofs.AheadLemmas.{index-at}
-use Rattle.st_rows.specs.Rows.{front_after_entry}
-use Rattle.st_rows.specs.declared.front.Front.{Front}
+use Rattle.st_rows.specs.Rows.{issue_after_entry}
+use Rattle.st_rows.specs.declared.issue.IssueState.{IssueState}
 use Rattle.st_ring.specs.Unwinding.{ChangeKeeps}
 use Rattle.st_segment.specs.Entries.{entry}
 use Rattle.st_segment.specs.Guesses.{guesses, table_behind, split_words}
-use Rattle.st_segment.specs.Ahead.{Ahead, next_ahead, ahead, front_behind}
+use Rattle.st_segment.specs.Ahead.{Ahead, next_ahead, ahead, issue_behind}
 use Rattle.st_segment.proofs.GuessLemmas.{guesses-machine, behind-none, behind-indicator}
 use Rattle.st_ring.proofs.UndoLemmas.{plan-keeps}
 use Rattle.st_ahead.specs.Overlap.{Overlap, state_ahead, with_counter, levels_of, last_tick_made}
@@ -41,30 +41,30 @@ pub seen-machine : (m : Overlap) → IsKept m → IsMachine (state_ahead m)
 unfolding state_ahead
 seen-machine m is = by-end m.ended
   where
-    by-end : (b : Bool) → IsMachine (if b then m.state else with_counter m.missed m.state)
+    by-end : (b : Bool) → IsMachine (if b then m.state else with_counter m.mispredicted m.state)
     by-end true = is.machine
-    by-end false = counted-machine m.missed m.state is.machine is.counter
+    by-end false = counted-machine m.mispredicted m.state is.machine is.counter
 
 pub seen-index : (m : Overlap) → index_words (state_ahead m) ≡ index_words m.state
 unfolding state_ahead
 seen-index m = by-end m.ended
   where
-    by-end : (b : Bool) → index_words (if b then m.state else with_counter m.missed m.state) ≡ index_words m.state
+    by-end : (b : Bool) → index_words (if b then m.state else with_counter m.mispredicted m.state) ≡ index_words m.state
     by-end true = refl
-    by-end false = counted-index m.missed m.state
+    by-end false = counted-index m.mispredicted m.state
 
 seen-by : (over : Bool) (behind : Option ℕ) (h : ℕ) (s : Machine) → over ≡ false → behind ≡ Some h
     → (if over then s else with_counter behind s) ≡ record s { ic = h }
-seen-by true behind h s going missed = absurd (cc going)
-seen-by false behind h s going missed = ap (λ c. with_counter c s) missed
+seen-by true behind h s going mispredicted = absurd (cc going)
+seen-by false behind h s going mispredicted = ap (λ c. with_counter c s) mispredicted
 
-pub seen-missed : (m : Overlap) (h : ℕ) → m.ended ≡ false → m.missed ≡ Some h → state_ahead m ≡ record m.state { ic = h }
+pub seen-mispredicted : (m : Overlap) (h : ℕ) → m.ended ≡ false → m.mispredicted ≡ Some h → state_ahead m ≡ record m.state { ic = h }
 unfolding state_ahead
-seen-missed m h going missed = seen-by m.ended m.missed h m.state going missed
+seen-mispredicted m h going mispredicted = seen-by m.ended m.mispredicted h m.state going mispredicted
 
 pub seen-ended : (m : Overlap) → m.ended ≡ true → state_ahead m ≡ m.state
 unfolding state_ahead
-seen-ended m over = ap (λ b. if b then m.state else with_counter m.missed m.state) over
+seen-ended m over = ap (λ b. if b then m.state else with_counter m.mispredicted m.state) over
 
 pub seen-settled : (m : Overlap) (made since : ℕ) → IsReached m made since → m.owed ≡ false → state_ahead m ≡ m.state
 seen-settled m made since from settled =
@@ -106,17 +106,17 @@ shown-none m none = shown-index m ∙ no-split (length (levels_of m)) m.taken (s
 abbrev pub shows : ℕ → List Ahead → List (Option LevelView)
 shows tick xs = map (λ a. Some (level_shown tick a)) xs
 
-at-place : (ds : List ℕ) (n tick k j : ℕ) (t : Option ℕ) (s : Machine) (f : Front) (rest : List (Option LevelView)) → k < j
+at-place : (ds : List ℕ) (n tick k j : ℕ) (t : Option ℕ) (s : Machine) (f : IssueState) (rest : List (Option LevelView)) → k < j
     → get_or (shows tick (ahead ds n j t s f) ++ rest) k None
-    ≡ Some (level_shown tick (next_ahead ds n (table_behind k t) (guesses k t s) (front_behind ds n k t s f)))
-unfolding ahead guesses front_behind
+    ≡ Some (level_shown tick (next_ahead ds n (table_behind k t) (guesses k t s) (issue_behind ds n k t s f)))
+unfolding ahead guesses issue_behind
 at-place ds n tick k zero t s f rest few = absurd (omega (arith, few))
 at-place ds n tick zero (suc j) t s f rest few = refl
 at-place ds n tick (suc k) (suc j) t s f rest few =
-    let u = guess t s in
-    let g = front_after_entry ds n f (entry t s) in
+    let u = prediction t s in
+    let g = issue_after_entry ds n f (entry t s) in
     at-place ds n tick k j None u g rest (omega (arith, few))
-    ∙ ap (λ i. Some (level_shown tick (next_ahead ds n i (guesses k None u) (front_behind ds n k None u g)))) (behind-none k)
+    ∙ ap (λ i. Some (level_shown tick (next_ahead ds n i (guesses k None u) (issue_behind ds n k None u g)))) (behind-none k)
 
 past-place : (tick m k : ℕ) (xs : List Ahead) → length xs ≤ k → get_or (shows tick xs ++ replicate m None) k None ≡ None
 past-place tick zero k [] few = refl
@@ -143,21 +143,21 @@ shown-eight m made since from =
       (kept from).few,
     )
 
-pub levels-are : (m : Overlap) → levels_of m ≡ ahead m.delays m.levels (length (levels_of m)) m.taken (state_ahead m) m.front
+pub levels-are : (m : Overlap) → levels_of m ≡ ahead m.delays m.levels (length (levels_of m)) m.taken (state_ahead m) m.issue
 unfolding levels_of
-levels-are m = first-ones m.delays m.levels (length (levels_of m)) m.now m.levels m.taken (state_ahead m) m.front refl
+levels-are m = first-ones m.delays m.levels (length (levels_of m)) m.now m.levels m.taken (state_ahead m) m.issue refl
 
 -- an entry records its place and the index word that it replaces
-place-by : (fault : Option ℕ) (place : Place) (a : Aim) (x : List ℕ) (read : Option ℕ) → (prepared_by fault place a x read).place ≡ place
+place-by : (fault : Option ℕ) (place : Place) (a : ResolvedEntry) (x : List ℕ) (read : Option ℕ) → (prepared_by fault place a x read).place ≡ place
 unfolding suppressed_entry entry_of
 place-by None place a x read = refl
 place-by (Some i) place a x read = refl
 
 pub plan-address : (s : Machine) (t : Option ℕ) → (plan s t).place.address ≡ address_by t s
-unfolding plan prepared_entry sight place_of
+unfolding plan prepared_entry decode_context place_of
 plan-address s t =
-    let v = sight s (place_of s t) in
-    ap (λ (p : Place). p.address) (place-by (aim v).fault v.place (aim v) v.x (side_word t s (needs v).index_read))
+    let v = decode_context s (place_of s t) in
+    ap (λ (p : Place). p.address) (place-by (resolved v).fault v.place (resolved v) v.x (side_word t s (needs v).index_read))
 
 kept-by : (c : Option IndexChange) (s : Machine) → ChangeKeeps (index_words s) c → IfSome c IsChange → word_before_change c ≡ unwrap_or (option_map (λ x. word s (FIRST_INDEX_WORD + x.number)) c) 0
 kept-by None s keeps is = refl
@@ -181,5 +181,5 @@ shown-level m made since k from few =
     let p = plan-prepared s t machine (behind-indicator k m.taken is.indicator) in
     let left = replicate (8 - length (levels_of m)) None in
     ap (λ (xs : List Ahead). get_or (shows (last_tick_made m) xs ++ left) k None) (levels-are m)
-    ∙ at-place m.delays m.levels (last_tick_made m) k (length (levels_of m)) m.taken (state_ahead m) m.front left few
+    ∙ at-place m.delays m.levels (last_tick_made m) k (length (levels_of m)) m.taken (state_ahead m) m.issue left few
     ∙ same-level (address_by t s) (plan s t).place.address _ _ _ _ _ (plan-address s t) (kept-by (plan s t).index s (plan-keeps s t) p.change)

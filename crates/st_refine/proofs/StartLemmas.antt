@@ -31,7 +31,7 @@ settled_by-levels None None false m = refl
 
 settled-levels : (m : Overlap) → (machine_after_settling m).levels ≡ m.levels
 unfolding machine_after_settling
-settled-levels m = settled_by-levels (interrupt_due m) m.missed (rests m.state) m
+settled-levels m = settled_by-levels (interrupt_due m) m.mispredicted (rests m.state) m
 
 read-levels : (w : ℕ) (m : Overlap) (card : Option (List ℕ)) → (read_in_by w card m).levels ≡ m.levels
 read-levels w m None = refl

@@ -10,17 +10,17 @@ use Rattle.st_prep.specs.Plan.{plan}
 use Rattle.st_prep.specs.BesideOrders.{AreAlikeBesideOrders}
 use Rattle.st_prep.specs.declared.entries.Prepared.{Prepared}
 use Rattle.st_prep.proofs.BesideLemmas.{plan-beside_ahead}
-use Rattle.st_exec.specs.Completion.{guess}
+use Rattle.st_exec.specs.Completion.{prediction}
 use Rattle.st_exec.proofs.BesideEntries.{beside-signalled}
-use Rattle.st_rows.specs.Rows.{row_of_entry, front_after_entry, tick_c}
+use Rattle.st_rows.specs.Rows.{row_of_entry, issue_after_entry, tick_c}
 use Rattle.st_rows.specs.declared.entry.Entry.{Entry}
-use Rattle.st_rows.specs.declared.front.Front.{Front}
-use Rattle.st_rows.specs.declared.front.EntryTicks.{EntryTicks}
+use Rattle.st_rows.specs.declared.issue.IssueState.{IssueState}
+use Rattle.st_rows.specs.declared.issue.EntryTicks.{EntryTicks}
 use Rattle.st_segment.specs.Entries.{entry}
 use Rattle.st_segment.specs.Alone.{RunAhead}
 use Rattle.st_segment.specs.Guesses.{split_words}
 use Rattle.st_segment.specs.Ahead.{Ahead, next_ahead, ahead, prepared_before}
-use Rattle.st_segment.proofs.GuessLemmas.{guess-machine}
+use Rattle.st_segment.proofs.GuessLemmas.{prediction-machine}
 use Rattle.st_segment.proofs.SameReading.{same-index}
 use Rattle.st_segment.proofs.PassedOver.{entry-same, passed-over}
 use Rattle.st_ahead.specs.Overlap.{Overlap, state_ahead, with_counter, levels_of, last_tick_made}
@@ -34,12 +34,12 @@ use Rattle.st_refine.proofs.Kept.{IsKept, fresh-of, kept}
 use Rattle.st_refine.proofs.SplitLemmas.{seen-machine, shown-index, shown-none, shows}
 use Rattle.st_refine.proofs.RefinedLemmas.{empty-levels}
 use Rattle.st_ahead.proofs.Signals.{counted-alike}
-use Rattle.st_ahead.proofs.SameLookahead.{guess-same}
+use Rattle.st_ahead.proofs.SameLookahead.{prediction-same}
 
 -- ---- entries that are prepared before the previous one completes are non-serializing
 
-pub behind-later : (ds : List ℕ) (n now : ℕ) (f : Front) (e : Entry) → now ≤ f.c → now ≤ (front_after_entry ds n f e).c
-unfolding front_after_entry tick_c
+pub behind-later : (ds : List ℕ) (n now : ℕ) (f : IssueState) (e : Entry) → now ≤ f.c → now ≤ (issue_after_entry ds n f e).c
+unfolding issue_after_entry tick_c
 behind-later ds n now f e late = omega arith
 
 -- a level by its plan and its row
@@ -66,7 +66,7 @@ run-if true x xs s run = run refl
 run-if false x xs s run = tt
 
 module _ (ds : List ℕ) (n now : ℕ) where
-  free-early : (s : Machine) (f : Front) → now ≤ f.c → nat_lt (row_of_entry ds n f (entry None s)).p now ≡ true → (plan s None).serial ≡ false
+  free-early : (s : Machine) (f : IssueState) → now ≤ f.c → nat_lt (row_of_entry ds n f (entry None s)).p now ≡ true → (plan s None).serial ≡ false
   free-early s f late early =
       let e = entry None s in
       let p : (row_of_entry ds n f e).p < now = ltb-true (row_of_entry ds n f e).p now early in
@@ -74,32 +74,32 @@ module _ (ds : List ℕ) (n now : ℕ) where
       let behind : f.c < (row_of_entry ds n f e).p = alone-before ds n f e alone in
       omega (arith, behind, p, late)))
 
-  run-all : (k : ℕ) (s : Machine) (f : Front) → IsMachine s → now ≤ f.c → RunAhead (length (prepared_before now (ahead ds n k None s f))) None s
+  run-all : (k : ℕ) (s : Machine) (f : IssueState) → IsMachine s → now ≤ f.c → RunAhead (length (prepared_before now (ahead ds n k None s f))) None s
   unfolding ahead prepared_before RunAhead
   run-all zero s f m late = tt
   run-all (suc k) s f m late =
-      let g = front_after_entry ds n f (entry None s) in
-      run-if (nat_lt (row_of_entry ds n f (entry None s)).p now) (next_ahead ds n None s f) (prepared_before now (ahead ds n k None (guess None s) g)) s
-      (λ early. (free-early s f late early, run-all k (guess None s) g (guess-machine None s m tt) (behind-later ds n now f (entry None s) late)))
+      let g = issue_after_entry ds n f (entry None s) in
+      run-if (nat_lt (row_of_entry ds n f (entry None s)).p now) (next_ahead ds n None s f) (prepared_before now (ahead ds n k None (prediction None s) g)) s
+      (λ early. (free-early s f late early, run-all k (prediction None s) g (prediction-machine None s m tt) (behind-later ds n now f (entry None s) late)))
 
-  shows-same : (tick k : ℕ) (s u : Machine) (f : Front) → IsMachine s → AreAlikeBesideOrders s u → now ≤ f.c
+  shows-same : (tick k : ℕ) (s u : Machine) (f : IssueState) → IsMachine s → AreAlikeBesideOrders s u → now ≤ f.c
       → shows tick (prepared_before now (ahead ds n k None s f)) ≡ shows tick (prepared_before now (ahead ds n k None u f))
   unfolding ahead prepared_before
   shows-same tick zero s u f m alike late = refl
   shows-same tick (suc k) s u f m alike late =
       let e = entry None s in
-      let g = front_after_entry ds n f e in
+      let g = issue_after_entry ds n f e in
       let before = λ (xs : List Ahead). prepared_before now xs in
       both-if tick (nat_lt (row_of_entry ds n f e).p now) (next_ahead ds n None s f)
-      (record { state = u; table = None; front = f; entry = e; row = row_of_entry ds n f e })
-      (before (ahead ds n k None (guess None s) g)) (before (ahead ds n k None (guess None u) g))
+      (record { state = u; table = None; issue = f; entry = e; row = row_of_entry ds n f e })
+      (before (ahead ds n k None (prediction None s) g)) (before (ahead ds n k None (prediction None u) g))
       (λ early.
       let free = free-early s f late early in (
         ap (λ p. level-by tick p (row_of_entry ds n f e)) (sym (plan-beside_ahead s u None alike free)),
-        shows-same tick k (guess None s) (guess None u) g (guess-machine None s m tt) (guess-same s u m alike free) (behind-later ds n now f e late),
+        shows-same tick k (prediction None s) (prediction None u) g (prediction-machine None s m tt) (prediction-same s u m alike free) (behind-later ds n now f e late),
       ))
       ∙ ap (λ (x : Entry). shows tick (if nat_lt (row_of_entry ds n f x).p now
-      then record { state = u; table = None; front = f; entry = x; row = row_of_entry ds n f x } ∷ before (ahead ds n k None (guess None u) (front_after_entry ds n f x))
+      then record { state = u; table = None; issue = f; entry = x; row = row_of_entry ds n f x } ∷ before (ahead ds n k None (prediction None u) (issue_after_entry ds n f x))
       else [])) (sym (entry-same None s u alike))
 
 -- ---- views
@@ -131,11 +131,11 @@ seen-alike : (m : Overlap) (u : Machine) → AreAlikeBesideOrders m.state u → 
 unfolding state_ahead
 seen-alike m u is = by-end m.ended
   where
-    by-end : (b : Bool) → AreAlikeBesideOrders (if b then m.state else with_counter m.missed m.state) (if b then u else with_counter m.missed u)
+    by-end : (b : Bool) → AreAlikeBesideOrders (if b then m.state else with_counter m.mispredicted m.state) (if b then u else with_counter m.mispredicted u)
     by-end true = is
-    by-end false = counted-alike m.missed m.state u is
+    by-end false = counted-alike m.mispredicted m.state u is
 
-still-going : (m : Overlap) (u : Machine) → IsKept m → m.taken ≡ None → m.now ≤ m.front.c → AreAlikeBesideOrders m.state u
+still-going : (m : Overlap) (u : Machine) → IsKept m → m.taken ≡ None → m.now ≤ m.issue.c → AreAlikeBesideOrders m.state u
     → IsStill m (record m { state = u })
 unfolding levels_of
 still-going m u is none late alike =
@@ -147,13 +147,13 @@ still-going m u is none late alike =
     let both = seen-alike m u alike in
     let ds = m.delays in
     let n = m.levels in
-    let at = λ (t : Option ℕ) (w : Machine). prepared_before m.now (ahead ds n n t w m.front) in
+    let at = λ (t : Option ℕ) (w : Machine). prepared_before m.now (ahead ds n n t w m.issue) in
     let same : shows tick (levels_of m) ≡ shows tick (levels_of x) =
-    ap (λ t. shows tick (at t s)) none ∙ shows-same ds n m.now tick n s v m.front machine both late ∙ ap (λ t. shows tick (at t v)) (sym none) in
+    ap (λ t. shows tick (at t s)) none ∙ shows-same ds n m.now tick n s v m.issue machine both late ∙ ap (λ t. shows tick (at t v)) (sym none) in
     let many : length (levels_of x) ≡ length (levels_of m) =
     sym (length-map (levels_of x) (λ a. Some (level_shown tick a))) ∙ ap length (sym same) ∙ length-map (levels_of m) (λ a. Some (level_shown tick a)) in
     let run : RunAhead (length (levels_of m)) None s =
-    subst (λ t. RunAhead (length (at t s)) None s) (sym none) (run-all ds n m.now n s m.front machine late) in
+    subst (λ t. RunAhead (length (at t s)) None s) (sym none) (run-all ds n m.now n s m.issue machine late) in
     still-by m x refl same
     (shown-index x
     ∙ ap₂ (λ k t. split_words k t v) many none

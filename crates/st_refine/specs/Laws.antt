@@ -9,7 +9,7 @@ use Rattle.st_ahead.specs.Overlap.{Overlap, levels_of, machine_at_start, state_a
 use Rattle.st_ahead.specs.RunTo.{RunsTo}
 use Rattle.st_ahead.specs.declared.events.Row.{Row}
 use Rattle.st_refine.specs.HeldReads.{held_of_reads}
-use Rattle.st_refine.specs.Openings.{Opening, Outside, StandsAt, reads_of_segment, Signalled, ReadIn, PrintedOut, first_opening, state_after, front_at, opening_behind}
+use Rattle.st_refine.specs.Openings.{Opening, ExternalEvents, StandsAt, reads_of_segment, Signalled, ReadIn, PrintedOut, first_opening, state_after, issue_at, opening_behind}
 use Rattle.st_refine.specs.Reached.{IsReached, IsReachedFrom, start_of, MayTick}
 use Rattle.st_rows.specs.Ranges.{AreDelaysUpTo}
 use Rattle.st_bits.specs.declared.register.TheConstants.{FIRST_STORAGE_WORD}
@@ -25,9 +25,9 @@ use Rattle.st_refine.specs.Refined.{state_before, table_before, row_before as ro
 use Rattle.st_segment.specs.Ahead.{ahead, prepared_before, next_ahead}
 use Rattle.st_segment.specs.Guesses.{table_behind, split_words}
 use Rattle.st_ahead.specs.Calls.{is_done, machine_after_tick, machine_after_segment, run_ended, machine_after_settling, answer, signalled_by, read_in_by, printed_by, MayServe, IsEvent, drop_count, dropped_by, MaySignal}
-use Rattle.st_ahead.specs.declared.events.Settled.TheVariants.{Goes, Interrupt, Missed, Waits}
+use Rattle.st_ahead.specs.declared.events.Settled.TheVariants.{Goes, Interrupt, Mispredicted, Waits}
 use Rattle.st_exec.specs.Step.{interrupt, rests, step, address}
-use Rattle.st_exec.specs.Completion.{is_missed}
+use Rattle.st_exec.specs.Completion.{is_mispredicted}
 use Rattle.st_ahead.specs.declared.events.Event.TheVariants.{Passed, Done}
 
 -- calls within the protocol lead from the machine start to m, with the given number of ticks made
@@ -73,13 +73,13 @@ pub record AreFirstReads (ds : List ℕ) (t : ℕ) (reads : List Read) (b : Bus)
 -- At a completion, the last answers of the banks are those of the first reads of the segment in the
 -- order of the timetable: of all reads that are accepted before this tick, and of no others.
 abbrev pub BanksHaveTheFirstReads : Type 0
-BanksHaveTheFirstReads = (m : Overlap) (made since j : ℕ) (o : Opening) (changes : List Outside) →
+BanksHaveTheFirstReads = (m : Overlap) (made since j : ℕ) (o : Opening) (changes : List ExternalEvents) →
     IsReached m made since →
     StandsAt o changes (suc j) m → m.ended ≡ false →
     IfSome m.closing (λ banks. (first : List Read)
     × AreFirstReads m.delays m.now
-    (reads_of_segment m.delays m.levels o changes j) o.front.bus first
-    × (banks ≡ (bus_after_reads m.delays first o.front.bus).banks))
+    (reads_of_segment m.delays m.levels o changes j) o.issue.bus first
+    × (banks ≡ (bus_after_reads m.delays first o.issue.bus).banks))
 
 -- The number of ticks since the last completion, or since the machine was created, is at most 64
 -- times (L plus four), for any bound L of the delays (`since`). So the total number of ticks is at
@@ -132,22 +132,22 @@ pub record LevelsAreLent : Type 0 where
 pub record OpeningsAreKept : Type 0 where
   pub start : (ds : List ℕ) (n : ℕ) (s : Machine) → StandsAt (first_opening s) [] 0
       (machine_at_start ds n s)
-  pub tick : (m : Overlap) (made since j : ℕ) (o : Opening) (changes : List Outside) →
+  pub tick : (m : Overlap) (made since j : ℕ) (o : Opening) (changes : List ExternalEvents) →
       IsReached m made since → MayTick m →
       StandsAt o changes j m → StandsAt o changes (if is_done m then suc j else j)
       (machine_after_tick m)
-  pub goes : (m : Overlap) (j : ℕ) (o : Opening) (changes : List Outside) → m.owed ≡ true → answer m
+  pub goes : (m : Overlap) (j : ℕ) (o : Opening) (changes : List ExternalEvents) → m.owed ≡ true → answer m
       ≡ Goes →
       StandsAt o changes j m → StandsAt o changes j (machine_after_settling m)
-  pub signal : (m : Overlap) (i j : ℕ) (o : Opening) (changes : List Outside) →
+  pub signal : (m : Overlap) (i j : ℕ) (o : Opening) (changes : List ExternalEvents) →
       StandsAt o changes j m →
       StandsAt o (changes ++ record { done = m.state.done; change = Signalled i } ∷ []) j
       (signalled_by i m)
-  pub unread : (m : Overlap) (w j : ℕ) (o : Opening) (changes : List Outside) →
+  pub unread : (m : Overlap) (w j : ℕ) (o : Opening) (changes : List ExternalEvents) →
       StandsAt o changes j m →
       StandsAt o (changes ++ record { done = m.state.done; change = ReadIn w None } ∷ []) j
       (read_in_by w None m)
-  pub print : (m : Overlap) (j : ℕ) (o : Opening) (changes : List Outside) →
+  pub print : (m : Overlap) (j : ℕ) (o : Opening) (changes : List ExternalEvents) →
       StandsAt o changes j m →
       StandsAt o (changes ++ record { done = m.state.done; change = PrintedOut } ∷ []) j
       (printed_by m)
@@ -159,28 +159,28 @@ pub record OpeningsAreKept : Type 0 where
 -- entry a table instruction (`interrupt`), a mispredicted branch and a wait leave the opening
 -- unchanged (`missed`, `waits`), and a card is a change of its first state (`card`).
 pub record OpeningsFollow : Type 0 where
-  pub end : (m : Overlap) (made since j : ℕ) (o : Opening) (changes : List Outside) →
+  pub end : (m : Overlap) (made since j : ℕ) (o : Opening) (changes : List ExternalEvents) →
       IsReached m made since → MayServe m →
       m.ended ≡ false → StandsAt o changes j m →
       StandsAt (opening_behind m.delays m.levels (length (levels_of m)) o changes j) [] 0
       (machine_after_segment m)
   pub again : (m : Overlap) → m.ended ≡ true → machine_after_segment m ≡ m
-  pub stop : (m : Overlap) (j : ℕ) (o : Opening) (changes : List Outside) →
+  pub stop : (m : Overlap) (j : ℕ) (o : Opening) (changes : List ExternalEvents) →
       StandsAt o changes j (machine_after_segment m) →
       StandsAt o changes j (run_ended m)
   pub last : (m : Overlap) (made since : ℕ) → IsReached m made since → m.stopped ≡ true →
       MayTick m → ⊥
-  pub interrupt : (m : Overlap) (made since i d ic k : ℕ) (o : Opening) (changes : List Outside) →
+  pub interrupt : (m : Overlap) (made since i d ic k : ℕ) (o : Opening) (changes : List ExternalEvents) →
       IsReached m made since →
       m.owed ≡ true → answer m ≡ Interrupt i d ic k → StandsAt o changes 0
       (machine_after_segment m) →
       StandsAt (record o { table = Some i }) changes 0 (machine_after_settling m)
-  pub missed : (m : Overlap) (made since k : ℕ) (o : Opening) (changes : List Outside) →
+  pub mispredicted : (m : Overlap) (made since k : ℕ) (o : Opening) (changes : List ExternalEvents) →
       IsReached m made since →
-      m.owed ≡ true → answer m ≡ Missed k → StandsAt o changes 0 (machine_after_segment m) →
+      m.owed ≡ true → answer m ≡ Mispredicted k → StandsAt o changes 0 (machine_after_segment m) →
       StandsAt o changes 0 (machine_after_settling m)
   pub waits : (m : Overlap) → answer m ≡ Waits → machine_after_settling m ≡ machine_after_segment m
-  pub card : (m : Overlap) (w : ℕ) (card : List ℕ) (o : Opening) (changes : List Outside) →
+  pub card : (m : Overlap) (w : ℕ) (card : List ℕ) (o : Opening) (changes : List ExternalEvents) →
       StandsAt o changes 0 (machine_after_segment m) →
       StandsAt o (changes ++ record { done = m.state.done; change = ReadIn w (Some card) } ∷ []) 0
       (read_in_by w (Some card) m)
@@ -191,13 +191,13 @@ pub record OpeningsFollow : Type 0 where
 -- tick and C after it (`levels`, `next`). Between a tick and its settle, entries with P at this
 -- tick are not yet among the levels.
 pub record RowsTellTheLevels : Type 0 where
-  pub done : (m : Overlap) (i j : ℕ) (o : Opening) (changes : List Outside) →
+  pub done : (m : Overlap) (i j : ℕ) (o : Opening) (changes : List ExternalEvents) →
       StandsAt o changes j m → i < j →
-      (front_at m.delays m.levels o changes (suc i)).c ≤ last_tick_made m
-  pub ahead : (m : Overlap) (j : ℕ) (o : Opening) (changes : List Outside) →
+      (issue_at m.delays m.levels o changes (suc i)).c ≤ last_tick_made m
+  pub ahead : (m : Overlap) (j : ℕ) (o : Opening) (changes : List ExternalEvents) →
       StandsAt o changes j m → state_ahead m ≡ m.state →
       levels_of m ≡ prepared_before m.now (ahead m.delays m.levels m.levels (table_behind j o.table)
-      (state_after o changes j) (front_at m.delays m.levels o changes j))
+      (state_after o changes j) (issue_at m.delays m.levels o changes j))
   pub levels : (m : Overlap) (made since k : ℕ) → IsReached m made since → k
       < length (levels_of m) →
       ((row_of k m).p < m.now) × (last_tick_made m < (row_of k m).c)
@@ -218,7 +218,7 @@ pub record CompletionsAreSteps : Type 0 where
       (machine_after_tick m).state ≡ step m.state
   pub oldest : (m : Overlap) (made since : ℕ) (row : Row) → IsReached m made since → MayTick m →
       IsEvent m (Done row) →
-      levels_of m ≡ next_ahead m.delays m.levels m.taken m.state m.front
+      levels_of m ≡ next_ahead m.delays m.levels m.taken m.state m.issue
       ∷ levels_of (machine_after_tick m)
   pub row : (m : Overlap) (made since : ℕ) (row : Row) → IsReached m made since → MayTick m →
       IsEvent m (Done row) →
@@ -226,8 +226,8 @@ pub record CompletionsAreSteps : Type 0 where
       × (row.c ≡ (view_at_tick (machine_after_tick m)).tick)
   pub times : (m : Overlap) (row : Row) → IsEvent m (Done row) →
       (row.p ≡ (row_of 0 m).p) × (row.r ≡ (row_of 0 m).r) × (row.c ≡ (row_of 0 m).c)
-  pub missed : (m : Overlap) (row : Row) → IsEvent m (Done row) → (machine_after_tick m).missed
-      ≡ (if is_missed (plan m.state m.taken) m.state then Some (plan m.state m.taken).following
+  pub mispredicted : (m : Overlap) (row : Row) → IsEvent m (Done row) → (machine_after_tick m).mispredicted
+      ≡ (if is_mispredicted (plan m.state m.taken) m.state then Some (plan m.state m.taken).following
       else None)
   pub passed : (m : Overlap) → IsEvent m Passed →
       ((machine_after_tick m).state ≡ m.state) × (levels_of (machine_after_tick m) ≡ levels_of m)
@@ -246,8 +246,8 @@ pub record LevelsAreUnwound : Type 0 where
       × (ic ≡ m.state.ic)
       × (k ≡ length (levels_of m)) × ((machine_after_settling m).taken ≡ Some i)
       × IsUnwound (machine_after_settling m)
-  pub missed : (m : Overlap) (made since k : ℕ) → IsReached m made since → m.owed ≡ true →
-      answer m ≡ Missed k → (k ≡ length (levels_of m)) × IsUnwound (machine_after_settling m)
+  pub mispredicted : (m : Overlap) (made since k : ℕ) → IsReached m made since → m.owed ≡ true →
+      answer m ≡ Mispredicted k → (k ≡ length (levels_of m)) × IsUnwound (machine_after_settling m)
   pub waits : (m : Overlap) (made since : ℕ) → IsReached m made since → m.owed ≡ true →
       answer m ≡ Waits → (rests m.state ≡ true) × IsUnwound (machine_after_settling m)
   pub stop : (m : Overlap) (made since : ℕ) → IsReached m made since → m.owed ≡ true →
@@ -285,7 +285,7 @@ pub record TheStateIsSplit : Type 0 where
       get_or (view_at_tick m).levels k None ≡ None
   pub state : (m : Overlap) (made since : ℕ) → IsReached m made since → m.owed ≡ false →
       state_ahead m ≡ m.state
-  pub missed : (m : Overlap) (h : ℕ) → m.ended ≡ false → m.missed ≡ Some h →
+  pub mispredicted : (m : Overlap) (h : ℕ) → m.ended ≡ false → m.mispredicted ≡ Some h →
       state_ahead m ≡ record m.state { ic = h }
   pub ended : (m : Overlap) → m.ended ≡ true → state_ahead m ≡ m.state
 

@@ -6,11 +6,11 @@ use Rattle.st_prep.specs.Fetch.{address_by, index_words}
 use Rattle.st_prep.specs.Plan.{plan}
 use Rattle.st_rows.specs.Rows.{row_of_entry}
 use Rattle.st_rows.specs.Words.{fills}
-use Rattle.st_rows.specs.declared.front.Front.{Front}
-use Rattle.st_rows.specs.declared.front.EntryTicks.{EntryTicks}
+use Rattle.st_rows.specs.declared.issue.IssueState.{IssueState}
+use Rattle.st_rows.specs.declared.issue.EntryTicks.{EntryTicks}
 use Rattle.st_segment.specs.Entries.{entry}
 use Rattle.st_segment.specs.Guesses.{guesses, table_behind}
-use Rattle.st_segment.specs.Ahead.{Ahead, front_behind}
+use Rattle.st_segment.specs.Ahead.{Ahead, issue_behind}
 use Rattle.st_ahead.specs.Overlap.{Overlap, state_ahead, levels_of}
 use Rattle.st_ahead.specs.Shown.{view_at_tick}
 use Rattle.st_ahead.specs.declared.events.LevelView.{LevelView}
@@ -27,18 +27,18 @@ module _ (k : ℕ) (m : Overlap) where
   table_before = table_behind k m.taken
 
   -- the front from which the row of entry k in flight is computed
-  abbrev pub front_before : Front
-  front_before = front_behind m.delays m.levels k m.taken (state_ahead m) m.front
+  abbrev pub issue_before : IssueState
+  issue_before = issue_behind m.delays m.levels k m.taken (state_ahead m) m.issue
 
   -- the row of entry k in flight
   abbrev pub row_before : EntryTicks
   row_before =
-      row_of_entry m.delays m.levels front_before (entry table_before state_before)
+      row_of_entry m.delays m.levels issue_before (entry table_before state_before)
 
   -- the ticks at which the first two operand words of entry k above the registers arrive: each when
   -- its read is answered or, without a read, when its latest writer completes
   abbrev pub fills_at : List ℕ
-  fills_at = fills m.delays m.levels front_before
+  fills_at = fills m.delays m.levels issue_before
       (entry table_before state_before)
 
 -- the view of entry k in flight at a tick: its address, its P, the number of the index word that it

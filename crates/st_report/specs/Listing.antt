@@ -22,8 +22,8 @@ abbrev pub left_in : ℕ → List ℕ → List ℕ
 left_in n text = text ++ filling n text
 
 -- n bits in hexadecimal, padded with zeros on the right to whole digits
-abbrev pub laid_text : ℕ → ℕ → List ℕ
-laid_text bits n = let digits = div_ceil n 4 in hex_text digits (bits * 2 ^ (4 * digits - n))
+abbrev pub emitted_text : ℕ → ℕ → List ℕ
+emitted_text bits n = let digits = div_ceil n 4 in hex_text digits (bits * 2 ^ (4 * digits - n))
 
 -- the location of a card as text, empty if it has none
 abbrev pub location_text : Option ℕ → List ℕ
@@ -39,7 +39,7 @@ pub record IsCardText (text : List ℕ) : Type 0 where
 abbrev pub listing_columns : ℕ → Option ℕ → ℕ → ℕ → List ℕ → List ℕ
 listing_columns card location bits n text =
     right_in 5 (decimal card) ++ codes " " ++ right_in 9 (location_text location)
-    ++ codes " " ++ left_in 16 (laid_text bits n) ++ codes " " ++ text
+    ++ codes " " ++ left_in 16 (emitted_text bits n) ++ codes " " ++ text
 
 -- the line of a card, without trailing blanks
 abbrev pub listed_line : ℕ → Option ℕ → ℕ → ℕ → List ℕ → List ℕ

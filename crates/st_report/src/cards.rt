@@ -2,12 +2,12 @@
 
 ghost use Rattle.std.specs.Prelude.{◌≡◌, ◌+◌, ◌-◌, ◌^◌, ◌<◌, ◌≤◌, ◌++◌, length, IsAscii, max};
 ghost use Rattle.arrayvec.specs.ArrayString.{array_string_len};
-ghost use Rattle.st_report.specs.Listing.{blanks, filling, right_in, left_in, laid_text, location_text, IsCardText, listed_line, symbol_line};
+ghost use Rattle.st_report.specs.Listing.{blanks, filling, right_in, left_in, emitted_text, location_text, IsCardText, listed_line, symbol_line};
 
 use crate::Line;
 use itoa::Buffer;
 use st_text::{
-    begun, drop_end_blanks, ended, filled_len, push_bit_address, push_hex, push_short_decimal,
+    open_line, drop_end_blanks, close_line, filled_len, push_bit_address, push_hex, push_short_decimal,
 };
 use std::str;
 
@@ -80,7 +80,7 @@ fn shown_location(location: Option<u32>) -> Line
 fn shown_bits(bits: u64, length: u8) -> Line
     requires whole { length ≤ 64 }
     requires fits { bits < 2 ^ length }
-    ensures bytes { result.bytes ≡ laid_text bits length }
+    ensures bytes { result.bytes ≡ emitted_text bits length }
     ensures room { array_string_len result ≤ 16 }
 {
     let digits = length.div_ceil(4);
@@ -109,7 +109,7 @@ pub fn line_listed(card: u32, location: Option<u32>, bits: u64, length: u8, text
     line.push_str(" ");
     push_text(&mut line, text);
     drop_end_blanks(&mut line);
-    ended(line)
+    close_line(line)
 }
 
 /// `SYM name word.bit`: the line of a symbol. The name is padded with blanks to eight bytes, and
@@ -118,9 +118,9 @@ pub fn line_symbol(name: [u8; 8], value: u32) -> Line
     requires { IsAscii name }
     ensures { result.bytes ≡ symbol_line name value }
 {
-    let mut line = begun("SYM ");
+    let mut line = open_line("SYM ");
     push_text(&mut line, &name[..filled_len(&name)]);
     line.push_str(" ");
     push_bit_address(&mut line, value);
-    ended(line)
+    close_line(line)
 }

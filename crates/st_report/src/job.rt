@@ -5,26 +5,26 @@ ghost use Rattle.st_report.specs.Line.{fault_line, soak_line};
 
 use crate::Line;
 use arrayvec::ArrayString;
-use st_text::{begun, ended, push_decimal, push_short_decimal};
+use st_text::{open_line, close_line, push_decimal, push_short_decimal};
 
 /// `SOAK number cards`: the seed of a made deck, and the number of its drawn cards.
 pub fn line_soak(number: u64, cards: u32) -> Line
     ensures { result.bytes ≡ soak_line number cards }
 {
-    let mut line = begun("SOAK ");
+    let mut line = open_line("SOAK ");
     push_decimal(&mut line, number);
     line.push_str(" ");
     push_short_decimal(&mut line, cards);
-    ended(line)
+    close_line(line)
 }
 
 /// `CARD n FAULT`: the refused card, counted from 1, and the name of its fault.
 pub fn line_fault(card: u32, name: &ArrayString<32>) -> Line
     ensures { result.bytes ≡ fault_line card name.now.bytes }
 {
-    let mut line = begun("CARD ");
+    let mut line = open_line("CARD ");
     push_short_decimal(&mut line, card);
     line.push_str(" ");
     line.push_str(name.as_str());
-    ended(line)
+    close_line(line)
 }

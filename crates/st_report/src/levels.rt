@@ -6,7 +6,7 @@ ghost use Rattle.st_report.specs.Line.{row_line, drop_line, snap_line, change_te
 
 use crate::{EntryLine, Line};
 use st_text::{
-    begun, ended, push_decimal, push_flag, push_half_address, push_hex, push_short_decimal,
+    open_line, close_line, push_decimal, push_flag, push_half_address, push_hex, push_short_decimal,
 };
 
 /// A row of the timetable: a completed instruction.
@@ -29,7 +29,7 @@ pub struct EntryRow {
 pub fn line_row(row: &EntryRow) -> Line
     ensures { result.bytes ≡ row_line row.now.number row.now.address row.now.p row.now.r row.now.c }
 {
-    let mut line = begun("ROW ");
+    let mut line = open_line("ROW ");
     push_decimal(&mut line, row.number);
     line.push_str(" ");
     push_half_address(&mut line, row.address);
@@ -39,7 +39,7 @@ pub fn line_row(row: &EntryRow) -> Line
     push_decimal(&mut line, row.r);
     line.push_str(" C ");
     push_decimal(&mut line, row.c);
-    ended(line)
+    close_line(line)
 }
 
 /// As `line_row`, written to a line that is already there; its previous bytes are removed.
@@ -65,24 +65,24 @@ pub fn fill_row(line: &mut EntryLine, row: &EntryRow)
 pub fn line_drop(address: u32, p: u64) -> Line
     ensures { result.bytes ≡ drop_line address p }
 {
-    let mut line = begun("DROP ");
+    let mut line = open_line("DROP ");
     push_half_address(&mut line, address);
     line.push_str(" P ");
     push_decimal(&mut line, p);
-    ended(line)
+    close_line(line)
 }
 
 /// `SNAP t DONE q AHEAD k`: at tick t, q instructions have completed and k entries are in flight.
 pub fn line_snap(t: u64, q: u64, k: u8) -> Line
     ensures { result.bytes ≡ snap_line t q k }
 {
-    let mut line = begun("SNAP ");
+    let mut line = open_line("SNAP ");
     push_decimal(&mut line, t);
     line.push_str(" DONE ");
     push_decimal(&mut line, q);
     line.push_str(" AHEAD ");
     push_short_decimal(&mut line, u32::from(k));
-    ended(line)
+    close_line(line)
 }
 
 // Appends the number and the previous contents of the index word that was changed early, or a dash
@@ -108,11 +108,11 @@ fn push_change(line: &mut Line, index: Option<(u8, u64)>)
 pub fn line_lev(address: u32, index: Option<(u8, u64)>, ready: bool) -> Line
     ensures { result.bytes ≡ lev_line address index ready }
 {
-    let mut line = begun("LEV ");
+    let mut line = open_line("LEV ");
     push_half_address(&mut line, address);
     line.push_str(" X ");
     push_change(&mut line, index);
     line.push_str(" READY ");
     push_flag(&mut line, ready);
-    ended(line)
+    close_line(line)
 }

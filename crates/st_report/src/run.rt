@@ -5,17 +5,17 @@ ghost use Rattle.st_report.specs.Line.{trc_line, prt_line, int_line, time_line, 
 
 use crate::{EntryLine, Line};
 use arrayvec::ArrayString;
-use st_text::{begun, ended, push_decimal, push_half_address, push_short_decimal};
+use st_text::{open_line, close_line, push_decimal, push_half_address, push_short_decimal};
 
 /// `TRC n a`: the n-th instruction completed. The address is a half-word address.
 pub fn line_trc(n: u64, address: u32) -> Line
     ensures { result.bytes ≡ trc_line n address }
 {
-    let mut line = begun("TRC ");
+    let mut line = open_line("TRC ");
     push_decimal(&mut line, n);
     line.push_str(" ");
     push_half_address(&mut line, address);
-    ended(line)
+    close_line(line)
 }
 
 /// As `line_trc`, written to a line that is already there; its previous bytes are removed.
@@ -54,61 +54,61 @@ fn fill_trc_anew(line: &mut EntryLine, n: u64, address: u32)
 pub fn line_prt(text: &ArrayString<64>) -> Line
     ensures { result.bytes ≡ prt_line text.now.bytes }
 {
-    let mut line = begun("PRT ");
+    let mut line = open_line("PRT ");
     line.push_str(text.as_str());
-    ended(line)
+    close_line(line)
 }
 
 /// `INT i AFTER n`: the interrupt by indicator i, below 64, after n completed instructions.
 pub fn line_int(i: u8, n: u64) -> Line
     ensures { result.bytes ≡ int_line i n }
 {
-    let mut line = begun("INT ");
+    let mut line = open_line("INT ");
     push_short_decimal(&mut line, u32::from(i));
     line.push_str(" AFTER ");
     push_decimal(&mut line, n);
-    ended(line)
+    close_line(line)
 }
 
 /// `TIME t`: the tick at which an interrupt is taken.
 pub fn line_time(t: u64) -> Line
     ensures { result.bytes ≡ time_line t }
 {
-    let mut line = begun("TIME ");
+    let mut line = open_line("TIME ");
     push_decimal(&mut line, t);
-    ended(line)
+    close_line(line)
 }
 
 /// `END WAIT` if the machine waits and no external event is left, otherwise `END BUDGET`.
 pub fn line_end(waits: bool) -> Line
     ensures { result.bytes ≡ end_line waits }
 {
-    ended(begun(if waits { "END WAIT" } else { "END BUDGET" }))
+    close_line(open_line(if waits { "END WAIT" } else { "END BUDGET" }))
 }
 
 /// `DONE m`: the count of completed instructions at the end.
 pub fn line_done(m: u64) -> Line
     ensures { result.bytes ≡ done_line m }
 {
-    let mut line = begun("DONE ");
+    let mut line = open_line("DONE ");
     push_decimal(&mut line, m);
-    ended(line)
+    close_line(line)
 }
 
 /// `TICKS t`: the tick of the last completion.
 pub fn line_ticks(t: u64) -> Line
     ensures { result.bytes ≡ ticks_line t }
 {
-    let mut line = begun("TICKS ");
+    let mut line = open_line("TICKS ");
     push_decimal(&mut line, t);
-    ended(line)
+    close_line(line)
 }
 
 /// `BACK j`: the number of instructions between the state block that follows and the end.
 pub fn line_back(j: u8) -> Line
     ensures { result.bytes ≡ back_line j }
 {
-    let mut line = begun("BACK ");
+    let mut line = open_line("BACK ");
     push_short_decimal(&mut line, u32::from(j));
-    ended(line)
+    close_line(line)
 }

@@ -5,55 +5,55 @@ ghost use Rattle.st_report.specs.Line.{ic_line, en_line, reg_line, dump_line, me
 
 use crate::Line;
 use crate::pieces::push_two_digits;
-use st_text::{begun, ended, push_flag, push_half_address, push_hex, push_short_decimal};
+use st_text::{open_line, close_line, push_flag, push_half_address, push_hex, push_short_decimal};
 
 /// `IC a`: the program counter, a half-word address, as word.bit.
 pub fn line_ic(ic: u32) -> Line
     ensures { result.bytes ≡ ic_line ic }
 {
-    let mut line = begun("IC ");
+    let mut line = open_line("IC ");
     push_half_address(&mut line, ic);
-    ended(line)
+    close_line(line)
 }
 
 /// `EN 1` if interrupts are enabled, otherwise `EN 0`.
 pub fn line_en(enabled: bool) -> Line
     ensures { result.bytes ≡ en_line enabled }
 {
-    let mut line = begun("EN ");
+    let mut line = open_line("EN ");
     push_flag(&mut line, enabled);
-    ended(line)
+    close_line(line)
 }
 
 /// `REG nn hhhhhhhhhhhhhhhh`: a register, with its word address below 32, and its contents.
 pub fn line_reg(w: u8, word: u64) -> Line
     ensures { result.bytes ≡ reg_line w word }
 {
-    let mut line = begun("REG ");
+    let mut line = open_line("REG ");
     push_two_digits(&mut line, w);
     line.push_str(" ");
     push_hex(&mut line, 16, word);
-    ended(line)
+    close_line(line)
 }
 
 /// `DUMP from to`: the first and the last word address of a dump.
 pub fn line_dump(from: u32, to: u32) -> Line
     ensures { result.bytes ≡ dump_line from to }
 {
-    let mut line = begun("DUMP ");
+    let mut line = open_line("DUMP ");
     push_short_decimal(&mut line, from);
     line.push_str(" ");
     push_short_decimal(&mut line, to);
-    ended(line)
+    close_line(line)
 }
 
 /// `MEM w hhhhhhhhhhhhhhhh`: a word address and the contents of the word.
 pub fn line_mem(w: u32, word: u64) -> Line
     ensures { result.bytes ≡ mem_line w word }
 {
-    let mut line = begun("MEM ");
+    let mut line = open_line("MEM ");
     push_short_decimal(&mut line, w);
     line.push_str(" ");
     push_hex(&mut line, 16, word);
-    ended(line)
+    close_line(line)
 }

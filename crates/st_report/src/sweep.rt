@@ -4,24 +4,24 @@ ghost use Rattle.std.specs.Prelude.{◌≡◌};
 ghost use Rattle.st_report.specs.Line.{levels_line, calm_line};
 
 use crate::Line;
-use st_text::{begun, ended, push_decimal, push_flag, push_short_decimal};
+use st_text::{open_line, close_line, push_decimal, push_flag, push_short_decimal};
 
 /// `LEVELS n TICKS t`: the number of levels, and the tick of the last completion.
 pub fn line_levels(levels: u8, ticks: u64) -> Line
     ensures { result.bytes ≡ levels_line levels ticks }
 {
-    let mut line = begun("LEVELS ");
+    let mut line = open_line("LEVELS ");
     push_short_decimal(&mut line, u32::from(levels));
     line.push_str(" TICKS ");
     push_decimal(&mut line, ticks);
-    ended(line)
+    close_line(line)
 }
 
 /// `CALM 1` or `CALM 0`: whether the run is calm.
 pub fn line_calm(calm: bool) -> Line
     ensures { result.bytes ≡ calm_line calm }
 {
-    let mut line = begun("CALM ");
+    let mut line = open_line("CALM ");
     push_flag(&mut line, calm);
-    ended(line)
+    close_line(line)
 }

@@ -3,10 +3,10 @@ use Rattle.std.proofs.Common.{◌≡◌, ℕ, ◌<◌, ◌≤◌, ◌||◌, Bool
 use Rattle.std.proofs.lemmas.List.Elements.{All-head, All-tail}
 use Rattle.st_state.specs.Machine.{Machine}
 use Rattle.st_prep.specs.Plan.{plan}
-use Rattle.st_exec.specs.Completion.{guess}
-use Rattle.st_rows.specs.Rows.{row_of_entry, front_after_entry}
+use Rattle.st_exec.specs.Completion.{prediction}
+use Rattle.st_rows.specs.Rows.{row_of_entry, issue_after_entry}
 use Rattle.st_rows.specs.declared.entry.Entry.{Entry}
-use Rattle.st_rows.specs.declared.front.Front.{Front}
+use Rattle.st_rows.specs.declared.issue.IssueState.{IssueState}
 use Rattle.st_ring.specs.declared.level.Level.{Level}
 use Rattle.st_segment.specs.Entries.{entry}
 use Rattle.st_segment.specs.Alone.{RunAhead}
@@ -14,7 +14,7 @@ use Rattle.st_ring.specs.Levels.{IsLevel, AreLevels}
 use Rattle.st_ring.specs.declared.plans.PlannedRow.{PlannedRow}
 
 -- an entry is prepared behind the completion of the last one where one of the two is done alone
-abbrev pub AwaitsLast : List ℕ → ℕ → Front → Entry → Type 0
+abbrev pub AwaitsLast : List ℕ → ℕ → IssueState → Entry → Type 0
 AwaitsLast ds n f e = (e.serial || f.serial) ≡ true → f.c < (row_of_entry ds n f e).p
 
 neither : (a b : Bool) → ((a || b) ≡ true → ⊥) → (a ≡ false) × (b ≡ false)
@@ -22,21 +22,21 @@ neither true b not_so = absurd (not_so refl)
 neither false true not_so = absurd (not_so refl)
 neither false false not_so = (refl, refl)
 
-after-serial : (ds : List ℕ) (n : ℕ) (t : Option ℕ) (s : Machine) (f : Front) → (front_after_entry ds n f (entry t s)).serial ≡ (plan s t).serial
-unfolding front_after_entry entry
+after-serial : (ds : List ℕ) (n : ℕ) (t : Option ℕ) (s : Machine) (f : IssueState) → (issue_after_entry ds n f (entry t s)).serial ≡ (plan s t).serial
+unfolding issue_after_entry entry
 after-serial ds n t s f = refl
 
 entry-serial : (t : Option ℕ) (s : Machine) → (entry t s).serial ≡ (plan s t).serial
 unfolding entry
 entry-serial t s = refl
 
-after-done : (ds : List ℕ) (n : ℕ) (f : Front) (e : Entry) → (front_after_entry ds n f e).c ≡ (row_of_entry ds n f e).c
-unfolding front_after_entry row_of_entry
+after-done : (ds : List ℕ) (n : ℕ) (f : IssueState) (e : Entry) → (issue_after_entry ds n f e).c ≡ (row_of_entry ds n f e).c
+unfolding issue_after_entry row_of_entry
 after-done ds n f e = refl
 
 -- behind a level that is not done, none is done alone, nor is that one
-module _ (ds : List ℕ) (n tick now : ℕ) (awaits : (f : Front) (e : Entry) → AwaitsLast ds n f e) where
-  neither_of : (t : Option ℕ) (s : Machine) (f : Front) (level : Level) (q : PlannedRow) → IsLevel ds n tick t s f level q
+module _ (ds : List ℕ) (n tick now : ℕ) (awaits : (f : IssueState) (e : Entry) → AwaitsLast ds n f e) where
+  neither_of : (t : Option ℕ) (s : Machine) (f : IssueState) (level : Level) (q : PlannedRow) → IsLevel ds n tick t s f level q
       → level.p < now → now ≤ f.c → ((plan s t).serial ≡ false) × (f.serial ≡ false)
   neither_of t s f level q h early open_c =
       let is : level.p ≡ (row_of_entry ds n f (entry t s)).p = h.p in
@@ -44,7 +44,7 @@ module _ (ds : List ℕ) (n tick now : ℕ) (awaits : (f : Front) (e : Entry) �
       let late : f.c < (row_of_entry ds n f (entry t s)).p = awaits f (entry t s) some in omega arith) in
       (sym (entry-serial t s) ∙ both.0, both.1)
 
-  pub behind-ahead : (t : Option ℕ) (s : Machine) (f last : Front) (ring : List Level) (plans : List PlannedRow)
+  pub behind-ahead : (t : Option ℕ) (s : Machine) (f last : IssueState) (ring : List Level) (plans : List PlannedRow)
       → AreLevels ds n tick t s f last ring plans → All (λ level. level.p < now) ring → All (λ q. now ≤ q.c) plans
       → now ≤ f.c → 1 ≤ length ring → (f.serial ≡ false) × RunAhead (length ring) t s
   unfolding AreLevels RunAhead
@@ -56,12 +56,12 @@ module _ (ds : List ℕ) (n tick now : ℕ) (awaits : (f : Front) (e : Entry) �
   behind-ahead t s f last (level ∷ next ∷ levels) (q ∷ qs) h early late open_c some =
       let own = neither_of t s f level q h.0 (All-head (λ (x : Level). x.p < now) level (next ∷ levels) early) open_c in
       let done : now ≤ q.c = All-head (λ (x : PlannedRow). now ≤ x.c) q qs late in
-      let same : (front_after_entry ds n f (entry t s)).c ≡ q.c = after-done ds n f (entry t s) ∙ sym h.0.c in
-      let rest = behind-ahead None (guess t s) (front_after_entry ds n f (entry t s)) last (next ∷ levels) qs h.1
+      let same : (issue_after_entry ds n f (entry t s)).c ≡ q.c = after-done ds n f (entry t s) ∙ sym h.0.c in
+      let rest = behind-ahead None (prediction t s) (issue_after_entry ds n f (entry t s)) last (next ∷ levels) qs h.1
       (All-tail (λ (x : Level). x.p < now) level (next ∷ levels) early) (All-tail (λ (x : PlannedRow). now ≤ x.c) q qs late) (omega arith) (omega arith) in
       (own.1, (own.0, rest.1))
 
-  pub two-ahead : (t : Option ℕ) (s : Machine) (f last : Front) (ring : List Level) (plans : List PlannedRow)
+  pub two-ahead : (t : Option ℕ) (s : Machine) (f last : IssueState) (ring : List Level) (plans : List PlannedRow)
       → AreLevels ds n tick t s f last ring plans → All (λ level. level.p < now) ring → All (λ q. now ≤ q.c) plans
       → 2 ≤ length ring → RunAhead (length ring) t s
   unfolding AreLevels RunAhead
@@ -69,7 +69,7 @@ module _ (ds : List ℕ) (n tick now : ℕ) (awaits : (f : Front) (e : Entry) �
   two-ahead t s f last (level ∷ levels) [] h early late two = absurd h
   two-ahead t s f last (level ∷ levels) (q ∷ qs) h early late two =
       let done : now ≤ q.c = All-head (λ (x : PlannedRow). now ≤ x.c) q qs late in
-      let same : (front_after_entry ds n f (entry t s)).c ≡ q.c = after-done ds n f (entry t s) ∙ sym h.0.c in
-      let rest = behind-ahead None (guess t s) (front_after_entry ds n f (entry t s)) last levels qs h.1
+      let same : (issue_after_entry ds n f (entry t s)).c ≡ q.c = after-done ds n f (entry t s) ∙ sym h.0.c in
+      let rest = behind-ahead None (prediction t s) (issue_after_entry ds n f (entry t s)) last levels qs h.1
       (All-tail (λ (x : Level). x.p < now) level levels early) (All-tail (λ (x : PlannedRow). now ≤ x.c) q qs late) (omega arith) (omega arith) in
       (sym (after-serial ds n t s f) ∙ rest.0, rest.1)

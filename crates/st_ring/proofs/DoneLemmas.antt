@@ -4,34 +4,34 @@ use Rattle.std.specs.Prelude.{IfSome, slice_get}
 use Rattle.st_state.specs.Machine.{Machine, IsMachine}
 use Rattle.st_prep.specs.Fetch.{index_words}
 use Rattle.st_prep.specs.Plan.{plan}
-use Rattle.st_exec.specs.Completion.{guess}
-use Rattle.st_rows.specs.Rows.{front_after_entry}
-use Rattle.st_rows.specs.declared.front.Front.{Front}
+use Rattle.st_exec.specs.Completion.{prediction}
+use Rattle.st_rows.specs.Rows.{issue_after_entry}
+use Rattle.st_rows.specs.declared.issue.IssueState.{IssueState}
 use Rattle.st_ring.specs.declared.level.Level.{Level}
 use Rattle.st_segment.specs.Entries.{entry}
 use Rattle.st_segment.specs.Guesses.{guesses, after_early_change, split_words}
 use Rattle.st_segment.specs.Alone.{RunAhead}
 use Rattle.st_segment.proofs.GuessLemmas.{behind-none}
-use Rattle.st_segment.proofs.IndexLemmas.{guess-past, split-change}
+use Rattle.st_segment.proofs.IndexLemmas.{prediction-past, split-change}
 use Rattle.st_ring.specs.Levels.{IsLevel, AreLevels, AreAhead, AreFull}
 use Rattle.st_ring.specs.declared.plans.PlannedRow.{PlannedRow}
 
-pub split-behind : (k : ℕ) (t : Option ℕ) (s : Machine) → split_words (suc (suc k)) t s ≡ split_words (suc k) None (guess t s)
+pub split-behind : (k : ℕ) (t : Option ℕ) (s : Machine) → split_words (suc (suc k)) t s ≡ split_words (suc k) None (prediction t s)
 unfolding split_words guesses
-split-behind k t s = ap (λ i. index_words (after_early_change i (guesses k None (guess t s)))) (sym (behind-none k))
+split-behind k t s = ap (λ i. index_words (after_early_change i (guesses k None (prediction t s)))) (sym (behind-none k))
 
 index-behind : (b : Bool) (t : Option ℕ) (s : Machine) (x y : List ℕ) → (plan s t).serial ≡ b → IsMachine s → IfSome t (λ i. i < 64)
-    → x ≡ split_words 1 t s → (b ≡ false → y ≡ x) → (b ≡ true → y ≡ index_words (guess t s)) → y ≡ index_words (guess t s)
+    → x ≡ split_words 1 t s → (b ≡ false → y ≡ x) → (b ≡ true → y ≡ index_words (prediction t s)) → y ≡ index_words (prediction t s)
 unfolding guesses
 index-behind true t s x y e m some before stays new = new refl
 index-behind false t s x y e m some before stays new =
-    stays refl ∙ (before ∙ (split-change 0 t s m some ∙ sym (guess-past t s m some e).index))
+    stays refl ∙ (before ∙ (split-change 0 t s m some ∙ sym (prediction-past t s m some e).index))
 
 pub behind-serial : (k : ℕ) (t : Option ℕ) (s : Machine) → RunAhead (suc k) t s → (plan s t).serial ≡ false
 unfolding RunAhead
 behind-serial k t s free = free.0
 
-pub behind-rest : (k : ℕ) (t : Option ℕ) (s : Machine) → RunAhead (suc k) t s → RunAhead k None (guess t s)
+pub behind-rest : (k : ℕ) (t : Option ℕ) (s : Machine) → RunAhead (suc k) t s → RunAhead k None (prediction t s)
 unfolding RunAhead
 behind-rest k t s free = free.1
 
@@ -39,26 +39,26 @@ nothing-ahead : (t : Option ℕ) (s : Machine) → RunAhead 0 t s
 unfolding RunAhead
 nothing-ahead t s = tt
 
-pub levels-behind : (ds : List ℕ) (n tick : ℕ) (t : Option ℕ) (s : Machine) (f last : Front) (level : Level) (ring : List Level)
+pub levels-behind : (ds : List ℕ) (n tick : ℕ) (t : Option ℕ) (s : Machine) (f last : IssueState) (level : Level) (ring : List Level)
     (plans : List PlannedRow) (x y : List ℕ) → IsMachine s → IfSome t (λ i. i < 64)
     → AreLevels ds n tick t s f last (level ∷ ring) plans → x ≡ split_words (suc (length ring)) t s → RunAhead (length ring) t s
-    → ((plan s t).serial ≡ false → y ≡ x) → ((plan s t).serial ≡ true → y ≡ index_words (guess t s))
-    → AreAhead ds n tick None (guess t s) (front_after_entry ds n f (entry t s)) last (record { ring = ring; plans = drop 1 plans; x = y })
+    → ((plan s t).serial ≡ false → y ≡ x) → ((plan s t).serial ≡ true → y ≡ index_words (prediction t s))
+    → AreAhead ds n tick None (prediction t s) (issue_after_entry ds n f (entry t s)) last (record { ring = ring; plans = drop 1 plans; x = y })
 unfolding AreLevels split_words
 levels-behind ds n tick t s f last level ring [] x y m some h before free stays new = absurd h
 levels-behind ds n tick t s f last level [] (q ∷ qs) x y m some h before free stays new = record {
   levels = h.1;
   index = index-behind (plan s t).serial t s x y refl m some before stays new;
-  run_ahead = nothing-ahead None (guess t s);
+  run_ahead = nothing-ahead None (prediction t s);
 }
 levels-behind ds n tick t s f last level (next ∷ ring) (q ∷ qs) x y m some h before free stays new = record {
   levels = h.1;
   index = stays (behind-serial (length ring) t s free) ∙ (before ∙ split-behind (length ring) t s);
   run_ahead = let same : length ring ≡ suc (length ring) - 1 = omega arith in
-      subst (λ k. RunAhead k None (guess t s)) same (behind-rest (length ring) t s free);
+      subst (λ k. RunAhead k None (prediction t s)) same (behind-rest (length ring) t s free);
 }
 
-pub first-is : (ds : List ℕ) (n tick : ℕ) (t : Option ℕ) (s : Machine) (f last : Front) (level : Level) (ring : List Level)
+pub first-is : (ds : List ℕ) (n tick : ℕ) (t : Option ℕ) (s : Machine) (f last : IssueState) (level : Level) (ring : List Level)
     (plans : List PlannedRow) (q : PlannedRow) → AreLevels ds n tick t s f last (level ∷ ring) plans → slice_get plans 0 ≡ Some q
     → IsLevel ds n tick t s f level q
 unfolding AreLevels
@@ -67,7 +67,7 @@ first-is ds n tick t s f last level ring (r ∷ rs) q h first =
     let same : r ≡ q = cc first in subst (λ (p : PlannedRow). IsLevel ds n tick t s f level p) same h.0
 
 -- they have all words that are there
-pub full-behind : (ds : List ℕ) (n tick : ℕ) (t : Option ℕ) (s : Machine) (f : Front) (level : Level) (ring : List Level)
-    → AreFull ds n tick t s f (level ∷ ring) → AreFull ds n tick None (guess t s) (front_after_entry ds n f (entry t s)) ring
+pub full-behind : (ds : List ℕ) (n tick : ℕ) (t : Option ℕ) (s : Machine) (f : IssueState) (level : Level) (ring : List Level)
+    → AreFull ds n tick t s f (level ∷ ring) → AreFull ds n tick None (prediction t s) (issue_after_entry ds n f (entry t s)) ring
 unfolding AreFull
 full-behind ds n tick t s f level ring full = full.1

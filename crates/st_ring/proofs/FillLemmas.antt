@@ -9,22 +9,22 @@ use Rattle.st_prep.specs.FewWords.{is_transmission}
 use Rattle.st_prep.specs.Plan.{plan}
 use Rattle.st_prep.specs.Ranges.{IsPrepared}
 use Rattle.st_prep.proofs.PlanLemmas.{plan-prepared}
-use Rattle.st_exec.specs.Completion.{guess}
+use Rattle.st_exec.specs.Completion.{prediction}
 use Rattle.st_rows.specs.BusTimes.{accept_at, answer_at, answer_if}
 use Rattle.st_rows.specs.Entries.{is_among, latest_done}
 use Rattle.st_rows.specs.Ranges.{AreDelaysUpTo}
-use Rattle.st_rows.specs.Rows.{row_of_entry, front_after_entry, tick_p, bus_a}
+use Rattle.st_rows.specs.Rows.{row_of_entry, issue_after_entry, tick_p, bus_a}
 use Rattle.st_rows.specs.Words.{read_word, fill_at, fills_of, fills, is_forwarded}
 use Rattle.st_rows.specs.declared.bus.Bus.{Bus}
 use Rattle.st_rows.specs.declared.entry.WordRun.{WordRun}
-use Rattle.st_rows.specs.declared.front.Front.{Front}
+use Rattle.st_rows.specs.declared.issue.IssueState.{IssueState}
 use Rattle.st_rows.specs.declared.past.Past.{Past}
 use Rattle.st_rows.proofs.Within.{delay-bounds}
 use Rattle.st_ring.specs.declared.level.Level.{Level}
 use Rattle.st_segment.specs.Entries.{entry, above_registers, words_to_read}
 use Rattle.st_segment.specs.Guesses.{guesses}
 use Rattle.st_segment.specs.Alone.{RunAhead, is_word_written}
-use Rattle.st_segment.proofs.GuessLemmas.{guess-machine}
+use Rattle.st_segment.proofs.GuessLemmas.{prediction-machine}
 use Rattle.st_segment.proofs.RestLemmas.{storage-kept}
 use Rattle.st_ring.specs.Levels.{have_of, IsLevel, AreLevels, AreFull}
 use Rattle.st_ring.specs.Slots.{fill_tick, is_there, slot_of, IsKeptSlot, put_of, coming, came_at, level_with_slot, level_with_words}
@@ -57,7 +57,7 @@ run-is : (t : Option ℕ) (s : Machine) → (entry t s).reads.one ≡ above_regi
 unfolding entry words_to_read
 run-is t s = refl
 
-module _ (ds : List ℕ) (n most : ℕ) (t : Option ℕ) (s : Machine) (f : Front) (are : AreDelaysUpTo most ds) where
+module _ (ds : List ℕ) (n most : ℕ) (t : Option ℕ) (s : Machine) (f : IssueState) (are : AreDelaysUpTo most ds) where
   latest-at : (i : ℕ) → i < 2 → i < (entry t s).reads.one.len
       → latest_done f.past ((entry t s).reads.one.first + i) ≤ get_or (fills ds n f (entry t s)) i 0
   latest-at i few inside =
@@ -183,21 +183,21 @@ Agrees now m past u = (w : ℕ) → 32 ≤ w → latest_done past w ≤ now → 
 -- it has the registers of each of the states before the next k entries where that entry is done alone
 unfoldable pub HasLow : ℕ → Machine → Option ℕ → Machine → Type 0
 HasLow zero m t u = Unit {0}
-HasLow (suc k) m t u = ((plan u t).serial ≡ true → (w : ℕ) → w < 32 → word m w ≡ word u w) × HasLow k m None (guess t u)
+HasLow (suc k) m t u = ((plan u t).serial ≡ true → (w : ℕ) → w < 32 → word m w ≡ word u w) × HasLow k m None (prediction t u)
 
 pub low-free : (k : ℕ) (m : Machine) (t : Option ℕ) (u : Machine) → RunAhead k t u → HasLow k m t u
 unfolding RunAhead HasLow
 low-free zero m t u free = tt
-low-free (suc k) m t u free = ((λ alone. absurd (cc (alone, free.0))), low-free k m None (guess t u) free.1)
+low-free (suc k) m t u free = ((λ alone. absurd (cc (alone, free.0))), low-free k m None (prediction t u) free.1)
 
 pub low-first : (m : Machine) (t : Option ℕ) (u : Machine) → ((w : ℕ) → word m w ≡ word u w) → HasLow 1 m t u
 unfolding HasLow
 low-first m t u same = ((λ alone w low. same w), tt)
 
-guess-leaves : (t : Option ℕ) (s : Machine) (w : ℕ) → IsMachine s → IfSome t (λ i. i < 64) → 32 ≤ w
-    → is_among w (entry t s).writes ≡ false → word (guess t s) w ≡ word s w
+prediction-leaves : (t : Option ℕ) (s : Machine) (w : ℕ) → IsMachine s → IfSome t (λ i. i < 64) → 32 ≤ w
+    → is_among w (entry t s).writes ≡ false → word (prediction t s) w ≡ word s w
 unfolding guesses is_word_written
-guess-leaves t s w m some above h = storage-kept 1 t s w m some above (ap (λ b. b || false) h)
+prediction-leaves t s w m some above h = storage-kept 1 t s w m some above (ap (λ b. b || false) h)
 
 -- a register that is read, of an entry that is done alone
 register-there : (b : Bool) (p : Prepared) (m u : Machine) (w k : ℕ) → p.serial ≡ b → IsPrepared p → (p.serial ≡ true → (w : ℕ) → w < 32 → word m w ≡ word u w)
@@ -212,7 +212,7 @@ there-by true w ticks p now e there = inl (ltb-true w 32 e)
 there-by false w ticks p now e there = inr (ltb-false w 32 e, leb-true (fill_tick ticks p w) now (sym (ap (λ b. b || nat_le (fill_tick ticks p w) now) e) ∙ there))
 
 module _ (ds : List ℕ) (n tick now most : ℕ) (m : Machine) (are : AreDelaysUpTo most ds) (behind : tick ≤ now) where
-  word-there : (j k : ℕ) (t : Option ℕ) (u : Machine) (f : Front) → IsMachine u → IfSome t (λ i. i < 64) → Agrees now m (take j f.past) u
+  word-there : (j k : ℕ) (t : Option ℕ) (u : Machine) (f : IssueState) → IsMachine u → IfSome t (λ i. i < 64) → Agrees now m (take j f.past) u
       → ((plan u t).serial ≡ true → (w : ℕ) → w < 32 → word m w ≡ word u w) → k < 2
       → (not (is_transmission (plan u t).instr) && nat_lt k (plan u t).reads.len && is_there (fills ds n f (entry t u)) (plan u t) now ((plan u t).reads.first + k)) ≡ true
       → word m ((plan u t).reads.first + k) ≡ word u ((plan u t).reads.first + k)
@@ -230,7 +230,7 @@ module _ (ds : List ℕ) (n tick now most : ℕ) (m : Machine) (are : AreDelaysU
             agrees w word_by.0 (take-latest j f.past w now due)
       ]
 
-  have-filled : (j : ℕ) (t : Option ℕ) (u : Machine) (f : Front) (level : Level) (q : PlannedRow) → IsMachine u → IfSome t (λ i. i < 64)
+  have-filled : (j : ℕ) (t : Option ℕ) (u : Machine) (f : IssueState) (level : Level) (q : PlannedRow) → IsMachine u → IfSome t (λ i. i < 64)
       → Agrees now m (take j f.past) u → ((plan u t).serial ≡ true → (w : ℕ) → w < 32 → word m w ≡ word u w)
       → IsLevel ds n tick t u f level q → (level_with_words q.fills m now level).have ≡ have_of ds n now t u f
   have-filled j t u f level q machine some agrees low h =
@@ -246,7 +246,7 @@ module _ (ds : List ℕ) (n tick now most : ℕ) (m : Machine) (are : AreDelaysU
       (slot-filled ticks p m u tick now 0 x behind h.have.kept_first (slot-same ticks p m u now 0 (word-there j 0 t u f machine some agrees low (omega arith))))
       (slot-filled ticks p m u tick now 1 y behind h.have.kept_second (slot-same ticks p m u now 1 (word-there j 1 t u f machine some agrees low (omega arith))))
 
-  level-filled : (t : Option ℕ) (u : Machine) (f : Front) (level : Level) (q : PlannedRow)
+  level-filled : (t : Option ℕ) (u : Machine) (f : IssueState) (level : Level) (q : PlannedRow)
       → (level_with_words q.fills m now level).have ≡ have_of ds n now t u f
       → IsLevel ds n tick t u f level q → IsLevel ds n now t u f (level_with_words q.fills m now level) q
   level-filled t u f level q full h =
@@ -258,20 +258,20 @@ module _ (ds : List ℕ) (n tick now most : ℕ) (m : Machine) (are : AreDelaysU
         prepared = prepared-with level a b i j ∙ h.prepared;
         p = p-with level a b i j ∙ h.p;
         have = record { first = _; second = _; slots = full; kept_first = kept-there _; kept_second = kept-there _ };
-        front = h.front;
+        issue = h.issue;
         r = h.r;
         c = h.c;
         fills = h.fills;
       }
 
-  agrees-next : (j : ℕ) (t : Option ℕ) (u : Machine) (f : Front) → IsMachine u → IfSome t (λ i. i < 64) → j ≤ 7
+  agrees-next : (j : ℕ) (t : Option ℕ) (u : Machine) (f : IssueState) → IsMachine u → IfSome t (λ i. i < 64) → j ≤ 7
       → now < (row_of_entry ds n f (entry t u)).c → Agrees now m (take j f.past) u
-      → Agrees now m (take (suc j) (front_after_entry ds n f (entry t u)).past) (guess t u)
+      → Agrees now m (take (suc j) (issue_after_entry ds n f (entry t u)).past) (prediction t u)
   agrees-next j t u f machine some few late agrees = λ w above early.
       let both = not-latest ds n j now w t u f few late early in
-      agrees w above both.1 ∙ sym (guess-leaves t u w machine some above both.0)
+      agrees w above both.1 ∙ sym (prediction-leaves t u w machine some above both.0)
 
-  pub levels-filled : (j : ℕ) (t : Option ℕ) (u : Machine) (f last : Front) (ring : List Level) (plans : List PlannedRow) (new : List Level)
+  pub levels-filled : (j : ℕ) (t : Option ℕ) (u : Machine) (f last : IssueState) (ring : List Level) (plans : List PlannedRow) (new : List Level)
       → IsMachine u → IfSome t (λ i. i < 64) → AreLevels ds n tick t u f last ring plans → All (λ q. now < q.c) plans
       → j + length ring ≤ 8 → Agrees now m (take j f.past) u → HasLow (length ring) m t u
       → ((k : ℕ) (level : Level) (q : PlannedRow) → slice_get ring k ≡ Some level → slice_get plans k ≡ Some q
@@ -289,7 +289,7 @@ module _ (ds : List ℕ) (n tick now most : ℕ) (m : Machine) (are : AreDelaysU
       let done : q.c ≡ (row_of_entry ds n f (entry t u)).c = h.0.c in
       let late : now < (row_of_entry ds n f (entry t u)).c = omega arith in
       let full = have-filled j t u f level q machine some agrees low.0 h.0 in
-      let rest = levels-filled (suc j) None (guess t u) (front_after_entry ds n f (entry t u)) last levels qs new (guess-machine t u machine some) tt h.1
+      let rest = levels-filled (suc j) None (prediction t u) (issue_after_entry ds n f (entry t u)) last levels qs new (prediction-machine t u machine some) tt h.1
       (All-tail (λ (r : PlannedRow). now < r.c) q qs each) (omega arith)
       (agrees-next j t u f machine some (omega arith) late agrees) low.1 (λ k. same (suc k)) (omega arith) in (
         (subst (λ (y : Level). IsLevel ds n now t u f y q) (sym first) (level-filled t u f level q full h.0), rest.0),

@@ -3,12 +3,12 @@ use Rattle.st_ring.specs.Levels.{LevelsView, AreAhead, AreNotDone}
 use Rattle.st_segment.specs.Alone.{is_word_written}
 use Rattle.st_state.specs.Machine.{Machine}
 use Rattle.std.proofs.Common.{length, refl, ap, ◌∙◌, ◌<◌, arith, ◌+◌, ◌≤◌, subst, ◌≡◌, ℕ, false, List, Option}
-use Rattle.st_ring.proofs.LevelLemmas.{levels-front, levels-oldest, levels-prepared, length-ahead}
+use Rattle.st_ring.proofs.LevelLemmas.{levels-issue, levels-oldest, levels-prepared, length-ahead}
 use Rattle.st_rows.specs.Rows.{row_of_entry}
 use Rattle.st_ring.proofs.AloneLemmas.{two-ahead}
 use Rattle.st_rows.specs.Entries.{latest_done}
-use Rattle.st_rows.specs.declared.front.Front.{Front}
-use Rattle.st_segment.specs.Ahead.{front_behind}
+use Rattle.st_rows.specs.declared.issue.IssueState.{IssueState}
+use Rattle.st_segment.specs.Ahead.{issue_behind}
 use Rattle.st_ring.proofs.WriterLemmas.{unwritten-by, take-latest}
 use Rattle.st_ring.proofs.PassLemmas.{ahead-same}
 use Rattle.st_ring.proofs.OrderLemmas.{prepared-order, done-order, not-done, still-waits, due-row}
@@ -19,7 +19,7 @@ use Rattle.st_segment.proofs.Laws.{entries_are_in_range, guesses_leave_the_rest}
 
 pub levels_are_the_entries_ahead : LevelsAreTheEntriesAhead
 levels_are_the_entries_ahead = record {
-  front = λ ds n tick t s f last v h. levels-front ds n tick t s f last v.ring v.plans h.levels;
+  issue = λ ds n tick t s f last v h. levels-issue ds n tick t s f last v.ring v.plans h.levels;
   oldest = λ ds n tick t s f last v h. levels-oldest ds n tick t s f last v.ring v.plans h.levels;
   prepared = λ ds n tick now m t s f last v h each late more.
       let same = levels-prepared ds n tick now m t _ s _ f last v.ring v.plans h.levels each refl refl late more in
@@ -33,19 +33,19 @@ levels_that_are_not_done_run_ahead = λ ds n tick now t s f last v h early late 
     let p : (row_of_entry ds n f e).a < (row_of_entry ds n f e).p = rows_are_in_order.prepared ds n f e in
     omega arith) t s f last v.ring v.plans h.levels early late two
 
-written-seen : (ds : List ℕ) (n tick now j w : ℕ) (t : Option ℕ) (s : Machine) (f last : Front) (v : LevelsView) →
+written-seen : (ds : List ℕ) (n tick now j w : ℕ) (t : Option ℕ) (s : Machine) (f last : IssueState) (v : LevelsView) →
     AreAhead ds n tick t s f last v → AreNotDone now v → j ≤ length v.ring → length v.ring ≤ 8 →
-    latest_done (front_behind ds n j t s f).past w ≤ now → is_word_written j t s w ≡ false
+    latest_done (issue_behind ds n j t s f).past w ≤ now → is_word_written j t s w ≡ false
 written-seen ds n tick now j w t s f last v h open_c here few early =
     (unwritten-by ds n tick now w j 0 t s f last v.ring v.plans h.levels open_c here (omega arith)
-    (take-latest (0 + j) (front_behind ds n j t s f).past w now early)).0
+    (take-latest (0 + j) (issue_behind ds n j t s f).past w now early)).0
 
-last-seen : (ds : List ℕ) (n tick now w : ℕ) (t : Option ℕ) (s : Machine) (f last : Front) (v : LevelsView) →
+last-seen : (ds : List ℕ) (n tick now w : ℕ) (t : Option ℕ) (s : Machine) (f last : IssueState) (v : LevelsView) →
     AreAhead ds n tick t s f last v → AreNotDone now v → length v.ring ≤ 8 →
     latest_done last.past w ≤ now → is_word_written (length v.ring) t s w ≡ false
 last-seen ds n tick now w t s f last v h open_c few early =
     written-seen ds n tick now (length v.ring) w t s f last v h open_c (omega arith) few
-    (subst (λ (g : Front). latest_done g.past w ≤ now) (levels-front ds n tick t s f last v.ring v.plans h.levels) early)
+    (subst (λ (g : IssueState). latest_done g.past w ≤ now) (levels-issue ds n tick t s f last v.ring v.plans h.levels) early)
 
 pub writers_are_seen : WritersAreSeen
 writers_are_seen = record {

@@ -2,19 +2,19 @@
 use Rattle.std.proofs.Common.{◌≡◌, ℕ, List, [], ◌∷◌, length, Option, refl, arith}
 use Rattle.st_state.specs.Machine.{Machine}
 use Rattle.st_prep.specs.Fetch.{index_words}
-use Rattle.st_rows.specs.declared.front.Front.{Front}
+use Rattle.st_rows.specs.declared.issue.IssueState.{IssueState}
 use Rattle.st_ring.specs.declared.level.Level.{Level}
 use Rattle.st_segment.specs.Guesses.{split_words}
 use Rattle.st_segment.specs.Alone.{RunAhead}
 use Rattle.st_ring.specs.Levels.{AreLevels, AreAhead}
 use Rattle.st_ring.specs.declared.plans.PlannedRow.{PlannedRow}
 
-pub none-ahead : (ds : List ℕ) (n tick : ℕ) (t : Option ℕ) (s : Machine) (f : Front) (x : List ℕ) → x ≡ index_words s
+pub none-ahead : (ds : List ℕ) (n tick : ℕ) (t : Option ℕ) (s : Machine) (f : IssueState) (x : List ℕ) → x ≡ index_words s
     → AreAhead ds n tick t s f f (record { ring = []; plans = []; x = x })
 unfolding AreLevels split_words RunAhead
 none-ahead ds n tick t s f x is = record { levels = refl; index = is; run_ahead = tt }
 
-pub none-last : (ds : List ℕ) (n tick : ℕ) (t : Option ℕ) (s : Machine) (f last : Front) (ring : List Level) (plans : List PlannedRow)
+pub none-last : (ds : List ℕ) (n tick : ℕ) (t : Option ℕ) (s : Machine) (f last : IssueState) (ring : List Level) (plans : List PlannedRow)
     (x : List ℕ) → AreLevels ds n tick t s f last ring plans → x ≡ split_words (length ring) t s → length ring ≡ 0
     → (last ≡ f) × (x ≡ index_words s)
 unfolding AreLevels split_words

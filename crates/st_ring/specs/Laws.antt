@@ -5,26 +5,26 @@ use Rattle.st_state.specs.Machine.{Machine, IsMachine, word}
 use Rattle.st_prep.specs.Fetch.{index_words}
 use Rattle.st_prep.specs.BesideOrders.{AreAlikeBesideOrders}
 use Rattle.st_rows.specs.Entries.{latest_done}
-use Rattle.st_rows.specs.Rows.{row_of_entry, front_after_entry}
-use Rattle.st_rows.specs.declared.front.Front.{Front}
+use Rattle.st_rows.specs.Rows.{row_of_entry, issue_after_entry}
+use Rattle.st_rows.specs.declared.issue.IssueState.{IssueState}
 use Rattle.st_segment.specs.Entries.{entry}
 use Rattle.st_segment.specs.Guesses.{guesses, table_behind}
-use Rattle.st_segment.specs.Ahead.{ahead, front_behind, prepared_before}
+use Rattle.st_segment.specs.Ahead.{ahead, issue_behind, prepared_before}
 use Rattle.st_segment.specs.Alone.{RunAhead, is_word_written}
-use Rattle.st_ring.specs.Levels.{LevelsView, AreAhead, AreNotDone, is_oldest_due, oldest_front}
+use Rattle.st_ring.specs.Levels.{LevelsView, AreAhead, AreNotDone, is_oldest_due, oldest_issue}
 
 -- The last front is the one behind the levels, and the oldest of them stands behind the first one.
 -- Where all of them are prepared before a tick, and the entry behind them is not, they are the
 -- entries ahead that are.
 pub record LevelsAreTheEntriesAhead : Type 0 where
-  pub front : (ds : List ℕ) (n tick : ℕ) (t : Option ℕ) (s : Machine) (f last : Front)
+  pub issue : (ds : List ℕ) (n tick : ℕ) (t : Option ℕ) (s : Machine) (f last : IssueState)
       (v : LevelsView) →
-      AreAhead ds n tick t s f last v → last ≡ front_behind ds n (length v.ring) t s f
-  pub oldest : (ds : List ℕ) (n tick : ℕ) (t : Option ℕ) (s : Machine) (f last : Front)
+      AreAhead ds n tick t s f last v → last ≡ issue_behind ds n (length v.ring) t s f
+  pub oldest : (ds : List ℕ) (n tick : ℕ) (t : Option ℕ) (s : Machine) (f last : IssueState)
       (v : LevelsView) →
-      AreAhead ds n tick t s f last v → oldest_front v.plans last ≡ f
+      AreAhead ds n tick t s f last v → oldest_issue v.plans last ≡ f
   pub prepared : (ds : List ℕ) (n tick now m : ℕ) (t : Option ℕ) (s : Machine)
-      (f last : Front) (v : LevelsView) →
+      (f last : IssueState) (v : LevelsView) →
       AreAhead ds n tick t s f last v → All (λ level. level.p < now) v.ring →
       let k = length v.ring in
       now ≤ (row_of_entry ds n last (entry (table_behind k t) (guesses k t s))).p → k ≤ m →
@@ -35,7 +35,7 @@ pub record LevelsAreTheEntriesAhead : Type 0 where
 -- an entry that is, and the one behind it, await the last one.
 abbrev pub LevelsThatAreNotDoneRunAhead : Type 0
 LevelsThatAreNotDoneRunAhead = (ds : List ℕ) (n tick now : ℕ) (t : Option ℕ) (s : Machine)
-    (f last : Front)
+    (f last : IssueState)
     (v : LevelsView) →
     AreAhead ds n tick t s f last v → All (λ level. level.p < now) v.ring →
     All (λ q. now ≤ q.c) v.plans →
@@ -46,14 +46,14 @@ LevelsThatAreNotDoneRunAhead = (ds : List ℕ) (n tick now : ℕ) (t : Option �
 -- in the state.
 pub record WritersAreSeen : Type 0 where
   pub written : (ds : List ℕ) (n tick now j w : ℕ) (t : Option ℕ) (s : Machine)
-      (f last : Front) (v : LevelsView) →
+      (f last : IssueState) (v : LevelsView) →
       AreAhead ds n tick t s f last v → AreNotDone now v → j ≤ length v.ring → length v.ring ≤ 8 →
-      latest_done (front_behind ds n j t s f).past w ≤ now → is_word_written j t s w ≡ false
-  pub last : (ds : List ℕ) (n tick now w : ℕ) (t : Option ℕ) (s : Machine) (f last : Front)
+      latest_done (issue_behind ds n j t s f).past w ≤ now → is_word_written j t s w ≡ false
+  pub last : (ds : List ℕ) (n tick now w : ℕ) (t : Option ℕ) (s : Machine) (f last : IssueState)
       (v : LevelsView) →
       AreAhead ds n tick t s f last v → AreNotDone now v → length v.ring ≤ 8 →
       latest_done last.past w ≤ now → is_word_written (length v.ring) t s w ≡ false
-  pub words : (ds : List ℕ) (n tick now w : ℕ) (t : Option ℕ) (s : Machine) (f last : Front)
+  pub words : (ds : List ℕ) (n tick now w : ℕ) (t : Option ℕ) (s : Machine) (f last : IssueState)
       (v : LevelsView) →
       IsMachine s → IsIndicatorIfAny t →
       AreAhead ds n tick t s f last v → AreNotDone now v → length v.ring ≤ 8 → 32 ≤ w →
@@ -62,7 +62,7 @@ pub record WritersAreSeen : Type 0 where
 -- A signal, and an order that brings no card, are passed over: the levels, none of them done alone,
 -- are the entries ahead as before.
 abbrev pub LevelsPassSignalsOver : Type 0
-LevelsPassSignalsOver = (ds : List ℕ) (n tick : ℕ) (s u : Machine) (f last : Front)
+LevelsPassSignalsOver = (ds : List ℕ) (n tick : ℕ) (s u : Machine) (f last : IssueState)
     (v : LevelsView) →
     IsMachine s →
     AreAlikeBesideOrders s u → RunAhead (length v.ring) None s →
@@ -72,34 +72,34 @@ LevelsPassSignalsOver = (ds : List ℕ) (n tick : ℕ) (s u : Machine) (f last :
 -- Levels are prepared one after another, up to the last front, and they are done one after another:
 -- where the oldest one is not done at a tick, none is, and when it is, the front behind it says so.
 pub record LevelsComeInOrder : Type 0 where
-  pub prepared : (ds : List ℕ) (n tick : ℕ) (t : Option ℕ) (s : Machine) (f last : Front)
+  pub prepared : (ds : List ℕ) (n tick : ℕ) (t : Option ℕ) (s : Machine) (f last : IssueState)
       (v : LevelsView) →
       AreAhead ds n tick t s f last v → All (λ level. (f.p < level.p) ×
       (level.p ≤ last.p)) v.ring
-  pub completed : (ds : List ℕ) (n tick : ℕ) (t : Option ℕ) (s : Machine) (f last : Front)
+  pub completed : (ds : List ℕ) (n tick : ℕ) (t : Option ℕ) (s : Machine) (f last : IssueState)
       (v : LevelsView) →
       IsMachine s → IsIndicatorIfAny t → AreAhead ds n tick t s f last v →
       All (λ q. (f.c < q.c) × (q.c ≤ last.c)) v.plans
-  pub behind : (ds : List ℕ) (n tick now : ℕ) (t : Option ℕ) (s : Machine) (f last : Front)
+  pub behind : (ds : List ℕ) (n tick now : ℕ) (t : Option ℕ) (s : Machine) (f last : IssueState)
       (v : LevelsView) →
       IsMachine s → IsIndicatorIfAny t → AreAhead ds n tick t s f last v → now ≤ f.c →
       AreNotDone now v
-  pub waits : (ds : List ℕ) (n tick now : ℕ) (t : Option ℕ) (s : Machine) (f last : Front)
+  pub waits : (ds : List ℕ) (n tick now : ℕ) (t : Option ℕ) (s : Machine) (f last : IssueState)
       (v : LevelsView) →
       IsMachine s → IsIndicatorIfAny t → AreAhead ds n tick t s f last v → AreNotDone now v →
       is_oldest_due v.plans (now + 1) ≡ false → AreNotDone (now + 1) v
-  pub due : (ds : List ℕ) (n tick now : ℕ) (t : Option ℕ) (s : Machine) (f last : Front)
+  pub due : (ds : List ℕ) (n tick now : ℕ) (t : Option ℕ) (s : Machine) (f last : IssueState)
       (v : LevelsView) →
       AreAhead ds n tick t s f last v → is_oldest_due v.plans now ≡ true →
       (0 < length v.ring) × ((row_of_entry ds n f (entry t s)).c ≡ now) ×
-      ((front_after_entry ds n f (entry t s)).c ≡ now)
+      ((issue_after_entry ds n f (entry t s)).c ≡ now)
 
 -- Where there is no level, nothing runs ahead: the last front is the oldest one, and the index
 -- words are those of the state.
 pub record NothingIsAheadWithoutLevels : Type 0 where
-  pub none : (ds : List ℕ) (n tick : ℕ) (t : Option ℕ) (s : Machine) (f : Front)
+  pub none : (ds : List ℕ) (n tick : ℕ) (t : Option ℕ) (s : Machine) (f : IssueState)
       (x : List ℕ) →
       x ≡ index_words s → AreAhead ds n tick t s f f (record { ring = []; plans = []; x = x })
-  pub only : (ds : List ℕ) (n tick : ℕ) (t : Option ℕ) (s : Machine) (f last : Front)
+  pub only : (ds : List ℕ) (n tick : ℕ) (t : Option ℕ) (s : Machine) (f last : IssueState)
       (v : LevelsView) →
       AreAhead ds n tick t s f last v → length v.ring ≡ 0 → (last ≡ f) × (v.x ≡ index_words s)

@@ -3,10 +3,10 @@ use Rattle.std.specs.Prelude.{ℕ, ◌≡◌, ◌-◌, ◌^◌, ◌≤◌, ◌<�
 use Rattle.st_state.specs.Machine.{Machine}
 use Rattle.st_prep.specs.Plan.{plan}
 use Rattle.st_prep.specs.Ranges.{IsPrepared}
-use Rattle.st_exec.specs.Completion.{guess, is_missed}
-use Rattle.st_rows.specs.Rows.{row_of_entry, front_after_entry}
+use Rattle.st_exec.specs.Completion.{prediction, is_mispredicted}
+use Rattle.st_rows.specs.Rows.{row_of_entry, issue_after_entry}
 use Rattle.st_rows.specs.Words.{fills}
-use Rattle.st_rows.specs.declared.front.Front.{Front}
+use Rattle.st_rows.specs.declared.issue.IssueState.{IssueState}
 use Rattle.st_ring.specs.declared.level.Level.{Level}
 use Rattle.st_segment.specs.Entries.{entry}
 use Rattle.st_segment.specs.Guesses.{split_words}
@@ -32,40 +32,40 @@ pub record AreLevelsSound (n : ℕ) (ring : List Level) (plans : List PlannedRow
 
 module _ (ds : List ℕ) (n tick : ℕ) where
   -- the operand words that the next entry of a state behind a front has at the tick
-  abbrev pub have_of : Option ℕ → Machine → Front → List (Option ℕ)
+  abbrev pub have_of : Option ℕ → Machine → IssueState → List (Option ℕ)
   have_of t s f = slots_of (fills ds n f (entry t s)) (plan s t) s tick
 
   -- a level is the next entry of the state s behind the front f, prepared; t says whether it is a
   -- table instruction. It has no other operand words than those that are there at the tick
-  pub record IsLevel (t : Option ℕ) (s : Machine) (f : Front) (level : Level)
+  pub record IsLevel (t : Option ℕ) (s : Machine) (f : IssueState) (level : Level)
       (q : PlannedRow) : Type 0 where
     pub prepared : level.prepared ≡ plan s t
     pub p : level.p ≡ (row_of_entry ds n f (entry t s)).p
     pub have : AreKept level.have (slot_of (fills ds n f (entry t s)) (plan s t) s tick)
-    pub front : q.front.value ≡ f
+    pub issue : q.issue.value ≡ f
     pub r : q.r ≡ (row_of_entry ds n f (entry t s)).r
     pub c : q.c ≡ (row_of_entry ds n f (entry t s)).c
     pub fills : q.fills ≡ fills ds n f (entry t s)
 
   -- levels, oldest first, are the next entries by guessed steps, and `last` is the front behind
   -- them
-  unfoldable pub AreLevels : Option ℕ → Machine → Front → Front → List Level →
+  unfoldable pub AreLevels : Option ℕ → Machine → IssueState → IssueState → List Level →
       List PlannedRow → Type 0
   AreLevels t s f last [] [] = last ≡ f
   AreLevels t s f last (level ∷ levels) (q ∷ qs) =
       IsLevel t s f level q
-      × AreLevels None (guess t s) (front_after_entry ds n f (entry t s)) last levels qs
+      × AreLevels None (prediction t s) (issue_after_entry ds n f (entry t s)) last levels qs
   AreLevels t s f last _ _ = ⊥
 
   -- they have all operand words that are there at the tick
-  unfoldable pub AreFull : Option ℕ → Machine → Front → List Level → Type 0
+  unfoldable pub AreFull : Option ℕ → Machine → IssueState → List Level → Type 0
   AreFull t s f [] = Unit {0}
   AreFull t s f (level ∷ levels) =
-      (level.have ≡ have_of t s f) × AreFull None (guess t s)
-      (front_after_entry ds n f (entry t s)) levels
+      (level.have ≡ have_of t s f) × AreFull None (prediction t s)
+      (issue_after_entry ds n f (entry t s)) levels
 
   -- all of it: only the youngest level may be one that is done alone
-  pub record AreAhead (t : Option ℕ) (s : Machine) (f last : Front) (v : LevelsView) : Type 0 where
+  pub record AreAhead (t : Option ℕ) (s : Machine) (f last : IssueState) (v : LevelsView) : Type 0 where
     pub levels : AreLevels t s f last v.ring v.plans
     pub index : v.x ≡ split_words (length v.ring) t s
     pub run_ahead : RunAhead (length v.ring - 1) t s
@@ -85,14 +85,14 @@ is_oldest_due [] now = false
 is_oldest_due (q ∷ qs) now = q.c == now
 
 -- the front of the oldest entry that is not done, given that behind the levels
-abbrev pub oldest_front : List PlannedRow → Front → Front
-oldest_front [] last = last
-oldest_front (q ∷ qs) last = q.front.value
+abbrev pub oldest_issue : List PlannedRow → IssueState → IssueState
+oldest_issue [] last = last
+oldest_issue (q ∷ qs) last = q.issue.value
 
 -- what is told of the next entry of the state s behind the front f when it is done
-pub record IsCompleted (ds : List ℕ) (n : ℕ) (t : Option ℕ) (s : Machine) (f : Front)
+pub record IsCompleted (ds : List ℕ) (n : ℕ) (t : Option ℕ) (s : Machine) (f : IssueState)
     (done : Completed) : Type 0 where
   pub address : done.address ≡ (plan s t).place.address
   pub p : done.p ≡ (row_of_entry ds n f (entry t s)).p
   pub r : done.r ≡ (row_of_entry ds n f (entry t s)).r
-  pub missed : done.missed ≡ (if is_missed (plan s t) s then Some (plan s t).following else None)
+  pub mispredicted : done.mispredicted ≡ (if is_mispredicted (plan s t) s then Some (plan s t).following else None)

@@ -8,7 +8,7 @@ pub mod Laws
 pub use Rattle.st_exec.specs.Completion
 pub use Rattle.st_fetch.specs.Queue
 pub use Rattle.st_prep.specs.BesideOrders
-pub use Rattle.st_prep.specs.EarlyChange
+pub use Rattle.st_prep.specs.SpeculativeChanges
 pub use Rattle.st_prep.specs.Fetch
 pub use Rattle.st_prep.specs.FewWords
 pub use Rattle.st_prep.specs.Plan

@@ -1,6 +1,6 @@
 -- What levels make of the index words, and how that is undone.
 use Rattle.std.specs.Prelude.{IfSome, ◌≡◌, ℕ, List, [], ◌∷◌, slice_index, slice_set, Option, None, Some}
-use Rattle.st_prep.specs.EarlyChange.{words_after}
+use Rattle.st_prep.specs.SpeculativeChanges.{words_after}
 use Rattle.st_prep.specs.declared.entries.IndexChange.{IndexChange}
 use Rattle.st_ring.specs.declared.level.Level.{Level}
 

@@ -2,15 +2,15 @@
 ghost use Rattle.std.specs.Prelude.{◌≡◌, ℕ, ◌<◌, ◌≤◌, ◌^◌, length, Option, None, Some, List, [], ◌∷◌, ◌++◌, slice_get, All, false, true};
 ghost use Rattle.st_bits.specs.Indicators.{IsIndicatorIfAny};
 ghost use Rattle.st_state.specs.Machine.{Machine, IsMachine, word as word_of};
-ghost use Rattle.st_prep.specs.EarlyChange.{words_after};
+ghost use Rattle.st_prep.specs.SpeculativeChanges.{words_after};
 ghost use Rattle.st_prep.specs.Fetch.{index_words as index_words_of};
 ghost use Rattle.st_prep.specs.Plan.{plan as plan_of};
 ghost use Rattle.st_prep.specs.Ranges.{IsPrepared};
-ghost use Rattle.st_exec.specs.Completion.{state_after_execution, guess};
+ghost use Rattle.st_exec.specs.Completion.{state_after_execution, prediction};
 ghost use Rattle.st_rows.specs.Ranges.{AreDelaysUpTo};
-ghost use Rattle.st_rows.specs.Rows.{row_of_entry, front_after_entry};
+ghost use Rattle.st_rows.specs.Rows.{row_of_entry, issue_after_entry};
 ghost use Rattle.st_rows.specs.Words.{fills};
-ghost use Rattle.st_rows.specs.declared.front.Front.{Front as FrontOf};
+ghost use Rattle.st_rows.specs.declared.issue.IssueState.{IssueState as IssueStateOf};
 ghost use Rattle.st_segment.specs.Entries.{entry};
 ghost use Rattle.st_segment.specs.Guesses.{guesses, table_behind};
 ghost use Rattle.st_segment.specs.Alone.{RunAhead};
@@ -20,10 +20,10 @@ ghost use Rattle.st_ring.specs.PlannedRows.{planned_row};
 use crate::filling::fill_all;
 use crate::plans::{PlannedRow, PlannedRowRing};
 use crate::ring::SpecRing;
-use crate::slots::missed;
+use crate::slots::mispredicted;
 use st_exec::complete_in;
 use st_prep::{Prepared, change_index, index_words};
-use st_rows::{Filled, Front};
+use st_rows::{Filled, IssueState};
 use st_state::State;
 use std::marker::Model;
 
@@ -37,7 +37,7 @@ pub struct Completed {
     /// The tick at which its operands were there.
     pub r: u64,
     /// Where its guess was wrong, the counter by which what runs ahead goes on.
-    pub missed: Option<u32>,
+    pub mispredicted: Option<u32>,
 }
 
 /// The levels of a machine with N levels, 1 to 8, and the index words that run ahead of the state.
@@ -108,7 +108,7 @@ impl<const N: usize> Levels<N> {
 
     /// Appends an entry that is prepared behind `front`; `filled` is its row. The index word that
     /// it changes is changed, and its slots are empty. There is room.
-    pub fn push(&mut self, prepared: &Prepared, front: &Front, filled: &Filled)
+    pub fn push(&mut self, prepared: &Prepared, issue: &IssueState, filled: &Filled)
         requires room { length self.old.ring < N }
         requires prepared { IsPrepared prepared.now }
         ensures ring { self.new.ring ≡ self.old.ring ++ (record {
@@ -117,7 +117,7 @@ impl<const N: usize> Levels<N> {
           r = filled.now.row.p;
           have = None ∷ None ∷ [];
         }) ∷ [] }
-        ensures plans { self.new.plans ≡ self.old.plans ++ planned_row front.now filled.now ∷ [] }
+        ensures plans { self.new.plans ≡ self.old.plans ++ planned_row issue.now filled.now ∷ [] }
         ensures index { self.new.x ≡ words_after self.old.x prepared.now.index }
         ensures few { length self.new.ring ≤ N }
         ensures not_done { (now : ℕ) → AreNotDone now self.old → now < filled.now.row.c →
@@ -126,19 +126,19 @@ impl<const N: usize> Levels<N> {
         // Where the levels are the entries ahead, none done alone, and it is the next one, they are
         // so with it.
         ensures ahead { (ds : List ℕ) (n tick : ℕ) (t : Option ℕ) (s : Machine)
-            (f last : FrontOf) →
+            (f last : IssueStateOf) →
             let k = length self.old.ring in let u = guesses k t s in let i = table_behind k t in
             IsMachine s → IsIndicatorIfAny t →
             AreAhead ds n tick t s f last self.old → RunAhead k t s →
-            front.now ≡ last → prepared.now ≡ plan_of u i →
+            issue.now ≡ last → prepared.now ≡ plan_of u i →
             filled.now.row ≡ row_of_entry ds n last (entry i u) →
             filled.now.fills ≡ fills ds n last (entry i u) →
-            AreAhead ds n tick t s f (front_after_entry ds n last (entry i u)) self.new }
+            AreAhead ds n tick t s f (issue_after_entry ds n last (entry i u)) self.new }
     {
         change_index(prepared.index, &mut self.x);
         self.ring
             .push_prepared(prepared, filled.row.p, [None, None]);
-        self.plans.push(front, filled);
+        self.plans.push(issue, filled);
     }
 
     /// The tick at which the oldest level is done, 2^64 - 1 where there is none.
@@ -168,25 +168,25 @@ impl<const N: usize> Levels<N> {
     pub fn complete(&mut self, state: &mut State) -> Completed
         requires some { 0 < length self.old.ring }
         requires few { state.old.done < 2 ^ 63 }
-        ensures { (ds : List ℕ) (n tick : ℕ) (t : Option ℕ) (s : Machine) (f last : FrontOf) →
+        ensures { (ds : List ℕ) (n tick : ℕ) (t : Option ℕ) (s : Machine) (f last : IssueStateOf) →
             IsMachine s → IsIndicatorIfAny t → AreAhead ds n tick t s f last self.old →
             s ≡ state.old →
             (state.new ≡ state_after_execution t s) × IsCompleted ds n t s f result
-            × AreAhead ds n tick None (guess t s)
-            (front_after_entry ds n f (entry t s)) last self.new
-            × (AreFull ds n tick t s f self.old.ring → AreFull ds n tick None (guess t s)
-            (front_after_entry ds n f (entry t s)) self.new.ring) }
+            × AreAhead ds n tick None (prediction t s)
+            (issue_after_entry ds n f (entry t s)) last self.new
+            × (AreFull ds n tick t s f self.old.ring → AreFull ds n tick None (prediction t s)
+            (issue_after_entry ds n f (entry t s)) self.new.ring) }
     {
         let r = self.plans.get(0).r;
         let level = self.ring.oldest();
-        let missed = missed(&level.prepared, state);
+        let mispredicted = mispredicted(&level.prepared, state);
         complete_in(&level.prepared, state);
         renew(&mut self.x, level.prepared.serial, state);
         let done = Completed {
             address: level.prepared.place.address,
             p: level.p,
             r,
-            missed,
+            mispredicted,
         };
         self.ring.drop_oldest();
         self.plans.drop_first();
@@ -204,7 +204,7 @@ impl<const N: usize> Levels<N> {
         // All are prepared by then, and none is done yet. A word that is there is written by no
         // older level, so it stands in the state as before the step of the entry.
         ensures ahead { (ds : List ℕ) (n tick most : ℕ) (t : Option ℕ) (s : Machine)
-            (f last : FrontOf) →
+            (f last : IssueStateOf) →
             AreDelaysUpTo most ds → IsMachine s → IsIndicatorIfAny t →
             AreAhead ds n tick t s f last self.old →
             tick ≤ now → All (λ level. level.p ≤ now) self.old.ring → AreNotDone now self.old →
@@ -220,7 +220,7 @@ impl<const N: usize> Levels<N> {
         ensures empty { (self.new.ring ≡ []) × (self.new.plans ≡ []) }
         ensures count { result ≡ length self.old.ring }
         ensures few { length self.old.ring ≤ N }
-        ensures words { (ds : List ℕ) (n tick : ℕ) (t : Option ℕ) (s : Machine) (f last : FrontOf) →
+        ensures words { (ds : List ℕ) (n tick : ℕ) (t : Option ℕ) (s : Machine) (f last : IssueStateOf) →
             IsMachine s → IsIndicatorIfAny t → AreAhead ds n tick t s f last self.old →
             self.new.x ≡ index_words_of s }
     {

@@ -2,7 +2,7 @@
 ghost use Rattle.std.specs.Prelude.{◌≡◌, ◌+◌, ◌<◌, ◌≤◌, [], ◌∷◌, ◌++◌, length, drop, slice_get, Some};
 ghost use Rattle.st_ring.specs.PlannedRows.{planned_row};
 
-use st_rows::{Filled, Front};
+use st_rows::{Filled, IssueState};
 use std::marker::Model;
 use std::snapshot::Snapshot;
 
@@ -13,7 +13,7 @@ const SLOTS: usize = 8;
 #[derive(Drop)]
 pub struct PlannedRow {
     /// The front that the row was computed from, which clauses alone read.
-    pub front: Snapshot<Front>,
+    pub issue: Snapshot<IssueState>,
     /// When the operands of the level are there.
     pub r: u64,
     /// When it is done.
@@ -75,13 +75,13 @@ impl PlannedRowRing {
 
     /// Appends the row of an entry behind `front`, whose operands are there as `filled` says; it is
     /// the youngest then. There is room.
-    pub fn push(&mut self, front: &Front, filled: &Filled)
+    pub fn push(&mut self, issue: &IssueState, filled: &Filled)
         requires { length self.old < 8 }
-        ensures rows { self.new ≡ self.old ++ planned_row front.now filled.now ∷ [] }
+        ensures rows { self.new ≡ self.old ++ planned_row issue.now filled.now ∷ [] }
         ensures len { length self.new ≡ length self.old + 1 }
     {
         let at = (self.head + self.len) % SLOTS;
-        plan_into(&mut self.slots[at], front, filled);
+        plan_into(&mut self.slots[at], issue, filled);
         self.len += 1;
     }
 
@@ -114,7 +114,7 @@ impl PlannedRowRing {
 // What stands in a slot without a row.
 fn no_plan() -> PlannedRow {
     PlannedRow {
-        front: Snapshot::of(&Front::default()),
+        issue: Snapshot::of(&IssueState::default()),
         r: 0,
         c: 0,
         fills: [0; 2],
@@ -122,10 +122,10 @@ fn no_plan() -> PlannedRow {
 }
 
 // The slot becomes the row of an entry behind `front`, whose operands are there as `filled` says.
-fn plan_into(slot: &mut PlannedRow, front: &Front, filled: &Filled)
-    ensures { slot.new ≡ planned_row front.now filled.now }
+fn plan_into(slot: &mut PlannedRow, issue: &IssueState, filled: &Filled)
+    ensures { slot.new ≡ planned_row issue.now filled.now }
 {
-    slot.front = Snapshot::of(front);
+    slot.issue = Snapshot::of(issue);
     slot.r = filled.row.r;
     slot.c = filled.row.c;
     slot.fills = filled.fills;

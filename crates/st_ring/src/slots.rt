@@ -2,9 +2,9 @@
 ghost use Rattle.std.specs.Prelude.{◌≡◌, None, Some, if◌then◌else◌};
 ghost use Rattle.st_prep.specs.FewWords.{is_transmission as is_transmission_of};
 ghost use Rattle.st_prep.specs.Ranges.{IsPrepared};
-ghost use Rattle.st_exec.specs.Completion.{is_missed as is_missed_of};
+ghost use Rattle.st_exec.specs.Completion.{is_mispredicted as is_mispredicted_of};
 
-use st_exec::is_missed;
+use st_exec::is_mispredicted;
 use st_format::Instr;
 use st_prep::Prepared;
 use st_state::State;
@@ -17,11 +17,11 @@ pub(crate) fn is_transmission(instr: &Instr) -> bool
 }
 
 // The counter by which what runs ahead of an entry goes on, where the guess of it is wrong.
-pub(crate) fn missed(p: &Prepared, state: &State) -> Option<u32>
+pub(crate) fn mispredicted(p: &Prepared, state: &State) -> Option<u32>
     requires { IsPrepared p.now }
-    ensures { result ≡ (if is_missed_of p.now state.now then Some p.now.following else None) }
+    ensures { result ≡ (if is_mispredicted_of p.now state.now then Some p.now.following else None) }
 {
-    if is_missed(p, state) {
+    if is_mispredicted(p, state) {
         Some(p.following)
     } else {
         None

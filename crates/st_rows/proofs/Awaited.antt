@@ -8,7 +8,7 @@ use Rattle.st_rows.specs.Uses.{behind, behind_use, uses, wishes, forwarded_at}
 use Rattle.st_rows.specs.declared.past.Past.{Past}
 use Rattle.st_rows.specs.declared.entry.Entry.{Entry}
 use Rattle.st_rows.specs.declared.fetching.Fetching.{Fetching}
-use Rattle.st_rows.specs.declared.front.Front.{Front}
+use Rattle.st_rows.specs.declared.issue.IssueState.{IssueState}
 use Rattle.st_rows.proofs.UseLemmas.{read_if}
 
 module _ (ds : List ℕ) (past : List Past) (from : ℕ) where
@@ -25,7 +25,7 @@ module _ (ds : List ℕ) (past : List Past) (from : ℕ) where
       rw here (omega (arith, awaited-later (fetch_word ds past s w from) (w + 1) n))
   awaited-each s w (suc n) (suc i) v inside is = awaited-each (fetch_word ds past s w from) (w + 1) n i v (omega arith) (omega arith)
 
-module _ (ds : List ℕ) (f : Front) (e : Entry) (i : ℕ) where
+module _ (ds : List ℕ) (f : IssueState) (e : Entry) (i : ℕ) where
   pub awaited-own : i < e.own.len → latest_done f.past (e.own.first + i) ≤ (words_tick ds f e).awaited
   unfolding words_tick fetch_words
   awaited-own inside =
@@ -53,7 +53,7 @@ module _ (ds : List ℕ) (past : List Past) (p : ℕ) where
       omega (arith, ready-later (read_word ds past s w p) (w + 1) n, ready-later_if (forwarded_at past w p) s w)
 
 -- the operands are there when the entry is prepared, or later
-pub ready-after : (ds : List ℕ) (n : ℕ) (f : Front) (e : Entry) → tick_p ds n f e ≤ (operands ds n f e).answered
+pub ready-after : (ds : List ℕ) (n : ℕ) (f : IssueState) (e : Entry) → tick_p ds n f e ≤ (operands ds n f e).answered
 unfolding operands operands_read read_words
 ready-after ds n f e =
     let p = tick_p ds n f e in

@@ -15,7 +15,7 @@ use Rattle.st_rows.specs.declared.entry.WordRuns.{WordRuns}
 use Rattle.st_rows.specs.declared.entry.Entry.{Entry}
 use Rattle.st_rows.specs.declared.past.Past.{Past}
 use Rattle.st_rows.specs.declared.fetching.Fetching.{Fetching}
-use Rattle.st_rows.specs.declared.front.Front.{Front}
+use Rattle.st_rows.specs.declared.issue.IssueState.{IssueState}
 use Rattle.st_rows.proofs.UseLemmas.{following-is}
 
 module _ (P : Read → Type 0) where
@@ -34,7 +34,7 @@ module _ (P : Read → Type 0) where
       (each-word (tick_of s.bus.held.words w) w want (is w want (omega arith) (omega arith) (omega arith)))
       (each-words ds past from (fetch_word ds past s w from) (w + 1) n (λ v late least most low. is v late (omega arith) (omega arith) low))
 
-  pub each-fetch : (ds : List ℕ) (f : Front) (e : Entry)
+  pub each-fetch : (ds : List ℕ) (f : IssueState) (e : Entry)
       → ((v want : ℕ) → e.own.first ≤ v → v < e.own.first + e.own.len → wanted_from f ≤ want → P (record { w = v; want = want; fetch = true }))
       → ((v want : ℕ) → e.target.first ≤ v → v < e.target.first + e.target.len → wanted_from f ≤ want → P (record { w = v; want = want; fetch = true }))
       → All P (fetches_asked ds f e)
@@ -96,7 +96,7 @@ module _ (P : Read → Type 0) where
       → All P (following_asked ds b e p)
   each-following ds b e p is = rw (following-is ds b e p) (each-following_if e.follows ds b (e.own.first + e.own.len) p is)
 
-  pub each-of-data : (ds : List ℕ) (n : ℕ) (f : Front) (e : Entry)
+  pub each-of-data : (ds : List ℕ) (n : ℕ) (f : IssueState) (e : Entry)
       → All P (side_asked f.past e.side (tick_a ds f e)) → All P (runs_asked f.past e.reads (tick_p ds n f e))
       → All P (following_asked ds (operands ds n f e).bus e (tick_p ds n f e)) → All P (data_of ds n f e)
   each-of-data ds n f e side runs next =

@@ -12,7 +12,7 @@ use Rattle.st_rows.specs.declared.bus.Bus.{Bus}
 use Rattle.st_rows.specs.declared.entry.WordRun.{WordRun}
 use Rattle.st_rows.specs.declared.entry.Entry.{Entry}
 use Rattle.st_rows.specs.declared.past.Past.{Past}
-use Rattle.st_rows.specs.declared.front.Front.{Front}
+use Rattle.st_rows.specs.declared.issue.IssueState.{IssueState}
 use Rattle.st_rows.proofs.Awaited.{ready-later}
 use Rattle.st_rows.proofs.Within.{delay-bounds, latest-within}
 use Rattle.st_rows.specs.declared.fetching.Fetching.{Fetching}
@@ -103,14 +103,14 @@ no-more : (ds : List ℕ) (past : List Past) (s : Fetching) (p w n : ℕ) → n 
 unfolding read_words behind uses wishes read_word
 no-more ds past s p w n none = rw none refl
 
-pub fills-decide : (most n : ℕ) (ds : List ℕ) (f : Front) (e : Entry) → IsTight most f → e.reads.one.len ≤ 2 → e.reads.two.len ≡ 0
+pub fills-decide : (most n : ℕ) (ds : List ℕ) (f : IssueState) (e : Entry) → IsTight most f → e.reads.one.len ≤ 2 → e.reads.two.len ≡ 0
     → max (operands ds n f e).answered f.c ≡ max (max (tick_p ds n f e) f.c) (max (get_or (fills ds n f e) 0 0) (get_or (fills ds n f e) 1 0))
 unfolding operands operands_read read_words
 fills-decide most n ds f e tight few none =
     ap (λ (s : Fetching). max s.answered f.c) (no-more ds f.past _ (tick_p ds n f e) e.reads.two.first e.reads.two.len none)
     ∙ two-decide ds f.past (tick_p ds n f e) f.c tight.done (bus_a ds f e) e.reads.one few
 
-pub fills-ready : (most n i : ℕ) (ds : List ℕ) (f : Front) (e : Entry) → IsTight most f → get_or (fills ds n f e) i 0 ≤ max (operands ds n f e).answered f.c
+pub fills-ready : (most n i : ℕ) (ds : List ℕ) (f : IssueState) (e : Entry) → IsTight most f → get_or (fills ds n f e) i 0 ≤ max (operands ds n f e).answered f.c
 unfolding operands operands_read read_words
 fills-ready most n i ds f e tight =
     let p = tick_p ds n f e in

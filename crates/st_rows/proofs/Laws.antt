@@ -1,6 +1,6 @@
 -- What holds of the ticks of all entries, proved.
 use Rattle.std.proofs.Common.{arith, [], ◌≡◌, ◌≤◌, ℕ, Option, None, Some, refl}
-use Rattle.st_rows.specs.Rows.{row_of_entry, address_tick, preparation_tick, tick_a, tick_p, tick_c, front_after_entry, bus_a, opening_front, wanted_from, operands}
+use Rattle.st_rows.specs.Rows.{row_of_entry, address_tick, preparation_tick, tick_a, tick_p, tick_c, issue_after_entry, bus_a, opening_issue, wanted_from, operands}
 use Rattle.st_rows.proofs.Awaited.{awaited-own, awaited-target, ready-after}
 use Rattle.st_rows.proofs.Stages.{c-within}
 use Rattle.st_rows.proofs.Tight.{tight-after}
@@ -10,7 +10,7 @@ use Rattle.st_rows.proofs.Older.{older-after, row-kept, after-kept}
 use Rattle.st_rows.proofs.Served.{served-asked, few-asked, most-asked, free-one_if, made-bounds, served-fetches, served-formed, served-prepared, served-uses, few-uses}
 use Rattle.st_rows.specs.BusTimes.{accept_at, Read}
 use Rattle.st_rows.proofs.Within.{delay-bounds}
-use Rattle.st_rows.proofs.Parts.{asked-parts, two-parts, a-p, at-prepared, free-fetched, free-formed, front-formed, front-done, free-done}
+use Rattle.st_rows.proofs.Parts.{asked-parts, two-parts, a-p, at-prepared, free-fetched, free-formed, issue-formed, issue-done, free-done}
 use Rattle.std.specs.Prelude.{IfSome}
 use Rattle.st_rows.proofs.Each.{each-fetch, each-side, each-operand, each-following, each-of-data}
 use Rattle.st_rows.proofs.MadeLemmas.{all-made, made-more}
@@ -32,7 +32,7 @@ rows_are_in_order = record {
 }
 
 pub completions_are_bounded : CompletionsAreBounded
-unfolding front_after_entry
+unfolding issue_after_entry
 completions_are_bounded = record {
   tight = λ most n ds f e are entry tight. tight-after most ds are n f e entry tight;
   bound = λ most n ds f e are entry tight. omega (arith, c-within most ds are f e entry tight n);
@@ -64,7 +64,7 @@ entries_are_no_later = record {
 
 pub more_levels_are_no_later : MoreLevelsAreNoLater
 more_levels_are_no_later = λ d m n start ds banks es are more hazard_free.
-    rows-sooner d ds are m n more es (opening_front banks start) (opening_front banks start) [] (opening-sooner banks start) (opening-order banks start)
+    rows-sooner d ds are m n more es (opening_issue banks start) (opening_issue banks start) [] (opening-sooner banks start) (opening-order banks start)
     (opening-covered banks start) hazard_free
 
 pub older_entries_are_done_before : OlderEntriesAreDoneBefore
@@ -132,10 +132,10 @@ reads_are_wanted_in_time = record {
 
 pub buses_are_free_in_time : BusesAreFreeInTime
 buses_are_free_in_time = record {
-  before = λ ds f e. front-formed ds f e;
+  before = λ ds f e. issue-formed ds f e;
   fetched = λ most n ds f e are entry tight. free-fetched most ds are n f e entry tight;
   formed = λ most n ds f e are entry tight. free-formed most ds are n f e entry tight;
-  done = λ most n ds f e are entry tight. (front-done most ds are n f e entry tight, free-done most ds are n f e entry tight);
+  done = λ most n ds f e are entry tight. (issue-done most ds are n f e entry tight, free-done most ds are n f e entry tight);
 }
 
 pub late_reads_change_nothing : LateReadsChangeNothing

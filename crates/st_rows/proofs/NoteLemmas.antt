@@ -80,9 +80,9 @@ falling-more m (x ∷ notes) falls late = (
 -- ---- the ring
 
 -- a write before the first item adds it in front
-pub window-front : (head n : ℕ) (xs : List Made) (m : Made) → head < 64 → n < 64 → length xs ≡ 64
+pub window-issue : (head n : ℕ) (xs : List Made) (m : Made) → head < 64 → n < 64 → length xs ≡ 64
     → window ((head + 64 - 1) % 64) (n + 1) (set xs ((head + 64 - 1) % 64) m) ≡ m ∷ window head n xs
-window-front head n xs m inside room whole =
+window-issue head n xs m inside room whole =
     let at = (head + 64 - 1) % 64 in
     let ys = set xs at m in
     let length_ys = length-set xs at m ∙ whole in
@@ -114,7 +114,7 @@ window-front head n xs m inside room whole =
 pub window-full : (head : ℕ) (xs : List Made) (m : Made) → head < 64 → length xs ≡ 64
     → window ((head + 64 - 1) % 64) 64 (set xs ((head + 64 - 1) % 64) m) ≡ m ∷ take 63 (window head 64 xs)
 window-full head xs m inside whole =
-    window-front head 63 xs m inside (omega arith) whole ∙ ap (λ (rest : List Made). m ∷ rest) (sym (take-fewer 63 (drop head xs ++ take head xs)))
+    window-issue head 63 xs m inside (omega arith) whole ∙ ap (λ (rest : List Made). m ∷ rest) (sym (take-fewer 63 (drop head xs ++ take head xs)))
 
 -- fewer items are all of them
 pub take-few : (n : ℕ) (notes : List Made) → length notes ≤ n → take n notes ≡ notes

@@ -6,15 +6,15 @@ use Rattle.std.proofs.lemmas.List.{get_or-take}
 use Rattle.std.proofs.lemmas.List.Elements.{All-from_get_or}
 use Rattle.st_rows.specs.BusTimes.{bus_after_request, answer_tick_on, answer_if}
 use Rattle.st_rows.specs.Entries.{is_among, latest_done, no_runs}
-use Rattle.st_rows.specs.Levels.{AreInOrder, AreOlderDone, front_of_last}
-use Rattle.st_rows.specs.Rows.{wanted_from, words_tick, address_tick, done_before, preparation_tick, tick_a, bus_a, tick_y, tick_p, operands, tick_c, row_of_entry, front_after_entry}
-use Rattle.st_rows.specs.Words.{fetch_word, fetch_words, bus_sided, side_there, read_word, read_words, operands_read}
+use Rattle.st_rows.specs.Levels.{AreInOrder, AreOlderDone, issue_of_last}
+use Rattle.st_rows.specs.Rows.{wanted_from, words_tick, address_tick, done_before, preparation_tick, tick_a, bus_a, index_arrival, tick_p, operands, tick_c, row_of_entry, issue_after_entry}
+use Rattle.st_rows.specs.Words.{fetch_word, fetch_words, bus_after_index_read, side_there, read_word, read_words, operands_read}
 use Rattle.st_rows.specs.declared.bus.Bus.{Bus}
 use Rattle.st_rows.specs.declared.entry.WordRuns.{WordRuns}
 use Rattle.st_rows.specs.declared.entry.Entry.{Entry}
 use Rattle.st_rows.specs.declared.past.Past.{Past}
 use Rattle.st_rows.specs.declared.fetching.Fetching.{Fetching}
-use Rattle.st_rows.specs.declared.front.Front.{Front}
+use Rattle.st_rows.specs.declared.issue.IssueState.{IssueState}
 use Rattle.st_rows.proofs.Within.{latest-within}
 use Rattle.st_rows.proofs.Sooner.{take-beyond}
 use Rattle.st_rows.specs.Uses.{behind, behind_use, uses, wishes}
@@ -34,8 +34,8 @@ older-next : (n p : ℕ) (x : Past) (past : List Past) → 1 ≤ n → ((j : ℕ
 older-next n p x past some old zero back = let no_place : ⊥ = omega arith in absurd no_place
 older-next n p x past some old (suc j) back = old j (omega arith)
 
-pub older-after : (ds : List ℕ) (n : ℕ) (f : Front) (e : Entry) → 1 ≤ n → AreInOrder f → AreOlderDone n (front_after_entry ds n f e)
-unfolding front_after_entry tick_p preparation_tick
+pub older-after : (ds : List ℕ) (n : ℕ) (f : IssueState) (e : Entry) → 1 ≤ n → AreInOrder f → AreOlderDone n (issue_after_entry ds n f e)
+unfolding issue_after_entry tick_p preparation_tick
 older-after ds n f e some order =
     older-next n (tick_p ds n f e) (record { c = tick_c ds n f e; writes = e.writes }) (take 7 f.past) some
     (older-taken (n - 1) (tick_p ds n f e) f.past (λ j back. omega (arith, order.falls (n - 1) j back)))
@@ -96,8 +96,8 @@ module _ (ds : List ℕ) (p : ℕ) (few past : List Past) (alike : (w : ℕ) →
   same-there_if w a x y b late (inl same) = rw same refl
   same-there_if w a x y b late (inr old) = rw (not-later a x (omega (arith, old.0)), not-later a y (omega (arith, old.1))) refl
 
-  same-sided : (b : Bus) (side : Option ℕ) (a : ℕ) → p < a → bus_sided ds few b side a ≡ bus_sided ds past b side a
-  unfolding bus_sided behind uses behind_use
+  same-sided : (b : Bus) (side : Option ℕ) (a : ℕ) → p < a → bus_after_index_read ds few b side a ≡ bus_after_index_read ds past b side a
+  unfolding bus_after_index_read behind uses behind_use
   same-sided b None a late = refl
   same-sided b (Some w) a late = same-bus_if w a (latest_done few w) (latest_done past w) b late (alike w)
 
@@ -139,7 +139,7 @@ take-newest : (n : ℕ) (x : Past) (past : List Past) → take n (x ∷ take 7 (
 take-newest zero x past = refl
 take-newest (suc n) x past = ap (λ (rest : List Past). x ∷ rest) (take-thrice n 7 (suc n) past (omega arith))
 
-module _ (ds : List ℕ) (n : ℕ) (f : Front) (e : Entry) (some : 1 ≤ n) (old : AreOlderDone n f) where
+module _ (ds : List ℕ) (n : ℕ) (f : IssueState) (e : Entry) (some : 1 ≤ n) (old : AreOlderDone n f) where
   alike : (w : ℕ) → AreAlike f.p (latest_done (take n f.past) w) (latest_done f.past w)
   alike w = latest-kept f.p f.past n w old
 
@@ -150,7 +150,7 @@ module _ (ds : List ℕ) (n : ℕ) (f : Front) (e : Entry) (some : 1 ≤ n) (old
       late_if true = omega arith
       late_if false = omega arith
 
-  same-fetched : AreSame f.p (words_tick ds (front_of_last n f) e) (words_tick ds f e)
+  same-fetched : AreSame f.p (words_tick ds (issue_of_last n f) e) (words_tick ds f e)
   unfolding words_tick fetch_words
   same-fetched =
       let start : AreSame f.p (record { bus = f.bus; answered = 0; awaited = 0 }) (record { bus = f.bus; answered = 0; awaited = 0 }) =
@@ -158,7 +158,7 @@ module _ (ds : List ℕ) (n : ℕ) (f : Front) (e : Entry) (some : 1 ≤ n) (old
       same-words ds f.p (take n f.past) f.past alike (max (wanted_from f) f.c) _ _ e.target.first e.target.len (omega (arith, wanted-late))
       (same-words ds f.p (take n f.past) f.past alike (wanted_from f) _ _ e.own.first e.own.len wanted-late start)
 
-  same-a : tick_a ds (front_of_last n f) e ≡ tick_a ds f e
+  same-a : tick_a ds (issue_of_last n f) e ≡ tick_a ds f e
   unfolding tick_a address_tick
   same-a = omega (arith, same-fetched.answered, same-fetched.awaited)
 
@@ -166,14 +166,14 @@ module _ (ds : List ℕ) (n : ℕ) (f : Front) (e : Entry) (some : 1 ≤ n) (old
   unfolding tick_a address_tick
   a-late = omega arith
 
-  same-bus_a : bus_a ds (front_of_last n f) e ≡ bus_a ds f e
-  unfolding bus_a bus_sided
+  same-bus_a : bus_a ds (issue_of_last n f) e ≡ bus_a ds f e
+  unfolding bus_a bus_after_index_read
   same-bus_a =
-      both (λ b a. bus_sided ds (take n f.past) b e.side a) _ _ _ _ same-fetched.bus same-a
+      both (λ b a. bus_after_index_read ds (take n f.past) b e.side a) _ _ _ _ same-fetched.bus same-a
       ∙ same-sided ds f.p (take n f.past) f.past alike (words_tick ds f e).bus e.side (tick_a ds f e) a-late
 
-  same-y : tick_y ds (front_of_last n f) e ≡ tick_y ds f e
-  unfolding tick_y side_there
+  same-y : index_arrival ds (issue_of_last n f) e ≡ index_arrival ds f e
+  unfolding index_arrival side_there
   same-y =
       both (λ b a. side_there ds (take n f.past) b e.side a) _ _ _ _ same-fetched.bus same-a
       ∙ same-there ds f.p (take n f.past) f.past alike (words_tick ds f e).bus e.side (tick_a ds f e) a-late
@@ -181,7 +181,7 @@ module _ (ds : List ℕ) (n : ℕ) (f : Front) (e : Entry) (some : 1 ≤ n) (old
   same-nth : done_before n (take n f.past) ≡ done_before n f.past
   same-nth = ap (λ (d : Past). d.c) (get_or-take n f.past (n - 1) (record { c = 0; writes = no_runs }) (omega arith))
 
-  same-p : tick_p ds n (front_of_last n f) e ≡ tick_p ds n f e
+  same-p : tick_p ds n (issue_of_last n f) e ≡ tick_p ds n f e
   unfolding tick_p preparation_tick
   same-p = omega (arith, same-a, same-y, same-nth)
 
@@ -189,22 +189,22 @@ module _ (ds : List ℕ) (n : ℕ) (f : Front) (e : Entry) (some : 1 ≤ n) (old
   unfolding tick_p preparation_tick
   p-late = omega (arith, a-late)
 
-  same-operands_of : operands ds n (front_of_last n f) e ≡ operands ds n f e
+  same-operands_of : operands ds n (issue_of_last n f) e ≡ operands ds n f e
   unfolding operands operands_read read_words
   same-operands_of =
       both (λ b q. operands_read ds (take n f.past) (record { bus = b; answered = q; awaited = 0 }) e.reads q) _ _ _ _ same-bus_a same-p
       ∙ same-operands ds f.p (take n f.past) f.past alike (bus_a ds f e) e.reads (tick_p ds n f e) p-late
 
-  same-c : tick_c ds n (front_of_last n f) e ≡ tick_c ds n f e
+  same-c : tick_c ds n (issue_of_last n f) e ≡ tick_c ds n f e
   unfolding tick_c
   same-c = rw same-operands_of refl
 
-  pub row-kept : row_of_entry ds n (front_of_last n f) e ≡ row_of_entry ds n f e
+  pub row-kept : row_of_entry ds n (issue_of_last n f) e ≡ row_of_entry ds n f e
   unfolding row_of_entry
   row-kept = rw (same-a, same-p, same-operands_of, same-c) refl
 
-  pub after-kept : front_of_last n (front_after_entry ds n (front_of_last n f) e) ≡ front_of_last n (front_after_entry ds n f e)
-  unfolding front_after_entry
+  pub after-kept : issue_of_last n (issue_after_entry ds n (issue_of_last n f) e) ≡ issue_of_last n (issue_after_entry ds n f e)
+  unfolding issue_after_entry
   after-kept =
       let taken = take-newest n (record { c = tick_c ds n f e; writes = e.writes }) f.past in
       rw (same-operands_of, same-p, same-c, taken) refl

@@ -7,8 +7,8 @@ use Rattle.st_fetch.specs.Planned.{tick_of}
 use Rattle.st_rows.specs.Asked.{word_asked, words_asked, data_asked, side_asked, operands_asked, inside_asked, runs_asked, following_asked, fetches_asked, formed_asked, prepared_asked, bus_after_reads, made_before, side_count, own_reads}
 use Rattle.st_rows.specs.BusTimes.{accept_at, bus_after_read, requested_if, bus_after_request, Read, after_one, bus_if}
 use Rattle.st_rows.specs.Ranges.{AreDelaysUpTo, IsNear}
-use Rattle.st_rows.specs.Rows.{wanted_from, words_tick, tick_a, bus_a, tick_p, operands, front_after_entry, reads_of_entry, followings}
-use Rattle.st_rows.specs.Words.{fetch_words, bus_sided, read_word, read_words, operands_read, request_inside}
+use Rattle.st_rows.specs.Rows.{wanted_from, words_tick, tick_a, bus_a, tick_p, operands, issue_after_entry, reads_of_entry, followings}
+use Rattle.st_rows.specs.Words.{fetch_words, bus_after_index_read, read_word, read_words, operands_read, request_inside}
 use Rattle.st_rows.specs.Uses.{behind, behind_use, reads_of, uses, wishes, read_made, forwarded_at, use_of, unused, wish_of}
 use Rattle.st_rows.specs.declared.uses.Wish.{Wish}
 use Rattle.st_rows.specs.declared.uses.Role.TheVariants.{Instruction, Operand, Following}
@@ -17,7 +17,7 @@ use Rattle.st_rows.specs.declared.bus.Bus.{Bus}
 use Rattle.st_rows.specs.declared.entry.Entry.{Entry}
 use Rattle.st_rows.specs.declared.past.Past.{Past}
 use Rattle.st_rows.specs.declared.fetching.Fetching.{Fetching}
-use Rattle.st_rows.specs.declared.front.Front.{Front}
+use Rattle.st_rows.specs.declared.issue.IssueState.{IssueState}
 use Rattle.st_rows.proofs.UseLemmas.{reads-are, side-read, operands-read}
 use Rattle.st_rows.proofs.Tight.{near-one_if}
 
@@ -61,8 +61,8 @@ module _ (ds : List ℕ) where
   unfolding read_word behind_use
   served-data past w p s = served-one (forwarded_at past w p) (record { w = w; want = p; fetch = false }) s.bus
 
-  pub served-side : (past : List Past) (side : Option ℕ) (a : ℕ) (b : Bus) → bus_after_reads ds (side_asked past side a) b ≡ bus_sided ds past b side a
-  unfolding bus_sided
+  pub served-side : (past : List Past) (side : Option ℕ) (a : ℕ) (b : Bus) → bus_after_reads ds (side_asked past side a) b ≡ bus_after_index_read ds past b side a
+  unfolding bus_after_index_read
   served-side past side a b =
       ap (λ (rs : List Read). bus_after_reads ds rs b) (sym (side-read ds past (unused b 0) side a)) ∙ served-uses past (unused b 0) (wish_of side a)
 
@@ -82,7 +82,7 @@ module _ (ds : List ℕ) where
   pub served-inside : (b : Bus) (w p : ℕ) → bus_after_reads ds (inside_asked b w p) b ≡ request_inside ds b w p
   served-inside b w p = inside_if (nat_lt w words_of_storage) b w p
 
-  pub served-fetches : (f : Front) (e : Entry) → bus_after_reads ds (fetches_asked ds f e) f.bus ≡ (words_tick ds f e).bus
+  pub served-fetches : (f : IssueState) (e : Entry) → bus_after_reads ds (fetches_asked ds f e) f.bus ≡ (words_tick ds f e).bus
   unfolding fetches_asked words_tick words_asked fetch_words
   served-fetches f e =
       let start : Fetching = record { bus = f.bus; answered = 0; awaited = 0 } in
@@ -93,7 +93,7 @@ module _ (ds : List ℕ) where
       ∙ served-words f.past (max (wanted_from f) f.c) own e.target.first e.target.len
 
   -- the operands, and the following words behind them
-  pub served-runs : (n : ℕ) (f : Front) (e : Entry) → bus_after_reads ds (runs_asked f.past e.reads (tick_p ds n f e)) (bus_a ds f e) ≡ (operands ds n f e).bus
+  pub served-runs : (n : ℕ) (f : IssueState) (e : Entry) → bus_after_reads ds (runs_asked f.past e.reads (tick_p ds n f e)) (bus_a ds f e) ≡ (operands ds n f e).bus
   unfolding operands operands_read read_words
   served-runs n f e =
       let p = tick_p ds n f e in
@@ -104,29 +104,29 @@ module _ (ds : List ℕ) where
       ∙ ap (bus_after_reads ds two) (served-operands f.past p start e.reads.one.first e.reads.one.len)
       ∙ served-operands f.past p (read_words ds f.past start p e.reads.one.first e.reads.one.len) e.reads.two.first e.reads.two.len
 
-  pub served-following : (n : ℕ) (f : Front) (e : Entry)
-      → bus_after_reads ds (following_asked ds (operands ds n f e).bus e (tick_p ds n f e)) (operands ds n f e).bus ≡ (front_after_entry ds n f e).bus
-  unfolding front_after_entry following_asked
+  pub served-following : (n : ℕ) (f : IssueState) (e : Entry)
+      → bus_after_reads ds (following_asked ds (operands ds n f e).bus e (tick_p ds n f e)) (operands ds n f e).bus ≡ (issue_after_entry ds n f e).bus
+  unfolding issue_after_entry following_asked
   served-following n f e =
       let p = tick_p ds n f e in
       served-uses [] (unused (operands ds n f e).bus p) (followings e p)
 
   -- both parts of its reads
-  pub served-formed : (f : Front) (e : Entry) → bus_after_reads ds (formed_asked ds f e) f.bus ≡ bus_a ds f e
-  unfolding bus_a bus_sided
+  pub served-formed : (f : IssueState) (e : Entry) → bus_after_reads ds (formed_asked ds f e) f.bus ≡ bus_a ds f e
+  unfolding bus_a bus_after_index_read
   served-formed f e =
       let side = side_asked f.past e.side (tick_a ds f e) in
       served-append (fetches_asked ds f e) side f.bus
       ∙ ap (bus_after_reads ds side) (served-fetches f e)
       ∙ served-side f.past e.side (tick_a ds f e) (words_tick ds f e).bus
 
-  pub served-prepared : (n : ℕ) (f : Front) (e : Entry) → bus_after_reads ds (prepared_asked ds n f e) (bus_a ds f e) ≡ (front_after_entry ds n f e).bus
+  pub served-prepared : (n : ℕ) (f : IssueState) (e : Entry) → bus_after_reads ds (prepared_asked ds n f e) (bus_a ds f e) ≡ (issue_after_entry ds n f e).bus
   served-prepared n f e =
       let p = tick_p ds n f e in
       let next = following_asked ds (operands ds n f e).bus e p in
       served-append (runs_asked f.past e.reads p) next (bus_a ds f e) ∙ ap (bus_after_reads ds next) (served-runs n f e) ∙ served-following n f e
 
-  pub served-asked : (n : ℕ) (f : Front) (e : Entry) → bus_after_reads ds (reads_of_entry ds n f e) f.bus ≡ (front_after_entry ds n f e).bus
+  pub served-asked : (n : ℕ) (f : IssueState) (e : Entry) → bus_after_reads ds (reads_of_entry ds n f e) f.bus ≡ (issue_after_entry ds n f e).bus
   served-asked n f e =
       let others = prepared_asked ds n f e in
       ap (λ (rs : List Read). bus_after_reads ds rs f.bus) (reads-are ds n f e)
@@ -182,7 +182,7 @@ pub few-following : (ds : List ℕ) (b : Bus) (e : Entry) (p : ℕ) → length (
 unfolding following_asked
 few-following ds b e p = omega (arith, few-uses ds [] (unused b p) (followings e p), followings-length e p)
 
-pub few-asked : (ds : List ℕ) (n : ℕ) (f : Front) (e : Entry)
+pub few-asked : (ds : List ℕ) (n : ℕ) (f : IssueState) (e : Entry)
     → length (reads_of_entry ds n f e) ≤ own_reads e + 2
 unfolding fetches_asked words_asked fetch_words
 few-asked ds n f e =
@@ -200,7 +200,7 @@ few-asked ds n f e =
       few-following ds (operands ds n f e).bus e p,
     )))
 
-pub most-asked : (ds : List ℕ) (n : ℕ) (f : Front) (e : Entry) → own_reads e ≤ 36 → length (reads_of_entry ds n f e) ≤ 36 + 2
+pub most-asked : (ds : List ℕ) (n : ℕ) (f : IssueState) (e : Entry) → own_reads e ≤ 36 → length (reads_of_entry ds n f e) ≤ 36 + 2
 most-asked ds n f e few = omega (arith, few, few-asked ds n f e)
 
 -- ---- the reads that are made before a tick

@@ -15,16 +15,16 @@ use Rattle.st_fetch.specs.Planned.{tick_of}
 use Rattle.st_fetch.specs.declared.fetched.AskedWord.{AskedWord}
 use Rattle.st_rows.specs.BusTimes.{accept_at, answer_at, bus_after_read, requested_if, answer_if, bus_after_request, answer_tick_on}
 use Rattle.st_rows.specs.Entries.{is_in, is_among, latest_done, no_runs}
-use Rattle.st_rows.specs.Levels.{AreEqual, IsHeldSooner, IsBusSooner, IsPastSooner, IsFrontSooner, IsRowSooner, AreInOrder, IsUnwritten, IsHazardFree, AreHazardFree, AreCovered, rows_of_entries}
-use Rattle.st_rows.specs.Rows.{wanted_from, words_tick, address_tick, preparation_tick, tick_a, bus_a, tick_y, tick_p, operands, tick_c, opening_front, row_of_entry, front_after_entry}
-use Rattle.st_rows.specs.Words.{fetch_word, fetch_words, bus_sided, side_there, read_word, read_words, operands_read, request_inside, bus_followed, is_forwarded}
+use Rattle.st_rows.specs.Levels.{AreEqual, IsHeldSooner, IsBusSooner, IsPastSooner, IsIssueSooner, IsRowSooner, AreInOrder, IsUnwritten, IsHazardFree, AreHazardFree, AreCovered, rows_of_entries}
+use Rattle.st_rows.specs.Rows.{wanted_from, words_tick, address_tick, preparation_tick, tick_a, bus_a, index_arrival, tick_p, operands, tick_c, opening_issue, row_of_entry, issue_after_entry}
+use Rattle.st_rows.specs.Words.{fetch_word, fetch_words, bus_after_index_read, side_there, read_word, read_words, operands_read, request_inside, bus_after_prefetch, is_forwarded}
 use Rattle.st_rows.specs.Uses.{behind, behind_use, uses, wishes}
 use Rattle.st_rows.specs.declared.bus.Bus.{Bus}
 use Rattle.st_rows.specs.declared.entry.WordRuns.{WordRuns}
 use Rattle.st_rows.specs.declared.entry.Entry.{Entry}
 use Rattle.st_rows.specs.declared.past.Past.{Past}
 use Rattle.st_rows.specs.declared.fetching.Fetching.{Fetching}
-use Rattle.st_rows.specs.declared.front.Front.{Front}
+use Rattle.st_rows.specs.declared.issue.IssueState.{IssueState}
 use Rattle.st_rows.specs.Ranges.{ArePastWithin}
 use Rattle.st_rows.proofs.Within.{past-weaker}
 use Rattle.st_rows.proofs.Stages.{nth-within}
@@ -205,8 +205,8 @@ module _ (d : ℕ) (ds : List ℕ) (are : AreEqual d ds) where
     -- ---- the index-side word
 
     sided-sooner : (b c : Bus) (side : Option ℕ) (a x : ℕ) → IfSome side (λ w. All (λ entry. is_among w entry.writes ≡ false) past) → IsBusSooner b c → a ≤ x
-        → IsBusSooner (bus_sided ds past b side a) (bus_sided ds late c side x) × (side_there ds past b side a ≤ side_there ds late c side x)
-    unfolding bus_sided side_there behind uses behind_use
+        → IsBusSooner (bus_after_index_read ds past b side a) (bus_after_index_read ds late c side x) × (side_there ds past b side a ≤ side_there ds late c side x)
+    unfolding bus_after_index_read side_there behind uses behind_use
     sided-sooner b c None a x none is low = (is, omega arith)
     sided-sooner b c (Some w) a x none is low =
         rw (not-forwarded past w a none, not-forwarded late w x (unwritten-same past late w kept none))
@@ -243,8 +243,8 @@ wanted_if-sooner : (alone : Bool) (p q c x : ℕ) → p ≤ q → c ≤ x → (i
 wanted_if-sooner true p q c x low less = omega arith
 wanted_if-sooner false p q c x low less = low
 
-module _ (d : ℕ) (ds : List ℕ) (are : AreEqual d ds) (m n : ℕ) (more : n ≤ m) (f g : Front) (e : Entry)
-    (is : IsFrontSooner f g) (order : AreInOrder g) (hazard_free : IsHazardFreeBehind f.past e) where
+module _ (d : ℕ) (ds : List ℕ) (are : AreEqual d ds) (m n : ℕ) (more : n ≤ m) (f g : IssueState) (e : Entry)
+    (is : IsIssueSooner f g) (order : AreInOrder g) (hazard_free : IsHazardFreeBehind f.past e) where
   wanted-sooner : wanted_from f ≤ wanted_from g
   wanted-sooner = rw is.serial (wanted_if-sooner g.serial f.p g.p f.c g.c is.prepared is.done)
 
@@ -265,8 +265,8 @@ module _ (d : ℕ) (ds : List ℕ) (are : AreEqual d ds) (m n : ℕ) (more : n �
       rw is.serial (alone-sooner (e.serial || g.serial) f.c g.c is.done) in
       omega (arith, words.answered, words.awaited, is.prepared, is.bus.free, alone)
 
-  sides-sooner : IsBusSooner (bus_a ds f e) (bus_a ds g e) × (tick_y ds f e ≤ tick_y ds g e)
-  unfolding bus_a tick_y bus_sided side_there
+  sides-sooner : IsBusSooner (bus_a ds f e) (bus_a ds g e) × (index_arrival ds f e ≤ index_arrival ds g e)
+  unfolding bus_a index_arrival bus_after_index_read side_there
   sides-sooner =
       let words = fetched-sooner in
       sided-sooner d ds are f.past g.past is.past (words_tick ds f e).bus (words_tick ds g e).bus e.side (tick_a ds f e) (tick_a ds g e) hazard_free.side words.bus a-sooner
@@ -295,10 +295,10 @@ module _ (d : ℕ) (ds : List ℕ) (are : AreEqual d ds) (m n : ℕ) (more : n �
   unfolding row_of_entry
   row-sooner = record { address = a-sooner; prepared = p-sooner; ready = operands-sooner.answered; done = c-sooner }
 
-  pub after-sooner : IsFrontSooner (front_after_entry ds m f e) (front_after_entry ds n g e)
-  unfolding front_after_entry bus_followed
+  pub after-sooner : IsIssueSooner (issue_after_entry ds m f e) (issue_after_entry ds n g e)
+  unfolding issue_after_entry bus_after_prefetch
   after-sooner = record {
-    bus = subst (λ (b : Bus). IsBusSooner b (bus_followed ds (operands ds n g e).bus e (tick_p ds n g e))) (sym (followed-is ds (operands ds m f e).bus e (tick_p ds m f e)))
+    bus = subst (λ (b : Bus). IsBusSooner b (bus_after_prefetch ds (operands ds n g e).bus e (tick_p ds n g e))) (sym (followed-is ds (operands ds m f e).bus e (tick_p ds m f e)))
         (subst (IsBusSooner _) (sym (followed-is ds (operands ds n g e).bus e (tick_p ds n g e)))
         (follow_if-sooner d ds are e.follows (operands ds m f e).bus (operands ds n g e).bus (e.own.first + e.own.len) (tick_p ds m f e) (tick_p ds n g e) operands-sooner.bus p-sooner));
     prepared = p-sooner;
@@ -333,8 +333,8 @@ cons-falls x past within falls zero (suc j) low = nth-within x.c past j within
 cons-falls x past within falls (suc i) zero low = let no : ⊥ = omega arith in absurd no
 cons-falls x past within falls (suc i) (suc j) low = falls i j (omega arith)
 
-pub order-after : (ds : List ℕ) (n : ℕ) (g : Front) (e : Entry) → AreInOrder g → AreInOrder (front_after_entry ds n g e)
-unfolding front_after_entry tick_c
+pub order-after : (ds : List ℕ) (n : ℕ) (g : IssueState) (e : Entry) → AreInOrder g → AreInOrder (issue_after_entry ds n g e)
+unfolding issue_after_entry tick_c
 order-after ds n g e order =
     let done = tick_c ds n g e in
     let late : g.c ≤ done = omega arith in
@@ -345,8 +345,8 @@ order-after ds n g e order =
       falls = cons-falls (record { c = done; writes = e.writes }) (take 7 g.past) taken (λ i j low. take-falls g.past i j low order.falls);
     }
 
-pub covered-after : (ds : List ℕ) (n : ℕ) (f : Front) (e : Entry) (earlier : List WordRuns) → AreCovered f.past earlier → AreCovered (front_after_entry ds n f e).past (e.writes ∷ earlier)
-unfolding front_after_entry
+pub covered-after : (ds : List ℕ) (n : ℕ) (f : IssueState) (e : Entry) (earlier : List WordRuns) → AreCovered f.past earlier → AreCovered (issue_after_entry ds n f e).past (e.writes ∷ earlier)
+unfolding issue_after_entry
 covered-after ds n f e earlier covered w none =
     All-cons (λ (entry : Past). is_among w entry.writes ≡ false) _ (take 7 f.past)
     (All-head (λ (writes : WordRuns). is_among w writes ≡ false) e.writes earlier none)
@@ -367,14 +367,14 @@ hazard_free-behind past earlier e covered hazard_free = record {
 
 -- ---- the entries of a list
 
-pub rows-sooner : (d : ℕ) (ds : List ℕ) → AreEqual d ds → (m n : ℕ) → n ≤ m → (es : List Entry) (f g : Front) (earlier : List WordRuns)
-    → IsFrontSooner f g → AreInOrder g → AreCovered f.past earlier → AreHazardFree earlier es → AllZip IsRowSooner (rows_of_entries ds m f es) (rows_of_entries ds n g es)
+pub rows-sooner : (d : ℕ) (ds : List ℕ) → AreEqual d ds → (m n : ℕ) → n ≤ m → (es : List Entry) (f g : IssueState) (earlier : List WordRuns)
+    → IsIssueSooner f g → AreInOrder g → AreCovered f.past earlier → AreHazardFree earlier es → AllZip IsRowSooner (rows_of_entries ds m f es) (rows_of_entries ds n g es)
 unfolding rows_of_entries
 rows-sooner d ds are m n more [] f g earlier is order covered hazard_free = tt
 rows-sooner d ds are m n more (e ∷ es) f g earlier is order covered hazard_free =
     let behind = hazard_free-behind f.past earlier e covered hazard_free.0 in (
       row-sooner d ds are m n more f g e is order behind,
-      rows-sooner d ds are m n more es (front_after_entry ds m f e) (front_after_entry ds n g e) (e.writes ∷ earlier)
+      rows-sooner d ds are m n more es (issue_after_entry ds m f e) (issue_after_entry ds n g e) (e.writes ∷ earlier)
           (after-sooner d ds are m n more f g e is order behind) (order-after ds n g e order) (covered-after ds m f e earlier covered) hazard_free.1,
     )
 
@@ -404,25 +404,25 @@ no-words : (w : ℕ) → is_among w no_runs ≡ false
 unfolding is_among is_in
 no-words w = grind (arith, nat_tests)
 
-pub opening-sooner : (banks : LastAnswers) (start : ℕ) → IsFrontSooner (opening_front banks start) (opening_front banks start)
+pub opening-sooner : (banks : LastAnswers) (start : ℕ) → IsIssueSooner (opening_issue banks start) (opening_issue banks start)
 opening-sooner banks start = record {
   bus = record {
     free = omega arith;
     banks = same-ticks banks.ticks;
-    held = held-same (opening_front banks start).bus.held.words;
+    held = held-same (opening_issue banks start).bus.held.words;
   };
   prepared = omega arith;
   done = omega arith;
   serial = refl;
-  past = past-same (opening_front banks start).past;
+  past = past-same (opening_issue banks start).past;
 }
 
-pub opening-order : (banks : LastAnswers) (start : ℕ) → AreInOrder (opening_front banks start)
+pub opening-order : (banks : LastAnswers) (start : ℕ) → AreInOrder (opening_issue banks start)
 opening-order banks start = record {
   done = record { each = All-replicate (λ (entry : Past). entry.c ≤ start) 8 (record { c = 0; writes = no_runs }) (omega arith) };
   falls = λ i j low. omega (arith, none-falls 8 j);
 }
 
-pub opening-covered : (banks : LastAnswers) (start : ℕ) → AreCovered (opening_front banks start).past []
+pub opening-covered : (banks : LastAnswers) (start : ℕ) → AreCovered (opening_issue banks start).past []
 opening-covered banks start w none =
     All-replicate (λ (entry : Past). is_among w entry.writes ≡ false) 8 (record { c = 0; writes = no_runs }) (no-words w)

@@ -6,15 +6,15 @@ use Rattle.std.proofs.lemmas.List.Elements.{All-head, All-tail}
 use Rattle.st_rows.specs.BusTimes.{answer_if}
 use Rattle.st_rows.specs.Entries.{latest_done, no_runs}
 use Rattle.st_rows.specs.Ranges.{AreDelaysUpTo, IsBusWithin, IsFetchingWithin, IsReadingWithin, ArePastWithin, IsTight, IsEntryInTime}
-use Rattle.st_rows.specs.Rows.{wanted_from, words_tick, address_tick, preparation_tick, tick_a, bus_a, tick_y, tick_p, operands, tick_c}
-use Rattle.st_rows.specs.Words.{fetch_words, bus_sided, side_there, read_words, operands_read, is_forwarded}
+use Rattle.st_rows.specs.Rows.{wanted_from, words_tick, address_tick, preparation_tick, tick_a, bus_a, index_arrival, tick_p, operands, tick_c}
+use Rattle.st_rows.specs.Words.{fetch_words, bus_after_index_read, side_there, read_words, operands_read, is_forwarded}
 use Rattle.st_rows.specs.Uses.{behind, behind_use, uses, forwarded_at}
 use Rattle.st_rows.specs.declared.bus.Bus.{Bus}
 use Rattle.st_rows.specs.declared.entry.WordRuns.{WordRuns}
 use Rattle.st_rows.specs.declared.entry.Entry.{Entry}
 use Rattle.st_rows.specs.declared.past.Past.{Past}
 use Rattle.st_rows.specs.declared.fetching.Fetching.{Fetching}
-use Rattle.st_rows.specs.declared.front.Front.{Front}
+use Rattle.st_rows.specs.declared.issue.IssueState.{IssueState}
 use Rattle.st_rows.proofs.Within.{latest-within, bus-weaker, past-weaker, fetching-weaker, reading-weaker, answer-within, read-within, fetch_words-within, read_words-within}
 use Rattle.st_rows.proofs.UseLemmas.{side_if}
 
@@ -24,11 +24,11 @@ side-above None end inside = tt
 side-above (Some w) end inside = inside.0
 
 -- the bus of a tight front
-pub tight-bus : (most : ℕ) (f : Front) → IsTight most f → IsBusWithin (f.c + 3 * most + 2) f.bus
+pub tight-bus : (most : ℕ) (f : IssueState) → IsTight most f → IsBusWithin (f.c + 3 * most + 2) f.bus
 tight-bus most f is = bus-weaker (f.bus.free + most) (f.c + 3 * most + 2) f.bus (omega (arith, is.free)) is.near
 
 -- the first want is no later than the last completion
-pub wanted-early : (most : ℕ) (f : Front) → IsTight most f → wanted_from f ≤ f.c
+pub wanted-early : (most : ℕ) (f : IssueState) → IsTight most f → wanted_from f ≤ f.c
 wanted-early most f is = wanted-if f.serial
   where
     wanted-if : (alone : Bool) → (if alone then max f.p f.c else f.p) ≤ f.c
@@ -50,8 +50,8 @@ module _ (most : ℕ) (ds : List ℕ) (are : AreDelaysUpTo most ds) where
   bus_side_if-within None past b w a m is early = read-within most ds are m (m + most + 1) (omega arith) b w a is early
 
   pub bus_sided-within : (past : List Past) (b : Bus) (side : Option ℕ) (a m : ℕ) → IsBusWithin m b → a ≤ m
-      → IsBusWithin (m + most + 1) (bus_sided ds past b side a)
-  unfolding bus_sided behind uses behind_use
+      → IsBusWithin (m + most + 1) (bus_after_index_read ds past b side a)
+  unfolding bus_after_index_read behind uses behind_use
   bus_sided-within past b None a m is early = bus-weaker m (m + most + 1) b (omega arith) is
   bus_sided-within past b (Some w) a m is early = bus_side_if-within (forwarded_at past w a) past b w a m is early
 
@@ -87,7 +87,7 @@ alone-early : (alone : Bool) (c : ℕ) → (if alone then c else 0) ≤ c
 alone-early true c = omega arith
 alone-early false c = omega arith
 
-pub addressed-within : (f : Front) (e : Entry) (answered awaited m : ℕ) → f.p ≤ m → f.c ≤ m → f.bus.free ≤ m + 1 → answered ≤ m → awaited ≤ m
+pub addressed-within : (f : IssueState) (e : Entry) (answered awaited m : ℕ) → f.p ≤ m → f.c ≤ m → f.bus.free ≤ m + 1 → answered ≤ m → awaited ≤ m
     → address_tick f e answered awaited ≤ m + 1
 unfolding address_tick
 addressed-within f e answered awaited m prepared done free there waits =
@@ -106,7 +106,7 @@ unfolding preparation_tick
 prepared-within n past a y m early there are =
     let late = max-le (max-le early there) (nth-within m past (n - 1) are) in omega arith
 
-module _ (most : ℕ) (ds : List ℕ) (are : AreDelaysUpTo most ds) (f : Front) (e : Entry) (entry : IsEntryInTime e) (tight : IsTight most f) where
+module _ (most : ℕ) (ds : List ℕ) (are : AreDelaysUpTo most ds) (f : IssueState) (e : Entry) (entry : IsEntryInTime e) (tight : IsTight most f) where
   pub fetched-within : IsFetchingWithin (f.c + 7 * most + 6) (words_tick ds f e)
   unfolding words_tick fetch_words
   fetched-within =
@@ -130,14 +130,14 @@ module _ (most : ℕ) (ds : List ℕ) (are : AreDelaysUpTo most ds) (f : Front) 
       omega arith
 
   pub bus_a-within : IsBusWithin (f.c + 8 * most + 8) (bus_a ds f e)
-  unfolding bus_a bus_sided
+  unfolding bus_a bus_after_index_read
   bus_a-within =
       let m = f.c + 7 * most + 7 in
       bus-weaker (m + most + 1) (f.c + 8 * most + 8) _ (omega arith)
       (bus_sided-within most ds are f.past (words_tick ds f e).bus e.side (tick_a ds f e) m (bus-weaker (f.c + 7 * most + 6) m _ (omega arith) fetched-within.bus) a-within)
 
-  pub y-within : tick_y ds f e ≤ f.c + 8 * most + 8
-  unfolding tick_y side_there
+  pub y-within : index_arrival ds f e ≤ f.c + 8 * most + 8
+  unfolding index_arrival side_there
   y-within =
       let m = f.c + 7 * most + 7 in
       let late = side-within most ds are f.past (words_tick ds f e).bus e.side (tick_a ds f e) m (past-weaker f.c m f.past (omega arith) tight.done)
@@ -148,7 +148,7 @@ module _ (most : ℕ) (ds : List ℕ) (are : AreDelaysUpTo most ds) (f : Front) 
   unfolding tick_p
   p-within n =
       let m = f.c + 8 * most + 8 in
-      let late = prepared-within n f.past (tick_a ds f e) (tick_y ds f e) m (omega (arith, a-within)) y-within (past-weaker f.c m f.past (omega arith) tight.done) in
+      let late = prepared-within n f.past (tick_a ds f e) (index_arrival ds f e) m (omega (arith, a-within)) y-within (past-weaker f.c m f.past (omega arith) tight.done) in
       omega arith
 
   pub operands_of-within : (n : ℕ) → IsReadingWithin (f.c + 40 * most + 41) (operands ds n f e)

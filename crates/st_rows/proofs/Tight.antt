@@ -9,15 +9,15 @@ use Rattle.st_fetch.specs.Planned.{tick_of}
 use Rattle.st_fetch.specs.declared.fetched.AskedWord.{AskedWord}
 use Rattle.st_rows.specs.BusTimes.{accept_at, answer_at, bus_after_read, requested_if, answer_if, bus_after_request, answer_tick_on, Read, after_one, bus_if}
 use Rattle.st_rows.specs.Ranges.{AreDelaysUpTo, IsNear, IsTight, IsEntryInTime}
-use Rattle.st_rows.specs.Rows.{wanted_from, words_tick, address_tick, preparation_tick, tick_a, bus_a, tick_y, tick_p, operands, tick_c, front_after_entry, own_fetched, first_read, followings}
-use Rattle.st_rows.specs.Words.{fetch_word, fetch_words, bus_sided, side_there, read_word, read_words, operands_read, request_inside, bus_followed}
+use Rattle.st_rows.specs.Rows.{wanted_from, words_tick, address_tick, preparation_tick, tick_a, bus_a, index_arrival, tick_p, operands, tick_c, issue_after_entry, own_fetched, first_read, followings}
+use Rattle.st_rows.specs.Words.{fetch_word, fetch_words, bus_after_index_read, side_there, read_word, read_words, operands_read, request_inside, bus_after_prefetch}
 use Rattle.st_rows.specs.Uses.{behind, behind_use, uses, wishes, forwarded_at, use_of, unused, wish_of}
 use Rattle.st_rows.specs.declared.uses.Wish.{Wish}
 use Rattle.st_rows.specs.declared.bus.Bus.{Bus}
 use Rattle.st_rows.specs.declared.entry.Entry.{Entry}
 use Rattle.st_rows.specs.declared.past.Past.{Past}
 use Rattle.st_rows.specs.declared.fetching.Fetching.{Fetching}
-use Rattle.st_rows.specs.declared.front.Front.{Front}
+use Rattle.st_rows.specs.declared.issue.IssueState.{IssueState}
 use Rattle.st_rows.proofs.Within.{at-within, delay-bounds, past-weaker}
 use Rattle.st_rows.proofs.UseLemmas.{followed-is, read_if, side_if}
 
@@ -143,8 +143,8 @@ module _ (most : ℕ) (ds : List ℕ) (are : AreDelaysUpTo most ds) where
   free-side_if None b w a is = omega (arith, free-answer b w a)
 
   pub free-sided : (past : List Past) (b : Bus) (side : Option ℕ) (a : ℕ) → b.free ≤ a
-      → (bus_sided ds past b side a).free ≤ max a (side_there ds past b side a)
-  unfolding bus_sided side_there behind uses behind_use
+      → (bus_after_index_read ds past b side a).free ≤ max a (side_there ds past b side a)
+  unfolding bus_after_index_read side_there behind uses behind_use
   free-sided past b None a is = omega arith
   free-sided past b (Some w) a is = free-side_if (forwarded_at past w a) b w a is
 
@@ -171,7 +171,7 @@ module _ (most : ℕ) (ds : List ℕ) (are : AreDelaysUpTo most ds) where
 
   -- ---- the whole
 
-  module _ (n : ℕ) (f : Front) (e : Entry) (entry : IsEntryInTime e) (tight : IsTight most f) where
+  module _ (n : ℕ) (f : IssueState) (e : Entry) (entry : IsEntryInTime e) (tight : IsTight most f) where
     near-fetched : IsNear most (words_tick ds f e).bus
     unfolding words_tick fetch_words
     near-fetched = near-uses f.past (own_fetched ds f e) _ (near-uses f.past (unused f.bus 0) _ tight.near)
@@ -186,12 +186,12 @@ module _ (most : ℕ) (ds : List ℕ) (are : AreDelaysUpTo most ds) where
     unfolding tick_a address_tick
     free-a = omega (arith, free-fetched)
 
-    pub free-bus_a : (bus_a ds f e).free ≤ max (tick_a ds f e) (tick_y ds f e)
-    unfolding bus_a tick_y bus_sided side_there
+    pub free-bus_a : (bus_a ds f e).free ≤ max (tick_a ds f e) (index_arrival ds f e)
+    unfolding bus_a index_arrival bus_after_index_read side_there
     free-bus_a = free-sided f.past (words_tick ds f e).bus e.side (tick_a ds f e) free-a
 
     pub near-bus_a : IsNear most (bus_a ds f e)
-    unfolding bus_a bus_sided
+    unfolding bus_a bus_after_index_read
     near-bus_a = near-uses f.past (unused (words_tick ds f e).bus 0) (wish_of e.side (tick_a ds f e)) near-fetched
 
     pub free-p : (bus_a ds f e).free ≤ tick_p ds n f e
@@ -221,8 +221,8 @@ module _ (most : ℕ) (ds : List ℕ) (are : AreDelaysUpTo most ds) where
     unfolding tick_c
     later-c = (omega (arith, entry.costs.0), omega (arith, entry.costs.0))
 
-    pub tight-after : IsTight most (front_after_entry ds n f e)
-    unfolding front_after_entry bus_followed
+    pub tight-after : IsTight most (issue_after_entry ds n f e)
+    unfolding issue_after_entry bus_after_prefetch
     tight-after =
         let late = later-c in
         let done = later-r in

@@ -10,12 +10,12 @@ use Rattle.st_rows.specs.Rows.{own_uses, target_uses, index_uses, first_uses, se
 use Rattle.st_rows.specs.Uses.{Use, answered_by, use_of, behind_use, uses, behind, wishes, read_made, reads_of, unused, wish_of}
 use Rattle.st_rows.specs.declared.uses.Wish.{Wish}
 use Rattle.st_rows.specs.declared.uses.Role.TheVariants.{Operand, Following}
-use Rattle.st_rows.specs.Words.{bus_followed, request_inside}
+use Rattle.st_rows.specs.Words.{bus_after_prefetch, request_inside}
 use Rattle.st_rows.specs.declared.bus.Bus.{Bus}
 use Rattle.st_rows.specs.declared.entry.Entry.{Entry}
 use Rattle.st_rows.specs.declared.past.Past.{Past}
 use Rattle.st_rows.specs.declared.fetching.Fetching.{Fetching}
-use Rattle.st_rows.specs.declared.front.Front.{Front}
+use Rattle.st_rows.specs.declared.issue.IssueState.{IssueState}
 
 -- ---- a word that is not held, given the tick at which it is there without a read
 
@@ -73,8 +73,8 @@ module _ (ds : List ℕ) (b : Bus) where
   followed_if true false false w p = refl
 
   pub followed-is : (e : Entry) (p : ℕ)
-      → bus_followed ds b e p ≡ (if e.follows then request_inside ds (request_inside ds b (e.own.first + e.own.len) p) (e.own.first + e.own.len + 1) p else b)
-  unfolding bus_followed
+      → bus_after_prefetch ds b e p ≡ (if e.follows then request_inside ds (request_inside ds b (e.own.first + e.own.len) p) (e.own.first + e.own.len + 1) p else b)
+  unfolding bus_after_prefetch
   followed-is e p =
       let w = e.own.first + e.own.len in
       followed_if e.follows (nat_lt w words_of_storage) (nat_lt (w + 1) words_of_storage) w p
@@ -105,7 +105,7 @@ module _ (ds : List ℕ) (b : Bus) where
 
 -- ---- all reads of an entry, in two parts
 
-pub reads-are : (ds : List ℕ) (n : ℕ) (f : Front) (e : Entry) → reads_of_entry ds n f e ≡ formed_asked ds f e ++ prepared_asked ds n f e
+pub reads-are : (ds : List ℕ) (n : ℕ) (f : IssueState) (e : Entry) → reads_of_entry ds n f e ≡ formed_asked ds f e ++ prepared_asked ds n f e
 unfolding reads_of_entry uses_of_entry fetches_asked following_asked
 reads-are ds n f e =
     let p = tick_p ds n f e in

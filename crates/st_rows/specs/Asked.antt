@@ -11,7 +11,7 @@ use Rattle.st_rows.specs.declared.entry.Entry.{Entry}
 use Rattle.st_rows.specs.declared.entry.WordRuns.{WordRuns}
 use Rattle.st_rows.specs.declared.past.Past.{Past}
 use Rattle.st_rows.specs.declared.fetching.Fetching.{Fetching}
-use Rattle.st_rows.specs.declared.front.Front.{Front}
+use Rattle.st_rows.specs.declared.issue.IssueState.{IssueState}
 
 -- an instruction word, given the tick of its answer if it is held: then no read is made
 abbrev pub word_asked : Option ℕ → ℕ → ℕ → List Read
@@ -51,7 +51,7 @@ inside_asked b w p = if nat_lt w words_of_storage then word_asked (tick_of b.hel
 unfoldable pub following_asked : List ℕ → Bus → Entry → ℕ → List Read
 following_asked ds b e p = reads_of (uses ds [] (unused b p) (followings e p))
 
-module _ (ds : List ℕ) (f : Front) (e : Entry) where
+module _ (ds : List ℕ) (f : IssueState) (e : Entry) where
   -- the instruction words of the entry e behind the front f
   unfoldable pub fetches_asked : List Read
   fetches_asked = reads_of (own_uses ds f e) ++ reads_of (target_uses ds f e)
@@ -60,7 +60,7 @@ module _ (ds : List ℕ) (f : Front) (e : Entry) where
   abbrev pub formed_asked : List Read
   formed_asked = fetches_asked ++ side_asked f.past e.side (tick_a ds f e)
 
-module _ (ds : List ℕ) (n : ℕ) (f : Front) (e : Entry) where
+module _ (ds : List ℕ) (n : ℕ) (f : IssueState) (e : Entry) where
   -- and those from its preparation on
   abbrev pub prepared_asked : List Read
   prepared_asked =

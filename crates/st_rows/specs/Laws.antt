@@ -2,17 +2,17 @@
 use Rattle.std.specs.Prelude.{◌≡◌, ℕ, List, [], ◌∷◌, ◌++◌, ◌+◌, ◌*◌, ◌<◌, ◌≤◌, ◌||◌, true, length, get_or, max, All}
 use Rattle.st_rows.specs.Ranges.{AreDelaysUpTo, IsEntryInTime, IsNear, IsTight}
 use Rattle.st_rows.specs.Entries.{latest_done}
-use Rattle.st_rows.specs.Rows.{opening_front, wanted_from, words_tick, done_before, tick_a, bus_a, tick_p, operands, tick_c, row_of_entry, front_after_entry, reads_of_entry}
+use Rattle.st_rows.specs.Rows.{opening_issue, wanted_from, words_tick, done_before, tick_a, bus_a, tick_p, operands, tick_c, row_of_entry, issue_after_entry, reads_of_entry}
 use Rattle.st_rows.specs.Words.{fills}
 use Rattle.std.specs.List.{AllZip}
 use Rattle.st_banks.specs.declared.answers.LastAnswers.{LastAnswers}
 use Rattle.st_rows.specs.Asked.{fetches_asked, side_asked, formed_asked, prepared_asked, data_of, bus_after_reads, made_before, own_reads}
 use Rattle.st_rows.specs.BusTimes.{accept_at, bus_after_read, answer_at, bus_after_request, answer_tick_on, Read, after_one}
-use Rattle.st_rows.specs.Levels.{AreEqual, IsBusSooner, IsFrontSooner, IsRowSooner, AreInOrder, AreOlderDone, front_of_last, IsHazardFree, AreHazardFree, AreCovered, rows_of_entries}
+use Rattle.st_rows.specs.Levels.{AreEqual, IsBusSooner, IsIssueSooner, IsRowSooner, AreInOrder, AreOlderDone, issue_of_last, IsHazardFree, AreHazardFree, AreCovered, rows_of_entries}
 use Rattle.st_rows.specs.declared.bus.Bus.{Bus}
 use Rattle.st_rows.specs.declared.entry.Entry.{Entry}
 use Rattle.st_rows.specs.declared.entry.WordRuns.{WordRuns}
-use Rattle.st_rows.specs.declared.front.Front.{Front}
+use Rattle.st_rows.specs.declared.issue.IssueState.{IssueState}
 use Rattle.st_rows.specs.Uses.{uses, behind, reads_of}
 use Rattle.st_rows.specs.declared.uses.Wish.{Wish}
 use Rattle.st_rows.specs.declared.fetching.Fetching.{Fetching}
@@ -20,48 +20,48 @@ use Rattle.st_rows.specs.declared.past.Past.{Past}
 
 -- The ticks of a row stand in their order, and behind those of the row before.
 pub record RowsAreInOrder : Type 0 where
-  pub address : (ds : List ℕ) (n : ℕ) (f : Front) (e : Entry) →
+  pub address : (ds : List ℕ) (n : ℕ) (f : IssueState) (e : Entry) →
       (f.p < (row_of_entry ds n f e).a) × (f.bus.free ≤ (row_of_entry ds n f e).a)
-  pub answers : (ds : List ℕ) (n : ℕ) (f : Front) (e : Entry) →
+  pub answers : (ds : List ℕ) (n : ℕ) (f : IssueState) (e : Entry) →
       (words_tick ds f e).answered < (row_of_entry ds n f e).a
-  pub awaited : (ds : List ℕ) (n : ℕ) (f : Front) (e : Entry) →
+  pub awaited : (ds : List ℕ) (n : ℕ) (f : IssueState) (e : Entry) →
       (words_tick ds f e).awaited < (row_of_entry ds n f e).a
-  pub writers : (ds : List ℕ) (f : Front) (e : Entry) (i : ℕ) →
+  pub writers : (ds : List ℕ) (f : IssueState) (e : Entry) (i : ℕ) →
       (i < e.own.len → latest_done f.past (e.own.first + i) ≤ (words_tick ds f e).awaited)
       × (i < e.target.len →
       latest_done f.past (e.target.first + i) ≤ (words_tick ds f e).awaited)
-  pub alone : (ds : List ℕ) (n : ℕ) (f : Front) (e : Entry) →
+  pub alone : (ds : List ℕ) (n : ℕ) (f : IssueState) (e : Entry) →
       (e.serial || f.serial) ≡ true → f.c < (row_of_entry ds n f e).a
-  pub prepared : (ds : List ℕ) (n : ℕ) (f : Front) (e : Entry) →
+  pub prepared : (ds : List ℕ) (n : ℕ) (f : IssueState) (e : Entry) →
       (row_of_entry ds n f e).a < (row_of_entry ds n f e).p
-  pub levels : (ds : List ℕ) (n : ℕ) (f : Front) (e : Entry) →
+  pub levels : (ds : List ℕ) (n : ℕ) (f : IssueState) (e : Entry) →
       done_before n f.past < (row_of_entry ds n f e).p
-  pub ready : (ds : List ℕ) (n : ℕ) (f : Front) (e : Entry) →
+  pub ready : (ds : List ℕ) (n : ℕ) (f : IssueState) (e : Entry) →
       (row_of_entry ds n f e).p ≤ (row_of_entry ds n f e).r
-  pub done : (ds : List ℕ) (n : ℕ) (f : Front) (e : Entry) → IsEntryInTime e →
+  pub done : (ds : List ℕ) (n : ℕ) (f : IssueState) (e : Entry) → IsEntryInTime e →
       ((row_of_entry ds n f e).r < (row_of_entry ds n f e).c) × (f.c < (row_of_entry ds n f e).c)
 
 -- The ticks of a front stay close together, and no entry takes longer than 64 reads with four ticks
 -- more each; sixteen ticks are to spare, in which the next segment starts.
 pub record CompletionsAreBounded : Type 0 where
-  pub tight : (most n : ℕ) (ds : List ℕ) (f : Front) (e : Entry) → AreDelaysUpTo most ds →
-      IsEntryInTime e → IsTight most f → IsTight most (front_after_entry ds n f e)
-  pub bound : (most n : ℕ) (ds : List ℕ) (f : Front) (e : Entry) → AreDelaysUpTo most ds →
-      IsEntryInTime e → IsTight most f → (front_after_entry ds n f e).c + 16 ≤ f.c + 64 * (most + 4)
+  pub tight : (most n : ℕ) (ds : List ℕ) (f : IssueState) (e : Entry) → AreDelaysUpTo most ds →
+      IsEntryInTime e → IsTight most f → IsTight most (issue_after_entry ds n f e)
+  pub bound : (most n : ℕ) (ds : List ℕ) (f : IssueState) (e : Entry) → AreDelaysUpTo most ds →
+      IsEntryInTime e → IsTight most f → (issue_after_entry ds n f e).c + 16 ≤ f.c + 64 * (most + 4)
 
 -- The first two operand words are there after preparation, and before the entry is done: when all
 -- are read or the last entry is done. Where there are no others, the latest of them, preparation
 -- and that completion decide when its turn comes.
 pub record OperandsAreThereBeforeCompletion : Type 0 where
-  pub first : (most n : ℕ) (ds : List ℕ) (f : Front) (e : Entry) → AreDelaysUpTo most ds →
+  pub first : (most n : ℕ) (ds : List ℕ) (f : IssueState) (e : Entry) → AreDelaysUpTo most ds →
       1 ≤ e.reads.one.len → (row_of_entry ds n f e).p < get_or (fills ds n f e) 0 0
-  pub second : (most n : ℕ) (ds : List ℕ) (f : Front) (e : Entry) → AreDelaysUpTo most ds →
+  pub second : (most n : ℕ) (ds : List ℕ) (f : IssueState) (e : Entry) → AreDelaysUpTo most ds →
       2 ≤ e.reads.one.len → (row_of_entry ds n f e).p < get_or (fills ds n f e) 1 0
-  pub ready : (most n i : ℕ) (ds : List ℕ) (f : Front) (e : Entry) → IsTight most f →
+  pub ready : (most n i : ℕ) (ds : List ℕ) (f : IssueState) (e : Entry) → IsTight most f →
       get_or (fills ds n f e) i 0 ≤ max (row_of_entry ds n f e).r f.c
-  pub done : (most n i : ℕ) (ds : List ℕ) (f : Front) (e : Entry) → IsTight most f →
+  pub done : (most n i : ℕ) (ds : List ℕ) (f : IssueState) (e : Entry) → IsTight most f →
       IsEntryInTime e → get_or (fills ds n f e) i 0 < (row_of_entry ds n f e).c
-  pub last : (most n : ℕ) (ds : List ℕ) (f : Front) (e : Entry) → IsTight most f →
+  pub last : (most n : ℕ) (ds : List ℕ) (f : IssueState) (e : Entry) → IsTight most f →
       e.reads.one.len ≤ 2 → e.reads.two.len ≡ 0 →
       max (row_of_entry ds n f e).r f.c ≡ max (max (row_of_entry ds n f e).p f.c)
       (max (get_or (fills ds n f e) 0 0) (get_or (fills ds n f e) 1 0))
@@ -81,14 +81,14 @@ pub record ReadsAreNoLater : Type 0 where
 -- The same of an entry of which no word is written by an entry before, instruction words aside, and
 -- of as many levels or more.
 pub record EntriesAreNoLater : Type 0 where
-  pub row : (d m n : ℕ) (ds : List ℕ) (f g : Front) (e : Entry) (earlier : List WordRuns) →
-      AreEqual d ds → n ≤ m → IsFrontSooner f g → AreInOrder g → AreCovered f.past earlier →
+  pub row : (d m n : ℕ) (ds : List ℕ) (f g : IssueState) (e : Entry) (earlier : List WordRuns) →
+      AreEqual d ds → n ≤ m → IsIssueSooner f g → AreInOrder g → AreCovered f.past earlier →
       IsHazardFree earlier e → IsRowSooner (row_of_entry ds m f e) (row_of_entry ds n g e)
-  pub after : (d m n : ℕ) (ds : List ℕ) (f g : Front) (e : Entry) (earlier : List WordRuns) →
-      AreEqual d ds → n ≤ m → IsFrontSooner f g → AreInOrder g → AreCovered f.past earlier →
-      IsHazardFree earlier e → IsFrontSooner (front_after_entry ds m f e)
-      (front_after_entry ds n g e)
-      × AreInOrder (front_after_entry ds n g e) × AreCovered (front_after_entry ds m f e).past
+  pub after : (d m n : ℕ) (ds : List ℕ) (f g : IssueState) (e : Entry) (earlier : List WordRuns) →
+      AreEqual d ds → n ≤ m → IsIssueSooner f g → AreInOrder g → AreCovered f.past earlier →
+      IsHazardFree earlier e → IsIssueSooner (issue_after_entry ds m f e)
+      (issue_after_entry ds n g e)
+      × AreInOrder (issue_after_entry ds n g e) × AreCovered (issue_after_entry ds m f e).past
       (e.writes ∷ earlier)
 
 -- With more levels no entry of a segment is later, where all reads take the same time and no entry
@@ -97,23 +97,23 @@ abbrev pub MoreLevelsAreNoLater : Type 0
 MoreLevelsAreNoLater = (d m n start : ℕ) (ds : List ℕ) (banks : LastAnswers) (es : List Entry) →
     AreEqual d ds → n ≤ m → AreHazardFree [] es →
     AllZip IsRowSooner
-    (rows_of_entries ds m (opening_front banks start) es)
-    (rows_of_entries ds n (opening_front banks start) es)
+    (rows_of_entries ds m (opening_issue banks start) es)
+    (rows_of_entries ds n (opening_issue banks start) es)
 
 -- An entry that lies as many back as there are levels is done when the last one is prepared.
 pub record OlderEntriesAreDoneBefore : Type 0 where
-  pub opening : (n start : ℕ) (banks : LastAnswers) → AreInOrder (opening_front banks start)
-      × AreOlderDone n (opening_front banks start)
-  pub after : (ds : List ℕ) (n : ℕ) (f : Front) (e : Entry) → 1 ≤ n → AreInOrder f →
-      AreInOrder (front_after_entry ds n f e) × AreOlderDone n (front_after_entry ds n f e)
+  pub opening : (n start : ℕ) (banks : LastAnswers) → AreInOrder (opening_issue banks start)
+      × AreOlderDone n (opening_issue banks start)
+  pub after : (ds : List ℕ) (n : ℕ) (f : IssueState) (e : Entry) → 1 ≤ n → AreInOrder f →
+      AreInOrder (issue_after_entry ds n f e) × AreOlderDone n (issue_after_entry ds n f e)
 
 -- So it decides no tick: the last n entries alone give the same row, and the same front behind it.
 pub record OlderEntriesDecideNothing : Type 0 where
-  pub row : (ds : List ℕ) (n : ℕ) (f : Front) (e : Entry) → 1 ≤ n → AreOlderDone n f →
-      row_of_entry ds n (front_of_last n f) e ≡ row_of_entry ds n f e
-  pub after : (ds : List ℕ) (n : ℕ) (f : Front) (e : Entry) → 1 ≤ n → AreOlderDone n f →
-      front_of_last n (front_after_entry ds n (front_of_last n f) e)
-      ≡ front_of_last n (front_after_entry ds n f e)
+  pub row : (ds : List ℕ) (n : ℕ) (f : IssueState) (e : Entry) → 1 ≤ n → AreOlderDone n f →
+      row_of_entry ds n (issue_of_last n f) e ≡ row_of_entry ds n f e
+  pub after : (ds : List ℕ) (n : ℕ) (f : IssueState) (e : Entry) → 1 ≤ n → AreOlderDone n f →
+      issue_of_last n (issue_after_entry ds n (issue_of_last n f) e)
+      ≡ issue_of_last n (issue_after_entry ds n f e)
 
 -- The reads that are made for uses give, one after the other, the bus behind them; there are at most
 -- as many as words that are asked for. The uses of words that are asked for in two parts are those
@@ -132,11 +132,11 @@ pub record UsesMakeTheirReads : Type 0 where
 -- at most as many as the words that it reads for itself and two following ones: 36 and two, as each
 -- entry of a machine has 36 such words at most.
 pub record RowsMakeTheirReads : Type 0 where
-  pub bus : (ds : List ℕ) (n : ℕ) (f : Front) (e : Entry) →
-      bus_after_reads ds (reads_of_entry ds n f e) f.bus ≡ (front_after_entry ds n f e).bus
-  pub few : (ds : List ℕ) (n : ℕ) (f : Front) (e : Entry) →
+  pub bus : (ds : List ℕ) (n : ℕ) (f : IssueState) (e : Entry) →
+      bus_after_reads ds (reads_of_entry ds n f e) f.bus ≡ (issue_after_entry ds n f e).bus
+  pub few : (ds : List ℕ) (n : ℕ) (f : IssueState) (e : Entry) →
       length (reads_of_entry ds n f e) ≤ own_reads e + 2
-  pub most : (ds : List ℕ) (n : ℕ) (f : Front) (e : Entry) → own_reads e ≤ 36 →
+  pub most : (ds : List ℕ) (n : ℕ) (f : IssueState) (e : Entry) → own_reads e ≤ 36 →
       length (reads_of_entry ds n f e) ≤ 36 + 2
 
 -- Each read is accepted when it is wanted and the bus is free, which is one tick after the read
@@ -160,39 +160,39 @@ MadeReadsAreAnsweredSoon = (most t : ℕ) (ds : List ℕ) (reads : List Read) (b
 -- until its address is formed and those from its preparation on. Each part gives the bus of its
 -- stage.
 pub record EntriesAskInParts : Type 0 where
-  pub parts : (ds : List ℕ) (n : ℕ) (f : Front) (e : Entry) →
+  pub parts : (ds : List ℕ) (n : ℕ) (f : IssueState) (e : Entry) →
       reads_of_entry ds n f e ≡ fetches_asked ds f e ++ data_of ds n f e
-  pub two : (ds : List ℕ) (n : ℕ) (f : Front) (e : Entry) →
+  pub two : (ds : List ℕ) (n : ℕ) (f : IssueState) (e : Entry) →
       reads_of_entry ds n f e ≡ formed_asked ds f e ++ prepared_asked ds n f e
-  pub fetches : (ds : List ℕ) (f : Front) (e : Entry) →
+  pub fetches : (ds : List ℕ) (f : IssueState) (e : Entry) →
       bus_after_reads ds (fetches_asked ds f e) f.bus ≡ (words_tick ds f e).bus
-  pub formed : (ds : List ℕ) (f : Front) (e : Entry) →
+  pub formed : (ds : List ℕ) (f : IssueState) (e : Entry) →
       bus_after_reads ds (formed_asked ds f e) f.bus ≡ bus_a ds f e
-  pub prepared : (ds : List ℕ) (n : ℕ) (f : Front) (e : Entry) →
-      bus_after_reads ds (prepared_asked ds n f e) (bus_a ds f e) ≡ (front_after_entry ds n f e).bus
+  pub prepared : (ds : List ℕ) (n : ℕ) (f : IssueState) (e : Entry) →
+      bus_after_reads ds (prepared_asked ds n f e) (bus_a ds f e) ≡ (issue_after_entry ds n f e).bus
 
 -- When the reads of an entry are wanted: instruction words from the first want on, the index-side
 -- word at A, operands and following words at P, and so all behind the instruction words at A or
 -- later.
 pub record ReadsAreWantedInTime : Type 0 where
-  pub fetches : (ds : List ℕ) (f : Front) (e : Entry) →
+  pub fetches : (ds : List ℕ) (f : IssueState) (e : Entry) →
       All (λ r. wanted_from f ≤ r.want) (fetches_asked ds f e)
-  pub side : (ds : List ℕ) (f : Front) (e : Entry) →
+  pub side : (ds : List ℕ) (f : IssueState) (e : Entry) →
       All (λ r. r.want ≡ tick_a ds f e) (side_asked f.past e.side (tick_a ds f e))
-  pub prepared : (ds : List ℕ) (n : ℕ) (f : Front) (e : Entry) →
+  pub prepared : (ds : List ℕ) (n : ℕ) (f : IssueState) (e : Entry) →
       All (λ r. r.want ≡ tick_p ds n f e) (prepared_asked ds n f e)
-  pub «data» : (ds : List ℕ) (n : ℕ) (f : Front) (e : Entry) →
+  pub «data» : (ds : List ℕ) (n : ℕ) (f : IssueState) (e : Entry) →
       All (λ r. tick_a ds f e ≤ r.want) (data_of ds n f e)
 
 -- The bus is free of all reads before an entry when its address is formed, of its instruction words
 -- too, and of its index-side word when it is prepared.
 pub record BusesAreFreeInTime : Type 0 where
-  pub before : (ds : List ℕ) (f : Front) (e : Entry) → f.bus.free ≤ tick_a ds f e
-  pub fetched : (most n : ℕ) (ds : List ℕ) (f : Front) (e : Entry) → AreDelaysUpTo most ds →
+  pub before : (ds : List ℕ) (f : IssueState) (e : Entry) → f.bus.free ≤ tick_a ds f e
+  pub fetched : (most n : ℕ) (ds : List ℕ) (f : IssueState) (e : Entry) → AreDelaysUpTo most ds →
       IsEntryInTime e → IsTight most f → (words_tick ds f e).bus.free ≤ tick_a ds f e
-  pub formed : (most n : ℕ) (ds : List ℕ) (f : Front) (e : Entry) → AreDelaysUpTo most ds →
+  pub formed : (most n : ℕ) (ds : List ℕ) (f : IssueState) (e : Entry) → AreDelaysUpTo most ds →
       IsEntryInTime e → IsTight most f → (bus_a ds f e).free ≤ tick_p ds n f e
-  pub done : (most n : ℕ) (ds : List ℕ) (f : Front) (e : Entry) → AreDelaysUpTo most ds →
+  pub done : (most n : ℕ) (ds : List ℕ) (f : IssueState) (e : Entry) → AreDelaysUpTo most ds →
       IsEntryInTime e → IsTight most f → (f.bus.free ≤ tick_c ds n f e)
       × ((operands ds n f e).bus.free ≤ tick_c ds n f e)
 

@@ -4,14 +4,14 @@ use Rattle.std.specs.List.{AllZip}
 use Rattle.st_fetch.specs.declared.fetched.AskedWord.{AskedWord}
 use Rattle.st_rows.specs.Entries.{is_among}
 use Rattle.st_rows.specs.Ranges.{ArePastWithin}
-use Rattle.st_rows.specs.Rows.{row_of_entry, front_after_entry, completion_of}
+use Rattle.st_rows.specs.Rows.{row_of_entry, issue_after_entry, completion_of}
 use Rattle.st_rows.specs.declared.bus.Bus.{Bus}
 use Rattle.st_rows.specs.declared.entry.WordRun.{WordRun}
 use Rattle.st_rows.specs.declared.entry.WordRuns.{WordRuns}
 use Rattle.st_rows.specs.declared.entry.Entry.{Entry}
 use Rattle.st_rows.specs.declared.past.Past.{Past}
-use Rattle.st_rows.specs.declared.front.Front.{Front}
-use Rattle.st_rows.specs.declared.front.EntryTicks.{EntryTicks}
+use Rattle.st_rows.specs.declared.issue.IssueState.{IssueState}
+use Rattle.st_rows.specs.declared.issue.EntryTicks.{EntryTicks}
 
 -- each read takes d ticks
 pub record AreEqual (d : ℕ) (ds : List ℕ) : Type 0 where
@@ -33,7 +33,7 @@ abbrev pub IsPastSooner : Past → Past → Type 0
 IsPastSooner s t = (s.c ≤ t.c) × (s.writes ≡ t.writes)
 
 -- a front is no later than another, with the same mark
-pub record IsFrontSooner (f g : Front) : Type 0 where
+pub record IsIssueSooner (f g : IssueState) : Type 0 where
   pub bus : IsBusSooner f.bus g.bus
   pub prepared : f.p ≤ g.p
   pub done : f.c ≤ g.c
@@ -48,7 +48,7 @@ pub record IsRowSooner (x y : EntryTicks) : Type 0 where
   pub done : x.c ≤ y.c
 
 -- the entries before are done in their order, none after the last one
-pub record AreInOrder (f : Front) : Type 0 where
+pub record AreInOrder (f : IssueState) : Type 0 where
   pub done : ArePastWithin f.c f.past
   pub falls : (i j : ℕ) → i ≤ j →
       completion_of f.past j ≤ completion_of f.past i
@@ -79,15 +79,15 @@ AreCovered past earlier = (w : ℕ) → IsUnwritten earlier w →
     All (λ entry. is_among w entry.writes ≡ false) past
 
 -- the rows of the entries of a list, one behind the other
-unfoldable pub rows_of_entries : List ℕ → ℕ → Front → List Entry → List EntryTicks
+unfoldable pub rows_of_entries : List ℕ → ℕ → IssueState → List Entry → List EntryTicks
 rows_of_entries ds n f [] = []
 rows_of_entries ds n f (e ∷ es) = row_of_entry ds n f e
-    ∷ rows_of_entries ds n (front_after_entry ds n f e) es
+    ∷ rows_of_entries ds n (issue_after_entry ds n f e) es
 
 -- the same front with the last n entries alone
-abbrev pub front_of_last : ℕ → Front → Front
-front_of_last n f = record f { past = take n f.past }
+abbrev pub issue_of_last : ℕ → IssueState → IssueState
+issue_of_last n f = record f { past = take n f.past }
 
 -- the entries that lie n or more back were done when the last one was prepared
-abbrev pub AreOlderDone : ℕ → Front → Type 0
+abbrev pub AreOlderDone : ℕ → IssueState → Type 0
 AreOlderDone n f = (j : ℕ) → n ≤ j → completion_of f.past j ≤ f.p

@@ -6,7 +6,7 @@ use Rattle.st_rows.specs.declared.bus.Bus.{Bus}
 use Rattle.st_rows.specs.declared.entry.WordRun.{WordRun}
 use Rattle.st_rows.specs.declared.entry.Entry.{Entry}
 use Rattle.st_rows.specs.declared.fetching.Fetching.{Fetching}
-use Rattle.st_rows.specs.declared.front.Front.{Front}
+use Rattle.st_rows.specs.declared.issue.IssueState.{IssueState}
 use Rattle.st_rows.specs.declared.past.Past.{Past}
 
 -- the words of a run lie in storage, above the registers
@@ -64,7 +64,7 @@ abbrev pub IsNear : ℕ → Bus → Type 0
 IsNear most b = IsBusWithin (b.free + most) b
 
 -- the ticks of a front lie close together, where no read takes more than so many ticks
-pub record IsTight (most : ℕ) (f : Front) : Type 0 where
+pub record IsTight (most : ℕ) (f : IssueState) : Type 0 where
   pub prepared : f.p ≤ f.c
   pub done : ArePastWithin f.c f.past
   pub free : f.bus.free ≤ f.c + 2 * most + 2

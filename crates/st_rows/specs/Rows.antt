@@ -13,12 +13,12 @@ use Rattle.st_rows.specs.declared.bus.Bus.{Bus}
 use Rattle.st_rows.specs.declared.entry.Entry.{Entry}
 use Rattle.st_rows.specs.declared.past.Past.{Past}
 use Rattle.st_rows.specs.declared.fetching.Fetching.{Fetching}
-use Rattle.st_rows.specs.declared.front.Front.{Front}
-use Rattle.st_rows.specs.declared.front.EntryTicks.{EntryTicks}
+use Rattle.st_rows.specs.declared.issue.IssueState.{IssueState}
+use Rattle.st_rows.specs.declared.issue.EntryTicks.{EntryTicks}
 
 -- the front of a segment that starts at the tick
-abbrev pub opening_front : LastAnswers → ℕ → Front
-opening_front banks start = record {
+abbrev pub opening_issue : LastAnswers → ℕ → IssueState
+opening_issue banks start = record {
   bus = no_reads banks start;
   p = start;
   c = start;
@@ -27,7 +27,7 @@ opening_front banks start = record {
 }
 
 -- behind an entry that is done alone, words are wanted once that is done, else once it is prepared
-abbrev pub wanted_from : Front → ℕ
+abbrev pub wanted_from : IssueState → ℕ
 wanted_from f = if f.serial then max f.p f.c else f.p
 
 -- ---- the address: one tick after the words are there and all that is awaited is done, and after
@@ -35,7 +35,7 @@ wanted_from f = if f.serial then max f.p f.c else f.p
 -- last entry
 
 -- the tick at which the address is formed
-unfoldable pub address_tick : Front → Entry → ℕ → ℕ → ℕ
+unfoldable pub address_tick : IssueState → Entry → ℕ → ℕ → ℕ
 address_tick f e answered awaited =
     max (max (max (max answered awaited) f.p) (if e.serial || f.serial then f.c else 0)
     + 1) f.bus.free
@@ -70,7 +70,7 @@ followings e p =
 
 -- ---- the uses of the entry e behind the front f, part by part
 
-module _ (ds : List ℕ) (f : Front) (e : Entry) where
+module _ (ds : List ℕ) (f : IssueState) (e : Entry) where
   -- its own instruction words
   abbrev pub own_uses : List Use
   own_uses = uses ds f.past (unused f.bus 0) (words_of Instruction (wanted_from f) e.own)
@@ -102,13 +102,13 @@ module _ (ds : List ℕ) (f : Front) (e : Entry) where
   bus_a = sided.bus
 
   -- when its index-side word is there
-  unfoldable pub tick_y : ℕ
-  tick_y = sided.answered
+  unfoldable pub index_arrival : ℕ
+  index_arrival = sided.answered
 
-module _ (ds : List ℕ) (n : ℕ) (f : Front) (e : Entry) where
+module _ (ds : List ℕ) (n : ℕ) (f : IssueState) (e : Entry) where
   -- when it is prepared
   unfoldable pub tick_p : ℕ
-  tick_p = preparation_tick n f.past (tick_a ds f e) (tick_y ds f e)
+  tick_p = preparation_tick n f.past (tick_a ds f e) (index_arrival ds f e)
 
   -- its operands, of one run and then of the other
   abbrev pub first_uses : List Use
@@ -145,8 +145,8 @@ module _ (ds : List ℕ) (n : ℕ) (f : Front) (e : Entry) where
   row_of_entry = record { a = tick_a ds f e; p = tick_p; r = operands.answered; c = tick_c }
 
   -- the front behind it
-  unfoldable pub front_after_entry : Front
-  front_after_entry = record {
+  unfoldable pub issue_after_entry : IssueState
+  issue_after_entry = record {
     bus = (behind ds [] (unused operands.bus tick_p) following_uses).bus;
     p = tick_p;
     c = tick_c;

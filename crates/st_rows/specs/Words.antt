@@ -12,7 +12,7 @@ use Rattle.st_rows.specs.declared.entry.Entry.{Entry}
 use Rattle.st_rows.specs.declared.entry.WordRun.{WordRun}
 use Rattle.st_rows.specs.declared.entry.WordRuns.{WordRuns}
 use Rattle.st_rows.specs.declared.fetching.Fetching.{Fetching}
-use Rattle.st_rows.specs.declared.front.Front.{Front}
+use Rattle.st_rows.specs.declared.issue.IssueState.{IssueState}
 use Rattle.st_rows.specs.declared.past.Past.{Past}
 
 -- before the first word, on this bus
@@ -39,8 +39,8 @@ module _ (ds : List ℕ) (past : List Past) where
       behind ds past (unused b 0) (uses ds past (unused b 0) (wish_of side a))
 
   -- the bus behind it
-  unfoldable pub bus_sided : Bus → Option ℕ → ℕ → Bus
-  bus_sided b side a = (behind_side b side a).bus
+  unfoldable pub bus_after_index_read : Bus → Option ℕ → ℕ → Bus
+  bus_after_index_read b side a = (behind_side b side a).bus
 
   -- and the tick at which it is there
   unfoldable pub side_there : Bus → Option ℕ → ℕ → ℕ
@@ -74,8 +74,8 @@ module _ (ds : List ℕ) (past : List Past) where
 
 module _ (ds : List ℕ) (b : Bus) where
   -- the bus behind the following words
-  unfoldable pub bus_followed : Entry → ℕ → Bus
-  bus_followed e p =
+  unfoldable pub bus_after_prefetch : Entry → ℕ → Bus
+  bus_after_prefetch e p =
       (behind ds [] (unused b p) (uses ds [] (unused b p) (followings e p))).bus
 
   -- one of the two, if it lies in storage
@@ -83,5 +83,5 @@ module _ (ds : List ℕ) (b : Bus) where
   request_inside w p = if nat_lt w words_of_storage then bus_after_request ds b w p else b
 
 -- when the first two operand words of the entry e behind the front f are there
-abbrev pub fills : List ℕ → ℕ → Front → Entry → List ℕ
+abbrev pub fills : List ℕ → ℕ → IssueState → Entry → List ℕ
 fills ds n f e = fills_of ds f.past (bus_a ds f e) e.reads.one (tick_p ds n f e)

@@ -5,14 +5,14 @@ use Rattle.std.proofs.Math.Nat.{mul-add}
 use Rattle.std.proofs.lemmas.List.Elements.{All-replicate, All-weaker}
 use Rattle.st_state.specs.Machine.{Machine}
 use Rattle.st_prep.proofs.Choices.{of_choice}
-use Rattle.st_exec.specs.Completion.{guess}
+use Rattle.st_exec.specs.Completion.{prediction}
 use Rattle.st_run.specs.Run.{Scene}
 use Rattle.st_banks.specs.Bank.{idle_banks}
 use Rattle.st_banks.specs.declared.answers.TheConstants.{BANKS}
 use Rattle.st_rows.specs.Ranges.{AreDelaysUpTo, IsEntryInTime, IsTight}
-use Rattle.st_rows.specs.Rows.{row_of_entry, tick_c, front_after_entry}
+use Rattle.st_rows.specs.Rows.{row_of_entry, tick_c, issue_after_entry}
 use Rattle.st_rows.specs.Asked.{made_before}
-use Rattle.st_rows.specs.declared.front.Front.{Front}
+use Rattle.st_rows.specs.declared.issue.IssueState.{IssueState}
 use Rattle.st_rows.proofs.Served.{made-bounds}
 use Rattle.st_rows.proofs.Stages.{c-within}
 use Rattle.st_rows.proofs.Tight.{tight-after}
@@ -21,7 +21,7 @@ use Rattle.st_segment.specs.Ahead.{Ahead, ahead, prepared_before, reads_to_end}
 use Rattle.st_segment.proofs.EntryRanges.{entry-ranges}
 use Rattle.st_run.specs.Events.{Timed}
 use Rattle.st_run.specs.Scenes.{IsScene}
-use Rattle.st_run.specs.Moments.{Moment, Standing, moment_at_start, next_scene, next_state, ends_segment, next_segment, next_front, standing_at, next_row, front_after, entries_behind, entry_of_moment, next_moment}
+use Rattle.st_run.specs.Moments.{Moment, Standing, moment_at_start, next_scene, next_state, ends_segment, next_segment, next_issue, standing_at, next_row, issue_after, entries_behind, entry_of_moment, next_moment}
 use Rattle.st_run.specs.TimedRun.{timed_from}
 use Rattle.st_run.proofs.SceneLemmas.{settled-scene, stepped-scene}
 use Rattle.st_run.proofs.EachEvent.{timed-each, next-more}
@@ -31,11 +31,11 @@ use Rattle.st_exec.specs.Step.{interrupt}
 
 -- ---- entries in flight
 
-ahead-few : (ds : List ℕ) (n k : ℕ) (t : Option ℕ) (s : Machine) (f : Front) → length (ahead ds n k t s f) ≤ k
+ahead-few : (ds : List ℕ) (n k : ℕ) (t : Option ℕ) (s : Machine) (f : IssueState) → length (ahead ds n k t s f) ≤ k
 unfolding ahead
 ahead-few ds n zero t s f = omega arith
 ahead-few ds n (suc k) t s f =
-    let rest = ahead-few ds n k None (guess t s) (front_after_entry ds n f (entry t s)) in
+    let rest = ahead-few ds n k None (prediction t s) (issue_after_entry ds n f (entry t s)) in
     omega arith
 
 prepared-few : (t : ℕ) (xs : List Ahead) → length (prepared_before t xs) ≤ length xs
@@ -50,8 +50,8 @@ prepared-few t (a ∷ rest) =
 -- the invariant of the moments of a run
 pub record IsMoment (most n : ℕ) (m : Moment) : Type 0 where
   pub scene : IsScene m.scene
-  pub tight : IsTight most m.front
-  pub last : m.front.c ≤ m.tick
+  pub tight : IsTight most m.issue
+  pub last : m.issue.c ≤ m.tick
   pub few : length m.dropped ≤ n
   pub banks : All (λ t. t ≤ m.tick + most) m.banks.ticks
 
@@ -61,35 +61,35 @@ module _ (most n : ℕ) (ds : List ℕ) (are : AreDelaysUpTo most ds) (levels : 
       opening-tight most (m.tick + 1 + length m.dropped) m.banks
       (All-weaker (λ t. t ≤ m.tick + most) (λ t. t ≤ m.tick + 1 + length m.dropped + most) (λ t low. omega arith) m.banks.ticks is.banks)
 
-  next_front-is : (m : Moment) → IsMoment most n m → IsTight most (next_front m) × ((next_front m).c ≤ m.tick + 9)
-  unfolding next_front
-  next_front-is m is =
-      of_choice (λ f. IsTight most f × (f.c ≤ m.tick + 9)) (ends_segment m) (next_segment m) m.front
+  next_issue-is : (m : Moment) → IsMoment most n m → IsTight most (next_issue m) × ((next_issue m).c ≤ m.tick + 9)
+  unfolding next_issue
+  next_issue-is m is =
+      of_choice (λ f. IsTight most f × (f.c ≤ m.tick + 9)) (ends_segment m) (next_segment m) m.issue
       (next_segment-tight m is, omega (arith, is.few, levels))
       (is.tight, omega (arith, is.last))
 
-  completed-is : (p : Standing) → IsScene p.scene → IsTight most p.front → IsMoment most n (next_moment ds n p)
-  unfolding next_moment next_row row_of_entry front_after_entry
+  completed-is : (p : Standing) → IsScene p.scene → IsTight most p.issue → IsMoment most n (next_moment ds n p)
+  unfolding next_moment next_row row_of_entry issue_after_entry
   completed-is p is tight =
       let s = p.scene.machine in
       let t = interrupt p.scene.machine in
       let e = entry t s in
-      let tick = tick_c ds n p.front e in
+      let tick = tick_c ds n p.issue e in
       let fits : IsEntryInTime e = entry-ranges t s is.machine (interrupt-below s) in
-      let free : p.front.bus.free ≤ tick = free-before_done ds n p.front e fits in
-      let made = made-bounds most ds are tick (reads_to_end ds n tick (interrupt p.scene.machine) p.scene.machine p.front (entry_of_moment p)) p.front.bus tight.near free in
+      let free : p.issue.bus.free ≤ tick = free-before_done ds n p.issue e fits in
+      let made = made-bounds most ds are tick (reads_to_end ds n tick (interrupt p.scene.machine) p.scene.machine p.issue (entry_of_moment p)) p.issue.bus tight.near free in
       record {
         scene = stepped-scene p.scene is;
-        tight = tight-after most ds are n p.front e fits tight;
+        tight = tight-after most ds are n p.issue e fits tight;
         last = omega arith;
-        few = omega (arith, prepared-few tick (entries_behind ds n p n), ahead-few ds n n None (guess t s) (front_after ds n p));
+        few = omega (arith, prepared-few tick (entries_behind ds n p n), ahead-few ds n n None (prediction t s) (issue_after ds n p));
         banks =
-            All-weaker (λ x. x ≤ (made_before ds tick (reads_to_end ds n tick (interrupt p.scene.machine) p.scene.machine p.front (entry_of_moment p)) p.front.bus).free + most) (λ x. x ≤ tick + most)
+            All-weaker (λ x. x ≤ (made_before ds tick (reads_to_end ds n tick (interrupt p.scene.machine) p.scene.machine p.issue (entry_of_moment p)) p.issue.bus).free + most) (λ x. x ≤ tick + most)
             (λ x low. omega (arith, made.1)) _ made.0.banks;
       }
 
   pub next-is : (m : Moment) → IsMoment most n m → IsMoment most n (next_moment ds n (standing_at m))
-  next-is m is = completed-is (standing_at m) (settled-scene m.scene is.scene) (next_front-is m is).0
+  next-is m is = completed-is (standing_at m) (settled-scene m.scene is.scene) (next_issue-is m is).0
 
   pub next-tick : (m : Moment) → IsMoment most n m → (next_moment ds n (standing_at m)).tick ≤ m.tick + 64 * (most + 4)
   unfolding next_moment next_row row_of_entry
@@ -98,8 +98,8 @@ module _ (most n : ℕ) (ds : List ℕ) (are : AreDelaysUpTo most ds) (levels : 
       let t = interrupt (next_state m) in
       let scene : IsScene (next_scene m) = settled-scene m.scene is.scene in
       let fits : IsEntryInTime (entry t s) = entry-ranges t s scene.machine (interrupt-below s) in
-      let f = next_front-is m is in
-      omega (arith, f.1, c-within most ds are (next_front m) (entry t s) fits f.0 n)
+      let f = next_issue-is m is in
+      omega (arith, f.1, c-within most ds are (next_issue m) (entry t s) fits f.0 n)
 
 -- ---- events
 

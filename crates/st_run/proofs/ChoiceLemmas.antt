@@ -9,19 +9,19 @@ use Rattle.st_run.specs.Run.{Scene, interlude}
 use Rattle.st_rows.specs.Rows.{row_of_entry, tick_c}
 use Rattle.st_rows.specs.Ranges.{IsEntryInTime, AreDelaysUpTo}
 use Rattle.st_rows.specs.declared.entry.Entry.{Entry}
-use Rattle.st_rows.specs.declared.front.Front.{Front}
+use Rattle.st_rows.specs.declared.issue.IssueState.{IssueState}
 use Rattle.st_segment.specs.Entries.{entry}
 use Rattle.st_segment.proofs.EntryRanges.{entry-ranges}
 use Rattle.st_ahead.specs.Overlap.{Overlap, state_ahead, levels_of, interrupt_due, oldest_row, machine_between_ticks}
 use Rattle.st_ahead.specs.Calls.{machine_after_segment, run_ended, machine_after_settling as settled_of, settled_by, machine_after_pass, answer, answer_by}
 use Rattle.st_ahead.specs.declared.events.Settled.{Settled}
-use Rattle.st_run.specs.Moments.{Moment, standing_at, next_scene, next_state, ends_segment, next_front, next_segment, has_card, has_waited}
+use Rattle.st_run.specs.Moments.{Moment, standing_at, next_scene, next_state, ends_segment, next_issue, next_segment, has_card, has_waited}
 use Rattle.st_run.specs.Scenes.{IsScene}
 use Rattle.st_run.specs.Together.{Together, scene_of, moment_of, AreTexts, IsBehindEntry, IsBeforeEntry}
 use Rattle.st_run.specs.Between.{IsChoice, choice_of, IsDecidedBy}
 use Rattle.st_run.specs.Leaving.{IsDecided, RunGoesOn}
-use Rattle.st_run.specs.declared.turn.Turn.{Turn}
-use Rattle.st_run.specs.declared.turn.Turn.TheVariants.{Before, AtEnd, Over}
+use Rattle.st_run.specs.declared.run_phase.RunPhase.{RunPhase}
+use Rattle.st_run.specs.declared.run_phase.RunPhase.TheVariants.{Before, AtEnd, Over}
 use Rattle.st_run.specs.declared.leaving.Decided.{Decided}
 use Rattle.st_run.proofs.SceneLemmas.{settled-scene}
 use Rattle.st_run.proofs.InterludeLemmas.{HasCome}
@@ -41,14 +41,14 @@ choice-by None false None true m goes = refl
 choice-by None false None false m goes = refl
 
 pub choice-is : (m : Overlap) (over : Bool) → rests m.state ≡ false
-    → choice_of (answer m) over ≡ ((is_some m.missed || over || is_some (interrupt_due m)), interrupt_due m)
+    → choice_of (answer m) over ≡ ((is_some m.mispredicted || over || is_some (interrupt_due m)), interrupt_due m)
 unfolding answer
-choice-is m over goes = choice-by (interrupt_due m) (rests m.state) m.missed over m goes
+choice-is m over goes = choice-by (interrupt_due m) (rests m.state) m.mispredicted over m goes
 
 abbrev IsGoing : ℕ → Bool → Overlap → Overlap → Bool × Option ℕ → Type 0
 IsGoing left over m k r =
     (left ≢ 0) × (rests m.state ≡ false)
-    × ((k ≡ settled_of m) × (r.1 ≡ interrupt_due m) × (r.0 ≡ (is_some m.missed || over || is_some (interrupt_due m))))
+    × ((k ≡ settled_of m) × (r.1 ≡ interrupt_due m) × (r.0 ≡ (is_some m.mispredicted || over || is_some (interrupt_due m))))
 
 pub chosen : (left : ℕ) (over : Bool) (old : Together) (m k : Overlap) (xs : List Signal) (cards : List (List ℕ)) (a : Settled) (r : Bool × Option ℕ)
     → record { machine = m; signals = xs; cards = cards } ≡ old → left ≢ 0 → rests m.state ≡ false
@@ -60,25 +60,25 @@ chosen left over old m k xs cards a r view some goes is after picks =
 
 -- ---- before the next entry
 
-row-later : (ds : List ℕ) (n now : ℕ) (f : Front) (e : Entry) → IsEntryInTime e → now ≤ f.c → now + 1 ≤ (row_of_entry ds n f e).c
+row-later : (ds : List ℕ) (n now : ℕ) (f : IssueState) (e : Entry) → IsEntryInTime e → now ≤ f.c → now + 1 ≤ (row_of_entry ds n f e).c
 unfolding row_of_entry tick_c
 row-later ds n now f e is late = omega (arith, is.costs.0)
 
 -- the machine before the next entry, with the front f
-abbrev going : Overlap → Machine → Option ℕ → Front → Overlap
-going o s t f = record o { state = s; taken = t; front = f; owed = false; ended = false; missed = None; closing = None; now = o.now + 1 }
+abbrev going : Overlap → Machine → Option ℕ → IssueState → Overlap
+going o s t f = record o { state = s; taken = t; issue = f; owed = false; ended = false; mispredicted = None; closing = None; now = o.now + 1 }
 
 -- the machine between two ticks, with the pending interrupt taken
 abbrev between_by : Overlap → Overlap
-between_by m = machine_between_ticks m.delays m.levels m.state (interrupt m.state) m.front m.now
+between_by m = machine_between_ticks m.delays m.levels m.state (interrupt m.state) m.issue m.now
 
-going-between : (o : Overlap) (s : Machine) (t : Option ℕ) (f : Front) → o.stopped ≡ false → t ≡ interrupt s
+going-between : (o : Overlap) (s : Machine) (t : Option ℕ) (f : IssueState) → o.stopped ≡ false → t ≡ interrupt s
     → going o s t f ≡ between_by (going o s t f)
 going-between o s t f stands table =
     ap (λ (k : Option ℕ). going o s k f) table
     ∙ ap (λ b. record (going o s (interrupt s) f) { stopped = b }) stands
 
-going-before : (b n : Together) (s : Machine) (t : Option ℕ) (f : Front) → IsBehindEntry b → n.machine ≡ going b.machine s t f
+going-before : (b n : Together) (s : Machine) (t : Option ℕ) (f : IssueState) → IsBehindEntry b → n.machine ≡ going b.machine s t f
     → IsScene (scene_of n) → t ≡ interrupt s → rests s ≡ false → b.machine.now ≤ f.c → IsBeforeEntry n
 unfolding oldest_row state_ahead
 going-before b n s t f is same scene table awake late =
@@ -105,29 +105,29 @@ now-taken : (over : Bool) (o : Overlap) (s : Machine) → (by_now over o s).take
 now-taken true o s = refl
 now-taken false o s = refl
 
-now-behind : (over : Bool) (o : Overlap) (s : Machine) → (by_now over o s).missed ≡ o.missed
+now-behind : (over : Bool) (o : Overlap) (s : Machine) → (by_now over o s).mispredicted ≡ o.mispredicted
 now-behind true o s = refl
 now-behind false o s = refl
 
 going-by : (due behind : Option ℕ) (over : Bool) (o : Overlap) (s : Machine) (x : Overlap) → x ≡ by_now over o s → machine_after_segment x ≡ opened o s
     → o.taken ≡ None
     → settled_by due false behind x
-    ≡ going o s due (if is_some behind || over || is_some due then (opened o s).front else o.front)
+    ≡ going o s due (if is_some behind || over || is_some due then (opened o s).issue else o.issue)
 going-by (Some i) (Some h) over o s x now ends none = ap (λ (y : Overlap). machine_after_pass (record y { taken = Some i })) ends
 going-by (Some i) None true o s x now ends none = ap (λ (y : Overlap). machine_after_pass (record y { taken = Some i })) ends
 going-by (Some i) None false o s x now ends none = ap (λ (y : Overlap). machine_after_pass (record y { taken = Some i })) ends
-going-by None (Some h) over o s x now ends none = ap machine_after_pass ends ∙ ap (λ t. going o s t (opened o s).front) none
-going-by None None true o s x now ends none = ap machine_after_pass now ∙ ap (λ t. going o s t (opened o s).front) none
-going-by None None false o s x now ends none = ap machine_after_pass now ∙ ap (λ t. going o s t o.front) none
+going-by None (Some h) over o s x now ends none = ap machine_after_pass ends ∙ ap (λ t. going o s t (opened o s).issue) none
+going-by None None true o s x now ends none = ap machine_after_pass now ∙ ap (λ t. going o s t (opened o s).issue) none
+going-by None None false o s x now ends none = ap machine_after_pass now ∙ ap (λ t. going o s t o.issue) none
 
 -- ---- the continuation of the run
 
-abbrev pub IsWay : Turn → ℕ → Moment → Decided → Together → Type 0
+abbrev pub IsWay : RunPhase → ℕ → Moment → Decided → Together → Type 0
 IsWay turn left m d t = IsDecidedBy turn left (next_state m) d (RunGoesOn m d t) ((scene_of t ≡ next_scene m) × (levels_of t.machine ≡ []))
 
 -- ---- whether the segment ends
 
-ends-by : (missed card waited due : Bool) → (missed || (card || waited) || due) ≡ (missed || card || waited || due)
+ends-by : (mispredicted card waited due : Bool) → (mispredicted || (card || waited) || due) ≡ (mispredicted || card || waited || due)
 ends-by true card waited due = refl
 ends-by false true waited due = refl
 ends-by false false waited due = refl
@@ -144,25 +144,25 @@ module _ (b t : Together) (text : Option (List ℕ)) (over : Bool) (is : IsBehin
   state-is = ap (λ (c : Scene). c.machine) came.scene
 
   abbrev ends : Bool
-  ends = is_some b.machine.missed || over || is_some (interrupt s)
+  ends = is_some b.machine.mispredicted || over || is_some (interrupt s)
 
   ends-is : ends ≡ ends_segment m
   unfolding ends_segment
   ends-is =
-      ap (λ x. is_some b.machine.missed || x || is_some (interrupt s)) came.ends
-      ∙ ends-by (is_some b.machine.missed) (has_card m) (has_waited m) (is_some (interrupt s))
-      ∙ ap (λ (u : Machine). is_some b.machine.missed || has_card m || has_waited m || is_some (interrupt u)) state-is
+      ap (λ x. is_some b.machine.mispredicted || x || is_some (interrupt s)) came.ends
+      ∙ ends-by (is_some b.machine.mispredicted) (has_card m) (has_waited m) (is_some (interrupt s))
+      ∙ ap (λ (u : Machine). is_some b.machine.mispredicted || has_card m || has_waited m || is_some (interrupt u)) state-is
 
   -- the front after the decision
-  abbrev front : Front
-  front = if ends then next_segment m else b.machine.front
+  abbrev issue : IssueState
+  issue = if ends then next_segment m else b.machine.issue
 
-  front-is : front ≡ next_front m
-  unfolding next_front
-  front-is = ap (λ x. if x then next_segment m else m.front) ends-is
+  issue-is : issue ≡ next_issue m
+  unfolding next_issue
+  issue-is = ap (λ x. if x then next_segment m else m.issue) ends-is
 
-  front-late : b.machine.now ≤ front.c
-  front-late = of_choice (λ (f : Front). b.machine.now ≤ f.c) ends (next_segment m) b.machine.front (omega arith) (omega (arith, is.last))
+  issue-late : b.machine.now ≤ issue.c
+  issue-late = of_choice (λ (f : IssueState). b.machine.now ≤ f.c) ends (next_segment m) b.machine.issue (omega arith) (omega (arith, is.last))
 
   -- the machine after the external events
   now-is : t.machine ≡ by_now over b.machine s
@@ -171,16 +171,16 @@ module _ (b t : Together) (text : Option (List ℕ)) (over : Bool) (is : IsBehin
   due-is : interrupt_due t.machine ≡ interrupt s
   due-is = ap (λ (x : Overlap). if is_none x.taken then interrupt s else None) now-is ∙ ap (λ x. if is_none x then interrupt s else None) (now-taken over b.machine s ∙ is.table)
 
-  behind-is : t.machine.missed ≡ b.machine.missed
-  behind-is = ap (λ (x : Overlap). x.missed) now-is ∙ now-behind over b.machine s
+  behind-is : t.machine.mispredicted ≡ b.machine.mispredicted
+  behind-is = ap (λ (x : Overlap). x.mispredicted) now-is ∙ now-behind over b.machine s
 
-  settled-is : rests s ≡ false → settled_of t.machine ≡ going b.machine s (interrupt s) front
+  settled-is : rests s ≡ false → settled_of t.machine ≡ going b.machine s (interrupt s) issue
   unfolding settled_of
   settled-is goes =
-      ap (λ x. settled_by x (rests s) t.machine.missed t.machine) due-is
-      ∙ ap (λ x. settled_by (interrupt s) x t.machine.missed t.machine) goes
+      ap (λ x. settled_by x (rests s) t.machine.mispredicted t.machine) due-is
+      ∙ ap (λ x. settled_by (interrupt s) x t.machine.mispredicted t.machine) goes
       ∙ ap (λ x. settled_by (interrupt s) false x t.machine) behind-is
-      ∙ going-by (interrupt s) b.machine.missed over b.machine s t.machine now-is (ended-since b t.machine over is came.since) is.table
+      ∙ going-by (interrupt s) b.machine.mispredicted over b.machine s t.machine now-is (ended-since b t.machine over is came.since) is.table
 
   -- the scene after the external events
   scene-is : (n : Together) → n ≡ record t { machine = n.machine } → n.machine.state ≡ s → scene_of n ≡ next_scene m
@@ -188,21 +188,21 @@ module _ (b t : Together) (text : Option (List ℕ)) (over : Bool) (is : IsBehin
       ap scene_of rest ∙ ap (λ u. record { machine = u; signals = t.signals; cards = t.cards }) state ∙ came.scene
 
   goes-on : (d : Decided) (n : Together) → n ≡ record t { machine = n.machine } → rests s ≡ false → n.machine ≡ settled_of t.machine
-      → d.taken ≡ interrupt_due t.machine → d.ends ≡ (is_some t.machine.missed || over || is_some (interrupt_due t.machine))
+      → d.taken ≡ interrupt_due t.machine → d.ends ≡ (is_some t.machine.mispredicted || over || is_some (interrupt_due t.machine))
       → RunGoesOn m d n
   goes-on d n rest goes after table end =
-      let same : n.machine ≡ going b.machine s (interrupt s) front = after ∙ settled-is goes in
+      let same : n.machine ≡ going b.machine s (interrupt s) issue = after ∙ settled-is goes in
       let scene : scene_of n ≡ next_scene m = scene-is n rest (ap (λ (x : Overlap). x.state) same) in
       record {
         before =
-            going-before b n s (interrupt s) front is same (subst IsScene (sym scene) (settled-scene (scene_of b) is.kept.scene)) refl goes front-late;
+            going-before b n s (interrupt s) issue is same (subst IsScene (sym scene) (settled-scene (scene_of b) is.kept.scene)) refl goes issue-late;
         standing =
-            ap (λ (c : Scene). record { scene = c; tick = m.tick; front = n.machine.front }) scene
-            ∙ ap (λ (f : Front). record (standing_at m) { front = f }) (ap (λ (x : Overlap). x.front) same ∙ front-is);
+            ap (λ (c : Scene). record { scene = c; tick = m.tick; issue = n.machine.issue }) scene
+            ∙ ap (λ (f : IssueState). record (standing_at m) { issue = f }) (ap (λ (x : Overlap). x.issue) same ∙ issue-is);
         ends =
             end
             ∙ ap (λ x. is_some x || over || is_some (interrupt_due t.machine)) behind-is
-            ∙ ap (λ x. is_some b.machine.missed || over || is_some x) due-is
+            ∙ ap (λ x. is_some b.machine.mispredicted || over || is_some x) due-is
             ∙ ends-is;
         taken = table ∙ due-is ∙ ap interrupt state-is;
         now = ap (λ (x : Overlap). x.now) same;
@@ -214,7 +214,7 @@ module _ (b t : Together) (text : Option (List ℕ)) (over : Bool) (is : IsBehin
       after ∙ ap (λ (x : Overlap). record x { stopped = true }) (ended-since b t.machine over is came.since) in
       (scene-is n rest (ap (λ (x : Overlap). x.state) same), ap levels_of same ∙ stopped-none b.machine s)
 
-  way-is : (turn : Turn) (left : ℕ) (d : Decided) (n : Together) → n ≡ record t { machine = n.machine }
+  way-is : (turn : RunPhase) (left : ℕ) (d : Decided) (n : Together) → n ≡ record t { machine = n.machine }
       → IsChoice turn left over t.machine d n.machine → IsWay turn left m d n
   way-is Before left d n rest h =
       (h.0, sym (ap rests state-is) ∙ h.1, goes-on d n rest h.1 h.2.0 h.2.1 h.2.2)

@@ -9,21 +9,21 @@ use Rattle.st_run.specs.Course.{Course, course}
 use Rattle.st_run.specs.Run.{Scene, interlude, state_next, scenes, run}
 use Rattle.st_run.specs.Events.{Timed}
 use Rattle.st_run.specs.Order.{AreRising}
-use Rattle.st_rows.specs.Rows.{row_of_entry, tick_c, front_after_entry}
-use Rattle.st_run.specs.Moments.{Moment, Standing, next_state, ends_segment, next_segment, next_front, standing_at, next_row, next_moment, moments}
+use Rattle.st_rows.specs.Rows.{row_of_entry, tick_c, issue_after_entry}
+use Rattle.st_run.specs.Moments.{Moment, Standing, next_state, ends_segment, next_segment, next_issue, standing_at, next_row, next_moment, moments}
 use Rattle.st_run.specs.TimedRun.{snapshots_from, events_between, until_done, last_events, told_from, timed_from}
 
 -- ---- the ticks of moments
 
 module _ (ds : List ℕ) (n : ℕ) where
-  pub next-later : (m : Moment) → m.front.c ≡ m.tick → m.tick ≤ (next_moment ds n (standing_at m)).tick
-  unfolding next_moment next_row row_of_entry tick_c next_front
+  pub next-later : (m : Moment) → m.issue.c ≡ m.tick → m.tick ≤ (next_moment ds n (standing_at m)).tick
+  unfolding next_moment next_row row_of_entry tick_c next_issue
   next-later m same =
-      let front : m.tick ≤ (next_front m).c = of_choice (λ f. m.tick ≤ f.c) (ends_segment m) (next_segment m) m.front (omega arith) (omega (arith, same)) in
-      omega (arith, front)
+      let issue : m.tick ≤ (next_issue m).c = of_choice (λ f. m.tick ≤ f.c) (ends_segment m) (next_segment m) m.issue (omega arith) (omega (arith, same)) in
+      omega (arith, issue)
 
-  pub next-same : (p : Standing) → (next_moment ds n p).front.c ≡ (next_moment ds n p).tick
-  unfolding next_moment next_row row_of_entry front_after_entry
+  pub next-same : (p : Standing) → (next_moment ds n p).issue.c ≡ (next_moment ds n p).tick
+  unfolding next_moment next_row row_of_entry issue_after_entry
   next-same p = refl
 
 -- ---- remaining snapshots
@@ -81,7 +81,7 @@ module _ (ds : List ℕ) (n : ℕ) where
   timed-none m snaps = refl
 
   -- a snapshot before the first moment is not shown
-  pub timed-later : (left : ℕ) (m : Moment) (x : ℕ) (xs : List ℕ) → m.front.c ≡ m.tick → x < m.tick
+  pub timed-later : (left : ℕ) (m : Moment) (x : ℕ) (xs : List ℕ) → m.issue.c ≡ m.tick → x < m.tick
       → timed_from ds n left m (x ∷ xs) ≡ timed_from ds n left m xs
   unfolding snapshots_from
   timed-later zero m x xs same early =

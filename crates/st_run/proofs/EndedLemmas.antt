@@ -4,16 +4,16 @@ use Rattle.std.proofs.Common.{◌≡◌, ℕ, zero, suc, ◌+◌, ◌<◌, ◌�
 use Rattle.std.proofs.lemmas.Bool.{ltb-true, le-ltb, false_from_ne_true}
 use Rattle.st_state.specs.Machine.{Machine, IsMachine}
 use Rattle.st_prep.specs.BesideOrders.{AreAlikeBesideOrders}
-use Rattle.st_exec.specs.Completion.{guess}
+use Rattle.st_exec.specs.Completion.{prediction}
 use Rattle.st_banks.specs.declared.answers.LastAnswers.{LastAnswers}
-use Rattle.st_rows.specs.Rows.{opening_front, row_of_entry, front_after_entry, address_tick, preparation_tick, tick_a, tick_p}
+use Rattle.st_rows.specs.Rows.{opening_issue, row_of_entry, issue_after_entry, address_tick, preparation_tick, tick_a, tick_p}
 use Rattle.st_rows.specs.declared.entry.Entry.{Entry}
-use Rattle.st_rows.specs.declared.front.Front.{Front}
+use Rattle.st_rows.specs.declared.issue.IssueState.{IssueState}
 use Rattle.st_segment.specs.Entries.{entry}
 use Rattle.st_segment.specs.Guesses.{guesses}
 use Rattle.st_segment.specs.Alone.{RunAhead}
 use Rattle.st_segment.specs.Ahead.{Ahead, ahead, prepared_before}
-use Rattle.st_segment.proofs.GuessLemmas.{guess-machine}
+use Rattle.st_segment.proofs.GuessLemmas.{prediction-machine}
 use Rattle.st_segment.proofs.PassedOver.{entry-same, passed-over}
 use Rattle.st_ahead.specs.Overlap.{Overlap, state_ahead, with_counter, levels_of}
 use Rattle.st_ahead.specs.Calls.{machine_after_segment, banks_left, MayServe}
@@ -31,7 +31,7 @@ same-count true x y xs ys same = ap suc (same refl)
 same-count false x y xs ys same = refl
 
 -- the entries in flight are non-serializing
-not-alone : (ds : List ℕ) (n now : ℕ) (f : Front) (e : Entry) → now ≤ f.c → (row_of_entry ds n f e).p < now → e.serial ≡ false
+not-alone : (ds : List ℕ) (n now : ℕ) (f : IssueState) (e : Entry) → now ≤ f.c → (row_of_entry ds n f e).p < now → e.serial ≡ false
 unfolding row_of_entry tick_a tick_p address_tick preparation_tick
 not-alone ds n now f e late early = false_from_ne_true e.serial (λ alone. absurd (behind e.serial alone early))
   where
@@ -39,25 +39,25 @@ not-alone ds n now f e late early = false_from_ne_true e.serial (λ alone. absur
     behind true is before = omega arith
     behind false is before = cc is
 
-guess-alike : (s u : Machine) → IsMachine s → AreAlikeBesideOrders s u → (entry None s).serial ≡ false
-    → AreAlikeBesideOrders (guess None s) (guess None u)
+prediction-alike : (s u : Machine) → IsMachine s → AreAlikeBesideOrders s u → (entry None s).serial ≡ false
+    → AreAlikeBesideOrders (prediction None s) (prediction None u)
 unfolding entry guesses RunAhead
-guess-alike s u m alike free = (passed-over 1 s u m alike (free, tt)).1
+prediction-alike s u m alike free = (passed-over 1 s u m alike (free, tt)).1
 
-count-alike : (ds : List ℕ) (n now k : ℕ) (s u : Machine) (f : Front) → IsMachine s → AreAlikeBesideOrders s u → now ≤ f.c
+count-alike : (ds : List ℕ) (n now k : ℕ) (s u : Machine) (f : IssueState) → IsMachine s → AreAlikeBesideOrders s u → now ≤ f.c
     → length (prepared_before now (ahead ds n k None s f)) ≡ length (prepared_before now (ahead ds n k None u f))
 unfolding ahead prepared_before
 count-alike ds n now zero s u f m alike late = refl
 count-alike ds n now (suc k) s u f m alike late =
     let e = entry None s in
-    let g = front_after_entry ds n f e in
+    let g = issue_after_entry ds n f e in
     let before = λ (xs : List Ahead). prepared_before now xs in
-    same-count (nat_lt (row_of_entry ds n f e).p now) _ _ (before (ahead ds n k None (guess None s) g)) (before (ahead ds n k None (guess None u) g))
-    (λ early. count-alike ds n now k (guess None s) (guess None u) g (guess-machine None s m tt)
-    (guess-alike s u m alike (not-alone ds n now f e late (ltb-true (row_of_entry ds n f e).p now early)))
+    same-count (nat_lt (row_of_entry ds n f e).p now) _ _ (before (ahead ds n k None (prediction None s) g)) (before (ahead ds n k None (prediction None u) g))
+    (λ early. count-alike ds n now k (prediction None s) (prediction None u) g (prediction-machine None s m tt)
+    (prediction-alike s u m alike (not-alone ds n now f e late (ltb-true (row_of_entry ds n f e).p now early)))
     (behind-later ds n now f e late))
     ∙ ap (λ (x : Entry). length (if nat_lt (row_of_entry ds n f x).p now
-    then record { state = u; table = None; front = f; entry = x; row = row_of_entry ds n f x } ∷ before (ahead ds n k None (guess None u) (front_after_entry ds n f x))
+    then record { state = u; table = None; issue = f; entry = x; row = row_of_entry ds n f x } ∷ before (ahead ds n k None (prediction None u) (issue_after_entry ds n f x))
     else [])) (sym (entry-same None s u alike))
 
 -- ---- the end of a segment
@@ -66,7 +66,7 @@ count-alike ds n now (suc k) s u f m alike late =
 abbrev pub opened : Overlap → Machine → Overlap
 opened o s = record o {
   state = s;
-  front = opening_front (banks_left o.closing) (o.now + 1 + length (levels_of o));
+  issue = opening_issue (banks_left o.closing) (o.now + 1 + length (levels_of o));
   ended = true;
 }
 
@@ -76,8 +76,8 @@ unfolding levels_of state_ahead
 levels-alike t u is alike =
     let o = t.machine in
     rw (is.going, is.table)
-    (sym (count-alike o.delays o.levels o.now o.levels (with_counter o.missed o.state) (with_counter o.missed u) o.front
-    (counted-machine o.missed o.state is.kept.scene.machine is.counter) (counted-alike o.missed o.state u alike) (omega (arith, is.last))))
+    (sym (count-alike o.delays o.levels o.now o.levels (with_counter o.mispredicted o.state) (with_counter o.mispredicted u) o.issue
+    (counted-machine o.mispredicted o.state is.kept.scene.machine is.counter) (counted-alike o.mispredicted o.state u alike) (omega (arith, is.last))))
 
 ended-first : (t : Together) (u : Machine) → IsBehindEntry t → AreAlikeBesideOrders t.machine.state u
     → machine_after_segment (record t.machine { state = u }) ≡ opened t.machine u
@@ -86,7 +86,7 @@ ended-first t u is alike =
     let o = t.machine in
     let v = record o { state = u } in
     ap (λ b. if b then v else opened v u) is.going
-    ∙ ap (λ k. record o { state = u; front = opening_front (banks_left o.closing) (o.now + 1 + k); ended = true }) (levels-alike t u is alike)
+    ∙ ap (λ k. record o { state = u; issue = opening_issue (banks_left o.closing) (o.now + 1 + k); ended = true }) (levels-alike t u is alike)
 
 pub ended-behind : (t : Together) → IsBehindEntry t → machine_after_segment t.machine ≡ opened t.machine t.machine.state
 unfolding machine_after_segment
@@ -129,11 +129,11 @@ ended-serves m may = kept m.ended
 
 -- no entry is in flight right after the end of a segment
 pub opening-none : (ds : List ℕ) (n k : ℕ) (t : Option ℕ) (s : Machine) (banks : LastAnswers) (start now : ℕ) → now ≤ start
-    → prepared_before now (ahead ds n k t s (opening_front banks start)) ≡ []
+    → prepared_before now (ahead ds n k t s (opening_issue banks start)) ≡ []
 unfolding ahead prepared_before row_of_entry tick_a tick_p address_tick preparation_tick
 opening-none ds n zero t s banks start now early = refl
 opening-none ds n (suc k) t s banks start now early =
-    let p = tick_p ds n (opening_front banks start) (entry t s) in
+    let p = tick_p ds n (opening_issue banks start) (entry t s) in
     let late : now ≤ p = omega arith in
     rw (le-ltb p now late) refl
 

@@ -4,7 +4,7 @@ use Rattle.std.proofs.Common.{◌≡◌, ℕ, ◌+◌, ◌-◌, ◌<◌, ◌≤�
 use Rattle.std.proofs.lemmas.List.Elements.{All-tail}
 use Rattle.st_prep.specs.Plan.{plan}
 use Rattle.st_exec.specs.Step.{interrupt, address}
-use Rattle.st_rows.specs.declared.front.EntryTicks.{EntryTicks as FrontRow}
+use Rattle.st_rows.specs.declared.issue.EntryTicks.{EntryTicks as IssueRow}
 use Rattle.st_ahead.specs.Overlap.{Overlap, oldest_row, machine_between_ticks}
 use Rattle.st_ahead.specs.Calls.{machine_after_completion, row_done}
 use Rattle.st_ahead.specs.declared.events.Row.{Row}
@@ -47,9 +47,9 @@ behind-completes ds n left p (x ∷ xs) late = behind-done ds n left p x xs late
 
 pub tick-before : (t : Together) (now : ℕ) → IsBeforeEntry t → now ≤ (oldest_row t.machine).c → IsBeforeEntry (at_tick now t)
 tick-before t now h early =
-    let soon : now ≤ (oldest_row (at_tick now t).machine).c = omega (arith, early, ap {A = FrontRow} (λ r. r.c) (row-same t.machine now)) in
+    let soon : now ≤ (oldest_row (at_tick now t).machine).c = omega (arith, early, ap {A = IssueRow} (λ r. r.c) (row-same t.machine now)) in
     let o = t.machine in
-    let between : record o { now = now } ≡ machine_between_ticks o.delays o.levels o.state (interrupt o.state) o.front now =
+    let between : record o { now = now } ≡ machine_between_ticks o.delays o.levels o.state (interrupt o.state) o.issue now =
     ap {A = Overlap} (λ m. record m { now = now }) h.ready.between in
     assumption
 
@@ -138,15 +138,15 @@ module _ (left tick : ℕ) (snaps : List ℕ) (t new : Together) (before : IsBef
         let rows : oldest_row o ≡ next_row o.delays o.levels p = row-before t tick before in
         let place : (plan s o.taken).place.address ≡ address s =
         ap {A = Option ℕ} (λ k. (plan s k).place.address) (ready-table o before.ready) ∙ plan-address s (interrupt s) in
-        ap {A = FrontRow} (λ r. once (s.done + 1) (oldest_row o).c (Done (plan s o.taken).place.address r.p r.r (oldest_row o).c)) (row-same o (oldest_row o).c)
-        ∙ ap {A = FrontRow} (λ r. once (s.done + 1) r.c (Done (plan s o.taken).place.address r.p r.r r.c)) rows
+        ap {A = IssueRow} (λ r. once (s.done + 1) (oldest_row o).c (Done (plan s o.taken).place.address r.p r.r (oldest_row o).c)) (row-same o (oldest_row o).c)
+        ∙ ap {A = IssueRow} (λ r. once (s.done + 1) r.c (Done (plan s o.taken).place.address r.p r.r r.c)) rows
         ∙ ap {A = ℕ} (λ k. once (s.done + 1) (next_row o.delays o.levels p).c (Done k (next_row o.delays o.levels p).p
         (next_row o.delays o.levels p).r (next_row o.delays o.levels p).c)) place
         ∙ ap {A = ℕ} (λ k. once k (next_row o.delays o.levels p).c (Done (address s) (next_row o.delays o.levels p).p
         (next_row o.delays o.levels p).r (next_row o.delays o.levels p).c)) (sym (next-done left tick snaps t before in_time))
         ∙ ap {A = ℕ} (λ k. once next.scene.machine.done k (Done (address s) (next_row o.delays o.levels p).p
         (next_row o.delays o.levels p).r (next_row o.delays o.levels p).c))
-        (ap {A = FrontRow} (λ r. r.c) (sym rows) ∙ sym (next-tick left tick snaps t before in_time))
+        (ap {A = IssueRow} (λ r. r.c) (sym rows) ∙ sym (next-tick left tick snaps t before in_time))
 
     pub go-tells : (rest : List TimedReportedEvent)
         → reported_events (timed_from new.machine.delays new.machine.levels left (moment_of new) snaps) ≡ rest

@@ -3,25 +3,25 @@ use Rattle.std.proofs.Common.{◌≡◌, ℕ, true, false, List, None, ap}
 use Rattle.st_prep.specs.Plan.{plan}
 use Rattle.st_exec.specs.Step.{step, interrupt}
 use Rattle.st_segment.specs.Ahead.{ahead}
-use Rattle.st_segment.proofs.StepLemmas.{guess-right, guess-missed}
-use Rattle.st_run.specs.Moments.{Standing, front_after, entries_behind, next_moment}
+use Rattle.st_segment.proofs.StepLemmas.{prediction-right, prediction-mispredicted}
+use Rattle.st_run.specs.Moments.{Standing, issue_after, entries_behind, next_moment}
 use Rattle.st_run.specs.Scenes.{IsScene}
 use Rattle.st_refine.proofs.Kept.{interrupt-below}
 
 module _ (ds : List ℕ) (n k : ℕ) (p : Standing) (is : IsScene p.scene) where
-  pub behind-right : (next_moment ds n p).missed ≡ false
-      → entries_behind ds n p k ≡ ahead ds n k None (next_moment ds n p).scene.machine (next_moment ds n p).front
+  pub behind-right : (next_moment ds n p).mispredicted ≡ false
+      → entries_behind ds n p k ≡ ahead ds n k None (next_moment ds n p).scene.machine (next_moment ds n p).issue
   unfolding next_moment step
   behind-right right =
       let s = p.scene.machine in
-      ap (λ u. ahead ds n k None u (front_after ds n p)) (guess-right (interrupt p.scene.machine) s is.machine (interrupt-below s) right)
+      ap (λ u. ahead ds n k None u (issue_after ds n p)) (prediction-right (interrupt p.scene.machine) s is.machine (interrupt-below s) right)
 
-  pub behind-missed : (next_moment ds n p).missed ≡ true
+  pub behind-mispredicted : (next_moment ds n p).mispredicted ≡ true
       → entries_behind ds n p k
       ≡ ahead ds n k None
       (record (next_moment ds n p).scene.machine { ic = (plan p.scene.machine (interrupt p.scene.machine)).following })
-      (next_moment ds n p).front
+      (next_moment ds n p).issue
   unfolding next_moment step
-  behind-missed missed =
+  behind-mispredicted mispredicted =
       let s = p.scene.machine in
-      ap (λ u. ahead ds n k None u (front_after ds n p)) (guess-missed (interrupt p.scene.machine) s is.machine (interrupt-below s) missed)
+      ap (λ u. ahead ds n k None u (issue_after ds n p)) (prediction-mispredicted (interrupt p.scene.machine) s is.machine (interrupt-below s) mispredicted)

@@ -8,10 +8,10 @@ use Rattle.st_ahead.specs.Overlap.{Overlap}
 use Rattle.st_run.specs.Run.{Scene, interlude, with_due_orders, with_due_signals}
 use Rattle.st_run.specs.Moments.{has_card, has_waited}
 use Rattle.st_run.specs.Together.{Together, scene_of, moment_of, AreTexts, IsBehindEntry, IsSince}
-use Rattle.st_run.specs.Outside.{Coming, HasHappened, scene_at, ends_by}
+use Rattle.st_run.specs.ExternalEvents.{PendingEvents, HasHappened, scene_at, ends_by}
 use Rattle.st_run.specs.Overlapped.{IsChanged}
 use Rattle.st_run.specs.declared.between.Interlude.{Interlude}
-use Rattle.st_run.proofs.OutsideLemmas.{printed-texts}
+use Rattle.st_run.proofs.EventLemmas.{printed-texts}
 use Rattle.st_run.proofs.PrintLemmas.{settled-one}
 
 -- the effect of all external events: the scene, the printed text, and whether the segment has ended
@@ -31,21 +31,21 @@ or-change true b false d first next = first
 or-change false b true d first next = next
 or-change false b false d first next = next ∙ first
 
-abbrev pub with_coming : Overlap → Coming → Together
-with_coming m x = record { machine = m; signals = x.signals; cards = x.cards }
+abbrev pub with_pending : Overlap → PendingEvents → Together
+with_pending m x = record { machine = m; signals = x.signals; cards = x.cards }
 
 -- the external events of a machine at a moment are those of the plain run
-pub come-between : (b : Together) (m n : Overlap) (x y : Coming) (i : Interlude) (over : Bool) → with_coming m x ≡ b → IsBehindEntry b
+pub come-between : (b : Together) (m n : Overlap) (x y : PendingEvents) (i : Interlude) (over : Bool) → with_pending m x ≡ b → IsBehindEntry b
     → HasHappened (λ (o : Overlap). o.state) IsChanged (interlude (scene_at m.state x))
     (rests (with_due_orders (with_due_signals (scene_at m.state x))).scene.machine) i m x n y
-    → over ≡ ends_by i → HasCome b (with_coming n y) (option_map line_of_words i.words) over
+    → over ≡ ends_by i → HasCome b (with_pending n y) (option_map line_of_words i.words) over
 come-between b m n x y i over view is came same =
-    subst {A = Together} (λ t. IsBehindEntry t → HasCome t (with_coming n y) (option_map line_of_words i.words) over) view
-    (λ behind. subst {A = Bool} (λ o. HasCome (with_coming m x) (with_coming n y) (option_map line_of_words i.words) o) (sym same)
+    subst {A = Together} (λ t. IsBehindEntry t → HasCome t (with_pending n y) (option_map line_of_words i.words) over) view
+    (λ behind. subst {A = Bool} (λ o. HasCome (with_pending m x) (with_pending n y) (option_map line_of_words i.words) o) (sym same)
     (record {
       scene = came.scene;
       told = printed-texts i.words _ (came.told (settled-one (scene_at m.state x)));
-      since = came.rest.since (with_coming m x) false behind (since-none m);
-      ends = or-change i.waited i.card (has_card (moment_of (with_coming m x))) _ came.wait
+      since = came.rest.since (with_pending m x) false behind (since-none m);
+      ends = or-change i.waited i.card (has_card (moment_of (with_pending m x))) _ came.wait
           (came.card ∙ ap (λ (c : Scene). nat_lt (length c.cards) (length x.cards)) came.scene);
     })) is

@@ -29,9 +29,9 @@ record EndsLike (ran : Transition) (xs : List Timed) : Type 0 where
 last-like : (m : Moment) (snaps : List ℕ) → EndsLike (transition_at_end (interlude m.scene)) (last_events m snaps)
 unfolding last_events last_done
 last-like m snaps =
-    let front = drops m ++ map (happening_at m) (interlude m.scene).happened ++ map (last_snapshot_at m) (ticks_before (m.tick + 1) snaps) in
+    let issue = drops m ++ map (happening_at m) (interlude m.scene).happened ++ map (last_snapshot_at m) (ticks_before (m.tick + 1) snaps) in
     record {
-      done = λ d. done-append d front (happening_at m (Ends (next_state m) (rests (next_state m))) ∷ []) ∙ sym (settled-done m.scene);
+      done = λ d. done-append d issue (happening_at m (Ends (next_state m) (rests (next_state m))) ∷ []) ∙ sym (settled-done m.scene);
       tick = λ t u. last_events-tick t m snaps ∙ sym (last_events-tick u m snaps);
     }
 

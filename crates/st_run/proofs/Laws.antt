@@ -9,7 +9,7 @@ use Rattle.st_run.proofs.ShownLemmas.{timed-shown, tick-same}
 use Rattle.st_run.proofs.CourseLemmas.{last-same}
 use Rattle.st_run.proofs.Turns.{nothing-ahead, snapshot-none}
 use Rattle.st_run.proofs.PrintLemmas.{settled-one}
-use Rattle.st_run.proofs.GuessLemmas.{behind-right, behind-missed}
+use Rattle.st_run.proofs.GuessLemmas.{behind-right, behind-mispredicted}
 use Rattle.st_run.proofs.SceneLemmas.{settled-scene, stepped-scene}
 use Rattle.st_run.specs.Laws.{TheTimedRunIsTheRun, DelaysChangeNothingButTicks, RunsAreInTime, TheLastMomentEndsTheRun, EventsComeInOrder, SnapshotsAreShownUpToTheEnd, NothingIsAheadBehindAnEnd, PrintsComeOneAtATime, DroppedEntriesFollowTheGuess, ScenesAreKept}
 use Rattle.st_refine.proofs.Kept.{interrupt-below}
@@ -51,10 +51,10 @@ nothing_is_ahead_behind_an_end = record {
 pub prints_come_one_at_a_time : PrintsComeOneAtATime
 prints_come_one_at_a_time = λ scene. settled-one scene
 
-pub dropped_entries_follow_the_guess : DroppedEntriesFollowTheGuess
-dropped_entries_follow_the_guess = record {
+pub dropped_entries_follow_the_prediction : DroppedEntriesFollowTheGuess
+dropped_entries_follow_the_prediction = record {
   right = λ ds n k p is right. behind-right ds n k p is right;
-  missed = λ ds n k p is missed. behind-missed ds n k p is missed;
+  mispredicted = λ ds n k p is mispredicted. behind-mispredicted ds n k p is mispredicted;
 }
 
 pub scenes_are_kept : ScenesAreKept

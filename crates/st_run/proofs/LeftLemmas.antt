@@ -5,7 +5,7 @@ use Rattle.st_state.specs.Machine.{Machine}
 use Rattle.st_exec.specs.Step.{interrupt, rests}
 use Rattle.st_run.specs.Run.{Scene, interlude}
 use Rattle.st_exec.proofs.StepLemmas.{step-done}
-use Rattle.st_rows.specs.declared.front.Front.{Front}
+use Rattle.st_rows.specs.declared.issue.IssueState.{IssueState}
 use Rattle.st_segment.specs.Ahead.{prepared_before}
 use Rattle.st_ahead.specs.Overlap.{state_ahead, oldest_row, levels_of}
 use Rattle.st_run.specs.Moments.{Moment, Standing, next_scene, next_state, ends_segment, has_card, has_waited, standing_at, entries_at_moment, next_moment}
@@ -13,11 +13,11 @@ use Rattle.st_run.specs.TimedRun.{snapshots_from, events_between, last_events, t
 use Rattle.st_run.specs.Order.{AreRising}
 use Rattle.st_run.specs.ReportedEvents.{TimedReportedEvent, reported_events}
 use Rattle.st_run.specs.Together.{Together, scene_of, IsBeforeEntry, standing_of, moment_of, AreTexts}
-use Rattle.st_run.specs.Telling.{Waiting, waiting_events, at_once, told_at_end, rest_of, IsTurn, IsRun, AreInTime, IsLeft}
+use Rattle.st_run.specs.Telling.{OutputQueue, queued_events, at_once, told_at_end, rest_of, IsTurn, IsRun, AreInTime, IsLeft}
 use Rattle.st_run.specs.Leaving.{IsDecided, RunGoesOn}
 use Rattle.st_run.specs.declared.leaving.Decided.{Decided}
-use Rattle.st_run.specs.declared.turn.Turn.{Turn}
-use Rattle.st_run.specs.declared.turn.Turn.TheVariants as turns
+use Rattle.st_run.specs.declared.run_phase.RunPhase.{RunPhase}
+use Rattle.st_run.specs.declared.run_phase.RunPhase.TheVariants as turns
 use Rattle.st_run.proofs.CourseLemmas.{rising-to-come}
 use Rattle.st_run.proofs.Turns.{timed-rests, timed-budget, timed-goes_on, nothing-ahead}
 use Rattle.st_run.proofs.ReportedLemmas.{told-append, dropped_at, told-between, told-last, told-completion}
@@ -36,11 +36,11 @@ abbrev dropped_if : Bool → Moment → List (ℕ × ℕ)
 dropped_if ends m = if ends then map dropped_at m.dropped else []
 
 -- the pending events from their parts
-abbrev pub waits : List (ℕ × ℕ) → Option (List ℕ) → Option ℕ → Waiting
+abbrev pub waits : List (ℕ × ℕ) → Option (List ℕ) → Option ℕ → OutputQueue
 waits drops text table = record { drops = drops; text = text; taken = table }
 
 -- the pending events by the decision
-abbrev pub waits_by : List (ℕ × ℕ) → Decided → Waiting
+abbrev pub waits_by : List (ℕ × ℕ) → Decided → OutputQueue
 waits_by drops d = waits drops (option_map (λ x. x.bytes) d.text) d.taken
 
 module _ (ds : List ℕ) (n left tick : ℕ) (m : Moment) (snaps : List ℕ) (d : Decided) (drops : List (ℕ × ℕ)) (t : Together)
@@ -68,10 +68,10 @@ module _ (ds : List ℕ) (n left tick : ℕ) (m : Moment) (snaps : List ℕ) (d 
       ap reported_events (timed-goes_on ds n left m snaps come some awake)
       ∙ told-append (events_between m) (timed_behind ds n k p snaps)
       ∙ ap {A = List TimedReportedEvent} (λ xs. xs ++ rest) (told-between m printed text)
-      ∙ ap {A = Waiting} (λ w. map (at_once m.tick s) (waiting_events w s) ++ rest) waiting
-      ∙ ap {A = Machine} (λ u. map (at_once m.tick u) (waiting_events (waits drops printed d.taken) u) ++ rest) state
-      ∙ ap {A = ℕ} (λ x. map (at_once x t.machine.state) (waiting_events (waits drops printed d.taken) t.machine.state) ++ rest) (sym tick_is)
-      ∙ ap {A = List TimedReportedEvent} (λ xs. map (at_once tick t.machine.state) (waiting_events (waits drops printed d.taken) t.machine.state) ++ xs)
+      ∙ ap {A = OutputQueue} (λ w. map (at_once m.tick s) (queued_events w s) ++ rest) waiting
+      ∙ ap {A = Machine} (λ u. map (at_once m.tick u) (queued_events (waits drops printed d.taken) u) ++ rest) state
+      ∙ ap {A = ℕ} (λ x. map (at_once x t.machine.state) (queued_events (waits drops printed d.taken) t.machine.state) ++ rest) (sym tick_is)
+      ∙ ap {A = List TimedReportedEvent} (λ xs. map (at_once tick t.machine.state) (queued_events (waits drops printed d.taken) t.machine.state) ++ xs)
       (ap {A = Standing} (λ q. reported_events (timed_behind ds n k q snaps)) stand
       ∙ ap {A = List ℕ} (λ es. reported_events (timed_behind es n k (standing_of tick t) snaps)) (sym delays)
       ∙ ap {A = ℕ} (λ l. reported_events (timed_behind t.machine.delays l k (standing_of tick t) snaps)) (sym levels))
@@ -89,13 +89,13 @@ module _ (ds : List ℕ) (n left tick : ℕ) (m : Moment) (snaps : List ℕ) (d 
       ∙ ap {A = Option ℕ} (λ o. waits drops printed o) (sym void) in
       ap reported_events (ends-here ds n left m snaps resting come same none)
       ∙ told-last m printed snaps text
-      ∙ ap {A = Waiting} (λ w. map (at_once m.tick s) (waiting_events w s) ++ told_at_end (rests s) m.tick snaps s) waiting
-      ∙ ap {A = Bool} (λ b. map (at_once m.tick s) (waiting_events (waits drops printed d.taken) s) ++ told_at_end b m.tick snaps s) (sym same)
-      ∙ ap {A = Machine} (λ u. map (at_once m.tick u) (waiting_events (waits drops printed d.taken) u) ++ told_at_end resting m.tick snaps u) state
-      ∙ ap {A = ℕ} (λ x. map (at_once x t.machine.state) (waiting_events (waits drops printed d.taken) t.machine.state)
+      ∙ ap {A = OutputQueue} (λ w. map (at_once m.tick s) (queued_events w s) ++ told_at_end (rests s) m.tick snaps s) waiting
+      ∙ ap {A = Bool} (λ b. map (at_once m.tick s) (queued_events (waits drops printed d.taken) s) ++ told_at_end b m.tick snaps s) (sym same)
+      ∙ ap {A = Machine} (λ u. map (at_once m.tick u) (queued_events (waits drops printed d.taken) u) ++ told_at_end resting m.tick snaps u) state
+      ∙ ap {A = ℕ} (λ x. map (at_once x t.machine.state) (queued_events (waits drops printed d.taken) t.machine.state)
       ++ told_at_end resting x snaps t.machine.state) (sym tick_is)
 
-  way-told : (turn : Turn) → IsWay turn left m d t
+  way-told : (turn : RunPhase) → IsWay turn left m d t
       → reported_events (timed_from ds n left m snaps) ≡ rest_of turn (left - 1) tick snaps (waits drops printed d.taken) t
   way-told turns.Before way = goes-told way.0 way.1 way.2
   way-told (turns.AtEnd resting) way = stops-told resting way.0 way.1 way.2 way.3 way.4.0
@@ -109,11 +109,11 @@ module _ (ds : List ℕ) (n left tick : ℕ) (m : Moment) (snaps : List ℕ) (d 
 
   ends-taken : is_some (interrupt (next_state m)) ≡ true → ends_segment m ≡ true
   unfolding ends_segment
-  ends-taken some = ap {A = Bool} (λ b. m.missed || has_card m || has_waited m || b) some ∙ or-true (m.missed || has_card m || has_waited m)
+  ends-taken some = ap {A = Bool} (λ b. m.mispredicted || has_card m || has_waited m || b) some ∙ or-true (m.mispredicted || has_card m || has_waited m)
 
-  levels-still : (es : List ℕ) (l : ℕ) (c : Scene) (f : Front) (x now : ℕ)
+  levels-still : (es : List ℕ) (l : ℕ) (c : Scene) (f : IssueState) (x now : ℕ)
       → levels_of (still es l c.machine f now)
-      ≡ prepared_before now (entries_at_moment es l (record { scene = c; tick = x; front = f }))
+      ≡ prepared_before now (entries_at_moment es l (record { scene = c; tick = x; issue = f }))
   unfolding levels_of state_ahead
   levels-still es l c f x now = refl
 
@@ -122,7 +122,7 @@ module _ (ds : List ℕ) (n left tick : ℕ) (m : Moment) (snaps : List ℕ) (d 
       let o = t.machine in
       let taken : is_some (interrupt (next_state m)) ≡ true = ap is_some (sym g.taken) ∙ some in
       ap levels_of (ready-still o g.before.ready)
-      ∙ levels-still o.delays o.levels (scene_of t) o.front m.tick o.now
+      ∙ levels-still o.delays o.levels (scene_of t) o.issue m.tick o.now
       ∙ ap {A = ℕ} (λ k. prepared_before k (entries_at_moment o.delays o.levels (standing_of m.tick t))) g.now
       ∙ ap {A = Standing} (λ p. prepared_before (m.tick + 1) (entries_at_moment o.delays o.levels p)) g.standing
       ∙ nothing-ahead o.delays o.levels m m.tick (ends-taken taken) (omega arith)
@@ -132,14 +132,14 @@ module _ (ds : List ℕ) (n left tick : ℕ) (m : Moment) (snaps : List ℕ) (d 
   rising-on now [] same is = tt
   rising-on now (x ∷ xs) same is = (omega (arith, same, is.0), is.1)
 
-  way-stands : (turn : Turn) → IsWay turn left m d t → AreRising tick snaps → IsTurn turn snaps t
+  way-stands : (turn : RunPhase) → IsWay turn left m d t → AreRising tick snaps → IsTurn turn snaps t
   way-stands turns.Before way rising =
       let g : RunGoesOn m d t = way.2 in
       (g.before, rising-on t.machine.now snaps (g.now ∙ ap {A = ℕ} (λ x. x + 1) (sym tick_is)) rising)
   way-stands (turns.AtEnd resting) way rising = way.4.1
   way-stands turns.Over way rising = absurd way
 
-  way-taken : (turn : Turn) → IsWay turn left m d t → IsSome d.taken → levels_of t.machine ≡ []
+  way-taken : (turn : RunPhase) → IsWay turn left m d t → IsSome d.taken → levels_of t.machine ≡ []
   way-taken turns.Before way some = none-ahead way.2 some
   way-taken (turns.AtEnd resting) way some = way.4.1
   way-taken turns.Over way some = absurd way

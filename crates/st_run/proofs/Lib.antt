@@ -5,7 +5,7 @@ pub mod Turns
 pub mod PassLemmas
 pub mod RowLemmas
 pub mod OrderLemmas
-pub mod OutsideLemmas
+pub mod EventLemmas
 pub mod ShownLemmas
 pub mod SignalLemmas
 pub mod PrintLemmas

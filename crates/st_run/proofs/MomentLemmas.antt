@@ -5,34 +5,34 @@ use Rattle.st_state.specs.Machine.{Machine}
 use Rattle.st_prep.specs.Plan.{plan}
 use Rattle.st_prep.proofs.Choices.{of_choice}
 use Rattle.st_prep.proofs.PlanLemmas.{plan-prepared}
-use Rattle.st_exec.specs.Completion.{state_after_execution, is_missed}
+use Rattle.st_exec.specs.Completion.{state_after_execution, is_mispredicted}
 use Rattle.st_exec.specs.Step.{interrupt, step}
 use Rattle.st_run.specs.Run.{Scene}
 use Rattle.st_rows.specs.Ranges.{AreDelaysUpTo}
-use Rattle.st_rows.specs.Rows.{row_of_entry, front_after_entry}
-use Rattle.st_rows.specs.declared.front.Front.{Front}
+use Rattle.st_rows.specs.Rows.{row_of_entry, issue_after_entry}
+use Rattle.st_rows.specs.declared.issue.IssueState.{IssueState}
 use Rattle.st_segment.specs.Ahead.{Ahead, ahead, prepared_before}
 use Rattle.st_segment.specs.Entries.{entry}
 use Rattle.st_ahead.specs.Overlap.{Overlap, state_ahead, oldest_row, with_counter, levels_of, banks_at_its_end, machine_between_ticks}
 use Rattle.st_ahead.specs.Calls.{machine_after_completion}
 use Rattle.st_run.specs.Scenes.{IsScene}
-use Rattle.st_run.specs.Moments.{Moment, Standing, next_row, front_after, entries_behind, next_moment}
+use Rattle.st_run.specs.Moments.{Moment, Standing, next_row, issue_after, entries_behind, next_moment}
 use Rattle.st_run.specs.Together.{Together, scene_of, IsBeforeEntry, IsBehindEntry, standing_of, moment_of, IsMachineReady}
 use Rattle.st_run.specs.Ticking.{at_completion}
 use Rattle.st_run.proofs.SceneLemmas.{stepped-scene}
-use Rattle.st_run.proofs.GuessLemmas.{behind-right, behind-missed}
+use Rattle.st_run.proofs.GuessLemmas.{behind-right, behind-mispredicted}
 use Rattle.st_refine.proofs.Kept.{interrupt-below}
 
 -- a machine between two ticks
-abbrev pub still : List ℕ → ℕ → Machine → Front → ℕ → Overlap
+abbrev pub still : List ℕ → ℕ → Machine → IssueState → ℕ → Overlap
 still ds n s f now = machine_between_ticks ds n s (interrupt s) f now
 
-pub ready-still : (o : Overlap) → IsMachineReady o → o ≡ still o.delays o.levels o.state o.front o.now
+pub ready-still : (o : Overlap) → IsMachineReady o → o ≡ still o.delays o.levels o.state o.issue o.now
 ready-still o h = h.between
 
-module _ (ds : List ℕ) (n : ℕ) (c : Scene) (f : Front) (tick now : ℕ) where
+module _ (ds : List ℕ) (n : ℕ) (c : Scene) (f : IssueState) (tick now : ℕ) where
   abbrev pub here : Standing
-  here = record { scene = c; tick = tick; front = f }
+  here = record { scene = c; tick = tick; issue = f }
 
   abbrev pub quiet : Overlap
   quiet = still ds n c.machine f now
@@ -48,17 +48,17 @@ module _ (ds : List ℕ) (n : ℕ) (c : Scene) (f : Front) (tick now : ℕ) wher
   row-still = refl
 
   -- the entries in flight after the prediction, as the machine has them
-  behind-same : IsScene c → (b : Bool) → (next_moment ds n here).missed ≡ b
+  behind-same : IsScene c → (b : Bool) → (next_moment ds n here).mispredicted ≡ b
       → ahead ds n n None
       (with_counter (if b then Some (plan c.machine (interrupt c.machine)).following else None) (next_moment ds n here).scene.machine)
-      (next_moment ds n here).front
+      (next_moment ds n here).issue
       ≡ entries_behind ds n here n
-  behind-same is true missed = sym (behind-missed ds n n here is missed)
-  behind-same is false missed = sym (behind-right ds n n here is missed)
+  behind-same is true mispredicted = sym (behind-mispredicted ds n n here is mispredicted)
+  behind-same is false mispredicted = sym (behind-right ds n n here is mispredicted)
 
-  missed-same : (b : Bool) (h : ℕ) → is_some (if b then Some h else None) ≡ b
-  missed-same true h = refl
-  missed-same false h = refl
+  mispredicted-same : (b : Bool) (h : ℕ) → is_some (if b then Some h else None) ≡ b
+  mispredicted-same true h = refl
+  mispredicted-same false h = refl
 
   pub moment-done : IsScene c → moment_of (together done) ≡ next_moment ds n here
   unfolding next_moment machine_after_completion oldest_row state_ahead next_row step levels_of banks_at_its_end
@@ -68,10 +68,10 @@ module _ (ds : List ℕ) (n : ℕ) (c : Scene) (f : Front) (tick now : ℕ) wher
       let tick = (row_of_entry ds n f (entry (interrupt s) s)).c in
       let m : Moment = next_moment ds n here in
       let dropped : prepared_before tick
-      (ahead ds n n None (with_counter (if is_missed p s then Some p.following else None) (state_after_execution (interrupt s) s))
-      (front_after ds n here))
-      ≡ m.dropped = ap (prepared_before tick) (behind-same is (is_missed p s) refl) in
-      ap (λ (b : Bool). record (moment_of (together done)) { missed = b }) (missed-same (is_missed p s) p.following)
+      (ahead ds n n None (with_counter (if is_mispredicted p s then Some p.following else None) (state_after_execution (interrupt s) s))
+      (issue_after ds n here))
+      ≡ m.dropped = ap (prepared_before tick) (behind-same is (is_mispredicted p s) refl) in
+      ap (λ (b : Bool). record (moment_of (together done)) { mispredicted = b }) (mispredicted-same (is_mispredicted p s) p.following)
       ∙ ap (λ (xs : List Ahead). record m { dropped = xs }) dropped
 
 -- the machine after the completion of the next entry corresponds to the next moment
@@ -81,13 +81,13 @@ pub moment-next : (t : Together) (tick : ℕ) → IsBeforeEntry t
 moment-next t tick h =
     let o = t.machine in
     ap {A = Overlap} (λ q. moment_of (record t { machine = machine_after_completion (at_completion q) })) (ready-still o h.ready)
-    ∙ moment-done o.delays o.levels (scene_of t) o.front tick o.now h.kept.scene
+    ∙ moment-done o.delays o.levels (scene_of t) o.issue tick o.now h.kept.scene
 
 -- the machine right after the completion, before external events
-behind-done : (t : Together) (f : Front) (now : ℕ) → 1 ≤ t.machine.levels → t.machine.levels ≤ 8 → AreDelaysUpTo 255 t.machine.delays
+behind-done : (t : Together) (f : IssueState) (now : ℕ) → 1 ≤ t.machine.levels → t.machine.levels ≤ 8 → AreDelaysUpTo 255 t.machine.delays
     → IsScene (scene_of t)
     → IsBehindEntry (record t { machine = machine_after_completion (at_completion (still t.machine.delays t.machine.levels t.machine.state f now)) })
-unfolding machine_after_completion oldest_row state_ahead step row_of_entry front_after_entry
+unfolding machine_after_completion oldest_row state_ahead step row_of_entry issue_after_entry
 behind-done t f now some few delays is = record {
   kept = record { some = some; few = few; delays = delays; scene = stepped-scene (scene_of t) is };
   owed = refl;
@@ -98,7 +98,7 @@ behind-done t f now some few delays is = record {
   counter =
       let s = t.machine.state in
       let p = plan s (interrupt s) in
-      of_choice (λ (o : Option ℕ). IfSome o (λ h. h < 2 ^ 19)) (is_missed p s) (Some p.following) None
+      of_choice (λ (o : Option ℕ). IfSome o (λ h. h < 2 ^ 19)) (is_mispredicted p s) (Some p.following) None
       (plan-prepared s (interrupt s) is.machine (interrupt-below s)).following tt;
   last = refl;
 }
@@ -106,11 +106,11 @@ behind-done t f now some few delays is = record {
 pub behind-next : (t : Together) → IsBeforeEntry t → IsBehindEntry (record t { machine = machine_after_completion (at_completion t.machine) })
 behind-next t h =
     subst {A = Overlap} (λ q. IsBehindEntry (record t { machine = machine_after_completion (at_completion q) })) (sym (ready-still t.machine h.ready))
-    (behind-done t t.machine.front t.machine.now h.kept.some h.kept.few h.kept.delays h.kept.scene)
+    (behind-done t t.machine.issue t.machine.now h.kept.some h.kept.few h.kept.delays h.kept.scene)
 
 -- the row of the next entry in the machine is that of the timed run
 pub row-before : (t : Together) (tick : ℕ) → IsBeforeEntry t
     → oldest_row t.machine ≡ next_row t.machine.delays t.machine.levels (standing_of tick t)
 row-before t tick h =
     let o = t.machine in
-    ap oldest_row (ready-still o h.ready) ∙ row-still o.delays o.levels (scene_of t) o.front tick o.now
+    ap oldest_row (ready-still o h.ready) ∙ row-still o.delays o.levels (scene_of t) o.issue tick o.now

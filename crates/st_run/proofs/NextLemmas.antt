@@ -5,19 +5,19 @@ use Rattle.std.proofs.lemmas.List.Elements.{All-tail}
 use Rattle.st_ahead.specs.Overlap.{levels_of}
 use Rattle.st_run.specs.ReportedEvents.{ReportedEvent, TimedReportedEvent}
 use Rattle.st_run.specs.Together.{Together}
-use Rattle.st_run.specs.Telling.{Waiting, waiting_events, at_once, rest_of, rest_by, told_at_end, IsRun, AreInTime}
-use Rattle.st_run.specs.declared.turn.Turn.{Turn}
-use Rattle.st_run.specs.declared.turn.Turn.TheVariants as turns
+use Rattle.st_run.specs.Telling.{OutputQueue, queued_events, at_once, rest_of, rest_by, told_at_end, IsRun, AreInTime}
+use Rattle.st_run.specs.declared.run_phase.RunPhase.{RunPhase}
+use Rattle.st_run.specs.declared.run_phase.RunPhase.TheVariants as turns
 use Rattle.st_run.proofs.ProgressLemmas.{Quiet, rest-quiet}
 
-module _ (turn : Turn) (left tick : ℕ) (snaps : List ℕ) (w v : Waiting) (t : Together) (x y : ReportedEvent)
-    (first : waiting_events w t.machine.state ≡ x ∷ waiting_events v t.machine.state) (same : x ≡ y) where
+module _ (turn : RunPhase) (left tick : ℕ) (snaps : List ℕ) (w v : OutputQueue) (t : Together) (x y : ReportedEvent)
+    (first : queued_events w t.machine.state ≡ x ∷ queued_events v t.machine.state) (same : x ≡ y) where
   pub next-tells : rest_of turn left tick snaps w t ≡ at_once tick t.machine.state y ∷ rest_of turn left tick snaps v t
   unfolding rest_of
   next-tells =
       let s = t.machine.state in
       ap {A = List ReportedEvent} (λ xs. map (at_once tick s) xs ++ rest_by turn left tick snaps t) first
-      ∙ ap {A = ReportedEvent} (λ z. at_once tick s z ∷ (map (at_once tick s) (waiting_events v s) ++ rest_by turn left tick snaps t)) same
+      ∙ ap {A = ReportedEvent} (λ z. at_once tick s z ∷ (map (at_once tick s) (queued_events v s) ++ rest_by turn left tick snaps t)) same
 
   pub next-keeps : IsRun turn left tick snaps w t → (IsSome v.taken → IsSome w.taken) → IsRun turn left tick snaps v t
   next-keeps is kept = record {
@@ -29,20 +29,20 @@ module _ (turn : Turn) (left tick : ℕ) (snaps : List ℕ) (w v : Waiting) (t :
   }
 
 -- without pending events, the phase determines the next event
-module _ (turn : Turn) (left tick : ℕ) (snaps : List ℕ) (w v : Waiting) (t : Together) (quiet : Quiet w) (kept : v ≡ w)
+module _ (turn : RunPhase) (left tick : ℕ) (snaps : List ℕ) (w v : OutputQueue) (t : Together) (quiet : Quiet w) (kept : v ≡ w)
     (is : IsRun turn left tick snaps w t) where
   pub still-quiet : Quiet v
-  still-quiet = subst {A = Waiting} Quiet (sym kept) quiet
+  still-quiet = subst {A = OutputQueue} Quiet (sym kept) quiet
 
   pub still-run : IsRun turn left tick snaps v t
-  still-run = subst {A = Waiting} (λ u. IsRun turn left tick snaps u t) (sym kept) is
+  still-run = subst {A = OutputQueue} (λ u. IsRun turn left tick snaps u t) (sym kept) is
 
-  pub turn-run : (k : Turn) → turn ≡ k → IsRun k left tick snaps v t
-  turn-run k same = subst {A = Turn} (λ k. IsRun k left tick snaps v t) same still-run
+  pub turn-run : (k : RunPhase) → turn ≡ k → IsRun k left tick snaps v t
+  turn-run k same = subst {A = RunPhase} (λ k. IsRun k left tick snaps v t) same still-run
 
-  pub turn-rest : (k : Turn) → turn ≡ k → rest_of turn left tick snaps w t ≡ rest_by k left tick snaps t
+  pub turn-rest : (k : RunPhase) → turn ≡ k → rest_of turn left tick snaps w t ≡ rest_by k left tick snaps t
   turn-rest k same =
-      rest-quiet turn left tick snaps w t quiet ∙ ap {A = Turn} (λ k. rest_by k left tick snaps t) same
+      rest-quiet turn left tick snaps w t quiet ∙ ap {A = RunPhase} (λ k. rest_by k left tick snaps t) same
 
   pub end-levels : (rests : Bool) → turn ≡ turns.AtEnd rests → levels_of t.machine ≡ []
   end-levels rests same = (turn-run (turns.AtEnd rests) same).stands

@@ -106,7 +106,7 @@ until_done-lead ds n p snaps later rising =
 -- ---- the run
 
 module _ (ds : List ℕ) (n : ℕ) where
-  pub timed-order : (left : ℕ) (t : ℕ) (m : Moment) (snaps : List ℕ) → m.front.c ≡ m.tick → t ≤ m.tick → AreRising t snaps
+  pub timed-order : (left : ℕ) (t : ℕ) (m : Moment) (snaps : List ℕ) → m.issue.c ≡ m.tick → t ≤ m.tick → AreRising t snaps
       → AreEventsInOrder m.tick (timed_from ds n left m snaps)
   timed-order zero t m snaps same early rising = rw (timed-none ds n m snaps) (last-order m (snapshots_from m.tick snaps) (rising-from t m.tick snaps early rising))
   timed-order (suc left) t m snaps same early rising =

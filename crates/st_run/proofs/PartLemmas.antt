@@ -3,13 +3,13 @@ use Rattle.std.specs.Prelude.{if◌then◌else◌}
 use Rattle.std.proofs.Common.{◌≡◌, ℕ, ◌+◌, Bool, true, false, length, Option, None, Some, refl, sym, ◌∙◌, subst}
 use Rattle.st_prep.proofs.Choices.{of_choice}
 use Rattle.st_exec.specs.Step.{rests}
-use Rattle.st_rows.specs.Rows.{opening_front}
+use Rattle.st_rows.specs.Rows.{opening_issue}
 use Rattle.st_ahead.specs.Overlap.{Overlap, levels_of, interrupt_due}
 use Rattle.st_ahead.specs.Calls.{banks_left, machine_after_segment, machine_after_settling as settled_of, settled_by}
 use Rattle.st_run.specs.Together.{IsSince}
 use Rattle.st_run.specs.Between.{IsChoice}
-use Rattle.st_run.specs.declared.turn.Turn.{Turn}
-use Rattle.st_run.specs.declared.turn.Turn.TheVariants.{Before, AtEnd, Over}
+use Rattle.st_run.specs.declared.run_phase.RunPhase.{RunPhase}
+use Rattle.st_run.specs.declared.run_phase.RunPhase.TheVariants.{Before, AtEnd, Over}
 use Rattle.st_run.specs.declared.leaving.Decided.{Decided}
 
 -- two machines have equal delays and levels
@@ -24,7 +24,7 @@ ended-parts : (o : Overlap) → HasParts o (machine_after_segment o)
 unfolding machine_after_segment
 ended-parts o =
     of_choice (λ (q : Overlap). HasParts o q) o.ended o
-    (record o { front = opening_front (banks_left o.closing) (o.now + 1 + length (levels_of o)); ended = true })
+    (record o { issue = opening_issue (banks_left o.closing) (o.now + 1 + length (levels_of o)); ended = true })
     (record { delays = refl; levels = refl }) (record { delays = refl; levels = refl })
 
 settled-parts : (due : Option ℕ) (waits : Bool) (behind : Option ℕ) (o : Overlap) → HasParts o (settled_by due waits behind o)
@@ -33,10 +33,10 @@ settled-parts None true behind o = ended-parts o
 settled-parts None false (Some h) o = record { delays = (ended-parts o).delays; levels = (ended-parts o).levels }
 settled-parts None false None o = record { delays = refl; levels = refl }
 
-choice-parts : (turn : Turn) (left : ℕ) (over : Bool) (o p : Overlap) (d : Decided) → IsChoice turn left over o d p → HasParts o p
+choice-parts : (turn : RunPhase) (left : ℕ) (over : Bool) (o p : Overlap) (d : Decided) → IsChoice turn left over o d p → HasParts o p
 unfolding settled_of
 choice-parts Before left over o p d h =
-    subst {A = Overlap} (λ q. HasParts o q) (sym h.2.0) (settled-parts (interrupt_due o) (rests o.state) o.missed o)
+    subst {A = Overlap} (λ q. HasParts o q) (sym h.2.0) (settled-parts (interrupt_due o) (rests o.state) o.mispredicted o)
 choice-parts (AtEnd resting) left over o p d h =
     subst {A = Overlap} (λ q. HasParts o q) (sym h.4) (record { delays = (ended-parts o).delays; levels = (ended-parts o).levels })
 choice-parts Over left over o p d h = absurd h

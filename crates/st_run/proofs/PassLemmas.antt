@@ -19,9 +19,9 @@ use Rattle.st_run.specs.ReportedEvents.{TimedReportedEvent, reported_events}
 use Rattle.st_run.specs.Between.{IsQuiet}
 use Rattle.st_run.specs.Leaving.{IsDecided, nothing_decided}
 use Rattle.st_run.specs.Together.{Together, IsBeforeEntry, standing_of, moment_of}
-use Rattle.st_run.specs.Telling.{Waiting, waiting_events, row_told, rows_then, AreLeftOut, HasGoneFar, IsLeft, IsRun, AreInTime, rest_of}
+use Rattle.st_run.specs.Telling.{OutputQueue, queued_events, row_told, rows_then, AreLeftOut, HasGoneFar, IsLeft, IsRun, AreInTime, rest_of}
 use Rattle.st_run.specs.Ticking.{AreMade, AreTicked, at_completion, last_for}
-use Rattle.st_run.specs.declared.turn.Turn.TheVariants as turns
+use Rattle.st_run.specs.declared.run_phase.RunPhase.TheVariants as turns
 use Rattle.st_run.proofs.TickLemmas.{tick-passes, tick-early, tick-done, done-completed}
 use Rattle.st_run.proofs.MomentLemmas.{moment-next}
 use Rattle.st_run.proofs.PartLemmas.{HasParts}
@@ -29,7 +29,7 @@ use Rattle.st_run.proofs.LeftLemmas.{waits, left-told, left-keeps, oldest-in_tim
 use Rattle.st_run.proofs.ProgressLemmas.{rest-quiet}
 use Rattle.st_run.proofs.QuietLemmas.{none-quiet, quiet-settled, passed-decided, passed-parts}
 use Rattle.st_run.proofs.GoLemmas.{tick-before, go-leaves, go-tells}
-use Rattle.st_run.specs.Outside.{signal_due}
+use Rattle.st_run.specs.ExternalEvents.{signal_due}
 
 -- the remaining events before the next entry
 abbrev rest_told : ℕ → ℕ → Together → List TimedReportedEvent
@@ -57,7 +57,7 @@ goes-by None None false m goes = (refl, refl)
 goes-quiet : (m : Overlap) (count : ℕ) → answer m ≡ Goes → may_come_from_outside count m.state ≡ false → IsQuiet m
 unfolding answer
 goes-quiet m count goes none =
-    let by = goes-by (interrupt_due m) m.missed (rests m.state) m goes in
+    let by = goes-by (interrupt_due m) m.mispredicted (rests m.state) m goes in
     let three = both-none (nat_le count m.state.done) (is_due m.state.done m.state.reader) (is_due m.state.done m.state.printer) none in
     record { reader = three.1; printer = three.2; awake = by.0; open_still = by.1 }
 
@@ -297,8 +297,8 @@ pub record AreAhead (left tick : ℕ) (t : Together) : Type 0 where
   pub before : IsBeforeEntry t
   pub in_time : AreInTime (rest_told left tick t)
 
-pub ahead-is : (left tick : ℕ) (snaps : List ℕ) (w : Waiting) (t : Together) → IsRun turns.Before left tick snaps w t
-    → ((s : Machine) → waiting_events w s ≡ []) → snaps ≡ [] → AreAhead left tick t
+pub ahead-is : (left tick : ℕ) (snaps : List ℕ) (w : OutputQueue) (t : Together) → IsRun turns.Before left tick snaps w t
+    → ((s : Machine) → queued_events w s ≡ []) → snaps ≡ [] → AreAhead left tick t
 ahead-is left tick snaps w t is quiet none = record {
   before = is.stands.0;
   in_time =

@@ -7,7 +7,7 @@ use Rattle.st_state.specs.Machine.{Machine}
 use Rattle.st_prep.specs.Fetch.{index_words}
 use Rattle.st_exec.specs.Step.{interrupt, rests}
 use Rattle.st_run.specs.Run.{Scene}
-use Rattle.st_rows.specs.declared.front.Front.{Front}
+use Rattle.st_rows.specs.declared.issue.IssueState.{IssueState}
 use Rattle.st_segment.specs.Ahead.{Ahead, prepared_before}
 use Rattle.st_segment.specs.Guesses.{split_words}
 use Rattle.st_ahead.specs.Overlap.{Overlap, state_ahead, oldest_row, levels_of, with_counter, last_tick_made}
@@ -20,9 +20,9 @@ use Rattle.st_run.specs.ReportedEvents.{ReportedEvent, Dropped, Interrupted, Sho
 use Rattle.st_run.specs.Together.{Together, scene_of, IsBeforeEntry, standing_of}
 use Rattle.st_run.specs.ReportedEvents.{reported_plain_event}
 use Rattle.st_run.specs.Run.{interrupts_by}
-use Rattle.st_run.specs.Telling.{Waiting, waiting_events, at_once, told_at_end, rest_of, rest_by, state_told, ahead_of, IsRun, AreInTime, IsShown}
-use Rattle.st_run.specs.declared.turn.Turn.{Turn}
-use Rattle.st_run.specs.declared.turn.Turn.TheVariants as turns
+use Rattle.st_run.specs.Telling.{OutputQueue, queued_events, at_once, told_at_end, rest_of, rest_by, state_told, ahead_of, IsRun, AreInTime, IsShown}
+use Rattle.st_run.specs.declared.run_phase.RunPhase.{RunPhase}
+use Rattle.st_run.specs.declared.run_phase.RunPhase.TheVariants as turns
 use Rattle.st_run.proofs.Turns.{behind-snapshot, same-words}
 use Rattle.st_run.proofs.ReportedLemmas.{once}
 use Rattle.st_run.proofs.MomentLemmas.{still, ready-still, row-before}
@@ -30,8 +30,8 @@ use Rattle.std.specs.Option.{option_to_list}
 
 -- ---- no pending events
 
-abbrev pub Quiet : Waiting → Type 0
-Quiet w = (s : Machine) → waiting_events w s ≡ []
+abbrev pub Quiet : OutputQueue → Type 0
+Quiet w = (s : Machine) → queued_events w s ≡ []
 
 not-end : (xs : List ReportedEvent) (x : ReportedEvent) → xs ++ x ∷ [] ≡ [] → ⊥
 not-end [] x none = cc
@@ -46,13 +46,13 @@ none-some None P none some = absurd (cc some)
 none-some (Some i) P none some = absurd (cc none)
 
 -- without pending events no interrupt is pending
-pub quiet-taken : (w : Waiting) (s : Machine) (P : Type 0) → Quiet w → IsSome w.taken → P
-unfolding waiting_events
+pub quiet-taken : (w : OutputQueue) (s : Machine) (P : Type 0) → Quiet w → IsSome w.taken → P
+unfolding queued_events
 quiet-taken w s P quiet some =
     none-some w.taken P
     (quiet-by w.taken (map (λ (d : ℕ × ℕ). Dropped d.0 d.1) (reverse w.drops) ++ map Printed (option_to_list w.text)) s (quiet s)) some
 
-pub rest-quiet : (turn : Turn) (left tick : ℕ) (snaps : List ℕ) (w : Waiting) (t : Together) → Quiet w
+pub rest-quiet : (turn : RunPhase) (left tick : ℕ) (snaps : List ℕ) (w : OutputQueue) (t : Together) → Quiet w
     → rest_of turn left tick snaps w t ≡ rest_by turn left tick snaps t
 unfolding rest_of
 rest-quiet turn left tick snaps w t quiet =
@@ -71,7 +71,7 @@ pub seen-none : (o : Overlap) → levels_of o ≡ [] → state_told o ≡ o.stat
 unfolding lent_index_words split_words state_ahead
 seen-none o none =
     ap (λ (xs : List Ahead). with_index_words (split_words (length xs) o.taken (state_ahead o)) o.state) none
-    ∙ ap (λ (xs : List ℕ). with_index_words xs o.state) (index-seen o.ended o.missed o.state)
+    ∙ ap (λ (xs : List ℕ). with_index_words xs o.state) (index-seen o.ended o.mispredicted o.state)
     ∙ same-words o.state
 
 pub ahead-none : (o : Overlap) → levels_of o ≡ [] → ahead_of o ≡ []
@@ -79,14 +79,14 @@ ahead-none o none = ap (map (level_at (last_tick_made o))) none
 
 -- ---- a snapshot before the next entry
 
-shown-still : (ds : List ℕ) (n : ℕ) (c : Scene) (f : Front) (tick x : ℕ)
-    → timed_reported_event (snapshot_at ds n (record { scene = c; tick = tick; front = f }) x)
+shown-still : (ds : List ℕ) (n : ℕ) (c : Scene) (f : IssueState) (tick x : ℕ)
+    → timed_reported_event (snapshot_at ds n (record { scene = c; tick = tick; issue = f }) x)
     ≡ once c.machine.done tick
     (Shown x (state_told (still ds n c.machine f (x + 1))) (ahead_of (still ds n c.machine f (x + 1))))
 unfolding snapshot lent_index_words levels_of state_ahead
 shown-still ds n c f tick x =
     let same : x ≡ x + 1 - 1 = omega arith in
-    let levels = prepared_before (x + 1) (entries_at_moment ds n (record { scene = c; tick = tick; front = f })) in
+    let levels = prepared_before (x + 1) (entries_at_moment ds n (record { scene = c; tick = tick; issue = f })) in
     ap (λ (k : ℕ). once c.machine.done tick
     (Shown x (with_index_words (split_words (length levels) (interrupt c.machine) c.machine) c.machine) (map (level_at k) levels))) same
 
@@ -102,11 +102,11 @@ show-told left tick x xs t h now =
     let p = standing_of tick t in
     let row : oldest_row o ≡ next_row ds n p = row-before t tick h in
     let early : x < (next_moment ds n p).tick = omega (arith, h.ready.early, now, ap (λ r. r.c) row) in
-    let machine : o ≡ still ds n o.state o.front (x + 1) =
-    ready-still o h.ready ∙ ap {A = ℕ} (λ k. still ds n o.state o.front k) now in
+    let machine : o ≡ still ds n o.state o.issue (x + 1) =
+    ready-still o h.ready ∙ ap {A = ℕ} (λ k. still ds n o.state o.issue k) now in
     ap reported_events (behind-snapshot ds n left p x xs early)
     ∙ ap (λ (y : TimedReportedEvent). y ∷ reported_events (timed_behind ds n left p xs))
-    (shown-still ds n (scene_of t) o.front tick x
+    (shown-still ds n (scene_of t) o.issue tick x
     ∙ ap {A = Overlap} (λ q. once o.state.done tick (Shown x (state_told q) (ahead_of q))) (sym machine))
 
 rising-same : (x now : ℕ) (xs : List ℕ) → now ≡ x + 1 → AreRising (x + 1) xs → AreRising (now - 1) xs
@@ -115,7 +115,7 @@ rising-same x now [] same is = tt
 rising-same x now (y ∷ ys) same is = (omega (arith, same, is.0), is.1)
 
 -- the snapshot is returned and removed
-module _ (left tick x : ℕ) (xs snaps : List ℕ) (w : Waiting) (t : Together) (turn : Turn)
+module _ (left tick x : ℕ) (xs snaps : List ℕ) (w : OutputQueue) (t : Together) (turn : RunPhase)
     (first : snaps ≡ x ∷ xs) (shown : IsShown left tick snaps t) (before : turn ≡ turns.Before) (quiet : Quiet w) where
   shown_first : IsShown left tick (x ∷ xs) t
   shown_first = subst {A = List ℕ} (λ k. IsShown left tick k t) first shown
@@ -128,7 +128,7 @@ module _ (left tick x : ℕ) (xs snaps : List ℕ) (w : Waiting) (t : Together) 
       ∙ show-told left tick x xs t shown_first.before shown_first.first.0
       ∙ ap {A = List TimedReportedEvent} (λ rest. at_once tick t.machine.state (Shown x (state_told t.machine) (ahead_of t.machine)) ∷ rest)
       (sym (rest-quiet turns.Before left tick xs w t quiet)
-      ∙ ap {A = Turn} (λ k. rest_of k left tick xs w t) (sym before))
+      ∙ ap {A = RunPhase} (λ k. rest_of k left tick xs w t) (sym before))
 
   pub show-keeps : IsRun turn left tick xs w t
   show-keeps =
@@ -138,10 +138,10 @@ module _ (left tick x : ℕ) (xs snaps : List ℕ) (w : Waiting) (t : Together) 
         taken = quiet-taken w t.machine.state (levels_of t.machine ≡ []) quiet;
         in_time =
             let all = subst {A = List TimedReportedEvent} AreInTime show-tells shown.in_time in
-            subst {A = Turn} (λ k. AreInTime (rest_of k left tick xs w t)) before
+            subst {A = RunPhase} (λ k. AreInTime (rest_of k left tick xs w t)) before
             (All-tail (λ (y : TimedReportedEvent). (y.tick < 2 ^ 63) × (y.done < 2 ^ 63)) _ (rest_of turn left tick xs w t) all);
       } in
-      subst {A = Turn} (λ k. IsRun k left tick xs w t) (sym before) run
+      subst {A = RunPhase} (λ k. IsRun k left tick xs w t) (sym before) run
 
 -- ---- at the end
 
@@ -156,7 +156,7 @@ unfolding told_at_end ticks_before
 due-none rests tick [] s late = refl
 due-none rests tick (x ∷ xs) s late = let far : tick + 1 ≤ x = omega (arith, late) in rw (le-ltb x (tick + 1) far) refl
 
-module _ (rests : Bool) (left tick : ℕ) (snaps : List ℕ) (w : Waiting) (t : Together)
+module _ (rests : Bool) (left tick : ℕ) (snaps : List ℕ) (w : OutputQueue) (t : Together)
     (none : levels_of t.machine ≡ []) (in_time : AreInTime (told_at_end rests tick snaps t.machine.state)) (quiet : Quiet w) where
   abbrev state : Machine
   state = t.machine.state
@@ -177,7 +177,7 @@ module _ (rests : Bool) (left tick : ℕ) (snaps : List ℕ) (w : Waiting) (t : 
     in_time = subst {A = List TimedReportedEvent} AreInTime (sym (rest-quiet turns.Over left tick snaps w t quiet)) (All-nil _);
   }
 
-  module _ (x : ℕ) (xs : List ℕ) (turn : Turn) (first : snaps ≡ x ∷ xs) (due : x ≤ tick) (at_end : turn ≡ turns.AtEnd rests) where
+  module _ (x : ℕ) (xs : List ℕ) (turn : RunPhase) (first : snaps ≡ x ∷ xs) (due : x ≤ tick) (at_end : turn ≡ turns.AtEnd rests) where
     pub last-tells : told_at_end rests tick snaps state
         ≡ at_once tick state (Shown x (state_told t.machine) (ahead_of t.machine)) ∷ rest_of turn left tick xs w t
     last-tells =
@@ -188,15 +188,15 @@ module _ (rests : Bool) (left tick : ℕ) (snaps : List ℕ) (w : Waiting) (t : 
         (sym (ahead-none t.machine none))
         ∙ ap {A = List TimedReportedEvent} (λ rest. at_once tick state (Shown x (state_told t.machine) (ahead_of t.machine)) ∷ rest)
         (sym (rest-quiet (turns.AtEnd rests) left tick xs w t quiet)
-        ∙ ap {A = Turn} (λ k. rest_of k left tick xs w t) (sym at_end))
+        ∙ ap {A = RunPhase} (λ k. rest_of k left tick xs w t) (sym at_end))
 
     pub last-keeps : IsRun turn left tick xs w t
     last-keeps =
         let all = subst {A = List TimedReportedEvent} AreInTime last-tells in_time in
-        subst {A = Turn} (λ k. IsRun k left tick xs w t) (sym at_end) (record {
+        subst {A = RunPhase} (λ k. IsRun k left tick xs w t) (sym at_end) (record {
           stands = none;
           taken = quiet-taken w state (levels_of t.machine ≡ []) quiet;
           in_time =
-              subst {A = Turn} (λ k. AreInTime (rest_of k left tick xs w t)) at_end
+              subst {A = RunPhase} (λ k. AreInTime (rest_of k left tick xs w t)) at_end
               (All-tail (λ (y : TimedReportedEvent). (y.tick < 2 ^ 63) × (y.done < 2 ^ 63)) _ (rest_of turn left tick xs w t) all);
         })

@@ -10,12 +10,12 @@ use Rattle.st_run.specs.Run.{Scene, Transition, with_due_signals, with_due_order
 use Rattle.st_run.specs.Together.{Together, scene_of, moment_of, IsBehindEntry}
 use Rattle.st_run.specs.Between.{IsChoice, IsQuiet}
 use Rattle.st_run.specs.Leaving.{IsDecided, nothing_decided}
-use Rattle.st_run.specs.Telling.{Waiting, waiting_events, rest_of, IsRun, AreInTime}
+use Rattle.st_run.specs.Telling.{OutputQueue, queued_events, rest_of, IsRun, AreInTime}
 use Rattle.st_run.specs.ReportedEvents.{TimedReportedEvent, reported_plain_event}
 use Rattle.st_run.specs.Moments.{has_waited}
 use Rattle.st_exec.specs.Step.{rests}
-use Rattle.st_run.specs.declared.turn.Turn.{Turn}
-use Rattle.st_run.specs.declared.turn.Turn.TheVariants.{Before}
+use Rattle.st_run.specs.declared.run_phase.RunPhase.{RunPhase}
+use Rattle.st_run.specs.declared.run_phase.RunPhase.TheVariants.{Before}
 use Rattle.st_run.proofs.SignalLemmas.{due-over, wait-none}
 use Rattle.st_run.proofs.InterludeLemmas.{HasCome, since-none}
 use Rattle.st_run.proofs.ChoiceLemmas.{decided}
@@ -23,7 +23,7 @@ use Rattle.st_run.proofs.PartLemmas.{HasParts, left-parts}
 use Rattle.st_run.proofs.LeftLemmas.{waits}
 use Rattle.st_run.proofs.TickLemmas.{still-settled}
 use Rattle.st_run.proofs.ProgressLemmas.{Quiet, rest-quiet, quiet-taken}
-use Rattle.st_run.specs.Outside.{signal_due}
+use Rattle.st_run.specs.ExternalEvents.{signal_due}
 
 -- ---- the tests
 
@@ -62,10 +62,10 @@ still-right None due none = refl
 still-right (Some h) due none = absurd (cc none)
 
 pub quiet-due : (m : Overlap) → IsQuiet m → interrupt_due m ≡ None
-quiet-due m quiet = still-due (is_some m.missed) (interrupt_due m) quiet.open_still
+quiet-due m quiet = still-due (is_some m.mispredicted) (interrupt_due m) quiet.open_still
 
-pub quiet-right : (m : Overlap) → IsQuiet m → m.missed ≡ None
-quiet-right m quiet = still-right m.missed (interrupt_due m) quiet.open_still
+pub quiet-right : (m : Overlap) → IsQuiet m → m.mispredicted ≡ None
+quiet-right m quiet = still-right m.mispredicted (interrupt_due m) quiet.open_still
 
 pub quiet-settled : (m : Overlap) → IsQuiet m → machine_after_pass m ≡ settled_of m
 quiet-settled m quiet = still-settled m (quiet-due m quiet) quiet.awake (quiet-right m quiet)
@@ -99,8 +99,8 @@ module _ (left : ℕ) (b n : Together) (is : IsBehindEntry b) (some : left ≢ 0
     quiet.awake,
     (
       after,
-      neither-first (is_some b.machine.missed) (interrupt_due b.machine) quiet.open_still,
-      neither-still (is_some b.machine.missed) (interrupt_due b.machine) quiet.open_still,
+      neither-first (is_some b.machine.mispredicted) (interrupt_due b.machine) quiet.open_still,
+      neither-still (is_some b.machine.mispredicted) (interrupt_due b.machine) quiet.open_still,
     ),
   )
 
@@ -135,15 +135,15 @@ module _ (left : ℕ) (old : Together) (m k : Overlap) (xs : List Signal) (cards
 -- ---- no event is pending in either case
 
 pub none-quiet : Quiet (waits [] None None)
-unfolding waiting_events
+unfolding queued_events
 none-quiet s = refl
 
-pub quiet-rest : (turn : Turn) (left tick : ℕ) (snaps : List ℕ) (w : Waiting) (t : Together) → Quiet w
+pub quiet-rest : (turn : RunPhase) (left tick : ℕ) (snaps : List ℕ) (w : OutputQueue) (t : Together) → Quiet w
     → rest_of turn left tick snaps (waits [] None None) t ≡ rest_of turn left tick snaps w t
 quiet-rest turn left tick snaps w t quiet =
     rest-quiet turn left tick snaps (waits [] None None) t none-quiet ∙ sym (rest-quiet turn left tick snaps w t quiet)
 
-pub quiet-run : (turn : Turn) (left tick : ℕ) (snaps : List ℕ) (w : Waiting) (t : Together) → Quiet w
+pub quiet-run : (turn : RunPhase) (left tick : ℕ) (snaps : List ℕ) (w : OutputQueue) (t : Together) → Quiet w
     → IsRun turn left tick snaps (waits [] None None) t → IsRun turn left tick snaps w t
 quiet-run turn left tick snaps w t quiet is = record {
   stands = is.stands;

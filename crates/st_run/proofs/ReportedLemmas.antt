@@ -13,7 +13,7 @@ use Rattle.st_run.specs.Moments.{Moment, Standing, next_state, ends_segment, nex
 use Rattle.st_run.specs.TimedRun.{event_at, ticks_before, last_snapshot_at, snapshot_at, drops, drops_if_ends, happening_at, events_between, completion, until_done, last_events, timed_from, timed_behind}
 use Rattle.st_run.specs.ReportedEvents.{ReportedEvent, Dropped, Shown, Ended, TimedReportedEvent, reported_plain_event, timed_reported_event, reported_events, Printed}
 use Rattle.st_run.specs.Together.{AreTexts}
-use Rattle.st_run.specs.Telling.{waiting_events, at_once, told_at_end}
+use Rattle.st_run.specs.Telling.{queued_events, at_once, told_at_end}
 use Rattle.st_run.proofs.DoneLemmas.{settled-done}
 use Rattle.std.specs.Option.{option_to_list}
 
@@ -76,8 +76,8 @@ module _ (m : Moment) where
 
   tell-between : (text : Option (List ℕ)) → AreTexts text (interlude m.scene).happened
       → reported_events (events_between m)
-      ≡ map tell (waiting_events (record { drops = drops_by (ends_segment m); text = text; taken = interrupt (next_state m) }) (next_state m))
-  unfolding events_between waiting_events
+      ≡ map tell (queued_events (record { drops = drops_by (ends_segment m); text = text; taken = interrupt (next_state m) }) (next_state m))
+  unfolding events_between queued_events
   tell-between text same =
       let hs = (interlude m.scene).happened in
       let s = next_state m in
@@ -95,18 +95,18 @@ module _ (m : Moment) where
   pub told-between : (text : Option (List ℕ)) → AreTexts text (interlude m.scene).happened
       → reported_events (events_between m)
       ≡ map (at_once m.tick (next_state m))
-      (waiting_events (record { drops = drops_by (ends_segment m); text = text; taken = interrupt (next_state m) }) (next_state m))
+      (queued_events (record { drops = drops_by (ends_segment m); text = text; taken = interrupt (next_state m) }) (next_state m))
   told-between text same =
-      let ws = waiting_events (record { drops = drops_by (ends_segment m); text = text; taken = interrupt (next_state m) }) (next_state m) in
+      let ws = queued_events (record { drops = drops_by (ends_segment m); text = text; taken = interrupt (next_state m) }) (next_state m) in
       tell-between text same
       ∙ ap (λ (d : ℕ). map (once d m.tick) ws) (sym (settled-done m.scene))
 
   tell-last : (text : Option (List ℕ)) (snaps : List ℕ) → AreTexts text (interlude m.scene).happened
       → reported_events (last_events m snaps)
-      ≡ map tell (waiting_events (record { drops = map dropped_at m.dropped; text = text; taken = None }) (next_state m))
+      ≡ map tell (queued_events (record { drops = map dropped_at m.dropped; text = text; taken = None }) (next_state m))
       ++ (map (λ (x : ℕ). tell (Shown x (next_state m) [])) (ticks_before (m.tick + 1) snaps)
       ++ tell (Ended (rests (next_state m)) (next_state m)) ∷ [])
-  unfolding last_events waiting_events reported_events
+  unfolding last_events queued_events reported_events
   tell-last text snaps same =
       let hs = (interlude m.scene).happened in
       let s = next_state m in
@@ -136,12 +136,12 @@ module _ (m : Moment) where
 
   pub told-last : (text : Option (List ℕ)) (snaps : List ℕ) → AreTexts text (interlude m.scene).happened
       → reported_events (last_events m snaps)
-      ≡ map (at_once m.tick (next_state m)) (waiting_events (record { drops = map dropped_at m.dropped; text = text; taken = None }) (next_state m))
+      ≡ map (at_once m.tick (next_state m)) (queued_events (record { drops = map dropped_at m.dropped; text = text; taken = None }) (next_state m))
       ++ told_at_end (rests (next_state m)) m.tick snaps (next_state m)
   unfolding told_at_end
   told-last text snaps same =
       let s = next_state m in
-      let ws = waiting_events (record { drops = map dropped_at m.dropped; text = text; taken = None }) s in
+      let ws = queued_events (record { drops = map dropped_at m.dropped; text = text; taken = None }) s in
       let due = ticks_before (m.tick + 1) snaps in
       tell-last text snaps same
       ∙ ap (λ (d : ℕ). map (once d m.tick) ws

@@ -9,14 +9,14 @@ taken : (ws : List ℕ) → 32 ≤ length ws → length (take 16 ws) ≡ 16
 taken ws long = omega (arith, length-take 16 ws)
 
 module _ (xs : List ℕ) (s : Machine) (size : length xs ≡ 16) (long : 32 ≤ length s.words) where
-  front : length (take 16 s.words ++ xs) ≡ 32
-  front = omega (arith, length-append (take 16 s.words) xs, taken s.words long, size)
+  issue : length (take 16 s.words ++ xs) ≡ 32
+  issue = omega (arith, length-append (take 16 s.words) xs, taken s.words long, size)
 
   pub word-low : (w : ℕ) → w < 16 → word s w ≡ word (with_index_words xs s) w
   unfolding with_index_words
   word-low w low =
       let here : w < length (take 16 s.words) = omega (arith, taken s.words long) in
-      let there : w < length (take 16 s.words ++ xs) = omega (arith, front) in
+      let there : w < length (take 16 s.words ++ xs) = omega (arith, issue) in
       sym (get_or-take 16 s.words w 0 low)
       ∙ sym (get_or_append_left (take 16 s.words) xs 0 w here)
       ∙ sym (get_or_append_left (take 16 s.words ++ xs) (drop 32 s.words) 0 w there)
@@ -24,7 +24,7 @@ module _ (xs : List ℕ) (s : Machine) (size : length xs ≡ 16) (long : 32 ≤ 
   pub word-index : (w : ℕ) → 16 ≤ w → w < 32 → get_or xs (w - 16) 0 ≡ word (with_index_words xs s) w
   unfolding with_index_words
   word-index w low high =
-      let there : w < length (take 16 s.words ++ xs) = omega (arith, front) in
+      let there : w < length (take 16 s.words ++ xs) = omega (arith, issue) in
       sym (get_or-append_right (take 16 s.words) xs 16 w 0 (taken s.words long) low)
       ∙ sym (get_or_append_left (take 16 s.words ++ xs) (drop 32 s.words) 0 w there)
 
@@ -34,7 +34,7 @@ module _ (xs : List ℕ) (s : Machine) (size : length xs ≡ 16) (long : 32 ≤ 
       let same : 32 + (w - 32) ≡ w = omega arith in
       ap (λ (k : ℕ). get_or s.words k 0) (sym same)
       ∙ sym (get_or-drop 32 s.words (w - 32) 0)
-      ∙ sym (get_or-append_right (take 16 s.words ++ xs) (drop 32 s.words) 32 w 0 front high)
+      ∙ sym (get_or-append_right (take 16 s.words ++ xs) (drop 32 s.words) 32 w 0 issue high)
 
 -- the program counter and the mark for interrupts do not depend on the index words
 pub counter-seen : {A : Type 0} (f : A → List ℕ) (o : Option A) (s : Machine)

@@ -141,7 +141,7 @@ module _ (ds : List ℕ) (n : ℕ) where
   shown-if true m snaps xs ys here there = here
   shown-if false m snaps xs ys here there = there
 
-  timed-is : (left : ℕ) (m : Moment) (snaps : List ℕ) → m.front.c ≡ m.tick
+  timed-is : (left : ℕ) (m : Moment) (snaps : List ℕ) → m.issue.c ≡ m.tick
       → IsShown m.tick (snapshots_from m.tick snaps) (timed_from ds n left m snaps)
   timed-is zero m snaps same = rw (timed-none ds n m snaps) (last-is m (snapshots_from m.tick snaps))
   timed-is (suc left) m snaps same =
@@ -156,7 +156,7 @@ module _ (ds : List ℕ) (n : ℕ) where
       (turn-is m due rest later
       (subst (λ (xs : List ℕ). IsShown next.tick xs rest) (sym (again m.tick next.tick snaps later)) (timed-is left next snaps (next-same ds n p)))))
 
-  pub timed-shown : (left : ℕ) (m : Moment) (snaps : List ℕ) (t : ℕ) → m.front.c ≡ m.tick → m.tick ≡ 0
+  pub timed-shown : (left : ℕ) (m : Moment) (snaps : List ℕ) (t : ℕ) → m.issue.c ≡ m.tick → m.tick ≡ 0
       → shown_ticks (timed_from ds n left m snaps) ≡ ticks_before (last_completion t (timed_from ds n left m snaps) + 1) snaps
   timed-shown left m snaps t same start =
       (timed-is left m snaps same).shown t

@@ -7,7 +7,7 @@ use Rattle.st_state.specs.Interrupts.{state_with_signal}
 use Rattle.st_prep.proofs.Choices.{of_choice}
 use Rattle.st_exec.specs.Step.{rests}
 use Rattle.st_run.specs.Run.{Scene, uneventful, with_signals_while, with_due_signals, with_signals_at_rest, with_wait, with_order_at_rest}
-use Rattle.st_run.specs.Outside.{Coming, scene_at, signal_due}
+use Rattle.st_run.specs.ExternalEvents.{PendingEvents, scene_at, signal_due}
 
 -- the scene after a signal is taken
 abbrev pub with_signal : Signal → List Signal → Scene → Scene
@@ -28,7 +28,7 @@ due-taken : (s : Machine) (xs : List Signal) (cards : List (List ℕ)) (i : ℕ)
 due-taken s [] cards i due some = search rules
 due-taken s (x ∷ xs) cards i due some = grind (rules, some, due)
 
-pub due-came : (s t : Machine) (x y : Coming) (d i : ℕ) → signal_due d x.signals ≡ true → d ≡ s.done
+pub due-came : (s t : Machine) (x y : PendingEvents) (d i : ℕ) → signal_due d x.signals ≡ true → d ≡ s.done
     → option_map (λ (x : Signal). x.indicator) (slice_get x.signals 0) ≡ Some i → t ≡ state_with_signal s i
     → y ≡ record x { signals = drop 1 x.signals } → with_due_signals (scene_at t y) ≡ with_due_signals (scene_at s x)
 due-came s t x y d i due same some sig left =
@@ -42,7 +42,7 @@ rest-taken : (s : Machine) (xs : List Signal) (cards : List (List ℕ)) (i : ℕ
 rest-taken s [] cards i resting some = search rules
 rest-taken s (x ∷ xs) cards i resting some = grind (rules, some, resting)
 
-pub rest-came : (s t : Machine) (x y : Coming) (i : ℕ) → rests s ≡ true
+pub rest-came : (s t : Machine) (x y : PendingEvents) (i : ℕ) → rests s ≡ true
     → option_map (λ (x : Signal). x.indicator) (slice_get x.signals 0) ≡ Some i → t ≡ state_with_signal s i
     → y ≡ record x { signals = drop 1 x.signals } → with_signals_at_rest (scene_at t y) ≡ with_signals_at_rest (scene_at s x)
 rest-came s t x y i resting some sig left = simp (sig, left) (rest-taken s x.signals x.cards i resting some)

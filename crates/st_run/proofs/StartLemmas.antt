@@ -11,25 +11,25 @@ use Rattle.st_card.specs.declared.control_cards.Signal.{Signal}
 use Rattle.st_run.specs.Run.{Scene, with_due_signals, with_due_orders, with_wait, interlude, interrupts_by, if_due, Transition, uneventful, and_then, with_order}
 use Rattle.st_state.specs.declared.devices.Device.TheVariants.{Reader, Printer}
 use Rattle.st_rows.specs.Ranges.{AreDelaysUpTo}
-use Rattle.st_rows.specs.Rows.{opening_front}
+use Rattle.st_rows.specs.Rows.{opening_issue}
 use Rattle.st_banks.specs.Bank.{idle_banks}
 use Rattle.st_ahead.specs.Overlap.{Overlap, machine_at_start, machine_between_ticks}
 use Rattle.st_run.specs.Events.{Timed}
 use Rattle.st_run.specs.Scenes.{IsScene}
-use Rattle.st_run.specs.Moments.{Standing, moment_at_start, next_state, has_card, has_waited, ends_segment, next_segment, next_front, standing_at}
+use Rattle.st_run.specs.Moments.{Standing, moment_at_start, next_state, has_card, has_waited, ends_segment, next_segment, next_issue, standing_at}
 use Rattle.st_run.specs.TimedRun.{drops, happening_at, events_between, timed_behind, timed_run}
 use Rattle.st_run.specs.Order.{AreRising}
 use Rattle.st_run.specs.ReportedEvents.{TimedReportedEvent, timed_reported_event, reported_events}
 use Rattle.st_run.specs.Together.{Together, IsBeforeEntry}
-use Rattle.st_run.specs.Telling.{Waiting, waiting_events, rest_of, IsRun, AreInTime}
-use Rattle.st_run.specs.declared.turn.Turn.TheVariants as turns
+use Rattle.st_run.specs.Telling.{OutputQueue, queued_events, rest_of, IsRun, AreInTime}
+use Rattle.st_run.specs.declared.run_phase.RunPhase.TheVariants as turns
 use Rattle.st_run.proofs.CourseLemmas.{all-to-come}
 use Rattle.st_run.proofs.ProgressLemmas.{Quiet, rest-quiet}
 use Rattle.st_run.proofs.Turns.{timed-goes_on}
 use Rattle.st_run.proofs.Bounds.{run-time}
 use Rattle.st_run.proofs.RunLaws.{timed-done}
-use Rattle.st_run.specs.Outside.{Coming}
-use Rattle.st_run.proofs.InterludeLemmas.{with_coming}
+use Rattle.st_run.specs.ExternalEvents.{PendingEvents}
+use Rattle.st_run.proofs.InterludeLemmas.{with_pending}
 use Rattle.st_run.proofs.SignalLemmas.{wait-none, kept-while}
 use Rattle.st_run.proofs.SceneLemmas.{signals-scene}
 
@@ -43,12 +43,12 @@ with_scene t c = record {
 
 -- ---- the machine after the signals that are due at the start
 
-pub started : (m k : Overlap) (xs ys : List Signal) (cards : List (List ℕ)) (x : Coming)
+pub started : (m k : Overlap) (xs ys : List Signal) (cards : List (List ℕ)) (x : PendingEvents)
     → ((ts : List (List ℕ)) → with_due_signals (record { machine = m.state; signals = xs; cards = ts }) ≡ record { machine = k.state; signals = ys; cards = ts })
     → k ≡ record m { state = k.state } → x ≡ record { signals = ys; cards = cards }
-    → with_coming k x ≡ with_scene (record { machine = m; signals = xs; cards = cards }) (with_due_signals (record { machine = m.state; signals = xs; cards = cards }))
+    → with_pending k x ≡ with_scene (record { machine = m; signals = xs; cards = cards }) (with_due_signals (record { machine = m.state; signals = xs; cards = cards }))
 started m k xs ys cards x came machine is =
-    ap (with_coming k) is
+    ap (with_pending k) is
     ∙ ap (λ (o : Overlap). record { machine = o; signals = ys; cards = cards }) machine
     ∙ sym (ap (with_scene (record { machine = m; signals = xs; cards = cards })) (came cards))
 
@@ -122,13 +122,13 @@ module _ (c : Scene) (is : IsIdle c.machine) where
       ∙ ap {A = Bool} (λ b. false || false || false || b) no-interrupt
 
   abbrev pub first : Standing
-  first = record { scene = due; tick = 0; front = opening_front idle_banks 0 }
+  first = record { scene = due; tick = 0; issue = opening_issue idle_banks 0 }
 
   standing-idle : standing_at (moment_at_start c) ≡ first
-  unfolding next_front
+  unfolding next_issue
   standing-idle =
       ap {A = Transition} (λ r. record (standing_at (moment_at_start c)) { scene = r.scene }) settled-idle
-      ∙ ap {A = Bool} (λ b. record { scene = due; tick = 0; front = if b then next_segment (moment_at_start c) else opening_front idle_banks 0 }) no-end
+      ∙ ap {A = Bool} (λ b. record { scene = due; tick = 0; issue = if b then next_segment (moment_at_start c) else opening_issue idle_banks 0 }) no-end
 
   between-idle : events_between (moment_at_start c) ≡ []
   unfolding events_between
@@ -191,7 +191,7 @@ abbrev pub opened : List ℕ → ℕ → Scene → Together
 opened ds n c = record { machine = machine_at_start ds n c.machine; signals = c.signals; cards = c.cards }
 
 -- no pending events
-abbrev pub none : Waiting
+abbrev pub none : OutputQueue
 none = record { drops = []; text = None; taken = None }
 
 module _ (ds : List ℕ) (n : ℕ) (c : Scene) (idle : IsIdle c.machine) (is : IsScene c) where
@@ -200,7 +200,7 @@ module _ (ds : List ℕ) (n : ℕ) (c : Scene) (idle : IsIdle c.machine) (is : I
     kept = record { some = some; few = few; delays = are; scene = signals-scene (λ s x. nat_le x.count s.done) c is };
     ready = record {
       between =
-          ap {A = Option ℕ} (λ k. machine_between_ticks ds n (due c idle).machine k (opening_front idle_banks 0) 0)
+          ap {A = Option ℕ} (λ k. machine_between_ticks ds n (due c idle).machine k (opening_issue idle_banks 0) 0)
           (sym (idle-interrupt (due c idle).machine (due-idle c idle)));
       awake = idle-rests (due c idle).machine (due-idle c idle);
       early = omega arith;
@@ -208,7 +208,7 @@ module _ (ds : List ℕ) (n : ℕ) (c : Scene) (idle : IsIdle c.machine) (is : I
   }
 
   pub none-quiet : Quiet none
-  unfolding waiting_events
+  unfolding queued_events
   none-quiet s = refl
 
   pub start-told : (budget : ℕ) (snaps : List ℕ) → 1 ≤ budget

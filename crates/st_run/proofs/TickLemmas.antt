@@ -5,7 +5,7 @@ use Rattle.std.proofs.lemmas.Bool.Decides.{nat_tests}
 use Rattle.std.proofs.lemmas.Bool.{false_from_ne_true}
 use Rattle.st_state.specs.Machine.{Machine}
 use Rattle.st_exec.specs.Step.{interrupt, rests}
-use Rattle.st_rows.specs.declared.front.Front.{Front}
+use Rattle.st_rows.specs.declared.issue.IssueState.{IssueState}
 use Rattle.st_ahead.specs.Overlap.{Overlap, state_ahead, oldest_row, interrupt_due, machine_between_ticks}
 use Rattle.st_ahead.specs.Calls.{is_done, machine_after_completion, row_done, machine_after_tick, machine_after_settling, machine_after_pass}
 use Rattle.st_ahead.specs.RunTo.{after_ticks, IsPassed, ArePassed, RunsTo}
@@ -19,9 +19,9 @@ use Rattle.st_run.specs.Ticking.{at_completion, AreTicked, AreMade, last_for}
 pub ready-table : (o : Overlap) → IsMachineReady o → o.taken ≡ interrupt o.state
 ready-table o h = ap {A = Overlap} (λ x. x.taken) h.between
 
-pub ready-between : (o : Overlap) → IsMachineReady o → o ≡ machine_between_ticks o.delays o.levels o.state o.taken o.front o.now
+pub ready-between : (o : Overlap) → IsMachineReady o → o ≡ machine_between_ticks o.delays o.levels o.state o.taken o.issue o.now
 ready-between o h =
-    h.between ∙ ap {A = Option ℕ} (λ k. machine_between_ticks o.delays o.levels o.state k o.front o.now) (sym (ready-table o h))
+    h.between ∙ ap {A = Option ℕ} (λ k. machine_between_ticks o.delays o.levels o.state k o.issue o.now) (sym (ready-table o h))
 
 -- the oldest row does not depend on the tick
 pub row-same : (o : Overlap) (at : ℕ) → oldest_row (record o { now = at }) ≡ oldest_row o
@@ -34,12 +34,12 @@ none-due s None same = sym same
 none-due s (Some i) same = refl
 
 -- without external events, a settle leaves the tick unchanged
-pub still-settled : (m : Overlap) → interrupt_due m ≡ None → rests m.state ≡ false → m.missed ≡ None → machine_after_pass m ≡ machine_after_settling m
+pub still-settled : (m : Overlap) → interrupt_due m ≡ None → rests m.state ≡ false → m.mispredicted ≡ None → machine_after_pass m ≡ machine_after_settling m
 unfolding machine_after_settling
 still-settled m due awake right = rw (due, awake, right) refl
 
 -- a tick without a completion
-between-passes : (ds : List ℕ) (n : ℕ) (s : Machine) (t : Option ℕ) (f : Front) (at : ℕ) → t ≡ interrupt s → rests s ≡ false
+between-passes : (ds : List ℕ) (n : ℕ) (s : Machine) (t : Option ℕ) (f : IssueState) (at : ℕ) → t ≡ interrupt s → rests s ≡ false
     → is_done (machine_between_ticks ds n s t f at) ≡ false
     → machine_after_settling (machine_after_tick (machine_between_ticks ds n s t f at)) ≡ machine_between_ticks ds n s t f (at + 1)
 unfolding machine_after_tick machine_after_settling
@@ -48,11 +48,11 @@ between-passes ds n s t f at same awake late = rw (late, none-due s t same, awak
 pub tick-passes : (o m : Overlap) (at : ℕ) → IsMachineReady o → m ≡ record o { now = at } → is_done m ≡ false
     → machine_after_settling (machine_after_tick m) ≡ record o { now = at + 1 }
 tick-passes o m at h same late =
-    let between_at : (k : ℕ) → record o { now = k } ≡ machine_between_ticks o.delays o.levels o.state o.taken o.front k =
+    let between_at : (k : ℕ) → record o { now = k } ≡ machine_between_ticks o.delays o.levels o.state o.taken o.issue k =
     λ k. ap {A = Overlap} (λ q. record q { now = k }) (ready-between o h) in
-    let is : m ≡ machine_between_ticks o.delays o.levels o.state o.taken o.front at = same ∙ between_at at in
+    let is : m ≡ machine_between_ticks o.delays o.levels o.state o.taken o.issue at = same ∙ between_at at in
     ap {A = Overlap} (λ q. machine_after_settling (machine_after_tick q)) is
-    ∙ between-passes o.delays o.levels o.state o.taken o.front at (ready-table o h) h.awake (ap is_done (sym is) ∙ late)
+    ∙ between-passes o.delays o.levels o.state o.taken o.issue at (ready-table o h) h.awake (ap is_done (sym is) ∙ late)
     ∙ sym (between_at (at + 1))
 
 -- the next entry completes at a later tick

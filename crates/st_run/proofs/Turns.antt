@@ -6,12 +6,12 @@ use Rattle.st_state.specs.Machine.{Machine}
 use Rattle.st_prep.specs.Fetch.{index_words}
 use Rattle.st_exec.specs.Step.{rests, interrupt}
 use Rattle.st_banks.specs.declared.answers.LastAnswers.{LastAnswers}
-use Rattle.st_rows.specs.Rows.{opening_front, row_of_entry, address_tick, preparation_tick, tick_a, tick_p}
+use Rattle.st_rows.specs.Rows.{opening_issue, row_of_entry, address_tick, preparation_tick, tick_a, tick_p}
 use Rattle.st_segment.specs.Entries.{entry}
 use Rattle.st_segment.specs.Ahead.{ahead, prepared_before}
 use Rattle.st_segment.specs.Guesses.{split_words}
 use Rattle.st_run.specs.Events.{Timed, Shows, with_index_words, snapshot}
-use Rattle.st_run.specs.Moments.{Moment, Standing, next_state, ends_segment, next_segment, next_front, standing_at, entries_at_moment, next_moment}
+use Rattle.st_run.specs.Moments.{Moment, Standing, next_state, ends_segment, next_segment, next_issue, standing_at, entries_at_moment, next_moment}
 use Rattle.st_run.specs.TimedRun.{ticks_before, snapshots_from, snapshot_at, events_between, completion, until_done, last_events, timed_from, timed_behind}
 use Rattle.st_run.proofs.CourseLemmas.{next-same, timed-none, timed-step, timed-later}
 
@@ -92,21 +92,21 @@ snapshot-none tick t s = ap (λ u. Shows tick u []) (same-words s)
 
 -- the first entry of a segment is prepared after its start
 opening-late : (ds : List ℕ) (n k : ℕ) (t : Option ℕ) (s : Machine) (banks : LastAnswers) (start tick : ℕ) → tick ≤ start
-    → prepared_before (tick + 1) (ahead ds n k t s (opening_front banks start)) ≡ []
+    → prepared_before (tick + 1) (ahead ds n k t s (opening_issue banks start)) ≡ []
 unfolding ahead prepared_before row_of_entry tick_a tick_p address_tick preparation_tick
 opening-late ds n zero t s banks start tick early = refl
 opening-late ds n (suc k) t s banks start tick early =
-    let p = tick_p ds n (opening_front banks start) (entry t s) in
+    let p = tick_p ds n (opening_issue banks start) (entry t s) in
     let late : tick + 1 ≤ p = omega arith in
     rw (le-ltb p (tick + 1) late) refl
 
-front-ended : (m : Moment) → ends_segment m ≡ true → next_front m ≡ next_segment m
-unfolding next_front
-front-ended m h = rw h refl
+issue-ended : (m : Moment) → ends_segment m ≡ true → next_issue m ≡ next_segment m
+unfolding next_issue
+issue-ended m h = rw h refl
 
 pub nothing-ahead : (ds : List ℕ) (n : ℕ) (m : Moment) (tick : ℕ) → ends_segment m ≡ true
     → tick ≤ m.tick + 1 + length m.dropped
     → prepared_before (tick + 1) (entries_at_moment ds n (standing_at m)) ≡ []
 nothing-ahead ds n m tick h early =
-    ap (λ f. prepared_before (tick + 1) (ahead ds n n (interrupt (next_state m)) (next_state m) f)) (front-ended m h)
+    ap (λ f. prepared_before (tick + 1) (ahead ds n n (interrupt (next_state m)) (next_state m) f)) (issue-ended m h)
     ∙ opening-late ds n n (interrupt (next_state m)) (next_state m) m.banks (m.tick + 1 + length m.dropped) tick early

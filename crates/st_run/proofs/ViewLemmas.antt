@@ -10,26 +10,26 @@ use Rattle.st_format.specs.declared.instruction.Instr.TheVariants.{Half, Branch,
 use Rattle.st_state.specs.Machine.{Machine, IsMachine, word}
 use Rattle.st_prep.specs.declared.entries.IndexChange.{IndexChange}
 use Rattle.st_prep.specs.declared.entries.Place.{Place}
-use Rattle.st_prep.specs.declared.entries.Aim.{Aim}
-use Rattle.st_prep.specs.EarlyChange.{without_change, change_of_comparison, change_of_index, half_change, progressive_change, change}
+use Rattle.st_prep.specs.declared.entries.ResolvedEntry.{ResolvedEntry}
+use Rattle.st_prep.specs.SpeculativeChanges.{without_change, change_of_comparison, change_of_index, half_change, progressive_change, change}
 use Rattle.st_prep.specs.Fetch.{index_words}
-use Rattle.st_prep.specs.Plan.{plan, prepared_entry, prepared_by, suppressed_entry, entry_at as entry_of, sight}
+use Rattle.st_prep.specs.Plan.{plan, prepared_entry, prepared_by, suppressed_entry, entry_at as entry_of, decode_context}
 use Rattle.st_prep.specs.Ranges.{IsChange}
 use Rattle.st_prep.proofs.Choices.{of_choice}
 use Rattle.st_prep.proofs.PlanLemmas.{plan-prepared}
-use Rattle.st_exec.specs.Completion.{guess}
-use Rattle.st_exec.proofs.UnwrittenLemmas.{guessed-machine}
-use Rattle.st_rows.specs.Rows.{row_of_entry, front_after_entry}
-use Rattle.st_rows.specs.declared.front.Front.{Front}
+use Rattle.st_exec.specs.Completion.{prediction}
+use Rattle.st_exec.proofs.UnwrittenLemmas.{predicted-machine}
+use Rattle.st_rows.specs.Rows.{row_of_entry, issue_after_entry}
+use Rattle.st_rows.specs.declared.issue.IssueState.{IssueState}
 use Rattle.st_segment.specs.Entries.{entry}
 use Rattle.st_segment.specs.Ahead.{Ahead, ahead, prepared_before, plan_of}
 use Rattle.st_ahead.specs.Overlap.{Overlap, state_ahead, levels_of, last_tick_made}
 use Rattle.st_ahead.specs.Shown.{word_before_change, level_shown, view_at_tick}
 use Rattle.st_ahead.specs.declared.events.LevelView.{LevelView}
 use Rattle.st_run.specs.Events.{level_at, Level}
-use Rattle.st_run.specs.Telling.{Waiting, AreLevelsShown, IsRun, ahead_of, level_of}
-use Rattle.st_run.specs.declared.turn.Turn.{Turn}
-use Rattle.st_run.specs.declared.turn.Turn.TheVariants as turns
+use Rattle.st_run.specs.Telling.{OutputQueue, AreLevelsShown, IsRun, ahead_of, level_of}
+use Rattle.st_run.specs.declared.run_phase.RunPhase.{RunPhase}
+use Rattle.st_run.specs.declared.run_phase.RunPhase.TheVariants as turns
 use Rattle.st_run.specs.Together.{Together, IsBeforeEntry}
 use Rattle.st_refine.proofs.Kept.{interrupt-below}
 use Rattle.st_run.proofs.TickLemmas.{ready-table}
@@ -89,13 +89,13 @@ change-keeps xs (StoreCounter a i second) e r = tt
 change-keeps xs (Transfer w a i n) e r = tt
 change-keeps xs (Invalid first second full) e r = tt
 
-by-keeps : (o : Option ℕ) (place : Place) (a : Aim) (xs : List ℕ) (read : Option ℕ) → Keeps xs (prepared_by o place a xs read).index
+by-keeps : (o : Option ℕ) (place : Place) (a : ResolvedEntry) (xs : List ℕ) (read : Option ℕ) → Keeps xs (prepared_by o place a xs read).index
 unfolding suppressed_entry entry_of
 by-keeps None place a xs read = change-keeps xs a.instr a.e read
 by-keeps (Some i) place a xs read = tt
 
 plan-keeps : (s : Machine) (t : Option ℕ) → Keeps (index_words s) (plan s t).index
-unfolding plan prepared_entry sight
+unfolding plan prepared_entry decode_context
 plan-keeps s t = by-keeps _ _ _ (index_words s) _
 
 word-of_index : (s : Machine) (j : ℕ) → j < 16 → slice_index (index_words s) j ≡ word s (16 + j)
@@ -118,18 +118,18 @@ level-is tick a m some =
 
 -- ---- all levels
 
-levels-are : (tick now : ℕ) (ds : List ℕ) (n k : ℕ) (t : Option ℕ) (s : Machine) (f : Front) → IsMachine s → IfSome t (λ i. i < 64)
+levels-are : (tick now : ℕ) (ds : List ℕ) (n k : ℕ) (t : Option ℕ) (s : Machine) (f : IssueState) → IsMachine s → IfSome t (λ i. i < 64)
     → map level_of (map (level_shown tick) (prepared_before now (ahead ds n k t s f)))
     ≡ map (level_at tick) (prepared_before now (ahead ds n k t s f))
 unfolding ahead prepared_before
 levels-are tick now ds n zero t s f m some = refl
 levels-are tick now ds n (suc k) t s f m some =
-    let a : Ahead = record { state = s; table = t; front = f; entry = entry t s; row = row_of_entry ds n f (entry t s) } in
-    let next = guessed-machine (plan s t) s (plan-prepared s t m some) m in
-    let rest = prepared_before now (ahead ds n k None (guess t s) (front_after_entry ds n f (entry t s))) in
+    let a : Ahead = record { state = s; table = t; issue = f; entry = entry t s; row = row_of_entry ds n f (entry t s) } in
+    let next = predicted-machine (plan s t) s (plan-prepared s t m some) m in
+    let rest = prepared_before now (ahead ds n k None (prediction t s) (issue_after_entry ds n f (entry t s))) in
     of_choice (λ (xs : List Ahead). map level_of (map (level_shown tick) xs) ≡ map (level_at tick) xs) (nat_lt a.row.p now) (a ∷ rest) []
     (ap {A = Level} (λ l. l ∷ map level_of (map (level_shown tick) rest)) (level-is tick a m some)
-    ∙ ap {A = List Level} (λ ls. level_at tick a ∷ ls) (levels-are tick now ds n k None (guess t s) (front_after_entry ds n f (entry t s)) next tt))
+    ∙ ap {A = List Level} (λ ls. level_at tick a ∷ ls) (levels-are tick now ds n k None (prediction t s) (issue_after_entry ds n f (entry t s)) next tt))
     refl
 
 room-is : (tick : ℕ) (xs : List Ahead)
@@ -139,16 +139,16 @@ room-is tick xs =
     ap {A = List (Option LevelView)} (λ ys. ys ++ replicate (8 - length xs) None) (sym (map-map (λ (v : LevelView). Some v) (level_shown tick) xs))
     ∙ ap {A = ℕ} (λ k. map (λ (v : LevelView). Some v) (map (level_shown tick) xs) ++ replicate (8 - k) None) (sym (length-map xs (level_shown tick)))
 
-seen-plain : (o : Overlap) → o.ended ≡ false → o.missed ≡ None → o.state ≡ state_ahead o
+seen-plain : (o : Overlap) → o.ended ≡ false → o.mispredicted ≡ None → o.state ≡ state_ahead o
 unfolding state_ahead
-seen-plain o going guessed = rw (going, guessed) refl
+seen-plain o going predicted = rw (going, predicted) refl
 
-same-levels : (o : Overlap) (m : IsMachine o.state) → o.ended ≡ false → o.missed ≡ None → IfSome o.taken (λ i. i < 64)
+same-levels : (o : Overlap) (m : IsMachine o.state) → o.ended ≡ false → o.mispredicted ≡ None → IfSome o.taken (λ i. i < 64)
     → map level_of (map (level_shown (last_tick_made o)) (levels_of o)) ≡ ahead_of o
 unfolding levels_of
-same-levels o m going guessed some =
-    levels-are (last_tick_made o) o.now o.delays o.levels o.levels o.taken (state_ahead o) o.front
-    (subst IsMachine (seen-plain o going guessed) m) some
+same-levels o m going predicted some =
+    levels-are (last_tick_made o) o.now o.delays o.levels o.levels o.taken (state_ahead o) o.issue
+    (subst IsMachine (seen-plain o going predicted) m) some
 
 pub view-before : (t : Together) → IsBeforeEntry t → AreLevelsShown (view_at_tick t.machine).levels (ahead_of t.machine)
 unfolding view_at_tick
@@ -158,7 +158,7 @@ view-before t h =
     record {
       views = map (level_shown (last_tick_made o)) (levels_of o);
       room = room-is (last_tick_made o) (levels_of o);
-      same = same-levels o h.kept.scene.machine (ap {A = Overlap} (λ x. x.ended) h.ready.between) (ap {A = Overlap} (λ x. x.missed) h.ready.between) some;
+      same = same-levels o h.kept.scene.machine (ap {A = Overlap} (λ x. x.ended) h.ready.between) (ap {A = Overlap} (λ x. x.mispredicted) h.ready.between) some;
     }
 
 pub view-none : (o : Overlap) → levels_of o ≡ [] → AreLevelsShown (view_at_tick o).levels (ahead_of o)
@@ -169,7 +169,7 @@ view-none o none = record {
   same = rw none refl;
 }
 
-pub view-run : (turn : Turn) (left tick : ℕ) (snaps : List ℕ) (w : Waiting) (t : Together) → IsRun turn left tick snaps w t
+pub view-run : (turn : RunPhase) (left tick : ℕ) (snaps : List ℕ) (w : OutputQueue) (t : Together) → IsRun turn left tick snaps w t
     → AreLevelsShown (view_at_tick t.machine).levels (ahead_of t.machine)
 view-run turns.Before left tick snaps w t is = view-before t is.stands.0
 view-run (turns.AtEnd rests) left tick snaps w t is = view-none t.machine is.stands

@@ -7,13 +7,13 @@ use Rattle.st_ahead.specs.Overlap.{Overlap, interrupt_due}
 use Rattle.st_ahead.specs.Calls.{run_ended, machine_after_settling}
 use Rattle.st_ahead.specs.declared.events.Settled.{Settled}
 use Rattle.st_ahead.specs.declared.events.Settled.TheVariants as answers
-use Rattle.st_run.specs.declared.turn.Turn.{Turn}
-use Rattle.st_run.specs.declared.turn.Turn.TheVariants.{Before, AtEnd, Over}
+use Rattle.st_run.specs.declared.run_phase.RunPhase.{RunPhase}
+use Rattle.st_run.specs.declared.run_phase.RunPhase.TheVariants.{Before, AtEnd, Over}
 use Rattle.st_run.specs.declared.leaving.Decided.{Decided}
 
 -- the decision d in state s: the run continues, and then going holds; or its last segment ends, at
 -- rest or with the budget used up, and then ending holds
-abbrev pub IsDecidedBy : Turn → ℕ → Machine → Decided → Type 0 → Type 0 → Type 0
+abbrev pub IsDecidedBy : RunPhase → ℕ → Machine → Decided → Type 0 → Type 0 → Type 0
 IsDecidedBy Before left s d going ending = (left ≢ 0) × (rests s ≡ false) × going
 IsDecidedBy (AtEnd resting) left s d going ending =
     (resting ≡ rests s) × (resting ≡ false → left ≡ 0) × (d.ends ≡ true) × (d.taken ≡ None) × ending
@@ -21,16 +21,16 @@ IsDecidedBy Over left s d going ending = ⊥
 
 -- the machine after the decision: it continues with the decision about interrupts, or its last
 -- segment ends
-abbrev pub IsChoice : Turn → ℕ → Bool → Overlap → Decided → Overlap → Type 0
+abbrev pub IsChoice : RunPhase → ℕ → Bool → Overlap → Decided → Overlap → Type 0
 IsChoice turn left over old d new = IsDecidedBy turn left old.state d
     ((new ≡ machine_after_settling old) × (d.taken ≡ interrupt_due old)
-    × (d.ends ≡ (is_some old.missed || over || is_some (interrupt_due old))))
+    × (d.ends ≡ (is_some old.mispredicted || over || is_some (interrupt_due old))))
     (new ≡ run_ended old)
 
 -- the choice by the result of a settle: whether the segment ends, and the interrupt that is taken
 abbrev pub choice_of : Settled → Bool → Bool × Option ℕ
 choice_of (answers.Interrupt i done ic dropped) over = (true, Some i)
-choice_of (answers.Missed dropped) over = (true, None)
+choice_of (answers.Mispredicted dropped) over = (true, None)
 choice_of _ over = (over, None)
 
 -- ---- no external event
@@ -40,4 +40,4 @@ pub record IsQuiet (o : Overlap) : Type 0 where
   pub reader : is_due o.state.done o.state.reader ≡ false
   pub printer : is_due o.state.done o.state.printer ≡ false
   pub awake : rests o.state ≡ false
-  pub open_still : (is_some o.missed || is_some (interrupt_due o)) ≡ false
+  pub open_still : (is_some o.mispredicted || is_some (interrupt_due o)) ≡ false

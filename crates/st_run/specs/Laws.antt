@@ -76,13 +76,13 @@ PrintsComeOneAtATime = (c : Scene) → length (interlude c).happened ≤ 1
 -- counter.
 pub record DroppedEntriesFollowTheGuess : Type 0 where
   pub right : (ds : List ℕ) (n k : ℕ) (p : Standing) → IsScene p.scene →
-      let m = next_moment ds n p in m.missed ≡ false →
-      entries_behind ds n p k ≡ ahead ds n k None m.scene.machine m.front
-  pub missed : (ds : List ℕ) (n k : ℕ) (p : Standing) → IsScene p.scene →
+      let m = next_moment ds n p in m.mispredicted ≡ false →
+      entries_behind ds n p k ≡ ahead ds n k None m.scene.machine m.issue
+  pub mispredicted : (ds : List ℕ) (n k : ℕ) (p : Standing) → IsScene p.scene →
       let m = next_moment ds n p in let h =
       (plan p.scene.machine (interrupt p.scene.machine)).following in
-      m.missed ≡ true →
-      entries_behind ds n p k ≡ ahead ds n k None (record m.scene.machine { ic = h }) m.front
+      m.mispredicted ≡ true →
+      entries_behind ds n p k ≡ ahead ds n k None (record m.scene.machine { ic = h }) m.issue
 
 -- The invariant of a scene (a valid state, and cards of eight words) is kept between two entries
 -- and by each entry.

@@ -6,7 +6,7 @@ use Rattle.st_run.specs.Run.{interlude}
 use Rattle.st_run.specs.Moments.{Moment, next_scene, next_state, ends_segment, standing_at}
 use Rattle.st_run.specs.Together.{Together, AreTexts, IsBeforeEntry, scene_of, standing_of}
 use Rattle.st_run.specs.Between.{IsDecidedBy}
-use Rattle.st_run.specs.declared.turn.Turn.TheVariants.{Before}
+use Rattle.st_run.specs.declared.run_phase.RunPhase.TheVariants.{Before}
 use Rattle.st_run.specs.declared.leaving.Decided.{Decided}
 
 -- the run continues with the next entry

@@ -11,7 +11,7 @@ pub mod Telling
 pub mod Serving
 pub mod Progress
 pub mod Ticking
-pub mod Outside
+pub mod ExternalEvents
 pub mod Leaving
 pub mod Between
 pub mod Overlapped

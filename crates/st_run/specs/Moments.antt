@@ -3,18 +3,18 @@
 use Rattle.std.specs.Prelude.{ℕ, Bool, false, ◌||◌, nat_lt, if◌then◌else◌, is_some, List, [], length, None}
 use Rattle.st_state.specs.Machine.{Machine}
 use Rattle.st_prep.specs.Plan.{plan}
-use Rattle.st_exec.specs.Completion.{guess, is_missed}
+use Rattle.st_exec.specs.Completion.{prediction, is_mispredicted}
 use Rattle.st_exec.specs.Step.{interrupt, rests}
 use Rattle.st_run.specs.Course.{Course, course}
 use Rattle.st_run.specs.Run.{Scene, with_due_signals, with_due_orders, interlude, scene_after_step}
 use Rattle.st_banks.specs.Bank.{idle_banks}
 use Rattle.st_banks.specs.declared.answers.LastAnswers.{LastAnswers}
-use Rattle.st_rows.specs.Rows.{opening_front, row_of_entry, front_after_entry}
+use Rattle.st_rows.specs.Rows.{opening_issue, row_of_entry, issue_after_entry}
 use Rattle.st_rows.specs.declared.entry.Entry.{Entry}
-use Rattle.st_rows.specs.declared.front.Front.{Front}
-use Rattle.st_rows.specs.declared.front.EntryTicks.{EntryTicks}
+use Rattle.st_rows.specs.declared.issue.IssueState.{IssueState}
+use Rattle.st_rows.specs.declared.issue.EntryTicks.{EntryTicks}
 use Rattle.st_segment.specs.Entries.{entry}
-use Rattle.st_segment.specs.Ahead.{Ahead, ahead, prepared_before, reads_to_end, banks_at_end, front_behind_end}
+use Rattle.st_segment.specs.Ahead.{Ahead, ahead, prepared_before, reads_to_end, banks_at_end, issue_behind_end}
 
 -- the point at which an entry has completed at this tick, before any external event: the scene with
 -- the state after it; the front after it; whether its branch was mispredicted; and, in case the
@@ -23,8 +23,8 @@ use Rattle.st_segment.specs.Ahead.{Ahead, ahead, prepared_before, reads_to_end, 
 pub record Moment : Type 0 where
   pub scene : Scene
   pub tick : ℕ
-  pub front : Front
-  pub missed : Bool
+  pub issue : IssueState
+  pub mispredicted : Bool
   pub dropped : List Ahead
   pub banks : LastAnswers
 
@@ -33,15 +33,15 @@ pub record Moment : Type 0 where
 pub record Standing : Type 0 where
   pub scene : Scene
   pub tick : ℕ
-  pub front : Front
+  pub issue : IssueState
 
 -- the moment at the start of a run, at tick 0
 abbrev pub moment_at_start : Scene → Moment
 moment_at_start c = record {
   scene = c;
   tick = 0;
-  front = opening_front idle_banks 0;
-  missed = false;
+  issue = opening_issue idle_banks 0;
+  mispredicted = false;
   dropped = [];
   banks = idle_banks;
 }
@@ -70,19 +70,19 @@ module _ (m : Moment) where
   -- whether the segment ends here if the run continues: a branch was mispredicted, a card came, the
   -- machine waited, or an interrupt is taken
   unfoldable pub ends_segment : Bool
-  ends_segment = m.missed || has_card || has_waited || is_some (interrupt next_state)
+  ends_segment = m.mispredicted || has_card || has_waited || is_some (interrupt next_state)
 
   -- the front of the next segment, which starts one tick later and one more for each flushed entry
-  abbrev pub next_segment : Front
-  next_segment = front_behind_end m.banks m.tick (length m.dropped)
+  abbrev pub next_segment : IssueState
+  next_segment = issue_behind_end m.banks m.tick (length m.dropped)
 
   -- the front from which the row of the next entry is computed
-  unfoldable pub next_front : Front
-  next_front = if ends_segment then next_segment else m.front
+  unfoldable pub next_issue : IssueState
+  next_issue = if ends_segment then next_segment else m.issue
 
   -- the point before the next entry
   abbrev pub standing_at : Standing
-  standing_at = record { scene = next_scene; tick = m.tick; front = next_front }
+  standing_at = record { scene = next_scene; tick = m.tick; issue = next_issue }
 
 -- ---- the next entry
 
@@ -93,31 +93,31 @@ entry_of_moment p = entry (interrupt p.scene.machine) p.scene.machine
 module _ (ds : List ℕ) (n : ℕ) (p : Standing) where
   -- the row of the next entry
   unfoldable pub next_row : EntryTicks
-  next_row = row_of_entry ds n p.front (entry_of_moment p)
+  next_row = row_of_entry ds n p.issue (entry_of_moment p)
 
   -- the front after the next entry
-  abbrev pub front_after : Front
-  front_after = front_after_entry ds n p.front (entry_of_moment p)
+  abbrev pub issue_after : IssueState
+  issue_after = issue_after_entry ds n p.issue (entry_of_moment p)
 
   -- the next entry and the entries in flight after it, along predicted states
   abbrev pub entries_at_moment : List Ahead
-  entries_at_moment = ahead ds n n (interrupt p.scene.machine) p.scene.machine p.front
+  entries_at_moment = ahead ds n n (interrupt p.scene.machine) p.scene.machine p.issue
 
   -- the k entries in flight after the prediction of the next entry
   abbrev pub entries_behind : ℕ → List Ahead
-  entries_behind k = ahead ds n k None (guess (interrupt p.scene.machine) p.scene.machine)
-      front_after
+  entries_behind k = ahead ds n k None (prediction (interrupt p.scene.machine) p.scene.machine)
+      issue_after
 
   -- the moment at which the next entry completes; reads that are accepted before this tick are made
   unfoldable pub next_moment : Moment
   next_moment = record {
     scene = scene_after_step p.scene;
     tick = next_row.c;
-    front = front_after;
-    missed = is_missed (plan p.scene.machine (interrupt p.scene.machine)) p.scene.machine;
+    issue = issue_after;
+    mispredicted = is_mispredicted (plan p.scene.machine (interrupt p.scene.machine)) p.scene.machine;
     dropped = prepared_before next_row.c (entries_behind n);
     banks = banks_at_end ds next_row.c (reads_to_end ds n next_row.c
-        (interrupt p.scene.machine) p.scene.machine p.front (entry_of_moment p)) p.front.bus;
+        (interrupt p.scene.machine) p.scene.machine p.issue (entry_of_moment p)) p.issue.bus;
   }
 
 -- the moments of a run from a given one, with the given budget of instructions

@@ -4,11 +4,11 @@ use Rattle.st_state.specs.Machine.{Machine}
 use Rattle.st_run.specs.TimedRun.{timed_from}
 use Rattle.st_run.specs.Together.{moment_of}
 use Rattle.st_run.specs.ReportedEvents.{TimedReportedEvent, reported_events}
-use Rattle.st_run.specs.Telling.{IsRun, rest_of, rest_by, rows_then, state_told, ahead_of, told_as, waiting_events}
+use Rattle.st_run.specs.Telling.{IsRun, rest_of, rest_by, rows_then, state_told, ahead_of, told_as, queued_events}
 use Rattle.st_run.specs.declared.progress.Progress.{Progress}
 use Rattle.st_run.specs.declared.teller.Teller.{Teller}
 use Rattle.st_run.specs.declared.run_events.TimedRunEvent.{TimedRunEvent}
-use Rattle.st_run.specs.declared.turn.Turn.TheVariants as turns
+use Rattle.st_run.specs.declared.run_phase.RunPhase.TheVariants as turns
 
 module _ {n : ℕ} (run : Progress n) where
   -- the invariant of a run
@@ -25,7 +25,7 @@ module _ {n : ℕ} (run : Progress n) where
 
   -- no event is pending
   abbrev pub IsTold : Type 0
-  IsTold = (s : Machine) → waiting_events run.waiting s ≡ []
+  IsTold = (s : Machine) → queued_events run.waiting s ≡ []
 
   -- the remaining events from the point before the next entry
   abbrev pub told_ahead : List TimedReportedEvent

@@ -17,8 +17,8 @@ use Rattle.st_run.specs.Together.{Together, IsBeforeEntry, IsBehindEntry, standi
 use Rattle.st_run.specs.declared.run_events.TimedRunEvent.{TimedRunEvent}
 use Rattle.st_run.specs.declared.run_events.RunEvent.{RunEvent}
 use Rattle.st_run.specs.declared.run_events.RunEvent.TheVariants as tells
-use Rattle.st_run.specs.declared.turn.Turn.{Turn}
-use Rattle.st_run.specs.declared.turn.Turn.TheVariants as turns
+use Rattle.st_run.specs.declared.run_phase.RunPhase.{RunPhase}
+use Rattle.st_run.specs.declared.run_phase.RunPhase.TheVariants as turns
 
 -- the view of a run: the remaining events, the machine, and the state, levels and text that it
 -- shows
@@ -61,14 +61,14 @@ pub record AreLeftOut (last : Row) (old new : List TimedReportedEvent) : Type 0 
 
 -- the pending events between two entries: the flushed entries, oldest first; the text that is
 -- printed; the interrupt that is taken
-pub record Waiting : Type 0 where
+pub record OutputQueue : Type 0 where
   pub drops : List (ℕ × ℕ)
   pub text : Option (List ℕ)
   pub taken : Option ℕ
 
 -- the pending events in order
-unfoldable pub waiting_events : Waiting → Machine → List ReportedEvent
-waiting_events w s =
+unfoldable pub queued_events : OutputQueue → Machine → List ReportedEvent
+queued_events w s =
     map (λ d. Dropped d.0 d.1) (reverse w.drops) ++ map Printed (option_to_list w.text)
     ++ map reported_plain_event (interrupts_by w.taken s)
 
@@ -85,7 +85,7 @@ told_at_end rests tick snaps s =
     ++ at_once tick s (Ended rests s) ∷ []
 
 -- the machine agrees with the phase of the run: an entry follows, or no entry is in flight any more
-abbrev pub IsTurn : Turn → List ℕ → Together → Type 0
+abbrev pub IsTurn : RunPhase → List ℕ → Together → Type 0
 IsTurn turns.Before snaps t = IsBeforeEntry t × AreRising (t.machine.now - 1) snaps
 IsTurn _ snaps t = levels_of t.machine ≡ []
 
@@ -95,17 +95,17 @@ AreInTime = All (λ x. (x.tick < 2 ^ 63) × (x.done < 2 ^ 63))
 
 -- the remaining events by the phase of the run: before the next entry, with the budget after it; at
 -- the end; or after it
-abbrev pub rest_by : Turn → ℕ → ℕ → List ℕ → Together → List TimedReportedEvent
+abbrev pub rest_by : RunPhase → ℕ → ℕ → List ℕ → Together → List TimedReportedEvent
 rest_by turns.Before left tick snaps t =
     reported_events (timed_behind t.machine.delays t.machine.levels left (standing_of tick t) snaps)
 rest_by (turns.AtEnd rests) left tick snaps t = told_at_end rests tick snaps t.machine.state
 rest_by turns.Over left tick snaps t = []
 
-module _ (turn : Turn) (left tick : ℕ) (snaps : List ℕ) (w : Waiting) (t : Together) where
+module _ (turn : RunPhase) (left tick : ℕ) (snaps : List ℕ) (w : OutputQueue) (t : Together) where
   -- the pending events, followed by the remaining ones
   unfoldable pub rest_of : List TimedReportedEvent
   rest_of =
-      map (at_once tick t.machine.state) (waiting_events w t.machine.state)
+      map (at_once tick t.machine.state) (queued_events w t.machine.state)
       ++ rest_by turn left tick snaps t
 
   -- the invariant of a run; if an interrupt is pending, no entry is in flight, so that the state in

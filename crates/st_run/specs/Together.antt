@@ -35,7 +35,7 @@ pub record IsTogether (t : Together) : Type 0 where
 -- a machine between two ticks that waits for no settle, is not at rest, and has no late entry
 pub record IsMachineReady (o : Overlap) : Type 0 where
   pub between : o
-      ≡ machine_between_ticks o.delays o.levels o.state (interrupt o.state) o.front o.now
+      ≡ machine_between_ticks o.delays o.levels o.state (interrupt o.state) o.issue o.now
   pub awake : rests o.state ≡ false
   pub early : o.now ≤ (oldest_row o).c
 
@@ -47,7 +47,7 @@ pub record IsBeforeEntry (t : Together) : Type 0 where
 
 -- the corresponding point of the timed run, where the last entry completed at the tick
 abbrev pub standing_of : ℕ → Together → Standing
-standing_of tick t = record { scene = scene_of t; tick = tick; front = t.machine.front }
+standing_of tick t = record { scene = scene_of t; tick = tick; issue = t.machine.issue }
 
 -- ---- after a completion, before any external event
 
@@ -59,16 +59,16 @@ pub record IsBehindEntry (t : Together) : Type 0 where
   pub stands : t.machine.stopped ≡ false
   pub done : IsSome t.machine.closing
   pub table : t.machine.taken ≡ None
-  pub counter : IfSome t.machine.missed (λ h. h < 2 ^ 19)
-  pub last : t.machine.front.c ≡ t.machine.now
+  pub counter : IfSome t.machine.mispredicted (λ h. h < 2 ^ 19)
+  pub last : t.machine.issue.c ≡ t.machine.now
 
 -- the corresponding moment of the timed run
 abbrev pub moment_of : Together → Moment
 moment_of t = record {
   scene = scene_of t;
   tick = t.machine.now;
-  front = t.machine.front;
-  missed = is_some t.machine.missed;
+  issue = t.machine.issue;
+  mispredicted = is_some t.machine.mispredicted;
   dropped = levels_of t.machine;
   banks = banks_left t.machine.closing;
 }

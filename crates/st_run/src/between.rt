@@ -5,10 +5,10 @@ ghost use Rattle.std.specs.Option.{option_or};
 ghost use Rattle.st_state.specs.declared.devices.Device.TheVariants.{Reader, Printer};
 ghost use Rattle.st_exec.specs.Step.{rests};
 ghost use Rattle.st_run.specs.Run as run;
-ghost use Rattle.st_run.specs.Outside.{HasHappened, scene_at, joined_of};
+ghost use Rattle.st_run.specs.ExternalEvents.{HasHappened, scene_at, joined_of};
 
-use crate::coming::Coming;
-use crate::outside::Outside;
+use crate::pending::PendingEvents;
+use crate::external_events::ExternalEvents;
 use crate::plain::is_due_at;
 use st_exec::is_at_rest;
 use st_state::{Device, done_in};
@@ -37,15 +37,15 @@ const A_WAIT: Interlude = Interlude {
 };
 
 // The reader's order takes effect, with the next card or without one.
-fn read_card<M: Outside>(machine: &mut M, coming: &mut Coming) -> Interlude
+fn read_card<M: ExternalEvents>(machine: &mut M, pending: &mut PendingEvents) -> Interlude
     requires order { IsSome (M.state machine.old).reader }
     requires turn { M.is_open machine.old }
     ensures { HasHappened M.state M.leaves
         (run.with_order Reader (M.state machine.old).reader (scene_at
-        (M.state machine.old) coming.old))
-        false result machine.old coming.old machine.new coming.new }
+        (M.state machine.old) pending.old))
+        false result machine.old pending.old machine.new pending.new }
 {
-    let card = coming.next_card();
+    let card = pending.next_card();
     machine.read_in(card);
     Interlude {
         card: card.is_some(),
@@ -55,13 +55,13 @@ fn read_card<M: Outside>(machine: &mut M, coming: &mut Coming) -> Interlude
 }
 
 // The printer's order takes effect.
-fn print_line<M: Outside>(machine: &mut M, coming: &Coming) -> Interlude
+fn print_line<M: ExternalEvents>(machine: &mut M, pending: &PendingEvents) -> Interlude
     requires order { IsSome (M.state machine.old).printer }
     requires turn { M.is_open machine.old }
     ensures { HasHappened M.state M.leaves
         (run.with_order Printer (M.state machine.old).printer (scene_at
-        (M.state machine.old) coming.now))
-        false result machine.old coming.now machine.new coming.now }
+        (M.state machine.old) pending.now))
+        false result machine.old pending.now machine.new pending.now }
 {
     Interlude {
         card: false,
@@ -71,71 +71,71 @@ fn print_line<M: Outside>(machine: &mut M, coming: &Coming) -> Interlude
 }
 
 // The order of a device takes effect.
-fn serve<M: Outside>(machine: &mut M, coming: &mut Coming, device: Device) -> Interlude
+fn serve<M: ExternalEvents>(machine: &mut M, pending: &mut PendingEvents, device: Device) -> Interlude
     requires order { IsSome (run.order_of device (M.state machine.old)) }
     requires turn { M.is_open machine.old }
     ensures { HasHappened M.state M.leaves
         (run.with_order device (run.order_of device (M.state machine.old)) (scene_at (M.state
-        machine.old) coming.old))
-        false result machine.old coming.old machine.new coming.new }
+        machine.old) pending.old))
+        false result machine.old pending.old machine.new pending.new }
 {
     match device {
-        Device::Reader => read_card(machine, coming),
-        Device::Printer => print_line(machine, coming),
+        Device::Reader => read_card(machine, pending),
+        Device::Printer => print_line(machine, pending),
     }
 }
 
 // The order of a device takes effect, if it is due.
-fn serve_if_due<M: Outside>(machine: &mut M, coming: &mut Coming, device: Device) -> Interlude
+fn serve_if_due<M: ExternalEvents>(machine: &mut M, pending: &mut PendingEvents, device: Device) -> Interlude
     requires { M.is_open machine.old }
     ensures { HasHappened M.state M.leaves
-        (run.with_due_order device (scene_at (M.state machine.old) coming.old))
-        false result machine.old coming.old machine.new coming.new }
+        (run.with_due_order device (scene_at (M.state machine.old) pending.old))
+        false result machine.old pending.old machine.new pending.new }
 {
     if is_due_at(machine.state(), device) {
-        return serve(machine, coming, device);
+        return serve(machine, pending, device);
     }
     NOTHING
 }
 
 // The due orders take effect, the reader's first.
-fn serve_due<M: Outside>(machine: &mut M, coming: &mut Coming) -> Interlude
+fn serve_due<M: ExternalEvents>(machine: &mut M, pending: &mut PendingEvents) -> Interlude
     requires { M.is_open machine.old }
     ensures { HasHappened M.state M.leaves
-        (run.with_due_orders (scene_at (M.state machine.old) coming.old))
-        false result machine.old coming.old machine.new coming.new }
+        (run.with_due_orders (scene_at (M.state machine.old) pending.old))
+        false result machine.old pending.old machine.new pending.new }
 {
-    let first = serve_if_due(machine, coming, Device::Reader);
-    let second = serve_if_due(machine, coming, Device::Printer);
+    let first = serve_if_due(machine, pending, Device::Reader);
+    let second = serve_if_due(machine, pending, Device::Printer);
     joined(first, second)
 }
 
 // The earliest order takes effect, if the machine is at rest.
-fn serve_at_rest<M: Outside>(machine: &mut M, coming: &mut Coming) -> Interlude
+fn serve_at_rest<M: ExternalEvents>(machine: &mut M, pending: &mut PendingEvents) -> Interlude
     requires { M.is_open machine.old }
     ensures { HasHappened M.state M.leaves
-        (run.with_order_at_rest (scene_at (M.state machine.old) coming.old))
-        false result machine.old coming.old machine.new coming.new }
+        (run.with_order_at_rest (scene_at (M.state machine.old) pending.old))
+        false result machine.old pending.old machine.new pending.new }
 {
     if !is_at_rest(machine.state()) {
         return NOTHING;
     }
     match machine.state().next_device() {
         None => NOTHING,
-        Some(device) => serve(machine, coming, device),
+        Some(device) => serve(machine, pending, device),
     }
 }
 
 // Takes the due signals from the front.
-fn take_due_signals<M: Outside>(machine: &mut M, coming: &mut Coming)
+fn take_due_signals<M: ExternalEvents>(machine: &mut M, pending: &mut PendingEvents)
     requires { M.is_open machine.old }
-    ensures came { scene_at (M.state machine.new) coming.new
-        ≡ run.with_due_signals (scene_at (M.state machine.old) coming.old) }
-    ensures cards { coming.new.cards ≡ coming.old.cards }
+    ensures came { scene_at (M.state machine.new) pending.new
+        ≡ run.with_due_signals (scene_at (M.state machine.old) pending.old) }
+    ensures cards { pending.new.cards ≡ pending.old.cards }
     ensures rest { M.leaves false machine.old machine.new }
 {
-    'signals: while coming.is_due(done_in(machine.state())) {
-        let Some(indicator) = coming.next_signal() else {
+    'signals: while pending.is_due(done_in(machine.state())) {
+        let Some(indicator) = pending.next_signal() else {
             return
         };
         machine.signal(indicator);
@@ -143,15 +143,15 @@ fn take_due_signals<M: Outside>(machine: &mut M, coming: &mut Coming)
 }
 
 // Takes signals, one at a time, while the machine is at rest.
-fn take_signals_at_rest<M: Outside>(machine: &mut M, coming: &mut Coming)
+fn take_signals_at_rest<M: ExternalEvents>(machine: &mut M, pending: &mut PendingEvents)
     requires { M.is_open machine.old }
-    ensures came { scene_at (M.state machine.new) coming.new
-        ≡ run.with_signals_at_rest (scene_at (M.state machine.old) coming.old) }
-    ensures cards { coming.new.cards ≡ coming.old.cards }
+    ensures came { scene_at (M.state machine.new) pending.new
+        ≡ run.with_signals_at_rest (scene_at (M.state machine.old) pending.old) }
+    ensures cards { pending.new.cards ≡ pending.old.cards }
     ensures rest { M.leaves false machine.old machine.new }
 {
     'signals: while is_at_rest(machine.state()) {
-        let Some(indicator) = coming.next_signal() else {
+        let Some(indicator) = pending.next_signal() else {
             return
         };
         machine.signal(indicator);
@@ -180,34 +180,34 @@ fn joined(first: Interlude, later: Interlude) -> Interlude
 }
 
 // Takes the events that may end a wait: orders, then signals.
-fn end_wait<M: Outside>(machine: &mut M, coming: &mut Coming) -> Interlude
+fn end_wait<M: ExternalEvents>(machine: &mut M, pending: &mut PendingEvents) -> Interlude
     requires { M.is_open machine.old }
     ensures { HasHappened M.state M.leaves
-        (run.with_wait (scene_at (M.state machine.old) coming.old))
-        false result machine.old coming.old machine.new coming.new }
+        (run.with_wait (scene_at (M.state machine.old) pending.old))
+        false result machine.old pending.old machine.new pending.new }
 {
-    let first = serve_at_rest(machine, coming);
-    let second = serve_at_rest(machine, coming);
-    take_signals_at_rest(machine, coming);
+    let first = serve_at_rest(machine, pending);
+    let second = serve_at_rest(machine, pending);
+    take_signals_at_rest(machine, pending);
     joined(first, second)
 }
 
 /// Makes the transition between two steps: the due signals and orders, and the events that may end
 /// a wait.
-pub fn between<M: Outside>(machine: &mut M, coming: &mut Coming) -> Interlude
+pub fn between<M: ExternalEvents>(machine: &mut M, pending: &mut PendingEvents) -> Interlude
     requires { M.is_open machine.old }
     ensures { HasHappened M.state M.leaves
-        (run.interlude (scene_at (M.state machine.old) coming.old))
+        (run.interlude (scene_at (M.state machine.old) pending.old))
         (rests (run.with_due_orders
-        (run.with_due_signals (scene_at (M.state machine.old) coming.old))).scene.machine)
-        result machine.old coming.old machine.new coming.new }
+        (run.with_due_signals (scene_at (M.state machine.old) pending.old))).scene.machine)
+        result machine.old pending.old machine.new pending.new }
 {
-    take_due_signals(machine, coming);
-    let due = serve_due(machine, coming);
+    take_due_signals(machine, pending);
+    let due = serve_due(machine, pending);
     if !is_at_rest(machine.state()) {
         return due;
     }
     machine.rest();
-    let later = end_wait(machine, coming);
+    let later = end_wait(machine, pending);
     joined(joined(due, A_WAIT), later)
 }

@@ -7,8 +7,8 @@ ghost use Rattle.st_ahead.specs.Calls.{MaySignal};
 ghost use Rattle.st_ahead.specs.Shown.{view_at_tick};
 ghost use Rattle.st_refine.specs.Reached.{IsCard};
 
-use crate::coming::Coming;
-use crate::outside::Outside;
+use crate::pending::PendingEvents;
+use crate::external_events::ExternalEvents;
 use st_ahead::{Machine, View};
 use st_card::Signal;
 use st_state::State;
@@ -18,7 +18,7 @@ use std::marker::Model;
 #[derive(Drop)]
 pub(crate) struct Driven<'a, const N: usize> {
     pub machine: Machine<N>,
-    pub coming: Coming<'a>,
+    pub pending: PendingEvents<'a>,
 }
 
 impl<'a, const N: usize> Model for Driven<'a, N> {
@@ -28,8 +28,8 @@ impl<'a, const N: usize> Model for Driven<'a, N> {
 
     ghost view = { λ d. record {
       machine = d.machine;
-      signals = d.coming.signals;
-      cards = d.coming.cards;
+      signals = d.pending.signals;
+      cards = d.pending.cards;
     } };
 }
 
@@ -42,7 +42,7 @@ fn shape_of(card: Option<[u64; 8]>)
     }
 }
 
-impl<const N: usize> Outside for Machine<N> {
+impl<const N: usize> ExternalEvents for Machine<N> {
     ghost use Rattle.st_ahead.specs.Calls.{MayServe};
     ghost use Rattle.st_run.specs.Overlapped.{IsChanged};
     ghost use Rattle.st_run.specs.OverlappedLaws.{changed-none, changed-both};

@@ -6,14 +6,14 @@ ghost use Rattle.st_ahead.specs.Calls.{MayServe};
 ghost use Rattle.st_refine.specs.Reached.{IsLedOn};
 ghost use Rattle.st_run.specs.Events.{address_ahead};
 ghost use Rattle.st_run.specs.Together.{IsBehindEntry, moment_of};
-ghost use Rattle.st_run.specs.Outside.{ends_by};
+ghost use Rattle.st_run.specs.ExternalEvents.{ends_by};
 ghost use Rattle.st_run.specs.Leaving.{IsDecided, nothing_decided};
 ghost use Rattle.st_run.specs.Between.{IsChoice, IsQuiet, choice_of};
 
 use crate::between::{Interlude, between};
 use crate::driven::Driven;
 use crate::plain::{printer_is_due, reader_is_due};
-use crate::turn::Turn;
+use crate::run_phase::RunPhase;
 use arrayvec::{ArrayString, ArrayVec};
 use st_ahead::{Machine, Settled};
 use st_exch::print_text;
@@ -31,7 +31,7 @@ pub(crate) struct Decided {
     // The interrupt that is taken, if there is one.
     pub taken: Option<u8>,
     // The next phase of the run.
-    pub turn: Turn,
+    pub turn: RunPhase,
 }
 
 // The entries in flight, oldest first: the half-word address of each, and the tick at which it was
@@ -80,7 +80,7 @@ fn choice(answer: Settled, over: bool) -> (bool, Option<u8>)
 {
     match answer {
         Settled::Interrupt { indicator, .. } => (true, Some(indicator)),
-        Settled::Missed { .. } => (true, None),
+        Settled::Mispredicted { .. } => (true, None),
         Settled::Goes | Settled::Waits => (over, None),
     }
 }
@@ -106,7 +106,7 @@ fn decide<const N: usize>(
             ends: true,
             text,
             taken: None,
-            turn: Turn::AtEnd(resting),
+            turn: RunPhase::AtEnd(resting),
         };
     }
     let (ends, taken) = choice(driven.machine.settle(), over);
@@ -114,7 +114,7 @@ fn decide<const N: usize>(
         ends,
         text,
         taken,
-        turn: Turn::Before,
+        turn: RunPhase::Before,
     }
 }
 
@@ -127,7 +127,7 @@ pub(crate) fn leave<const N: usize>(driven: &mut Driven<N>, left: u64) -> Decide
     ensures levels { driven.new.machine.levels ≡ driven.old.machine.levels }
     ensures led { IsLedOn driven.old.machine driven.new.machine }
 {
-    let came = between(&mut driven.machine, &mut driven.coming);
+    let came = between(&mut driven.machine, &mut driven.pending);
     decide(driven, left, is_over(came), text_of(came.words))
 }
 
@@ -164,7 +164,7 @@ pub(crate) fn pass_on<const N: usize>(driven: &mut Driven<N>, left: u64) -> bool
     if left == 0 {
         return false;
     }
-    if driven.coming.is_due(done_in(driven.machine.state())) {
+    if driven.pending.is_due(done_in(driven.machine.state())) {
         return false;
     }
     if !is_quiet(&driven.machine) {

@@ -4,10 +4,10 @@
 
 mod beginning;
 pub mod between;
-mod coming;
+mod pending;
 mod driven;
 mod leaving;
-mod outside;
+mod external_events;
 pub mod plain;
 mod progress;
 mod run;
@@ -16,13 +16,13 @@ mod seen;
 mod serving;
 mod teller;
 mod ticking;
-mod turn;
-mod waiting;
+mod run_phase;
+mod output_queue;
 
 pub use beginning::{delays_asked, reader_of_job};
-pub use coming::Coming;
-pub use outside::Outside;
+pub use pending::PendingEvents;
+pub use external_events::ExternalEvents;
 pub use run::{Run, RunControls};
 pub use run_events::{RunEvent, TimedRunEvent};
-pub use seen::Seen;
+pub use seen::StateView;
 pub use serving::{Served, serve};

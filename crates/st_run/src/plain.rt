@@ -3,13 +3,13 @@
 ghost use Rattle.std.specs.Prelude.{◌≡◌, is_none};
 ghost use Rattle.st_state.specs.Orders.{is_due as is_due_of};
 ghost use Rattle.st_run.specs.Run.{order_of};
-ghost use Rattle.st_run.specs.Outside.{signal_due};
+ghost use Rattle.st_run.specs.ExternalEvents.{signal_due};
 
-use crate::outside::Outside;
+use crate::external_events::ExternalEvents;
 use st_card::Signal;
 use st_state::{Device, State, is_due};
 
-impl Outside for State {
+impl ExternalEvents for State {
     ghost state = { λ s. s };
 
     ghost is_open = { λ _. Unit {0} };

@@ -2,18 +2,18 @@
 ghost use Rattle.std.specs.Prelude.{◌≡◌, ◌+◌, ◌-◌, ◌<◌, ◌≤◌, ◌^◌, ℕ, true, false, if◌then◌else◌, [], ◌∷◌, MatchOption, IfSome, slice_get};
 ghost use Rattle.st_ahead.specs.Overlap.{levels_of};
 ghost use Rattle.st_refine.specs.Reached.{IsLedOn};
-ghost use Rattle.st_run.specs.Outside.{signal_due};
+ghost use Rattle.st_run.specs.ExternalEvents.{signal_due};
 ghost use Rattle.st_run.specs.Telling.{told_at_end, AreLeftOut, HasGoneFar, rows_then, IsShown, IsLeft, AreInTime};
 ghost use Rattle.st_run.specs.Progress.{rest_behind, told_ahead, told_after, told_by, IsBeforeNext, IsTold, IsUnderWay};
 ghost use Rattle.st_run.specs.declared.run_events.RunEvent.TheVariants as tells;
-ghost use Rattle.st_run.specs.declared.turn.Turn.TheVariants as turns;
+ghost use Rattle.st_run.specs.declared.run_phase.RunPhase.TheVariants as turns;
 
 use crate::driven::Driven;
 use crate::leaving::{leave, levels_ahead, pass_on};
 use crate::run_events::{RunEvent, TimedRunEvent};
 use crate::ticking::{run_many, run_until};
-use crate::turn::Turn;
-use crate::waiting::Waiting;
+use crate::run_phase::RunPhase;
+use crate::output_queue::OutputQueue;
 use arrayvec::{ArrayString, ArrayVec};
 use st_ahead::{Row, RowQueue};
 use st_card::Signal;
@@ -34,9 +34,9 @@ pub(crate) struct Progress<'a, const N: usize> {
     pub snaps: &'a [u64],
     pub left: u64,
     pub tick: u64,
-    pub waiting: Waiting,
+    pub queue: OutputQueue,
     pub printed: ArrayString<64>,
-    pub turn: Turn,
+    pub turn: RunPhase,
 }
 
 // The next event; `None` if and only if the run is over.
@@ -52,13 +52,13 @@ pub(crate) fn tell_next<const N: usize>(
     ensures told { MatchOption result (rest_behind run.old ≡ [])
         (λ t. rest_behind run.old ≡ told_by t run.new ∷ rest_behind run.new) }
 {
-    if let Some(event) = run.waiting.next(&mut run.printed) {
+    if let Some(event) = run.queue.next(&mut run.printed) {
         return Some(at_once(&run.driven, run.tick, event));
     }
     match run.turn {
-        Turn::Before => Some(go(run, rows)),
-        Turn::AtEnd(rests) => Some(finish(run, rests)),
-        Turn::Over => None,
+        RunPhase::Before => Some(go(run, rows)),
+        RunPhase::AtEnd(rests) => Some(finish(run, rests)),
+        RunPhase::Over => None,
     }
 }
 
@@ -115,13 +115,13 @@ fn may_go_far<const N: usize>(run: &Progress<N>) -> bool
     ensures { result ≡ true → (run.now.turn ≡ turns.Before) × (run.now.snaps.now ≡ [])
         × IsTold run.now }
 {
-    let Turn::Before = run.turn else {
+    let RunPhase::Before = run.turn else {
         return false;
     };
     if !run.snaps.is_empty() {
         return false;
     }
-    run.waiting.is_empty()
+    run.queue.is_empty()
 }
 
 // Before the next entry, with no snapshots remaining: completes it and the following entries as
@@ -163,7 +163,7 @@ fn count_of<const N: usize>(driven: &Driven<N>, done: u64, left: u64, most: u64)
     ensures left { result ≤ done + left + 1 }
     ensures signal { (d : ℕ) → d < result → signal_due d driven.now.signals ≡ false }
 {
-    count_before(driven.coming.signals(), done, left).min(most)
+    count_before(driven.pending.signals(), done, left).min(most)
 }
 
 // The count of completed instructions up to which only completions can occur, by the remaining
@@ -269,7 +269,7 @@ fn leave_fully<const N: usize>(run: &mut Progress<N>, tick: u64)
     let mut drops = levels_ahead(&run.driven);
     let decided = leave(&mut run.driven, run.left);
     clear_unless(decided.ends, &mut drops);
-    run.waiting = Waiting {
+    run.queue = OutputQueue {
         drops,
         text: decided.text,
         taken: decided.taken,
@@ -293,7 +293,7 @@ fn finish<const N: usize>(run: &mut Progress<N>, rests: bool) -> TimedRunEvent
         ≡ told_by result run.new ∷ rest_behind run.new }
 {
     let Some((at, after)) = split_due(run.snaps, run.tick) else {
-        run.turn = Turn::Over;
+        run.turn = RunPhase::Over;
         return at_once(&run.driven, run.tick, RunEvent::Ended(rests));
     };
     run.snaps = after;

@@ -11,14 +11,14 @@ ghost use Rattle.st_run.specs.ReportedEvents.{reported_events};
 ghost use Rattle.st_run.specs.TimedRun.{timed_run};
 ghost use Rattle.st_run.specs.Telling.{state_told, told_as, row_told, AreLeftOut, AreLevelsShown};
 
-use crate::coming::Coming;
+use crate::pending::PendingEvents;
 use crate::driven::{Driven, due_signals, view_of};
 use crate::progress::Progress;
 use crate::run_events::TimedRunEvent;
-use crate::seen::Seen;
+use crate::seen::StateView;
 use crate::teller::{Teller, next_of, next_row_of, pass_over};
-use crate::turn::Turn;
-use crate::waiting::Waiting;
+use crate::run_phase::RunPhase;
+use crate::output_queue::OutputQueue;
 use arrayvec::ArrayString;
 use st_ahead::{Machine, Row, RowQueue, View};
 use st_banks::Delays;
@@ -111,17 +111,17 @@ impl<'a, const N: usize> Run<'a, N> {
         } = *controls;
         let mut machine = Machine::new(state, delays);
         let rest = due_signals(&mut machine, signals);
-        let coming = Coming::new(rest, cards);
-        let driven = Driven { machine, coming };
-        let waiting = Waiting::new();
+        let pending = PendingEvents::new(rest, cards);
+        let driven = Driven { machine, pending };
+        let queue = OutputQueue::new();
         let progress = Progress {
             driven,
             snaps,
             left: budget - 1,
             tick: 0,
-            waiting,
+            queue,
             printed: ArrayString::new(),
-            turn: Turn::Before,
+            turn: RunPhase::Before,
         };
         Run {
             teller: Teller {
@@ -163,11 +163,11 @@ impl<'a, const N: usize> Run<'a, N> {
 
     /// The state that is shown: the state of the machine with the index words of the entries in
     /// flight.
-    pub fn seen(&self) -> Seen<'_>
+    pub fn seen(&self) -> StateView<'_>
         ensures seen { result ≡ self.entry.now.seen }
         ensures machine { result ≡ state_told self.entry.now.machine }
     {
-        Seen::with_index(
+        StateView::with_index(
             self.teller.progress.driven.machine.state(),
             self.teller.progress.driven.machine.index(),
         )

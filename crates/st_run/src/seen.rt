@@ -9,12 +9,12 @@ use std::marker::Model;
 
 /// A state, with the index words of the entries in flight.
 #[derive(Drop)]
-pub struct Seen<'a> {
+pub struct StateView<'a> {
     state: &'a State,
     index: Option<&'a [u64; 16]>,
 }
 
-impl<'a> Model for Seen<'a> {
+impl<'a> Model for StateView<'a> {
     ghost use Rattle.std.specs.Option.{option_map_or};
     ghost use Rattle.st_state.specs.Machine.{Machine};
     ghost use Rattle.st_run.specs.Events.{with_index_words};
@@ -25,21 +25,21 @@ impl<'a> Model for Seen<'a> {
         option_map_or (λ xs. with_index_words xs.now s.state.now) s.index s.state.now };
 }
 
-impl<'a> Seen<'a> {
+impl<'a> StateView<'a> {
     ghost use Rattle.st_run.specs.Events.{with_index_words};
 
     /// A state without entries in flight.
-    pub fn new(state: &'a State) -> Seen<'a>
+    pub fn new(state: &'a State) -> StateView<'a>
         ensures { result ≡ state.now }
     {
-        Seen { state, index: None }
+        StateView { state, index: None }
     }
 
     /// A state with its index words replaced by these.
-    pub fn with_index(state: &'a State, index: &'a [u64; 16]) -> Seen<'a>
+    pub fn with_index(state: &'a State, index: &'a [u64; 16]) -> StateView<'a>
         ensures { result ≡ with_index_words index.now state.now }
     {
-        Seen {
+        StateView {
             state,
             index: Some(index),
         }

@@ -7,7 +7,7 @@ use Rattle.std.proofs.lemmas.Bool.{and_parts, leb-true, leb-false}
 use Rattle.st_bits.specs.Storage.{words_of_storage}
 use Rattle.st_state.specs.Machine.{Machine, IsMachine, word}
 use Rattle.st_prep.specs.Fetch.{index_words, place_of, words_fetched}
-use Rattle.st_prep.specs.Plan.{needs, sight, plan}
+use Rattle.st_prep.specs.Plan.{needs, decode_context, plan}
 use Rattle.st_prep.specs.Ranges.{IsPrepared, IsNeeds}
 use Rattle.st_prep.specs.Reading.{index_side_words, words_read, own_words}
 use Rattle.st_prep.proofs.Choices.{of_choice}
@@ -43,11 +43,11 @@ len-run (w ∷ ws) = refl
 len-from : (w n : ℕ) → (run_of (word_list_from w n)).len ≡ n
 len-from w n = len-run (word_list_from w n) ∙ length-words_from w n
 
-take-front : (ws vs : List ℕ) (n : ℕ) → length ws ≡ n → take n (ws ++ vs) ≡ ws
-take-front ws vs n e = ap (λ k. take k (ws ++ vs)) (sym e) ∙ take-append_seam ws vs
+take-issue : (ws vs : List ℕ) (n : ℕ) → length ws ≡ n → take n (ws ++ vs) ≡ ws
+take-issue ws vs n e = ap (λ k. take k (ws ++ vs)) (sym e) ∙ take-append_seam ws vs
 
-drop-front : (ws vs : List ℕ) (n : ℕ) → length ws ≡ n → drop n (ws ++ vs) ≡ vs
-drop-front ws vs n e = ap (λ k. drop k (ws ++ vs)) (sym e) ∙ drop-append_seam ws vs
+drop-issue : (ws vs : List ℕ) (n : ℕ) → length ws ≡ n → drop n (ws ++ vs) ≡ vs
+drop-issue ws vs n e = ap (λ k. drop k (ws ++ vs)) (sym e) ∙ drop-append_seam ws vs
 
 -- ---- the runs of an entry
 
@@ -60,7 +60,7 @@ own-run t s =
     let k = cut t s in
     ap (λ n. run_of (take n (words_read (reading_at t s) (word s)))) k.own
     ∙ ap (λ ws. run_of (take k.n ws)) k.words
-    ∙ ap run_of (take-front (word_list_from k.w k.n) (word_list_from k.v k.m) k.n (length-words_from k.w k.n))
+    ∙ ap run_of (take-issue (word_list_from k.w k.n) (word_list_from k.v k.m) k.n (length-words_from k.w k.n))
 
 target-run : (t : Option ℕ) (s : Machine) → (entry t s).target ≡ run_of (word_list_from (cut t s).v (cut t s).m)
 unfolding entry instruction_words own_count
@@ -68,7 +68,7 @@ target-run t s =
     let k = cut t s in
     ap (λ n. run_of (drop n (words_read (reading_at t s) (word s)))) k.own
     ∙ ap (λ ws. run_of (drop k.n ws)) k.words
-    ∙ ap run_of (drop-front (word_list_from k.w k.n) (word_list_from k.v k.m) k.n (length-words_from k.w k.n))
+    ∙ ap run_of (drop-issue (word_list_from k.w k.n) (word_list_from k.v k.m) k.n (length-words_from k.w k.n))
 
 pub entry-words : (t : Option ℕ) (s : Machine)
     → instruction_words t s ≡ words_of_run (entry t s).own ++ words_of_run (entry t s).target
@@ -222,14 +222,14 @@ pub entry-ranges : (t : Option ℕ) (s : Machine) → IsMachine s → IfSome t (
 unfolding entry words_to_read
 entry-ranges t s m some =
     let p : IsPrepared (plan s t) = plan-prepared s t m some in
-    let needed : IsNeeds (needs (sight s (place_of s t))) = is_needs (sight s (place_of s t)) in
+    let needed : IsNeeds (needs (decode_context s (place_of s t))) = is_needs (decode_context s (place_of s t)) in
     let reads = (plan s t).reads in
     record {
       own = readable-own t s;
       own_few = own-few t s;
       target = readable-target t s;
       target_few = target-few t s;
-      side = side-fits (needs (sight s (place_of s t))).index_read needed.inside;
+      side = side-fits (needs (decode_context s (place_of s t))).index_read needed.inside;
       one = readable-above reads.first reads.len p.reads_inside.inside;
       one_few = omega (arith, few-above reads.first reads.len, p.reads.few);
       two = readable-above reads.first2 reads.len2 p.reads_inside.inside2;
@@ -261,5 +261,5 @@ entry-reads t s m some =
       few-plan s t m some,
       few-above reads.first reads.len,
       few-above reads.first2 reads.len2,
-      side-few (needs (sight s (place_of s t))).index_read,
+      side-few (needs (decode_context s (place_of s t))).index_read,
     )

@@ -2,21 +2,21 @@
 use Rattle.std.proofs.Common.{◌≡◌, ℕ, zero, suc, ◌<◌, false, Option, None, refl, sym, ◌∙◌, ap}
 use Rattle.std.specs.Prelude.{IfSome}
 use Rattle.st_state.specs.Machine.{Machine, IsMachine}
-use Rattle.st_prep.specs.EarlyChange.{words_after}
+use Rattle.st_prep.specs.SpeculativeChanges.{words_after}
 use Rattle.st_prep.specs.Fetch.{index_words}
 use Rattle.st_prep.specs.Plan.{plan}
 use Rattle.st_prep.proofs.PlanLemmas.{plan-prepared}
 use Rattle.st_exec.specs.Ahead.{IsPast}
-use Rattle.st_exec.specs.Completion.{guess}
-use Rattle.st_exec.proofs.UnwrittenLemmas.{early-index_words, guessed-past}
+use Rattle.st_exec.specs.Completion.{prediction}
+use Rattle.st_exec.proofs.UnwrittenLemmas.{early-index_words, predicted-past}
 use Rattle.st_segment.specs.Guesses.{guesses, table_behind, split_words}
 use Rattle.st_segment.specs.Alone.{RunAhead}
 use Rattle.st_segment.proofs.GuessLemmas.{behind-none, behind-indicator, guesses-machine, guesses-next}
 
 -- the guess of an entry that is not done alone
-pub guess-past : (t : Option ℕ) (s : Machine) → IsMachine s → IfSome t (λ i. i < 64) → (plan s t).serial ≡ false
-    → IsPast (plan s t) s (guess t s)
-guess-past t s m some free = guessed-past (plan s t) s (plan-prepared s t m some) m free
+pub prediction-past : (t : Option ℕ) (s : Machine) → IsMachine s → IfSome t (λ i. i < 64) → (plan s t).serial ≡ false
+    → IsPast (plan s t) s (prediction t s)
+prediction-past t s m some free = predicted-past (plan s t) s (plan-prepared s t m some) m free
 
 -- where none of the next entries is done alone, the last of them is not
 pub last-ahead : (k : ℕ) (t : Option ℕ) (s : Machine) → RunAhead (suc k) t s
@@ -24,8 +24,8 @@ pub last-ahead : (k : ℕ) (t : Option ℕ) (s : Machine) → RunAhead (suc k) t
 unfolding RunAhead guesses
 last-ahead zero t s free = free.0
 last-ahead (suc k) t s free =
-    let u = guesses k None (guess t s) in
-    ap (λ i. (plan u i).serial) (sym (behind-none k)) ∙ last-ahead k None (guess t s) free.1
+    let u = guesses k None (prediction t s) in
+    ap (λ i. (plan u i).serial) (sym (behind-none k)) ∙ last-ahead k None (prediction t s) free.1
 
 pub split-change : (k : ℕ) (t : Option ℕ) (s : Machine) → IsMachine s → IfSome t (λ i. i < 64)
     → split_words (suc k) t s
@@ -46,5 +46,5 @@ index-split (suc k) t s m some free =
     let i = table_behind k t in
     let n = guesses-machine k t s m some in
     ap index_words (guesses-next k t s)
-    ∙ (guess-past i u n (behind-indicator k t some) (last-ahead k t s free)).index
+    ∙ (prediction-past i u n (behind-indicator k t some) (last-ahead k t s free)).index
     ∙ sym (split-change k t s m some)

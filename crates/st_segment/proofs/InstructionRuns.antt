@@ -11,7 +11,7 @@ use Rattle.st_state.specs.declared.protection.Access.TheVariants.{Fetch}
 use Rattle.st_prep.specs.declared.entries.Place.{Place}
 use Rattle.st_prep.specs.declared.entries.Fetched.{Fetched}
 use Rattle.st_prep.specs.declared.fetching.FoundInstruction.{FoundInstruction}
-use Rattle.st_prep.specs.EarlyChange.{effective}
+use Rattle.st_prep.specs.SpeculativeChanges.{effective}
 use Rattle.st_prep.specs.Reading.{Reading, Finds, Reads, outcome, words_read, own_words, half_of, Continuation, with_second, with_first, read_after, instruction_at, is_execute, with_target, fetched_alone, own_use, reading_at_place}
 use Rattle.st_prep.proofs.Choices.{of_choice}
 use Rattle.st_segment.specs.Alone.{word_list_from}

@@ -3,7 +3,7 @@ use Rattle.std.proofs.Common.{◌≡◌, ℕ, Option, refl, ap}
 use Rattle.st_state.specs.Machine.{Machine}
 use Rattle.st_prep.specs.declared.entries.Prepared.{Prepared}
 use Rattle.st_prep.specs.Fetch.{place_of}
-use Rattle.st_prep.specs.Plan.{needs, sight, side_word, prepared_entry, plan}
+use Rattle.st_prep.specs.Plan.{needs, decode_context, side_word, prepared_entry, plan}
 use Rattle.st_prep.proofs.PreparedLemmas.{prepared-read}
 use Rattle.st_segment.specs.Entries.{words_to_read, words_to_write, entry_with, entry}
 use Rattle.st_segment.specs.Laws.{EntriesAreKnownEarly}
@@ -11,10 +11,10 @@ use Rattle.st_segment.specs.Laws.{EntriesAreKnownEarly}
 -- the plan is that of any other index-side word, but for the index change and its indicators
 plan-by_any : (t : Option ℕ) (s : Machine) (q : Option ℕ)
     → plan s t
-    ≡ record (prepared_entry (sight s (place_of s t)) q) { index = (plan s t).index; ind = (plan s t).ind }
+    ≡ record (prepared_entry (decode_context s (place_of s t)) q) { index = (plan s t).index; ind = (plan s t).ind }
 unfolding plan
 plan-by_any t s q =
-    let v = sight s (place_of s t) in prepared-read v (side_word t s (needs v).index_read) q
+    let v = decode_context s (place_of s t) in prepared-read v (side_word t s (needs v).index_read) q
 
 pub known-early : EntriesAreKnownEarly
 unfolding entry
@@ -32,9 +32,9 @@ known-early t s q =
 
 -- so it is known by its instruction words and by what is seen
 pub entry-seen : (t : Option ℕ) (s : Machine) (q : Option ℕ)
-    → let e = entry t s in let v = sight s (place_of s t) in
+    → let e = entry t s in let v = decode_context s (place_of s t) in
     e ≡ entry_with e.own e.target (needs v) (prepared_entry v q) v.place.table v.fetched.fault
-unfolding entry sight place_of
+unfolding entry decode_context place_of
 entry-seen t s q =
-    let v = sight s (place_of s t) in
+    let v = decode_context s (place_of s t) in
     ap (λ p. entry_with (entry t s).own (entry t s).target (needs v) p t v.fetched.fault) (plan-by_any t s q)

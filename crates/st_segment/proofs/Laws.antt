@@ -1,11 +1,11 @@
 -- What holds of the entries ahead, whatever is executed, proved.
 use Rattle.st_segment.proofs.EntryRanges.{entry-ranges, entry-reads, entry-words, entry-own}
-use Rattle.st_segment.proofs.GuessLemmas.{guesses-machine, guesses-next, ahead-next, front-next}
+use Rattle.st_segment.proofs.GuessLemmas.{guesses-machine, guesses-next, ahead-next, issue-next}
 use Rattle.st_segment.proofs.IndexLemmas.{split-change, index-split}
 use Rattle.st_segment.proofs.RestLemmas.{low-kept, enabled-kept, storage-kept, counter-behind}
 use Rattle.st_segment.proofs.SeenLemmas.{reading-behind, seen-behind}
 use Rattle.st_segment.proofs.KnownEarly.{known-early}
-use Rattle.st_segment.proofs.StepLemmas.{guess-right, guess-missed, guess-alone}
+use Rattle.st_segment.proofs.StepLemmas.{prediction-right, prediction-mispredicted, prediction-alone}
 use Rattle.st_segment.proofs.PassedOver.{entry-same, passed-over, rows-same, plan-same}
 use Rattle.st_segment.specs.Laws.{EntriesAreInRange, GuessesGoOn, IndexWordsRunAhead, GuessesLeaveTheRest, EntriesBehindAreSeen, EntriesAreKnownEarly, StepsAreGuesses, SignalsArePassedOver}
 
@@ -17,7 +17,7 @@ guesses_go_on = record {
   machine = guesses-machine;
   state = guesses-next;
   next = ahead-next;
-  front = front-next;
+  issue = issue-next;
 }
 
 pub index_words_run_ahead : IndexWordsRunAhead
@@ -45,9 +45,9 @@ entries_are_known_early = known-early
 
 pub steps_are_guesses : StepsAreGuesses
 steps_are_guesses = record {
-  right = guess-right;
-  missed = guess-missed;
-  alone = guess-alone;
+  right = prediction-right;
+  mispredicted = prediction-mispredicted;
+  alone = prediction-alone;
 }
 
 pub signals_are_passed_over : SignalsArePassedOver

@@ -11,19 +11,19 @@ use Rattle.st_prep.specs.Fetch.{index_words}
 use Rattle.st_prep.specs.Plan.{plan}
 use Rattle.st_prep.proofs.BesideLemmas.{plan-beside_ahead}
 use Rattle.st_prep.proofs.PlanLemmas.{plan-prepared}
-use Rattle.st_exec.specs.Completion.{with_change, state_with_early_changes, guessed_state, guess}
+use Rattle.st_exec.specs.Completion.{with_change, state_with_early_changes, predicted_state, prediction}
 use Rattle.st_exec.proofs.AlikeStates.{same-set}
-use Rattle.st_exec.proofs.BesideEntries.{guessed-beside}
-use Rattle.st_exec.proofs.UnwrittenLemmas.{guessed-machine}
-use Rattle.st_rows.specs.Rows.{row_of_entry, front_after_entry}
+use Rattle.st_exec.proofs.BesideEntries.{predicted-beside}
+use Rattle.st_exec.proofs.UnwrittenLemmas.{predicted-machine}
+use Rattle.st_rows.specs.Rows.{row_of_entry, issue_after_entry}
 use Rattle.st_rows.specs.declared.entry.Entry.{Entry}
-use Rattle.st_rows.specs.declared.front.Front.{Front}
+use Rattle.st_rows.specs.declared.issue.IssueState.{IssueState}
 use Rattle.st_segment.specs.Entries.{entry}
 use Rattle.st_segment.specs.Guesses.{guesses, table_behind, after_early_change, split_words}
 use Rattle.st_segment.specs.Ahead.{next_ahead, ahead}
 use Rattle.st_segment.specs.Alone.{RunAhead, IsSameAhead}
 use Rattle.st_segment.proofs.KnownEarly.{entry-seen}
-use Rattle.st_segment.proofs.SameReading.{same-index, same-sight, same-instruction}
+use Rattle.st_segment.proofs.SameReading.{same-index, same-decode_context, same-instruction}
 
 -- ---- the next entry
 
@@ -31,7 +31,7 @@ pub entry-same : (t : Option ℕ) (s u : Machine) → AreAlikeBesideOrders s u �
 unfolding entry
 entry-same t s u h =
     let words = same-instruction s u t h in
-    entry-seen t u None ∙ rw (words.0, words.1, same-sight s u t h) (sym (entry-seen t s None))
+    entry-seen t u None ∙ rw (words.0, words.1, same-decode_context s u t h) (sym (entry-seen t s None))
 
 pub plan-same : (s u : Machine) → AreAlikeBesideOrders s u → (plan s None).serial ≡ false → plan u None ≡ plan s None
 plan-same s u h free = plan-beside_ahead s u None h free
@@ -73,28 +73,28 @@ early-same p s u h = indicators-same _ _ _ _ (change-same p.index s u h)
 
 -- ---- guesses
 
-guess-machine : (s : Machine) → IsMachine s → IsMachine (guess None s)
-guess-machine s m = guessed-machine (plan s None) s (plan-prepared s None m tt) m
+prediction-machine : (s : Machine) → IsMachine s → IsMachine (prediction None s)
+prediction-machine s m = predicted-machine (plan s None) s (plan-prepared s None m tt) m
 
-guess-same : (s u : Machine) → IsMachine s → AreAlikeBesideOrders s u → (plan s None).serial ≡ false
-    → AreAlikeBesideOrders (guess None s) (guess None u)
-guess-same s u m h free =
-    subst (λ (p : Prepared). AreAlikeBesideOrders (guess None s) (guessed_state p u)) (sym (plan-same s u h free))
-    (guessed-beside (plan s None) s u (plan-prepared s None m tt) m h free)
+prediction-same : (s u : Machine) → IsMachine s → AreAlikeBesideOrders s u → (plan s None).serial ≡ false
+    → AreAlikeBesideOrders (prediction None s) (prediction None u)
+prediction-same s u m h free =
+    subst (λ (p : Prepared). AreAlikeBesideOrders (prediction None s) (predicted_state p u)) (sym (plan-same s u h free))
+    (predicted-beside (plan s None) s u (plan-prepared s None m tt) m h free)
 
 guesses-same : (k : ℕ) (s u : Machine) → IsMachine s → AreAlikeBesideOrders s u → RunAhead k None s
     → AreAlikeBesideOrders (guesses k None s) (guesses k None u)
 unfolding guesses RunAhead
 guesses-same zero s u m h run = h
 guesses-same (suc k) s u m h run =
-    guesses-same k (guess None s) (guess None u) (guess-machine s m) (guess-same s u m h run.0) run.1
+    guesses-same k (prediction None s) (prediction None u) (prediction-machine s m) (prediction-same s u m h run.0) run.1
 
 run-same : (k : ℕ) (s u : Machine) → IsMachine s → AreAlikeBesideOrders s u → RunAhead k None s → RunAhead k None u
 unfolding RunAhead
 run-same zero s u m h run = tt
 run-same (suc k) s u m h run = (
   ap (λ (p : Prepared). p.serial) (plan-same s u h run.0) ∙ run.0,
-  run-same k (guess None s) (guess None u) (guess-machine s m) (guess-same s u m h run.0) run.1,
+  run-same k (prediction None s) (prediction None u) (prediction-machine s m) (prediction-same s u m h run.0) run.1,
 )
 
 -- the last of them apart
@@ -102,7 +102,7 @@ run-last : (k : ℕ) (s : Machine) → RunAhead (suc k) None s
     → RunAhead k None s × ((plan (guesses k None s) None).serial ≡ false)
 unfolding guesses RunAhead
 run-last zero s run = (tt, run.0)
-run-last (suc k) s run = let rest = run-last k (guess None s) run.1 in ((run.0, rest.0), rest.1)
+run-last (suc k) s run = let rest = run-last k (prediction None s) run.1 in ((run.0, rest.0), rest.1)
 
 -- ---- index words
 
@@ -137,16 +137,16 @@ passed-over k s u m h run = (run-same k s u m h run, guesses-same k s u m h run,
 
 -- ---- rows
 
-next-same : (ds : List ℕ) (n : ℕ) (s u : Machine) (f : Front) → AreAlikeBesideOrders s u
+next-same : (ds : List ℕ) (n : ℕ) (s u : Machine) (f : IssueState) → AreAlikeBesideOrders s u
     → IsSameAhead (next_ahead ds n None s f) (next_ahead ds n None u f)
 next-same ds n s u f h =
     let same = entry-same None s u h in
     record {
       state = h;
-      rest = ap {A = Entry} (λ e. record { state = u; table = None; front = f; entry = e; row = row_of_entry ds n f e }) same;
+      rest = ap {A = Entry} (λ e. record { state = u; table = None; issue = f; entry = e; row = row_of_entry ds n f e }) same;
     }
 
-pub rows-same : (ds : List ℕ) (n k : ℕ) (s u : Machine) (f : Front) → IsMachine s → AreAlikeBesideOrders s u
+pub rows-same : (ds : List ℕ) (n k : ℕ) (s u : Machine) (f : IssueState) → IsMachine s → AreAlikeBesideOrders s u
     → RunAhead k None s → AllZip IsSameAhead (ahead ds n (suc k) None s f) (ahead ds n (suc k) None u f)
 unfolding ahead RunAhead
 rows-same ds n zero s u f m h run = (next-same ds n s u f h, tt)
@@ -154,9 +154,9 @@ rows-same ds n (suc k) s u f m h run = (
   next-same ds n s u f h,
   subst
       (λ e.
-      AllZip IsSameAhead (ahead ds n (suc k) None (guess None s) (front_after_entry ds n f (entry None s)))
-      (ahead ds n (suc k) None (guess None u) (front_after_entry ds n f e)))
+      AllZip IsSameAhead (ahead ds n (suc k) None (prediction None s) (issue_after_entry ds n f (entry None s)))
+      (ahead ds n (suc k) None (prediction None u) (issue_after_entry ds n f e)))
       (sym (entry-same None s u h))
-      (rows-same ds n k (guess None s) (guess None u) (front_after_entry ds n f (entry None s)) (guess-machine s m)
-      (guess-same s u m h run.0) run.1),
+      (rows-same ds n k (prediction None s) (prediction None u) (issue_after_entry ds n f (entry None s)) (prediction-machine s m)
+      (prediction-same s u m h run.0) run.1),
 )

@@ -7,14 +7,14 @@ use Rattle.st_prep.specs.declared.entries.Words.{Words}
 use Rattle.st_prep.specs.Plan.{plan}
 use Rattle.st_prep.proofs.PlanLemmas.{plan-prepared}
 use Rattle.st_exec.specs.Ahead.{IsNotAmong}
-use Rattle.st_exec.specs.Completion.{guess}
-use Rattle.st_exec.proofs.UnwrittenLemmas.{guessed-unwritten, guessed-following}
+use Rattle.st_exec.specs.Completion.{prediction}
+use Rattle.st_exec.proofs.UnwrittenLemmas.{predicted-unwritten, predicted-following}
 use Rattle.st_rows.specs.Entries.{is_in, is_among}
 use Rattle.st_segment.specs.Entries.{words_to_write, entry}
 use Rattle.st_segment.specs.Guesses.{guesses, table_behind}
 use Rattle.st_segment.specs.Alone.{RunAhead, is_word_written}
-use Rattle.st_segment.proofs.GuessLemmas.{guess-machine, guesses-next}
-use Rattle.st_segment.proofs.IndexLemmas.{guess-past}
+use Rattle.st_segment.proofs.GuessLemmas.{prediction-machine, guesses-next}
+use Rattle.st_segment.proofs.IndexLemmas.{prediction-past}
 
 -- ---- low registers and the mark
 
@@ -23,15 +23,15 @@ pub low-kept : (k : ℕ) (t : Option ℕ) (s : Machine) (w : ℕ) → IsMachine 
 unfolding guesses RunAhead
 low-kept zero t s w m some free low = refl
 low-kept (suc k) t s w m some free low =
-    low-kept k None (guess t s) w (guess-machine t s m some) tt free.1 low
-    ∙ (guess-past t s m some free.0).low w low
+    low-kept k None (prediction t s) w (prediction-machine t s m some) tt free.1 low
+    ∙ (prediction-past t s m some free.0).low w low
 
 pub enabled-kept : (k : ℕ) (t : Option ℕ) (s : Machine) → IsMachine s → IfSome t (λ i. i < 64) → RunAhead k t s
     → (guesses k t s).enabled ≡ s.enabled
 unfolding guesses RunAhead
 enabled-kept zero t s m some free = refl
 enabled-kept (suc k) t s m some free =
-    enabled-kept k None (guess t s) (guess-machine t s m some) tt free.1 ∙ (guess-past t s m some free.0).enabled
+    enabled-kept k None (prediction t s) (prediction-machine t s m some) tt free.1 ∙ (prediction-past t s m some free.0).enabled
 
 -- ---- words that are not written
 
@@ -50,18 +50,18 @@ not-among w ws h =
     record { first = beside-run w ws.first ws.len both.0; second = beside-run w ws.first2 ws.len2 both.1 }
 
 unwritten-entry : (t : Option ℕ) (s : Machine) (w : ℕ) → IsMachine s → IfSome t (λ i. i < 64) → 32 ≤ w
-    → is_among w (entry t s).writes ≡ false → word (guess t s) w ≡ word s w
+    → is_among w (entry t s).writes ≡ false → word (prediction t s) w ≡ word s w
 unfolding entry
 unwritten-entry t s w m some above h =
-    guessed-unwritten (plan s t) s w (plan-prepared s t m some) m above (not-among w (plan s t).writes h)
+    predicted-unwritten (plan s t) s w (plan-prepared s t m some) m above (not-among w (plan s t).writes h)
 
 pub storage-kept : (k : ℕ) (t : Option ℕ) (s : Machine) (w : ℕ) → IsMachine s → IfSome t (λ i. i < 64) → 32 ≤ w
     → is_word_written k t s w ≡ false → word (guesses k t s) w ≡ word s w
 unfolding guesses is_word_written
 storage-kept zero t s w m some above h = refl
 storage-kept (suc k) t s w m some above h =
-    let both = or_parts (is_among w (entry t s).writes) (is_word_written k None (guess t s) w) h in
-    storage-kept k None (guess t s) w (guess-machine t s m some) tt above both.1
+    let both = or_parts (is_among w (entry t s).writes) (is_word_written k None (prediction t s) w) h in
+    storage-kept k None (prediction t s) w (prediction-machine t s m some) tt above both.1
     ∙ unwritten-entry t s w m some above both.0
 
 -- ---- the counter
@@ -70,4 +70,4 @@ pub counter-behind : (k : ℕ) (t : Option ℕ) (s : Machine) → (plan (guesses
     → (guesses (suc k) t s).ic ≡ (plan (guesses k t s) (table_behind k t)).following
 counter-behind k t s free =
     let u = guesses k t s in
-    ap (λ (v : Machine). v.ic) (guesses-next k t s) ∙ guessed-following (plan u (table_behind k t)) u free
+    ap (λ (v : Machine). v.ic) (guesses-next k t s) ∙ predicted-following (plan u (table_behind k t)) u free

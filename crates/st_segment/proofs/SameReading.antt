@@ -7,7 +7,7 @@ use Rattle.st_state.specs.Machine.{Machine, word}
 use Rattle.st_prep.specs.declared.entries.Place.{Place}
 use Rattle.st_prep.specs.BesideOrders.{AreAlikeBesideOrders}
 use Rattle.st_prep.specs.Fetch.{index_words, address_by, place_of, reading_of, words_fetched}
-use Rattle.st_prep.specs.Plan.{sight}
+use Rattle.st_prep.specs.Plan.{decode_context}
 use Rattle.st_prep.specs.Reading.{Reading, Finds, Reads, outcome, words_read, own_words, reading_at_place}
 use Rattle.st_prep.proofs.PlanLemmas.{same_seen}
 use Rattle.st_prep.proofs.ReadingLemmas.{fetched-outcome, reading-few, outcome-same}
@@ -88,14 +88,14 @@ same-fetched s u p h =
     ∙ outcome-same (reading_of s p) (word s) (word u) (same-words s u p h)
     ∙ sym (fetched-outcome s p)
 
-same-sight_at : (s u : Machine) (p : Place) → AreAlikeBesideOrders s u → sight u p ≡ sight s p
-unfolding sight
-same-sight_at s u p h =
+same-decode_context_at : (s u : Machine) (p : Place) → AreAlikeBesideOrders s u → decode_context u p ≡ decode_context s p
+unfolding decode_context
+same-decode_context_at s u p h =
     same_seen p p _ _ _ _ _ _ _ _ refl (same-fetched s u p h) (same-index s u h) (h.words 3 (omega arith)) h.enabled
 
-pub same-sight : (s u : Machine) (t : Option ℕ) → AreAlikeBesideOrders s u
-    → sight u (place_of u t) ≡ sight s (place_of s t)
-same-sight s u t h = ap (sight u) (same-place s u t h) ∙ same-sight_at s u (place_of s t) h
+pub same-decode_context : (s u : Machine) (t : Option ℕ) → AreAlikeBesideOrders s u
+    → decode_context u (place_of u t) ≡ decode_context s (place_of s t)
+same-decode_context s u t h = ap (decode_context u) (same-place s u t h) ∙ same-decode_context_at s u (place_of s t) h
 
 same-reading_at : (s u : Machine) (t : Option ℕ) → AreAlikeBesideOrders s u → reading_at t u ≡ reading_at t s
 same-reading_at s u t h = ap (reading_of u) (same-place s u t h) ∙ same-reading s u (place_of s t) h

@@ -5,7 +5,7 @@ use Rattle.st_state.specs.Machine.{Machine, IsMachine, word}
 use Rattle.st_prep.specs.declared.entries.Place.{Place}
 use Rattle.st_prep.specs.Reading.{reading_at_place}
 use Rattle.st_prep.specs.Fetch.{index_words, place_of, reading_of, words_fetched}
-use Rattle.st_prep.specs.Plan.{sight_of, sight, IsSeen}
+use Rattle.st_prep.specs.Plan.{decode_context_of, decode_context, IsSeen}
 use Rattle.st_segment.specs.Guesses.{guesses, table_behind, split_words}
 use Rattle.st_segment.specs.Alone.{RunAhead}
 use Rattle.st_segment.proofs.IndexLemmas.{index-split}
@@ -20,25 +20,25 @@ reading-behind k t s p m some free =
     ∙ ap (λ on. reading_at_place (split_words k t s) (word s 3) on p) (enabled-kept k t s m some free)
 
 -- a state is seen as another one where index words, word 3 and the mark are the same
-sight-by : (u s : Machine) (p : Place) (x : List ℕ) → index_words u ≡ x → word u 3 ≡ word s 3 → u.enabled ≡ s.enabled
-    → sight u p ≡ sight_of p (words_fetched u p) x s
-unfolding sight
-sight-by u s p x index bounds enabled = cc
+decode_context-by : (u s : Machine) (p : Place) (x : List ℕ) → index_words u ≡ x → word u 3 ≡ word s 3 → u.enabled ≡ s.enabled
+    → decode_context u p ≡ decode_context_of p (words_fetched u p) x s
+unfolding decode_context
+decode_context-by u s p x index bounds enabled = cc
 
 seen-by : (u s : Machine) (t : Option ℕ) (x : List ℕ) → index_words u ≡ x → word u 3 ≡ word s 3
-    → u.enabled ≡ s.enabled → IsSeen u (sight_of (place_of u t) (words_fetched u (place_of u t)) x s)
+    → u.enabled ≡ s.enabled → IsSeen u (decode_context_of (place_of u t) (words_fetched u (place_of u t)) x s)
 unfolding place_of
 seen-by u s t x index bounds enabled =
     record { place = refl; fetched = refl; words = index; bounds = bounds; enabled = enabled }
 
 pub seen-behind : (k : ℕ) (t : Option ℕ) (s : Machine) → IsMachine s → IfSome t (λ i. i < 64) → RunAhead k t s
     → let u = guesses k t s in let p = place_of u (table_behind k t) in
-    (sight u p ≡ sight_of p (words_fetched u p) (split_words k t s) s) × IsSeen u (sight_of p (words_fetched u p) (split_words k t s) s)
+    (decode_context u p ≡ decode_context_of p (words_fetched u p) (split_words k t s) s) × IsSeen u (decode_context_of p (words_fetched u p) (split_words k t s) s)
 seen-behind k t s m some free =
     let u = guesses k t s in
     let index = index-split k t s m some free in
     let bounds = low-kept k t s 3 m some free (omega arith) in
     let enabled = enabled-kept k t s m some free in (
-      sight-by u s (place_of u (table_behind k t)) (split_words k t s) index bounds enabled,
+      decode_context-by u s (place_of u (table_behind k t)) (split_words k t s) index bounds enabled,
       seen-by u s (table_behind k t) (split_words k t s) index bounds enabled,
     )

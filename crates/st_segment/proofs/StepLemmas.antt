@@ -5,9 +5,9 @@ use Rattle.st_state.specs.Machine.{Machine, IsMachine}
 use Rattle.st_prep.specs.declared.entries.Prepared.{Prepared}
 use Rattle.st_prep.specs.Plan.{state_at_entry, plan}
 use Rattle.st_prep.proofs.PlanLemmas.{plan-prepared}
-use Rattle.st_exec.specs.Completion.{state_with_early_changes, is_taken, state_after_completion, state_after_execution, guessed_state, guess, is_missed}
-use Rattle.st_exec.proofs.AheadLemmas.{guessed-right}
-use Rattle.st_exec.proofs.UnwrittenLemmas.{guessed-alone}
+use Rattle.st_exec.specs.Completion.{state_with_early_changes, is_taken, state_after_completion, state_after_execution, predicted_state, prediction, is_mispredicted}
+use Rattle.st_exec.proofs.AheadLemmas.{predicted-right}
+use Rattle.st_exec.proofs.UnwrittenLemmas.{predicted-alone}
 
 -- three tests of which the first one fails
 first-false : (a b c : Bool) → (not a && not b && c) ≡ true → a ≡ false
@@ -15,28 +15,28 @@ first-false false b c h = refl
 first-false true b c h = cc
 
 -- an entry that is done alone is not missed
-missed-ahead : (p : Prepared) (s : Machine) → is_missed p s ≡ true → p.serial ≡ false
-unfolding is_missed
-missed-ahead p s h = first-false p.serial p.suppressed _ h
+mispredicted-ahead : (p : Prepared) (s : Machine) → is_mispredicted p s ≡ true → p.serial ≡ false
+unfolding is_mispredicted
+mispredicted-ahead p s h = first-false p.serial p.suppressed _ h
 
-alone-right : (p : Prepared) (s : Machine) → p.serial ≡ true → is_missed p s ≡ false
-unfolding is_missed
+alone-right : (p : Prepared) (s : Machine) → p.serial ≡ true → is_mispredicted p s ≡ false
+unfolding is_mispredicted
 alone-right p s e =
     ap (λ b. not b && not p.suppressed && is_taken p.instr p.e (state_with_early_changes p (state_at_entry p.place.table s))) e
 
-guessed-missed : (p : Prepared) (s : Machine) → p.serial ≡ false
-    → guessed_state p s ≡ record (state_after_completion p s) { ic = p.following }
-unfolding guessed_state
-guessed-missed p s e = ap (λ b. if b then state_after_completion p s else record (state_after_completion p s) { ic = p.following }) e
+predicted-mispredicted : (p : Prepared) (s : Machine) → p.serial ≡ false
+    → predicted_state p s ≡ record (state_after_completion p s) { ic = p.following }
+unfolding predicted_state
+predicted-mispredicted p s e = ap (λ b. if b then state_after_completion p s else record (state_after_completion p s) { ic = p.following }) e
 
-pub guess-right : (t : Option ℕ) (s : Machine) → IsMachine s → IfSome t (λ i. i < 64)
-    → is_missed (plan s t) s ≡ false → guess t s ≡ state_after_execution t s
-guess-right t s m some right = guessed-right (plan s t) s (plan-prepared s t m some) right
+pub prediction-right : (t : Option ℕ) (s : Machine) → IsMachine s → IfSome t (λ i. i < 64)
+    → is_mispredicted (plan s t) s ≡ false → prediction t s ≡ state_after_execution t s
+prediction-right t s m some right = predicted-right (plan s t) s (plan-prepared s t m some) right
 
-pub guess-missed : (t : Option ℕ) (s : Machine) → IsMachine s → IfSome t (λ i. i < 64)
-    → is_missed (plan s t) s ≡ true → guess t s ≡ record (state_after_execution t s) { ic = (plan s t).following }
-guess-missed t s m some missed = guessed-missed (plan s t) s (missed-ahead (plan s t) s missed)
+pub prediction-mispredicted : (t : Option ℕ) (s : Machine) → IsMachine s → IfSome t (λ i. i < 64)
+    → is_mispredicted (plan s t) s ≡ true → prediction t s ≡ record (state_after_execution t s) { ic = (plan s t).following }
+prediction-mispredicted t s m some mispredicted = predicted-mispredicted (plan s t) s (mispredicted-ahead (plan s t) s mispredicted)
 
-pub guess-alone : (t : Option ℕ) (s : Machine) → (plan s t).serial ≡ true
-    → (is_missed (plan s t) s ≡ false) × (guess t s ≡ state_after_execution t s)
-guess-alone t s e = (alone-right (plan s t) s e, guessed-alone (plan s t) s e)
+pub prediction-alone : (t : Option ℕ) (s : Machine) → (plan s t).serial ≡ true
+    → (is_mispredicted (plan s t) s ≡ false) × (prediction t s ≡ state_after_execution t s)
+prediction-alone t s e = (alone-right (plan s t) s e, predicted-alone (plan s t) s e)

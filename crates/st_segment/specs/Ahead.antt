@@ -4,15 +4,15 @@ use Rattle.std.specs.Prelude.{ℕ, zero, suc, ◌+◌, nat_lt, if◌then◌else�
 use Rattle.st_state.specs.Machine.{Machine}
 use Rattle.st_prep.specs.Plan.{plan}
 use Rattle.st_prep.specs.declared.entries.Prepared.{Prepared}
-use Rattle.st_exec.specs.Completion.{guess}
+use Rattle.st_exec.specs.Completion.{prediction}
 use Rattle.st_banks.specs.declared.answers.LastAnswers.{LastAnswers}
-use Rattle.st_rows.specs.Rows.{opening_front, row_of_entry, front_after_entry, reads_of_entry}
+use Rattle.st_rows.specs.Rows.{opening_issue, row_of_entry, issue_after_entry, reads_of_entry}
 use Rattle.st_rows.specs.Asked.{made_before}
 use Rattle.st_rows.specs.BusTimes.{Read}
 use Rattle.st_rows.specs.declared.bus.Bus.{Bus}
 use Rattle.st_rows.specs.declared.entry.Entry.{Entry}
-use Rattle.st_rows.specs.declared.front.Front.{Front}
-use Rattle.st_rows.specs.declared.front.EntryTicks.{EntryTicks}
+use Rattle.st_rows.specs.declared.issue.IssueState.{IssueState}
+use Rattle.st_rows.specs.declared.issue.EntryTicks.{EntryTicks}
 use Rattle.st_segment.specs.Entries.{entry}
 
 -- an entry ahead: the state before its step, the indicator where it is a table instruction, the
@@ -20,7 +20,7 @@ use Rattle.st_segment.specs.Entries.{entry}
 pub record Ahead : Type 0 where
   pub state : Machine
   pub table : Option ℕ
-  pub front : Front
+  pub issue : IssueState
   pub entry : Entry
   pub row : EntryTicks
 
@@ -36,44 +36,44 @@ prepared_before t (a ∷ rest) = if nat_lt a.row.p t then a ∷ prepared_before 
 -- on a machine with the delays ds and with n levels
 module _ (ds : List ℕ) (n : ℕ) where
   -- the next entry of a state behind a front
-  abbrev pub next_ahead : Option ℕ → Machine → Front → Ahead
+  abbrev pub next_ahead : Option ℕ → Machine → IssueState → Ahead
   next_ahead table s f = record {
     state = s;
     table = table;
-    front = f;
+    issue = f;
     entry = entry table s;
     row = row_of_entry ds n f (entry table s);
   }
 
   -- the next k entries by guessed steps
-  unfoldable pub ahead : ℕ → Option ℕ → Machine → Front → List Ahead
+  unfoldable pub ahead : ℕ → Option ℕ → Machine → IssueState → List Ahead
   ahead zero table s f = []
   ahead (suc k) table s f =
-      next_ahead table s f ∷ ahead k None (guess table s)
-      (front_after_entry ds n f (entry table s))
+      next_ahead table s f ∷ ahead k None (prediction table s)
+      (issue_after_entry ds n f (entry table s))
 
   -- the front behind k of them
-  unfoldable pub front_behind : ℕ → Option ℕ → Machine → Front → Front
-  front_behind zero table s f = f
-  front_behind (suc k) table s f =
-      front_behind k None (guess table s) (front_after_entry ds n f (entry table s))
+  unfoldable pub issue_behind : ℕ → Option ℕ → Machine → IssueState → IssueState
+  issue_behind zero table s f = f
+  issue_behind (suc k) table s f =
+      issue_behind k None (prediction table s) (issue_after_entry ds n f (entry table s))
 
   -- the reads of those, and of the first one that is not: its instruction words, and its index-side
   -- word, may be accepted before that tick
   unfoldable pub reads_before : ℕ → List Ahead → List Read
   reads_before t [] = []
   reads_before t (a ∷ rest) =
-      reads_of_entry ds n a.front a.entry ++ (if nat_lt a.row.p t then reads_before t rest
+      reads_of_entry ds n a.issue a.entry ++ (if nat_lt a.row.p t then reads_before t rest
       else [])
 
   -- ---- the end of a segment
 
   -- the reads that may be made by then, where it ends at a tick: those of the next entry, and of
   -- those behind the guess of it
-  abbrev pub reads_to_end : ℕ → Option ℕ → Machine → Front → Entry → List Read
+  abbrev pub reads_to_end : ℕ → Option ℕ → Machine → IssueState → Entry → List Read
   reads_to_end tick table s f e =
-      reads_of_entry ds n f e ++ reads_before tick (ahead (suc n) None (guess table s)
-      (front_after_entry ds n f e))
+      reads_of_entry ds n f e ++ reads_before tick (ahead (suc n) None (prediction table s)
+      (issue_after_entry ds n f e))
 
 -- the last answers of the banks, where it ends at a tick: those of the reads are made that are
 -- accepted before
@@ -82,5 +82,5 @@ banks_at_end ds tick reads bus = (made_before ds tick reads bus).banks
 
 -- the front of the segment behind it, which starts one tick later and one more for each entry that
 -- is dropped
-abbrev pub front_behind_end : LastAnswers → ℕ → ℕ → Front
-front_behind_end banks tick dropped = opening_front banks (tick + 1 + dropped)
+abbrev pub issue_behind_end : LastAnswers → ℕ → ℕ → IssueState
+issue_behind_end banks tick dropped = opening_issue banks (tick + 1 + dropped)

@@ -3,7 +3,7 @@ use Rattle.std.specs.Prelude.{ℕ, zero, suc, ◌≡◌, ◌+◌, false, Bool, �
 use Rattle.st_state.specs.Machine.{Machine}
 use Rattle.st_prep.specs.Plan.{plan}
 use Rattle.st_prep.specs.BesideOrders.{AreAlikeBesideOrders}
-use Rattle.st_exec.specs.Completion.{guess}
+use Rattle.st_exec.specs.Completion.{prediction}
 use Rattle.st_rows.specs.Entries.{is_among}
 use Rattle.st_rows.specs.declared.entry.WordRun.{WordRun}
 use Rattle.st_segment.specs.Entries.{entry}
@@ -12,13 +12,13 @@ use Rattle.st_segment.specs.Ahead.{Ahead}
 -- none of the next k entries is done alone
 unfoldable pub RunAhead : ℕ → Option ℕ → Machine → Type 0
 RunAhead zero table s = Unit {0}
-RunAhead (suc k) table s = ((plan s table).serial ≡ false) × RunAhead k None (guess table s)
+RunAhead (suc k) table s = ((plan s table).serial ≡ false) × RunAhead k None (prediction table s)
 
 -- one of the next k entries writes the word w
 unfoldable pub is_word_written : ℕ → Option ℕ → Machine → ℕ → Bool
 is_word_written zero table s w = false
 is_word_written (suc k) table s w =
-    is_among w (entry table s).writes || is_word_written k None (guess table s) w
+    is_among w (entry table s).writes || is_word_written k None (prediction table s) w
 
 -- n words from the word w on
 unfoldable pub word_list_from : ℕ → ℕ → List ℕ

@@ -3,7 +3,7 @@ use Rattle.std.specs.Prelude.{ℕ, ◌-◌, suc, ◌&&◌, nat_le, if◌then◌e
 use Rattle.st_bits.specs.declared.register.TheConstants.{FIRST_STORAGE_WORD}
 use Rattle.st_state.specs.Machine.{Machine, word}
 use Rattle.st_prep.specs.Fetch.{place_of, reading_of, words_fetched}
-use Rattle.st_prep.specs.Plan.{needs, sight, plan}
+use Rattle.st_prep.specs.Plan.{needs, decode_context, plan}
 use Rattle.st_prep.specs.Reading.{Reading, words_read, own_words}
 use Rattle.st_prep.specs.declared.entries.Needs.{Needs}
 use Rattle.st_prep.specs.declared.entries.Prepared.{Prepared}
@@ -82,4 +82,4 @@ module _ (table : Option ℕ) (s : Machine) where
       let own = run_of (take own_count instruction_words) in
       let target = run_of (drop own_count instruction_words) in
       let forbidden = (words_fetched s place).fault in
-      entry_with own target (needs (sight s place)) (plan s table) table forbidden
+      entry_with own target (needs (decode_context s place)) (plan s table) table forbidden

@@ -3,13 +3,13 @@ use Rattle.std.specs.Prelude.{ℕ, zero, suc, List, Option, None}
 use Rattle.st_state.specs.Machine.{Machine}
 use Rattle.st_prep.specs.Fetch.{index_words}
 use Rattle.st_prep.specs.Plan.{plan, state_at_entry}
-use Rattle.st_exec.specs.Completion.{state_with_early_changes, guess}
+use Rattle.st_exec.specs.Completion.{state_with_early_changes, prediction}
 
 -- the state after k guessed steps; the first one is the table instruction of an interrupt where one
 -- was taken
 unfoldable pub guesses : ℕ → Option ℕ → Machine → Machine
 guesses zero table s = s
-guesses (suc k) table s = guesses k None (guess table s)
+guesses (suc k) table s = guesses k None (prediction table s)
 
 -- only the first of them is
 abbrev pub table_behind : ℕ → Option ℕ → Option ℕ

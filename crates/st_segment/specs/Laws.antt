@@ -4,17 +4,17 @@ use Rattle.std.specs.List.{AllZip}
 use Rattle.st_bits.specs.Indicators.{IsIndicatorIfAny}
 use Rattle.st_state.specs.Machine.{Machine, IsMachine, word}
 use Rattle.st_prep.specs.declared.entries.Place.{Place}
-use Rattle.st_prep.specs.EarlyChange.{words_after}
+use Rattle.st_prep.specs.SpeculativeChanges.{words_after}
 use Rattle.st_prep.specs.Fetch.{index_words, place_of, reading_by, reading_of, words_fetched}
-use Rattle.st_prep.specs.Plan.{sight_of, sight, needs, plan, prepared_entry, IsSeen}
+use Rattle.st_prep.specs.Plan.{decode_context_of, decode_context, needs, plan, prepared_entry, IsSeen}
 use Rattle.st_prep.specs.BesideOrders.{AreAlikeBesideOrders}
-use Rattle.st_exec.specs.Completion.{state_after_execution, guess, is_missed}
+use Rattle.st_exec.specs.Completion.{state_after_execution, prediction, is_mispredicted}
 use Rattle.st_rows.specs.Ranges.{IsEntryInTime}
 use Rattle.st_rows.specs.Asked.{own_reads}
-use Rattle.st_rows.specs.declared.front.Front.{Front}
+use Rattle.st_rows.specs.declared.issue.IssueState.{IssueState}
 use Rattle.st_segment.specs.Entries.{instruction_words, own_count, side_to_read, words_to_read, words_to_write, entry}
 use Rattle.st_segment.specs.Guesses.{guesses, table_behind, split_words}
-use Rattle.st_segment.specs.Ahead.{next_ahead, ahead, front_behind}
+use Rattle.st_segment.specs.Ahead.{next_ahead, ahead, issue_behind}
 use Rattle.st_segment.specs.Alone.{RunAhead, is_word_written, words_of_run, IsSameAhead}
 
 -- The next entry of each state is in the ranges of the timetable, and its instruction words are two
@@ -33,14 +33,14 @@ pub record GuessesGoOn : Type 0 where
   pub machine : (k : ℕ) (t : Option ℕ) (s : Machine) → IsMachine s → IsIndicatorIfAny t →
       IsMachine (guesses k t s)
   pub state : (k : ℕ) (t : Option ℕ) (s : Machine) →
-      guesses (suc k) t s ≡ guess (table_behind k t) (guesses k t s)
-  pub next : (ds : List ℕ) (n k : ℕ) (t : Option ℕ) (s : Machine) (f : Front) →
+      guesses (suc k) t s ≡ prediction (table_behind k t) (guesses k t s)
+  pub next : (ds : List ℕ) (n k : ℕ) (t : Option ℕ) (s : Machine) (f : IssueState) →
       ahead ds n (suc k) t s f
       ≡ ahead ds n k t s f ++ next_ahead ds n (table_behind k t) (guesses k t s)
-      (front_behind ds n k t s f) ∷ []
-  pub front : (ds : List ℕ) (n k : ℕ) (t : Option ℕ) (s : Machine) (f : Front) →
-      front_behind ds n (suc k) t s f ≡ front_behind ds n 1 (table_behind k t) (guesses k t s)
-      (front_behind ds n k t s f)
+      (issue_behind ds n k t s f) ∷ []
+  pub issue : (ds : List ℕ) (n k : ℕ) (t : Option ℕ) (s : Machine) (f : IssueState) →
+      issue_behind ds n (suc k) t s f ≡ issue_behind ds n 1 (table_behind k t) (guesses k t s)
+      (issue_behind ds n k t s f)
 
 -- The index words of which entries ahead are prepared: each early change makes the next ones of
 -- them, and behind entries that are not done alone they are those of the state.
@@ -74,12 +74,12 @@ pub record EntriesBehindAreSeen : Type 0 where
       reading_of (guesses k t s) p ≡ reading_by (split_words k t s) s p
   pub seen : (k : ℕ) (t : Option ℕ) (s : Machine) → IsMachine s → IsIndicatorIfAny t →
       RunAhead k t s → let u = guesses k t s in let p = place_of u (table_behind k t) in
-      (sight u p ≡ sight_of p (words_fetched u p) (split_words k t s) s)
-      × IsSeen u (sight_of p (words_fetched u p) (split_words k t s) s)
+      (decode_context u p ≡ decode_context_of p (words_fetched u p) (split_words k t s) s)
+      × IsSeen u (decode_context_of p (words_fetched u p) (split_words k t s) s)
 
 -- All of an entry but its index change and its indicators is known without its index-side word.
 abbrev pub EntriesAreKnownEarly : Type 0
-EntriesAreKnownEarly = (t : Option ℕ) (s : Machine) (q : Option ℕ) → let v = sight s (place_of s t)
+EntriesAreKnownEarly = (t : Option ℕ) (s : Machine) (q : Option ℕ) → let v = decode_context s (place_of s t)
     in let p = prepared_entry v q in
     ((entry t s).reads ≡ words_to_read p.reads) × ((entry t s).writes ≡ words_to_write p.writes)
     × ((entry t s).cost ≡ p.cost) × ((entry t s).serial ≡ p.serial)
@@ -90,12 +90,12 @@ EntriesAreKnownEarly = (t : Option ℕ) (s : Machine) (q : Option ℕ) → let v
 -- A step is the guess, but for the counter of a branch on an indicator that is missed.
 pub record StepsAreGuesses : Type 0 where
   pub right : (t : Option ℕ) (s : Machine) → IsMachine s → IsIndicatorIfAny t →
-      is_missed (plan s t) s ≡ false → guess t s ≡ state_after_execution t s
-  pub missed : (t : Option ℕ) (s : Machine) → IsMachine s → IsIndicatorIfAny t →
-      is_missed (plan s t) s ≡ true → guess t s ≡ record
+      is_mispredicted (plan s t) s ≡ false → prediction t s ≡ state_after_execution t s
+  pub mispredicted : (t : Option ℕ) (s : Machine) → IsMachine s → IsIndicatorIfAny t →
+      is_mispredicted (plan s t) s ≡ true → prediction t s ≡ record
       (state_after_execution t s) { ic = (plan s t).following }
   pub alone : (t : Option ℕ) (s : Machine) → (plan s t).serial ≡ true →
-      (is_missed (plan s t) s ≡ false) × (guess t s ≡ state_after_execution t s)
+      (is_mispredicted (plan s t) s ≡ false) × (prediction t s ≡ state_after_execution t s)
 
 -- A signal, and an order that brings no card, are passed over: the next entry is the same for the
 -- timetable; and where none of the next k is done alone they are the same too, and so are the index
@@ -105,7 +105,7 @@ pub record SignalsArePassedOver : Type 0 where
   pub same : (k : ℕ) (s u : Machine) → IsMachine s → AreAlikeBesideOrders s u → RunAhead k None s →
       RunAhead k None u × AreAlikeBesideOrders (guesses k None s) (guesses k None u)
       × (split_words k None u ≡ split_words k None s)
-  pub rows : (ds : List ℕ) (n k : ℕ) (s u : Machine) (f : Front) → IsMachine s →
+  pub rows : (ds : List ℕ) (n k : ℕ) (s u : Machine) (f : IssueState) → IsMachine s →
       AreAlikeBesideOrders s u →
       RunAhead k None s → AllZip IsSameAhead (ahead ds n (suc k) None s f)
       (ahead ds n (suc k) None u f)

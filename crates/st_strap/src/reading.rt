@@ -6,9 +6,9 @@ ghost use Rattle.st_mnemonic.specs.Text.{fields_of};
 ghost use Rattle.st_strap.specs.Saying as spec;
 
 use crate::saying::{
-    say_bare, say_bit_branch, say_branch, say_connect, say_data, say_end, say_execute,
-    say_floating, say_half, say_ind_branch, say_index_word, say_move, say_refill, say_reserve,
-    say_set_location, say_store_counter, say_sum, say_synonym, say_transfer, say_vfl,
+    parse_bare, parse_bit_branch, parse_branch, parse_connect, parse_data, parse_end, parse_execute,
+    parse_floating, parse_half, parse_ind_branch, parse_index_word, parse_move, parse_refill, parse_reserve,
+    parse_set_location, parse_store_counter, parse_sum, parse_synonym, parse_transfer, parse_vfl,
 };
 use crate::statement::{CompactStatement, Statement};
 use crate::terms::statement_terms;
@@ -83,12 +83,12 @@ fn say(op: Operation, text: &[u8]) -> Result<CompactStatement, Fault>
     let (description, behind) = split_description(text);
     match described_in(op, description) {
         None => Err(Fault::BadDataDescription),
-        Some((op, form)) => say_formed(op, form, behind),
+        Some((op, form)) => parse_formed(op, form, behind),
     }
 }
 
 // Parses the statement of an operation with an allowed description and the text after that.
-fn say_formed(op: Operation, form: Form, text: &[u8]) -> Result<CompactStatement, Fault>
+fn parse_formed(op: Operation, form: Form, text: &[u8]) -> Result<CompactStatement, Fault>
     requires { length text.now ≤ 63 }
     ensures { result ≡ spec.statement_in_form op form text.now }
 {
@@ -112,25 +112,25 @@ fn with_fields(op: Operation, form: Form, fields: &[FieldText]) -> Result<Compac
     ensures { result ≡ spec.with_fields op form (texts fields.now) }
 {
     match op {
-        Operation::Half(op) => say_half(op, fields),
-        Operation::Sum => say_sum(fields),
-        Operation::Refill => say_refill(fields),
-        Operation::Execute => say_execute(fields),
-        Operation::Branch(op) => say_branch(op, fields),
-        Operation::Bare(op) => say_bare(op, fields),
-        Operation::Floating(number) => say_floating(number, fields),
-        Operation::Vfl { op, negated } => say_vfl(op, negated, form, fields),
-        Operation::Connect { kind, table } => say_connect(kind, table, form, fields),
-        Operation::Move { swap } => say_move(swap, fields),
-        Operation::BitBranch { sense, change } => say_bit_branch(sense, change, fields),
-        Operation::IndBranch { sense, off } => say_ind_branch(sense, off, fields),
-        Operation::StoreCounter => say_store_counter(fields),
-        Operation::Transfer { write } => say_transfer(write, fields),
-        Operation::Data => say_data(form, fields),
-        Operation::IndexWord => say_index_word(fields),
-        Operation::Synonym => say_synonym(fields),
-        Operation::SetLocation => say_set_location(fields),
-        Operation::Reserve => say_reserve(fields),
-        Operation::End => say_end(fields),
+        Operation::Half(op) => parse_half(op, fields),
+        Operation::Sum => parse_sum(fields),
+        Operation::Refill => parse_refill(fields),
+        Operation::Execute => parse_execute(fields),
+        Operation::Branch(op) => parse_branch(op, fields),
+        Operation::Bare(op) => parse_bare(op, fields),
+        Operation::Floating(number) => parse_floating(number, fields),
+        Operation::Vfl { op, negated } => parse_vfl(op, negated, form, fields),
+        Operation::Connect { kind, table } => parse_connect(kind, table, form, fields),
+        Operation::Move { swap } => parse_move(swap, fields),
+        Operation::BitBranch { sense, change } => parse_bit_branch(sense, change, fields),
+        Operation::IndBranch { sense, off } => parse_ind_branch(sense, off, fields),
+        Operation::StoreCounter => parse_store_counter(fields),
+        Operation::Transfer { write } => parse_transfer(write, fields),
+        Operation::Data => parse_data(form, fields),
+        Operation::IndexWord => parse_index_word(fields),
+        Operation::Synonym => parse_synonym(fields),
+        Operation::SetLocation => parse_set_location(fields),
+        Operation::Reserve => parse_reserve(fields),
+        Operation::End => parse_end(fields),
     }
 }

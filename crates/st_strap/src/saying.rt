@@ -18,7 +18,7 @@ use st_mnemonic::{FieldText, Form, Operation};
 
 // Parses the statement of an operation on an index word.
 #[inline(never)]
-pub(crate) fn say_half(op: HalfOp, fields: &[FieldText]) -> Result<CompactStatement, Fault>
+pub(crate) fn parse_half(op: HalfOp, fields: &[FieldText]) -> Result<CompactStatement, Fault>
     ensures { (form : FormOf) → result ≡ spec.with_fields (Operation.Half op) form
         (texts fields.now) }
 {
@@ -28,7 +28,7 @@ pub(crate) fn say_half(op: HalfOp, fields: &[FieldText]) -> Result<CompactStatem
 
 // Parses the statement of LVS.
 #[inline(never)]
-pub(crate) fn say_sum(fields: &[FieldText]) -> Result<CompactStatement, Fault>
+pub(crate) fn parse_sum(fields: &[FieldText]) -> Result<CompactStatement, Fault>
     ensures { (form : FormOf) → result ≡ spec.with_fields Operation.Sum form (texts fields.now) }
 {
     let (j, list) = index_and_list(fields)?;
@@ -37,7 +37,7 @@ pub(crate) fn say_sum(fields: &[FieldText]) -> Result<CompactStatement, Fault>
 
 // Parses the statement of R.
 #[inline(never)]
-pub(crate) fn say_refill(fields: &[FieldText]) -> Result<CompactStatement, Fault>
+pub(crate) fn parse_refill(fields: &[FieldText]) -> Result<CompactStatement, Fault>
     ensures { (form : FormOf) → result ≡ spec.with_fields Operation.Refill form (texts fields.now) }
 {
     Ok(Statement::Refill {
@@ -47,7 +47,7 @@ pub(crate) fn say_refill(fields: &[FieldText]) -> Result<CompactStatement, Fault
 
 // Parses the statement of EX.
 #[inline(never)]
-pub(crate) fn say_execute(fields: &[FieldText]) -> Result<CompactStatement, Fault>
+pub(crate) fn parse_execute(fields: &[FieldText]) -> Result<CompactStatement, Fault>
     ensures { (form : FormOf) → result ≡ spec.with_fields Operation.Execute form
         (texts fields.now) }
 {
@@ -60,7 +60,7 @@ pub(crate) fn say_execute(fields: &[FieldText]) -> Result<CompactStatement, Faul
 
 // Parses the statement of a branch.
 #[inline(never)]
-pub(crate) fn say_branch(op: BranchOp, fields: &[FieldText]) -> Result<CompactStatement, Fault>
+pub(crate) fn parse_branch(op: BranchOp, fields: &[FieldText]) -> Result<CompactStatement, Fault>
     ensures { (form : FormOf) → result ≡ spec.with_fields (Operation.Branch op) form
         (texts fields.now) }
 {
@@ -72,7 +72,7 @@ pub(crate) fn say_branch(op: BranchOp, fields: &[FieldText]) -> Result<CompactSt
 
 // Parses the statement of an operation of the branch group without an address.
 #[inline(never)]
-pub(crate) fn say_bare(op: BranchOp, fields: &[FieldText]) -> Result<CompactStatement, Fault>
+pub(crate) fn parse_bare(op: BranchOp, fields: &[FieldText]) -> Result<CompactStatement, Fault>
     ensures { (form : FormOf) → result ≡ spec.with_fields (Operation.Bare op) form
         (texts fields.now) }
 {
@@ -81,7 +81,7 @@ pub(crate) fn say_bare(op: BranchOp, fields: &[FieldText]) -> Result<CompactStat
 
 // Parses the statement of an operation of the floating group.
 #[inline(never)]
-pub(crate) fn say_floating(number: u8, fields: &[FieldText]) -> Result<CompactStatement, Fault>
+pub(crate) fn parse_floating(number: u8, fields: &[FieldText]) -> Result<CompactStatement, Fault>
     ensures { (form : FormOf) → result ≡ spec.with_fields (Operation.Floating number) form
         (texts fields.now) }
 {
@@ -93,7 +93,7 @@ pub(crate) fn say_floating(number: u8, fields: &[FieldText]) -> Result<CompactSt
 
 // Parses the statement of an operation on a field.
 #[inline(never)]
-pub(crate) fn say_vfl(
+pub(crate) fn parse_vfl(
     op: VflOp,
     negated: bool,
     form: Form,
@@ -113,7 +113,7 @@ pub(crate) fn say_vfl(
 
 // Parses the statement of a connective.
 #[inline(never)]
-pub(crate) fn say_connect(
+pub(crate) fn parse_connect(
     kind: ConnKind,
     table: u8,
     form: Form,
@@ -133,7 +133,7 @@ pub(crate) fn say_connect(
 
 // Parses the statement of T or SWAP.
 #[inline(never)]
-pub(crate) fn say_move(swap: bool, fields: &[FieldText]) -> Result<CompactStatement, Fault>
+pub(crate) fn parse_move(swap: bool, fields: &[FieldText]) -> Result<CompactStatement, Fault>
     ensures { (form : FormOf) → result ≡ spec.with_fields (Operation.Move swap) form
         (texts fields.now) }
 {
@@ -148,7 +148,7 @@ pub(crate) fn say_move(swap: bool, fields: &[FieldText]) -> Result<CompactStatem
 
 // Parses the statement of a branch on a bit.
 #[inline(never)]
-pub(crate) fn say_bit_branch(
+pub(crate) fn parse_bit_branch(
     sense: bool,
     change: u8,
     fields: &[FieldText],
@@ -167,7 +167,7 @@ pub(crate) fn say_bit_branch(
 
 // Parses the statement of a branch on an indicator.
 #[inline(never)]
-pub(crate) fn say_ind_branch(
+pub(crate) fn parse_ind_branch(
     sense: bool,
     off: bool,
     fields: &[FieldText],
@@ -186,7 +186,7 @@ pub(crate) fn say_ind_branch(
 
 // Parses the statement of SIC.
 #[inline(never)]
-pub(crate) fn say_store_counter(fields: &[FieldText]) -> Result<CompactStatement, Fault>
+pub(crate) fn parse_store_counter(fields: &[FieldText]) -> Result<CompactStatement, Fault>
     ensures { (form : FormOf) → result ≡ spec.with_fields Operation.StoreCounter form
         (texts fields.now) }
 {
@@ -196,7 +196,7 @@ pub(crate) fn say_store_counter(fields: &[FieldText]) -> Result<CompactStatement
 
 // Parses the statement of RD or WR.
 #[inline(never)]
-pub(crate) fn say_transfer(write: bool, fields: &[FieldText]) -> Result<CompactStatement, Fault>
+pub(crate) fn parse_transfer(write: bool, fields: &[FieldText]) -> Result<CompactStatement, Fault>
     ensures { (form : FormOf) → result ≡ spec.with_fields (Operation.Transfer write) form
         (texts fields.now) }
 {
@@ -206,7 +206,7 @@ pub(crate) fn say_transfer(write: bool, fields: &[FieldText]) -> Result<CompactS
 
 // Parses the statement of DD.
 #[inline(never)]
-pub(crate) fn say_data(form: Form, fields: &[FieldText]) -> Result<CompactStatement, Fault>
+pub(crate) fn parse_data(form: Form, fields: &[FieldText]) -> Result<CompactStatement, Fault>
     ensures { result ≡ spec.with_fields Operation.Data form (texts fields.now) }
 {
     let (minus, number) = number_alone(fields)?;
@@ -219,7 +219,7 @@ pub(crate) fn say_data(form: Form, fields: &[FieldText]) -> Result<CompactStatem
 
 // Parses the statement of XW.
 #[inline(never)]
-pub(crate) fn say_index_word(fields: &[FieldText]) -> Result<CompactStatement, Fault>
+pub(crate) fn parse_index_word(fields: &[FieldText]) -> Result<CompactStatement, Fault>
     ensures { (form : FormOf) → result ≡ spec.with_fields Operation.IndexWord form
         (texts fields.now) }
 {
@@ -234,7 +234,7 @@ pub(crate) fn say_index_word(fields: &[FieldText]) -> Result<CompactStatement, F
 
 // Parses the statement of SYN.
 #[inline(never)]
-pub(crate) fn say_synonym(fields: &[FieldText]) -> Result<CompactStatement, Fault>
+pub(crate) fn parse_synonym(fields: &[FieldText]) -> Result<CompactStatement, Fault>
     ensures { (form : FormOf) → result ≡ spec.with_fields Operation.Synonym form
         (texts fields.now) }
 {
@@ -245,7 +245,7 @@ pub(crate) fn say_synonym(fields: &[FieldText]) -> Result<CompactStatement, Faul
 
 // Parses the statement of SLC.
 #[inline(never)]
-pub(crate) fn say_set_location(fields: &[FieldText]) -> Result<CompactStatement, Fault>
+pub(crate) fn parse_set_location(fields: &[FieldText]) -> Result<CompactStatement, Fault>
     ensures { (form : FormOf) → result ≡ spec.with_fields Operation.SetLocation form
         (texts fields.now) }
 {
@@ -256,7 +256,7 @@ pub(crate) fn say_set_location(fields: &[FieldText]) -> Result<CompactStatement,
 
 // Parses the statement of DR.
 #[inline(never)]
-pub(crate) fn say_reserve(fields: &[FieldText]) -> Result<CompactStatement, Fault>
+pub(crate) fn parse_reserve(fields: &[FieldText]) -> Result<CompactStatement, Fault>
     ensures { (form : FormOf) → result ≡ spec.with_fields Operation.Reserve form
         (texts fields.now) }
 {
@@ -267,7 +267,7 @@ pub(crate) fn say_reserve(fields: &[FieldText]) -> Result<CompactStatement, Faul
 
 // Parses the statement of END.
 #[inline(never)]
-pub(crate) fn say_end(fields: &[FieldText]) -> Result<CompactStatement, Fault>
+pub(crate) fn parse_end(fields: &[FieldText]) -> Result<CompactStatement, Fault>
     ensures { (form : FormOf) → result ≡ spec.with_fields Operation.End form (texts fields.now) }
 {
     Ok(Statement::End {

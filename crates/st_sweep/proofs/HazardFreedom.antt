@@ -6,7 +6,7 @@ use Rattle.std.proofs.lemmas.Bool.{and_parts, or_parts, not-true, eqb-true, leb-
 use Rattle.std.proofs.lemmas.List.Elements.{All-nil, All-cons}
 use Rattle.st_state.specs.Machine.{Machine}
 use Rattle.st_prep.specs.Plan.{plan}
-use Rattle.st_exec.specs.Completion.{is_missed}
+use Rattle.st_exec.specs.Completion.{is_mispredicted}
 use Rattle.st_exec.specs.Step.{interrupt, rests}
 use Rattle.st_run.specs.Run.{Scene, with_due_signals, with_due_orders, interlude, scene_after_step}
 use Rattle.st_rows.specs.Entries.{is_among}
@@ -98,7 +98,7 @@ none-is (Some i) h = cc
 
 pub record IsHazardFreeEntry (earlier : List WordRuns) (s : Machine) : Type 0 where
   pub none : interrupt s ≡ None
-  pub right : is_missed (plan s (interrupt s)) s ≡ false
+  pub right : is_mispredicted (plan s (interrupt s)) s ≡ false
   pub hazard_free : IsHazardFree earlier (entry (interrupt s) s)
 
 pub hazard_free-entry : (earlier : List WordRuns) (s : Machine) → is_hazard_free_entry earlier s ≡ true → IsHazardFreeEntry earlier s
@@ -113,7 +113,7 @@ hazard_free-entry earlier s h =
     let both = or_parts one two (not-true (one || two) last.1) in
     record {
       none = none-is (interrupt s) second.0;
-      right = not-true (is_missed p s) second.1;
+      right = not-true (is_mispredicted p s) second.1;
       hazard_free = record {
         side = side-unwritten earlier (next_side s) (not-true (side_is_written earlier (next_side s)) third.1);
         one = run-unwritten earlier p.reads.first p.reads.len both.0;

@@ -48,9 +48,9 @@ length-marked marks w zero = refl
 length-marked marks w (suc n) = length-marked (set marks w true) (w + 1) n ∙ length-set marks w true
 
 module _ (v w : ℕ) where
-  outside : is_in v (record { first = w; len = 0 }) ≡ false
+  external_events : is_in v (record { first = w; len = 0 }) ≡ false
   unfolding is_in
-  outside = grind (arith, nat_tests)
+  external_events = grind (arith, nat_tests)
 
   first-in : v ≡ w → (n : ℕ) → is_in v (record { first = w; len = suc n }) ≡ true
   unfolding is_in
@@ -67,7 +67,7 @@ module _ (v w : ℕ) where
 run-marked : (marks : List Bool) (v w n : ℕ) → (1 ≤ n → w + n ≤ length marks)
     → get_or (marks_with marks w n) v false ≡ (is_in v (record { first = w; len = n }) || get_or marks v false)
 unfolding marks_with
-run-marked marks v w zero inside = rw (outside v w) refl
+run-marked marks v w zero inside = rw (external_events v w) refl
 run-marked marks v w (suc n) inside =
     let next = set marks w true in
     let long : length next ≡ length marks = length-set marks w true in

@@ -5,8 +5,8 @@ use Rattle.st_bits.specs.declared.limits.TheConstants.{MOST_INSTRUCTIONS}
 use Rattle.st_state.specs.Machine.{Machine}
 use Rattle.st_prep.specs.declared.entries.Prepared.{Prepared}
 use Rattle.st_prep.specs.Fetch.{place_of}
-use Rattle.st_prep.specs.Plan.{plan, needs, sight}
-use Rattle.st_exec.specs.Completion.{is_missed, state_after_execution}
+use Rattle.st_prep.specs.Plan.{plan, needs, decode_context}
+use Rattle.st_exec.specs.Completion.{is_mispredicted, state_after_execution}
 use Rattle.st_exec.specs.Step.{interrupt, step, rests}
 use Rattle.st_card.specs.declared.control_cards.Signal.{Signal}
 use Rattle.st_run.specs.Run.{Scene, interlude, scene_after_step, state_next, scenes, run}
@@ -28,8 +28,8 @@ entry-step s t taken is made = made ∙ ap (λ i. state_after_execution i s) is
 
 -- the test whether the next entry is hazard-free
 pub entry-hazard_free : (earlier : List WordRuns) (s : Machine) (taken : Option ℕ) (p : Prepared) (straight side words : Bool) (q : Option ℕ)
-    → taken ≡ interrupt s → p ≡ plan s taken → q ≡ (needs (sight s (place_of s taken))).index_read
-    → straight ≡ (is_none taken && not (is_missed p s))
+    → taken ≡ interrupt s → p ≡ plan s taken → q ≡ (needs (decode_context s (place_of s taken))).index_read
+    → straight ≡ (is_none taken && not (is_mispredicted p s))
     → side ≡ side_is_written earlier q → words ≡ one_is_written earlier p.reads
     → (straight && not side && not words) ≡ is_hazard_free_entry earlier s
 unfolding is_hazard_free_entry

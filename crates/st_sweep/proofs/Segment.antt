@@ -4,15 +4,15 @@ use Rattle.std.proofs.lemmas.Bool.{cases_Bool, and_parts}
 use Rattle.st_exec.specs.Step.{interrupt, rests}
 use Rattle.st_run.specs.Run.{Scene, interlude, scene_after_step}
 use Rattle.st_banks.specs.declared.answers.LastAnswers.{LastAnswers}
-use Rattle.st_rows.specs.Levels.{AreEqual, IsFrontSooner, AreInOrder, AreCovered}
-use Rattle.st_rows.specs.Rows.{opening_front, row_of_entry, front_after_entry}
+use Rattle.st_rows.specs.Levels.{AreEqual, IsIssueSooner, AreInOrder, AreCovered}
+use Rattle.st_rows.specs.Rows.{opening_issue, row_of_entry, issue_after_entry}
 use Rattle.st_rows.specs.declared.entry.WordRuns.{WordRuns}
-use Rattle.st_rows.specs.declared.front.Front.{Front}
+use Rattle.st_rows.specs.declared.issue.IssueState.{IssueState}
 use Rattle.st_rows.proofs.Sooner.{row-sooner, after-sooner, order-after, covered-after, hazard_free-behind, opening-sooner, opening-order, opening-covered}
 use Rattle.st_segment.specs.Ahead.{Ahead}
 use Rattle.st_segment.specs.Entries.{entry}
 use Rattle.st_banks.specs.Bank.{idle_banks}
-use Rattle.st_run.specs.Moments.{Moment, moment_at_start, next_state, ends_segment, next_front, standing_at, next_row, next_moment}
+use Rattle.st_run.specs.Moments.{Moment, moment_at_start, next_state, ends_segment, next_issue, standing_at, next_row, next_moment}
 use Rattle.st_run.specs.TimedRun.{snapshots_from, events_between, completion, timed_from, timed_behind}
 use Rattle.st_run.specs.Order.{last_completion}
 use Rattle.st_run.proofs.ShownLemmas.{last-append, last_events-tick, tick-same}
@@ -22,9 +22,9 @@ use Rattle.st_sweep.specs.Sweep.{ticks}
 use Rattle.st_sweep.proofs.HazardFreedom.{same-delays, GoesOn, hazard_free-goes_on}
 
 -- a moment without misprediction
-abbrev moment : Scene → ℕ → Front → List Ahead → LastAnswers → Moment
+abbrev moment : Scene → ℕ → IssueState → List Ahead → LastAnswers → Moment
 moment c tick f dropped banks =
-    record { scene = c; tick = tick; front = f; missed = false; dropped = dropped; banks = banks }
+    record { scene = c; tick = tick; issue = f; mispredicted = false; dropped = dropped; banks = banks }
 
 -- ---- the last tick
 
@@ -52,23 +52,23 @@ last-goes_on ds n left v m h =
 -- ---- one more entry
 
 module _ (earlier : List WordRuns) (left : ℕ) (c : Scene) (going : rests (interlude c).scene.machine ≡ false) (on : GoesOn earlier left c) where
-  stays : (tick : ℕ) (f : Front) (dropped : List Ahead) (banks : LastAnswers) → next_front (moment c tick f dropped banks) ≡ f
-  unfolding next_front ends_segment
+  stays : (tick : ℕ) (f : IssueState) (dropped : List Ahead) (banks : LastAnswers) → next_issue (moment c tick f dropped banks) ≡ f
+  unfolding next_issue ends_segment
   stays tick f dropped banks = rw (on.quiet.no_card, on.quiet.no_wait going, on.hazard_free.none) refl
 
-  next-is : (ds : List ℕ) (n tick : ℕ) (f : Front) (dropped : List Ahead) (banks : LastAnswers)
+  next-is : (ds : List ℕ) (n tick : ℕ) (f : IssueState) (dropped : List Ahead) (banks : LastAnswers)
       → let s = (interlude c).scene.machine in
       let e = entry (interrupt s) s in
       let next = next_moment ds n (standing_at (moment c tick f dropped banks)) in
-      next ≡ moment (scene_after_step (interlude c).scene) (row_of_entry ds n f e).c (front_after_entry ds n f e) next.dropped next.banks
+      next ≡ moment (scene_after_step (interlude c).scene) (row_of_entry ds n f e).c (issue_after_entry ds n f e) next.dropped next.banks
   unfolding next_moment next_row
   next-is ds n tick f dropped banks = rw (stays tick f dropped banks, on.hazard_free.right) refl
 
 -- ---- the run
 
 module _ (d : ℕ) (ds : List ℕ) (are : AreEqual d ds) (m n : ℕ) (more : n ≤ m) where
-  hazard_free-sooner : (left : ℕ) (c : Scene) (earlier : List WordRuns) (t u : ℕ) (f g : Front) (xs ys : List Ahead) (b e : LastAnswers)
-      → t ≤ u → IsFrontSooner f g → AreInOrder g → AreCovered f.past earlier → is_hazard_free_behind earlier left c ≡ true → (v w : ℕ)
+  hazard_free-sooner : (left : ℕ) (c : Scene) (earlier : List WordRuns) (t u : ℕ) (f g : IssueState) (xs ys : List Ahead) (b e : LastAnswers)
+      → t ≤ u → IsIssueSooner f g → AreInOrder g → AreCovered f.past earlier → is_hazard_free_behind earlier left c ≡ true → (v w : ℕ)
       → last_completion v (timed_from ds m left (moment c t f xs b) []) ≤ last_completion w (timed_from ds n left (moment c u g ys e) [])
   hazard_free-sooner zero c earlier t u f g xs ys b e low is order covered hazard_free v w =
       omega (arith, last-budget ds m v (moment c t f xs b), last-budget ds n w (moment c u g ys e))
@@ -88,7 +88,7 @@ module _ (d : ℕ) (ds : List ℕ) (are : AreEqual d ds) (m n : ℕ) (more : n �
             let first = last-goes_on ds m left v x going ∙ ap (λ k. last_completion next.tick (timed_from ds m left k [])) (next-is earlier left c going on ds m t f xs b) in
             let second = last-goes_on ds n left w y going ∙ ap (λ k. last_completion other.tick (timed_from ds n left k [])) (next-is earlier left c going on ds n u g ys e) in
             let rest =
-            hazard_free-sooner left (scene_after_step (interlude c).scene) (i.writes ∷ earlier) (row_of_entry ds m f i).c (row_of_entry ds n g i).c (front_after_entry ds m f i) (front_after_entry ds n g i)
+            hazard_free-sooner left (scene_after_step (interlude c).scene) (i.writes ∷ earlier) (row_of_entry ds m f i).c (row_of_entry ds n g i).c (issue_after_entry ds m f i) (issue_after_entry ds n g i)
             next.dropped other.dropped next.banks other.banks done (after-sooner d ds are m n more f g i is order behind) (order-after ds n g i order)
             (covered-after ds m f i earlier covered) on.rest next.tick other.tick in
             omega (arith, first, second, rest)
@@ -100,8 +100,8 @@ unfolding ticks
 hazard_free-ticks ds m n left c some more hazard_free =
     let parts = and_parts (are_equal ds) (is_hazard_free_behind [] left c) hazard_free in
     let same = same-delays ds some parts.0 in
-    let front = opening_front idle_banks 0 in
+    let issue = opening_issue idle_banks 0 in
     let sooner =
-    hazard_free-sooner same.delay ds same.each m n more left c [] 0 0 front front [] [] idle_banks idle_banks (omega arith) (opening-sooner idle_banks 0)
+    hazard_free-sooner same.delay ds same.each m n more left c [] 0 0 issue issue [] [] idle_banks idle_banks (omega arith) (opening-sooner idle_banks 0)
     (opening-order idle_banks 0) (opening-covered idle_banks 0) parts.1 0 0 in
     omega (arith, sooner, tick-same ds m left 0 (moment_at_start c) [], tick-same ds n left 0 (moment_at_start c) [])

@@ -5,7 +5,7 @@ use Rattle.st_state.specs.Machine.{Machine}
 use Rattle.st_exec.specs.Step.{rests}
 use Rattle.st_card.specs.declared.control_cards.Signal.{Signal}
 use Rattle.st_run.specs.Run.{Scene, with_due_signals, with_due_orders, interlude}
-use Rattle.st_run.specs.Outside.{Coming, scene_at}
+use Rattle.st_run.specs.ExternalEvents.{PendingEvents, scene_at}
 use Rattle.st_sweep.specs.HazardFree.{is_hazard_free_interlude}
 use Rattle.st_sweep.specs.Sweep.{without_cards}
 
@@ -14,13 +14,13 @@ none-left [] few = refl
 none-left (card ∷ cards) few = absurd (omega (arith, few))
 
 -- there was no card, and there is none afterwards
-module _ (s t : Machine) (xs ys : List Signal) (x y : Coming) (is : x ≡ record { signals = xs; cards = [] })
+module _ (s t : Machine) (xs ys : List Signal) (x y : PendingEvents) (is : x ≡ record { signals = xs; cards = [] })
     (scene : scene_at t y ≡ (interlude (scene_at s x)).scene) (fewer : length y.cards ≤ length x.cards) (left : ys ≡ y.signals) where
   pub settled-scene : (interlude (without_cards s xs)).scene ≡ without_cards t ys
   settled-scene =
-      sym (subst (λ (z : Coming). scene_at t y ≡ (interlude (scene_at s z)).scene) is scene)
+      sym (subst (λ (z : PendingEvents). scene_at t y ≡ (interlude (scene_at s z)).scene) is scene)
       ∙ ap (λ (cards : List (List ℕ)). scene_at t (record y { cards = cards }))
-      (none-left y.cards (subst (λ (z : Coming). length y.cards ≤ length z.cards) is fewer))
+      (none-left y.cards (subst (λ (z : PendingEvents). length y.cards ≤ length z.cards) is fewer))
       ∙ ap (without_cards t) (sym left)
 
   pub settled-quiet : (waited : Bool)
@@ -30,4 +30,4 @@ module _ (s t : Machine) (xs ys : List Signal) (x y : Coming) (is : x ≡ record
   settled-quiet waited wait =
       ap (λ (after : Scene). not (nat_lt (length after.cards) 0) && (rests after.machine || not (rests (with_due_orders (with_due_signals (without_cards s xs))).scene.machine))) settled-scene
       ∙ ap (λ (b : Bool). rests t || not b)
-      (sym (subst (λ (z : Coming). waited ≡ rests (with_due_orders (with_due_signals (scene_at s z))).scene.machine) is wait))
+      (sym (subst (λ (z : PendingEvents). waited ≡ rests (with_due_orders (with_due_signals (scene_at s z))).scene.machine) is wait))

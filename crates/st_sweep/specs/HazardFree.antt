@@ -4,9 +4,9 @@ use Rattle.std.specs.Prelude.{ℕ, zero, suc, ◌+◌, map, Bool, true, false, n
 use Rattle.std.specs.List.{list_all, list_any}
 use Rattle.st_state.specs.Machine.{Machine}
 use Rattle.st_prep.specs.Fetch.{place_of}
-use Rattle.st_prep.specs.Plan.{needs, sight, plan}
+use Rattle.st_prep.specs.Plan.{needs, decode_context, plan}
 use Rattle.st_prep.specs.declared.entries.Words.{Words}
-use Rattle.st_exec.specs.Completion.{is_missed}
+use Rattle.st_exec.specs.Completion.{is_mispredicted}
 use Rattle.st_exec.specs.Step.{interrupt, rests}
 use Rattle.st_run.specs.Run.{Scene, with_due_signals, with_due_orders, interlude, state_next, scenes}
 use Rattle.st_rows.specs.Entries.{is_among}
@@ -48,14 +48,14 @@ next_writes s = words_to_write (plan s (interrupt s)).writes
 
 -- the index-side word of the next entry of a state
 abbrev pub next_side : Machine → Option ℕ
-next_side s = (needs (sight s (place_of s (interrupt s)))).index_read
+next_side s = (needs (decode_context s (place_of s (interrupt s)))).index_read
 
 -- whether the next entry of a state takes no interrupt, is not mispredicted, and has no index-side
 -- word or operand word that an earlier entry writes
 unfoldable pub is_hazard_free_entry : List WordRuns → Machine → Bool
 is_hazard_free_entry earlier s =
     is_none (interrupt s)
-    && not (is_missed (plan s (interrupt s)) s)
+    && not (is_mispredicted (plan s (interrupt s)) s)
     && not (side_is_written earlier (next_side s))
     && not (one_is_written earlier (plan s (interrupt s)).reads)
 

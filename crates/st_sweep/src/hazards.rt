@@ -4,7 +4,7 @@ ghost use Rattle.std.specs.List.{AllPass, list_all};
 ghost use Rattle.st_bits.specs.declared.limits.TheConstants.{MOST_INSTRUCTIONS};
 ghost use Rattle.st_card.specs.Limits.{is_signal};
 ghost use Rattle.st_prep.specs.Ranges.{IsPrepared};
-ghost use Rattle.st_exec.specs.Completion.{is_missed as is_missed_of};
+ghost use Rattle.st_exec.specs.Completion.{is_mispredicted as is_mispredicted_of};
 ghost use Rattle.st_exec.specs.Step.{rests, step as step_of};
 ghost use Rattle.st_run.specs.Run.{state_next, scenes};
 ghost use Rattle.st_rows.specs.declared.entry.WordRuns.{WordRuns};
@@ -15,7 +15,7 @@ ghost use Rattle.st_sweep.specs.Sweep.{without_cards};
 use crate::interlude::pass_interlude;
 use crate::written::WrittenWords;
 use st_card::Signal;
-use st_exec::{complete_in, interrupt, is_at_rest, is_missed};
+use st_exec::{complete_in, interrupt, is_at_rest, is_mispredicted};
 use st_prep::{Prepared, plan_in};
 use st_state::State;
 
@@ -39,10 +39,10 @@ pub(crate) fn are_equal(delays: &[u8]) -> bool
 // Whether an entry takes no interrupt and is not mispredicted.
 fn goes_straight(taken: Option<u8>, p: &Prepared, state: &State) -> bool
     requires { IsPrepared p.now }
-    ensures { result ≡ (is_none taken && not (is_missed_of p.now state.now)) }
+    ensures { result ≡ (is_none taken && not (is_mispredicted_of p.now state.now)) }
 {
-    let missed = is_missed(p, state);
-    taken.is_none() && !missed
+    let mispredicted = is_mispredicted(p, state);
+    taken.is_none() && !mispredicted
 }
 
 // Whether an entry is hazard-free: it takes no interrupt and is not mispredicted, and neither its

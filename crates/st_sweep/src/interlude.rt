@@ -9,7 +9,7 @@ ghost use Rattle.st_sweep.specs.Sweep.{without_cards};
 use st_card::Signal;
 use st_exch::Hopper;
 use st_exec::is_at_rest;
-use st_run::Coming;
+use st_run::PendingEvents;
 use st_run::between::between;
 use st_state::State;
 
@@ -38,9 +38,9 @@ pub(crate) fn pass_interlude<'a>(state: &mut State, signals: &'a [Signal]) -> In
         ≡ without_cards state.new result.signals.now }
     ensures quiet { result.quiet ≡ is_hazard_free_interlude (without_cards state.old signals.now) }
 {
-    let mut coming = Coming::new(signals, Hopper::empty());
-    let came = between(state, &mut coming);
-    let (rest, _) = coming.parts();
+    let mut pending = PendingEvents::new(signals, Hopper::empty());
+    let came = between(state, &mut pending);
+    let (rest, _) = pending.parts();
     InterludeEnd {
         signals: rest,
         quiet: is_kept(came.waited, is_at_rest(state)),

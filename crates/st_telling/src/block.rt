@@ -10,11 +10,11 @@ ghost use Rattle.st_telling.specs.Report.{block, register_lines, memory_lines, d
 
 use st_io::{Failed, Sink};
 use st_report::{line_dump, line_en, line_ic, line_mem, line_reg, put};
-use st_run::Seen;
+use st_run::StateView;
 
 // Writes the line of register `w` if it is not zero.
 #[tactic(auto, using(st_io::proofs::Progress::wrote_nothing, st_bits::specs::Storage::words_of_storage_is))]
-fn write_register<K: Sink>(out: &mut K, seen: &Seen<'_>, w: u8) -> Result<(), Failed>
+fn write_register<K: Sink>(out: &mut K, seen: &StateView<'_>, w: u8) -> Result<(), Failed>
     requires { w < FIRST_STORAGE_WORD }
     ensures { WritesLines (K.output out.old) (K.output out.new)
         (register_lines seen.now w) result }
@@ -27,7 +27,7 @@ fn write_register<K: Sink>(out: &mut K, seen: &Seen<'_>, w: u8) -> Result<(), Fa
 }
 
 // Writes the lines of the nonzero registers.
-fn write_registers<K: Sink>(out: &mut K, seen: &Seen<'_>) -> Result<(), Failed>
+fn write_registers<K: Sink>(out: &mut K, seen: &StateView<'_>) -> Result<(), Failed>
     ensures { WritesLines (K.output out.old) (K.output out.new)
         (lines_for (register_lines seen.now) 30 2) result }
 {
@@ -39,7 +39,7 @@ fn write_registers<K: Sink>(out: &mut K, seen: &Seen<'_>) -> Result<(), Failed>
 
 // Writes the line of the word at `w` if it is not zero.
 #[tactic(auto, using(st_io::proofs::Progress::wrote_nothing, st_bits::specs::Storage::words_of_storage_is))]
-fn write_memory<K: Sink>(out: &mut K, seen: &Seen<'_>, w: u32) -> Result<(), Failed>
+fn write_memory<K: Sink>(out: &mut K, seen: &StateView<'_>, w: u32) -> Result<(), Failed>
     requires { w < WORDS }
     ensures { WritesLines (K.output out.old) (K.output out.new) (memory_lines seen.now w) result }
 {
@@ -51,7 +51,7 @@ fn write_memory<K: Sink>(out: &mut K, seen: &Seen<'_>, w: u32) -> Result<(), Fai
 }
 
 // Writes the lines of the nonzero words from `first` to `last`.
-fn write_words<K: Sink>(out: &mut K, seen: &Seen<'_>, first: u32, last: u32) -> Result<(), Failed>
+fn write_words<K: Sink>(out: &mut K, seen: &StateView<'_>, first: u32, last: u32) -> Result<(), Failed>
     requires order { first ≤ last }
     requires within { last < WORDS }
     ensures { WritesLines (K.output out.old) (K.output out.new)
@@ -71,7 +71,7 @@ fn write_range<K: Sink>(out: &mut K, first: u32, last: u32) -> Result<(), Failed
 }
 
 // Writes a dump: its range, and the nonzero words from `first` to `last`.
-fn write_dump<K: Sink>(out: &mut K, seen: &Seen<'_>, first: u32, last: u32) -> Result<(), Failed>
+fn write_dump<K: Sink>(out: &mut K, seen: &StateView<'_>, first: u32, last: u32) -> Result<(), Failed>
     requires order { first ≤ last }
     requires within { last < WORDS }
     ensures { WritesLines (K.output out.old) (K.output out.new)
@@ -82,7 +82,7 @@ fn write_dump<K: Sink>(out: &mut K, seen: &Seen<'_>, first: u32, last: u32) -> R
 }
 
 // Writes dumps, in order.
-fn write_dumps<K: Sink>(out: &mut K, seen: &Seen<'_>, dumps: &[(u32, u32)]) -> Result<(), Failed>
+fn write_dumps<K: Sink>(out: &mut K, seen: &StateView<'_>, dumps: &[(u32, u32)]) -> Result<(), Failed>
     requires { AllPass is_part dumps.now }
     ensures { WritesLines (K.output out.old) (K.output out.new)
         (dumps_lines seen.now dumps.now) result }
@@ -94,14 +94,14 @@ fn write_dumps<K: Sink>(out: &mut K, seen: &Seen<'_>, dumps: &[(u32, u32)]) -> R
 }
 
 // Writes the line of the program counter.
-fn write_counter<K: Sink>(out: &mut K, seen: &Seen<'_>) -> Result<(), Failed>
+fn write_counter<K: Sink>(out: &mut K, seen: &StateView<'_>) -> Result<(), Failed>
     ensures { WritesLines (K.output out.old) (K.output out.new) (ic_line seen.now.ic ∷ []) result }
 {
     put(out, &line_ic(seen.ic()))
 }
 
 // Writes the line that shows whether interrupts are enabled.
-fn write_enabled<K: Sink>(out: &mut K, seen: &Seen<'_>) -> Result<(), Failed>
+fn write_enabled<K: Sink>(out: &mut K, seen: &StateView<'_>) -> Result<(), Failed>
     ensures { WritesLines (K.output out.old) (K.output out.new)
         (en_line seen.now.enabled ∷ []) result }
 {
@@ -111,7 +111,7 @@ fn write_enabled<K: Sink>(out: &mut K, seen: &Seen<'_>) -> Result<(), Failed>
 /// Writes the state block, with the requested dumps.
 pub fn write_block<K: Sink>(
     out: &mut K,
-    seen: &Seen<'_>,
+    seen: &StateView<'_>,
     dumps: &[(u32, u32)],
 ) -> Result<(), Failed>
     requires { AllPass is_part dumps.now }

@@ -21,11 +21,11 @@ use st_report::{
     EntryLine, fill_trc, line_done, line_drop, line_end, line_int, line_prt, line_ticks, line_time,
     put,
 };
-use st_run::{Run, RunEvent, Seen, TimedRunEvent};
+use st_run::{Run, RunEvent, StateView, TimedRunEvent};
 use st_time::{fill_chart, level_line, snap_line};
 
 /// Writes the state block, with the requested dumps, line by line.
-pub fn write_state<K: Sink>(out: &mut K, seen: &Seen<'_>, controls: &Controls) -> Result<(), Failed>
+pub fn write_state<K: Sink>(out: &mut K, seen: &StateView<'_>, controls: &Controls) -> Result<(), Failed>
     requires { AllPass is_part controls.now.dumps }
     ensures { WritesLines (K.output out.old) (K.output out.new)
         (block controls.now.dumps seen.now) result }
@@ -144,7 +144,7 @@ fn write_interrupt<K: Sink>(
     out: &mut K,
     moment: Moment,
     i: u8,
-    seen: &Seen<'_>,
+    seen: &StateView<'_>,
     controls: &Controls,
 ) -> Result<(), Failed>
     requires { AllPass is_part controls.now.dumps }
@@ -198,7 +198,7 @@ fn write_levels<K: Sink>(out: &mut K, levels: &[Option<LevelView>]) -> Result<()
 fn write_snapshot<K: Sink>(
     out: &mut K,
     moment: Moment,
-    seen: &Seen<'_>,
+    seen: &StateView<'_>,
     view: &View,
     controls: &Controls,
 ) -> Result<(), Failed>
@@ -259,7 +259,7 @@ fn write_end<K: Sink>(
     out: &mut K,
     moment: Moment,
     rests: bool,
-    seen: &Seen<'_>,
+    seen: &StateView<'_>,
     controls: &Controls,
 ) -> Result<(), Failed>
     requires { AllPass is_part controls.now.dumps }

@@ -14,7 +14,7 @@ use itoa::Buffer;
 pub type Line = ArrayString<128>;
 
 /// A line that starts with this word, of at most 128 bytes.
-pub fn begun(word: &str) -> Line
+pub fn open_line(word: &str) -> Line
     requires { length word.now ≤ 128 }
     ensures { result.bytes ≡ word.now }
 {
@@ -24,7 +24,7 @@ pub fn begun(word: &str) -> Line
 }
 
 /// The line with its line end appended.
-pub fn ended(mut line: Line) -> Line
+pub fn close_line(mut line: Line) -> Line
     requires { array_string_len line < 128 }
     ensures { result.bytes ≡ line.bytes ++ lf }
 {

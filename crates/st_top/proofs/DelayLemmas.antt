@@ -31,7 +31,7 @@ run-unmarked asked c =
     let back = lines_of_steps_back asked (states_of_run asked c) (last_state asked c) in
     let all = timed_run asked.delays LEVELS asked.budget c asked.snaps in
     unmarked-append (marked_report asked (reported_events xs)) (without_marks back)
-    ∙ ap (λ front. front ++ lines_unmarked (without_marks back))
+    ∙ ap (λ issue. issue ++ lines_unmarked (without_marks back))
     (report-lines asked all (counted-run asked.delays LEVELS asked.budget (moment_at_start c) asked.snaps)
     ∙ ap (flat_map lines) (timed-plain asked.delays LEVELS asked.budget (moment_at_start c) asked.snaps))
     ∙ ap (λ rest. flat_map lines (run asked.budget c).happened ++ rest)

@@ -54,10 +54,10 @@ rows-texts job (row ∷ rows) (card ∷ cards) =
 listed-unmarked : (job : List ℕ) (a : Assembly)
     → lines_unmarked (listed_lines job a) ≡ text_lines (take (end_card job) a.rows) (texts_up_to_end job) ++ symbols_lines a.symbols
 listed-unmarked job a =
-    let front = up_to_end (cards_of job) in
-    unmarked-between (rows_lines job a.rows front) (rows_lines job (drop (end_card job) a.rows) (behind_statements (cards_of job)))
+    let issue = up_to_end (cards_of job) in
+    unmarked-between (rows_lines job a.rows issue) (rows_lines job (drop (end_card job) a.rows) (behind_statements (cards_of job)))
     (symbols_lines a.symbols)
-    ∙ ap (λ lines. lines ++ symbols_lines a.symbols) (rows-texts job a.rows front)
+    ∙ ap (λ lines. lines ++ symbols_lines a.symbols) (rows-texts job a.rows issue)
 
 listed-same : (job other : List ℕ) (a b : Assembly) → AreAlikeBesideDelays job other a b
     → lines_unmarked (listed_lines job a) ≡ lines_unmarked (listed_lines other b)
@@ -165,10 +165,10 @@ deck_beside p =
 
 deck-unmarked : (p : Program) → lines_unmarked (marked_deck p) ≡ deck_beside p
 deck-unmarked p =
-    let front = map (λ card. card ++ lf) (word_cards 0 0 p.words ++ statement_card (end_text p.start) ∷ []) in
-    unmarked-append (without_marks front) (marked_cards p.controls)
-    ∙ ap (λ xs. xs ++ lines_unmarked (marked_cards p.controls)) (unmarked-plain front)
-    ∙ ap (λ xs. front ++ xs) (cards-unmarked p.controls)
+    let issue = map (λ card. card ++ lf) (word_cards 0 0 p.words ++ statement_card (end_text p.start) ∷ []) in
+    unmarked-append (without_marks issue) (marked_cards p.controls)
+    ∙ ap (λ xs. xs ++ lines_unmarked (marked_cards p.controls)) (unmarked-plain issue)
+    ∙ ap (λ xs. issue ++ xs) (cards-unmarked p.controls)
 
 decks-same : (p q : Program) → record p { controls = record p.controls { delays = q.controls.delays } } ≡ q
     → lines_unmarked (marked_deck p) ≡ lines_unmarked (marked_deck q)

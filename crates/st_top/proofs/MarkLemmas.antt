@@ -47,7 +47,7 @@ lines-append (x ∷ xs) ys =
     joined-cons x (xs ++ ys)
     ∙ ap (λ rest. x.lines ++ rest) (lines-append xs ys)
     ∙ sym (append_assoc x.lines (joined xs) (joined ys))
-    ∙ ap (λ front. front ++ joined ys) (sym (joined-cons x xs))
+    ∙ ap (λ issue. issue ++ joined ys) (sym (joined-cons x xs))
 
 pub lines-plain : (lines : List (List ℕ)) → joined (without_marks lines) ≡ lines
 lines-plain lines = refl
@@ -67,7 +67,7 @@ lines-between : (xs ys zs : List (List ℕ)) → joined (without_marks xs ++ wit
 lines-between xs ys zs =
     lines-append (without_marks xs ++ with_marks ys) (without_marks zs)
     ∙ ap (λ rest. rest ++ joined (without_marks zs)) (lines-append (without_marks xs) (with_marks ys))
-    ∙ ap (λ front. front ++ joined (with_marks ys) ++ joined (without_marks zs)) (lines-plain xs)
+    ∙ ap (λ issue. issue ++ joined (with_marks ys) ++ joined (without_marks zs)) (lines-plain xs)
     ∙ ap (λ middle. xs ++ middle ++ joined (without_marks zs)) (lines-marked ys)
     ∙ ap (λ rest. xs ++ ys ++ rest) (lines-plain zs)
 
@@ -79,7 +79,7 @@ lines-report asked [] = refl
 lines-report asked (t ∷ ts) =
     let event = at_moment t.done t.tick (lines_told asked t) in
     lines-append (parts_at asked t.done t.tick t.event) (marked_report asked ts)
-    ∙ ap (λ front. front ++ joined (marked_report asked ts)) (sym (lines_of-at_moment t.done t.tick (lines_told asked t)))
+    ∙ ap (λ issue. issue ++ joined (marked_report asked ts)) (sym (lines_of-at_moment t.done t.tick (lines_told asked t)))
     ∙ ap (λ rest. lines_of event ++ rest) (lines-report asked ts)
     ∙ sym (lines_of-append event (report asked ts))
 
@@ -90,7 +90,7 @@ lines-run asked start =
     let back = lines_of_steps_back asked (states_of_run asked start) (last_state asked start) in
     let e = moment_at_end asked start in
     lines-append (marked_report asked ts) (without_marks back)
-    ∙ ap (λ front. front ++ joined (without_marks back)) (lines-report asked ts)
+    ∙ ap (λ issue. issue ++ joined (without_marks back)) (lines-report asked ts)
     ∙ ap (λ rest. lines_of (report asked ts) ++ rest) (lines-plain back ∙ sym (lines_of-at_moment e.done e.tick back))
     ∙ sym (lines_of-append (report asked ts) (at_moment e.done e.tick back))
 
@@ -117,11 +117,11 @@ rows-split job (row ∷ rows) (x ∷ xs) ys = ap (λ rest. card_line job row x �
 lines-listed : (job : List ℕ) (a : Assembly)
     → joined (listed_lines job a) ≡ rows_lines job a.rows (cards_of job) ++ symbols_lines a.symbols
 lines-listed job a =
-    let front = up_to_end (cards_of job) in
+    let issue = up_to_end (cards_of job) in
     let behind = behind_statements (cards_of job) in
-    lines-between (rows_lines job a.rows front) (rows_lines job (drop (end_card job) a.rows) behind) (symbols_lines a.symbols)
+    lines-between (rows_lines job a.rows issue) (rows_lines job (drop (end_card job) a.rows) behind) (symbols_lines a.symbols)
     ∙ ap (λ lines. lines ++ symbols_lines a.symbols)
-    (rows-split job a.rows front behind ∙ ap (rows_lines job a.rows) (cards-split (cards_of job)))
+    (rows-split job a.rows issue behind ∙ ap (rows_lines job a.rows) (cards-split (cards_of job)))
 
 lines-listing : (job : List ℕ) (a : Assembly) → joined (marked_listing job a) ≡ listing job a
 unfolding marked_listing listing
@@ -137,7 +137,7 @@ lines-by : (job : List ℕ) (r : Result Assembly Refusal) → joined (marked_by 
 lines-by job (Ok a) =
     let start = scene_of_assembly job a in
     lines-append (marked_listing job a) (marked_run a.asked start)
-    ∙ ap (λ front. front ++ joined (marked_run a.asked start)) (lines-listing job a ∙ sym (lines_of-at_moment 0 0 (listing job a)))
+    ∙ ap (λ issue. issue ++ joined (marked_run a.asked start)) (lines-listing job a ∙ sym (lines_of-at_moment 0 0 (listing job a)))
     ∙ ap (λ rest. lines_of (at_moment 0 0 (listing job a)) ++ rest) (lines-run a.asked start)
     ∙ sym (lines_of-append (at_moment 0 0 (listing job a)) (run_report a.asked start))
 lines-by job (Err r) = lines-plain _
@@ -157,7 +157,7 @@ mapped-unless f false x = refl
 
 mapped-parts : {X : Type 0} (f : X → List ℕ) (xs ys : List X) (us vs : List (List ℕ)) → map f xs ≡ us → map f ys ≡ vs → map f (xs ++ ys) ≡ us ++ vs
 mapped-parts f xs ys us vs first next =
-    map-append f xs ys ∙ ap (λ front. front ++ map f ys) first ∙ ap (λ rest. us ++ rest) next
+    map-append f xs ys ∙ ap (λ issue. issue ++ map f ys) first ∙ ap (λ rest. us ++ rest) next
 
 mapped-controls : {X : Type 0} (f : X → List ℕ) (made : Control → X) (a : Asked)
     → map f (controls_made made a) ≡ controls_made (λ c. f (made c)) a
@@ -186,7 +186,7 @@ lines-cards a =
     let dumps = map (λ (p : ℕ × ℕ). made (Dump p.0 p.1)) a.dumps in
     lines-between budget delays (signals ++ dumps ++ shows made a)
     ∙ sym (append_assoc (budget ++ delays) (signals ++ dumps) (shows made a))
-    ∙ ap (λ front. front ++ shows made a) (sym (append_assoc (budget ++ delays) signals dumps))
+    ∙ ap (λ issue. issue ++ shows made a) (sym (append_assoc (budget ++ delays) signals dumps))
 
 lines-object : (p : Program) → joined (marked_object p) ≡ object_text_lines p
 unfolding object_text_lines
@@ -198,13 +198,13 @@ lines-deck : (p : Program) → joined (marked_deck p) ≡ deck_lines p
 unfolding deck_lines
 lines-deck p =
     let line : List ℕ → List ℕ = λ card. card ++ lf in
-    let front = word_cards 0 0 p.words ++ statement_card (end_text p.start) ∷ [] in
+    let issue = word_cards 0 0 p.words ++ statement_card (end_text p.start) ∷ [] in
     let controls = marked_cards p.controls in
-    lines-append (without_marks (map line front)) controls
-    ∙ ap (λ xs. xs ++ joined controls) (lines-plain (map line front))
-    ∙ ap (λ xs. map line front ++ xs) (lines-cards p.controls
+    lines-append (without_marks (map line issue)) controls
+    ∙ ap (λ xs. xs ++ joined controls) (lines-plain (map line issue))
+    ∙ ap (λ xs. map line issue ++ xs) (lines-cards p.controls
     ∙ sym (mapped-controls line (control_line forms.Card) p.controls))
-    ∙ sym (map-append line front (control_cards p.controls))
+    ∙ sym (map-append line issue (control_cards p.controls))
 
 lines-assembled : (r : Result Assembly Refusal) → joined (marked_assembled r) ≡ lines_of (assembled_by r).events
 lines-assembled (Ok a) = lines-object (program_in a) ∙ sym (lines_of-at_moment 0 0 (object_text_lines (program_in a)))

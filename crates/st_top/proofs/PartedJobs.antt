@@ -20,7 +20,7 @@ use Rattle.st_asm.specs.Lines.{name_field, statement_field, silent_line}
 use Rattle.st_asm.specs.Forming.{Found, found_at_start, first_fault_of, with_line, with_control, with_statement, with_end, form_control, form_statement, form_kind, form_card, form_pass}
 use Rattle.st_asm.specs.Symbols.{table}
 use Rattle.st_asm.specs.Naming.{Named, name_pass}
-use Rattle.st_asm.specs.Valuing.{Laid, value_pass}
+use Rattle.st_asm.specs.Valuing.{Emitted, value_pass}
 use Rattle.st_asm.specs.Assembly.{Assembly, with_defaults, together, assembly}
 use Rattle.st_asm.specs.declared.valuing.Listed.{Listed}
 use Rattle.st_asm.proofs.FaultlessLemmas.{form_pass-faultless}
@@ -54,9 +54,9 @@ take-numbered zero n cards h = tt
 take-numbered (suc k) n [] h = tt
 take-numbered (suc k) n (card ∷ cards) h = (h.0, take-numbered k (n + 1) cards h.1)
 
-front-numbered : (n : ℕ) (xs ys : List Card) → AreNumbered n (xs ++ ys) → AreNumbered n xs
-front-numbered n [] ys h = tt
-front-numbered n (x ∷ xs) ys h = (h.0, front-numbered (n + 1) xs ys h.1)
+issue-numbered : (n : ℕ) (xs ys : List Card) → AreNumbered n (xs ++ ys) → AreNumbered n xs
+issue-numbered n [] ys h = tt
+issue-numbered n (x ∷ xs) ys h = (h.0, issue-numbered (n + 1) xs ys h.1)
 
 -- cards without a fault, each of the kind of its text
 abbrev AreGood : List ℕ → List Card → Type 0
@@ -71,9 +71,9 @@ are-good job (card ∷ cards) stand good = (
   are-good job cards (All-tail (IsCardOf job) card cards stand) (All-tail (λ (c : Card). c.fault ≡ None) card cards good),
 )
 
-front-good : (job : List ℕ) (xs ys : List Card) → AreGood job (xs ++ ys) → AreGood job xs
-front-good job [] ys h = tt
-front-good job (x ∷ xs) ys h = (h.0, h.1, front-good job xs ys h.2)
+issue-good : (job : List ℕ) (xs ys : List Card) → AreGood job (xs ++ ys) → AreGood job xs
+issue-good job [] ys h = tt
+issue-good job (x ∷ xs) ys h = (h.0, h.1, issue-good job xs ys h.2)
 
 behind-good : (job : List ℕ) (xs ys : List Card) → AreGood job (xs ++ ys) → AreGood job ys
 behind-good job [] ys h = h
@@ -185,19 +185,19 @@ abbrev AreBefore : List Card → Type 0
 AreBefore [] = Unit {0}
 AreBefore (card ∷ cards) = (has_statement (card ∷ cards) ≡ true) × AreBefore cards
 
-front-statement : (cards : List Card) → has_statement (up_to_end cards) ≡ has_statement cards
+issue-statement : (cards : List Card) → has_statement (up_to_end cards) ≡ has_statement cards
 unfolding up_to_end
-front-statement [] = refl
-front-statement (card ∷ cards) = by (has_statement (card ∷ cards)) refl (front-statement cards) where
+issue-statement [] = refl
+issue-statement (card ∷ cards) = by (has_statement (card ∷ cards)) refl (issue-statement cards) where
   by : (b : Bool) → has_statement (card ∷ cards) ≡ b → has_statement (up_to_end cards) ≡ has_statement cards
       → has_statement (if b then card ∷ up_to_end cards else []) ≡ b
   by true is rest = ap (λ (v : Bool). is_statement card.kind || v) rest ∙ is
   by false is rest = refl
 
-front-before : (cards : List Card) → AreBefore (up_to_end cards)
+issue-before : (cards : List Card) → AreBefore (up_to_end cards)
 unfolding up_to_end
-front-before [] = tt
-front-before (card ∷ cards) = by (has_statement (card ∷ cards)) refl (front-before cards) (front-statement cards) where
+issue-before [] = tt
+issue-before (card ∷ cards) = by (has_statement (card ∷ cards)) refl (issue-before cards) (issue-statement cards) where
   by : (b : Bool) → has_statement (card ∷ cards) ≡ b → AreBefore (up_to_end cards) → has_statement (up_to_end cards) ≡ has_statement cards
       → AreBefore (if b then card ∷ up_to_end cards else [])
   by true is rest same = (ap (λ (v : Bool). is_statement card.kind || v) same ∙ is, rest)
@@ -255,13 +255,13 @@ stays : (job : List ℕ) (from to : Found) (cards : List Card) → AreBefore car
 stays job from to [] before good e h = let same : from ≡ to = cc in ap (λ (f : Found). f.asked) (sym same)
 stays job from to (card ∷ cards) before good e h = absurd (ended-stops job from to (card ∷ cards) good before.0 e h)
 
-open-front : (job : List ℕ) (from to : Found) (cards : List Card) → AreBefore cards → AreGood job cards → from.ended ≡ false
+open-issue : (job : List ℕ) (from to : Found) (cards : List Card) → AreBefore cards → AreGood job cards → from.ended ≡ false
     → pass (form_card job) (λ card. card.number) from cards ≡ Ok to → to.asked ≡ from.asked
-open-front job from to [] before good e h = let same : from ≡ to = cc in ap (λ (f : Found). f.asked) (sym same)
-open-front job from to (card ∷ cards) before good e h =
+open-issue job from to [] before good e h = let same : from ≡ to = cc in ap (λ (f : Found). f.asked) (sym same)
+open-issue job from to (card ∷ cards) before good e h =
     let on = onward-ok (λ f. pass (form_card job) (λ c. c.number) f cards) card.number (form_card job from card) to h in
     let step = sym (card-text job from card.number card refl good.0 good.1) ∙ on.good in
-    by on.state.ended refl (λ still_open. open-front job on.state to cards before.1 good.2 still_open on.next)
+    by on.state.ended refl (λ still_open. open-issue job on.state to cards before.1 good.2 still_open on.next)
     (λ closed. stays job on.state to cards before.1 good.2 closed on.next)
     ∙ kind-asks (kind_of (text_in job card)) from on.state card.number (text_in job card) e step where
       by : {P : Type 0} (b : Bool) {c : Bool} → c ≡ b → (c ≡ false → P) → (c ≡ true → P) → P
@@ -385,61 +385,61 @@ job-read : (job : List ℕ) (all : Found) → form_pass job (cards_of job) ≡ O
 unfolding form_pass
 job-read job all is =
     let cards = cards_of job in
-    let front = up_to_end cards in
+    let issue = up_to_end cards in
     let behind = behind_statements cards in
     let next = λ (from : Found) (cs : List Card). pass (form_card job) (λ card. card.number) from cs in
     let formed = and_then-ok (with_end (length cards)) (next found_at_start cards) all is in
     let same : formed.first ≡ all = ended-same formed.first.ended formed.first all _ formed.last in
     let good = are-good job cards (cards_stand job) (form_pass-faultless job cards all is) in
-    let split_good : AreGood job (front ++ behind) = subst (AreGood job) (sym (cards-split cards)) good in
-    let numbered : AreNumbered 1 (front ++ behind) =
+    let split_good : AreGood job (issue ++ behind) = subst (AreGood job) (sym (cards-split cards)) good in
+    let numbered : AreNumbered 1 (issue ++ behind) =
     subst (AreNumbered 1) (sym (cards-split cards)) (take-numbered 20001 1 (cards_from 1 0 (pieces_of line_end job)) (from-numbered 1 0 (pieces_of line_end job))) in
-    let two = and_then-ok (λ s. next s behind) (next found_at_start front) all
-    (sym (pass-append (form_card job) (λ card. card.number) found_at_start front behind)
+    let two = and_then-ok (λ s. next s behind) (next found_at_start issue) all
+    (sym (pass-append (form_card job) (λ card. card.number) found_at_start issue behind)
     ∙ ap (next found_at_start) (cards-split cards) ∙ formed.is ∙ ap (λ (f : Found). Ok f) same) in
-    let on = went job two.first all behind (behind-good job front behind split_good) (no-statements cards) two.last in
+    let on = went job two.first all behind (behind-good job issue behind split_good) (no-statements cards) two.last in
     record {
       found = two.first;
-      read = sym (pass-texts job found_at_start 1 front (front-numbered 1 front behind numbered) (front-good job front behind split_good)) ∙ two.is;
+      read = sym (pass-texts job found_at_start 1 issue (issue-numbered 1 issue behind numbered) (issue-good job issue behind split_good)) ∙ two.is;
       ended = sym on.ended ∙ ap (λ (f : Found). f.ended) (sym same) ∙ ended-true formed.first.ended formed.first all _ formed.last;
-      opened = open-front job found_at_start two.first front (front-before cards) (front-good job front behind split_good) refl two.is;
+      opened = open-issue job found_at_start two.first issue (issue-before cards) (issue-good job issue behind split_good) refl two.is;
       went = on;
       count = counted job two.first all is on.lines;
-      reader = reader-others job (behind-good job front behind split_good);
+      reader = reader-others job (behind-good job issue behind split_good);
     }
 
 -- what a job gives, by what its cards up to END give
 record FromFront (job : List ℕ) (a : Assembly) : Type 0 where
   found : Found
   named : Named
-  laid : Laid
+  emitted : Emitted
   asked : Asked
   read : form_texts found_at_start 1 (texts_up_to_end job) ≡ Ok found
   ended : found.ended ≡ true
   opened : found.asked ≡ nothing_asked
   names : name_pass found.lines ≡ Ok named
-  values : value_pass (table named.symbols) found.lines named.places ≡ Ok laid
-  image : a.image ≡ laid.image
-  start : a.start ≡ laid.start
+  values : value_pass (table named.symbols) found.lines named.places ≡ Ok emitted
+  image : a.image ≡ emitted.image
+  start : a.start ≡ emitted.start
   symbols : a.symbols ≡ named.symbols
-  rows : take (end_card job) a.rows ≡ laid.rows
+  rows : take (end_card job) a.rows ≡ emitted.rows
   asks : asked_with (still found.asked) (others_behind_end job) ≡ Some (still asked)
   controls : a.asked ≡ with_defaults asked
   reader : reader_cards job ≡ map card_words (comments (others_behind_end job))
 
-take-front : (n : ℕ) (xs ys : List Listed) → length xs ≡ n → take n (xs ++ ys) ≡ xs
-take-front zero [] ys same = refl
-take-front zero (x ∷ xs) ys same = let no : ⊥ = omega arith in absurd no
-take-front (suc n) [] ys same = let no : ⊥ = omega arith in absurd no
-take-front (suc n) (x ∷ xs) ys same = ap (λ l. x ∷ l) (take-front n xs ys (omega arith))
+take-issue : (n : ℕ) (xs ys : List Listed) → length xs ≡ n → take n (xs ++ ys) ≡ xs
+take-issue zero [] ys same = refl
+take-issue zero (x ∷ xs) ys same = let no : ⊥ = omega arith in absurd no
+take-issue (suc n) [] ys same = let no : ⊥ = omega arith in absurd no
+take-issue (suc n) (x ∷ xs) ys same = ap (λ l. x ∷ l) (take-issue n xs ys (omega arith))
 
-from-parts : (job : List ℕ) (all : Found) (named : Named) (laid : Laid) → (read : Read job all)
-    → Parts read.found.lines (map (λ card. card.number) (behind_statements (cards_of job))) named laid
-    → FromFront job (together all named laid)
-from-parts job all named laid read parts = record {
+from-parts : (job : List ℕ) (all : Found) (named : Named) (emitted : Emitted) → (read : Read job all)
+    → Parts read.found.lines (map (λ card. card.number) (behind_statements (cards_of job))) named emitted
+    → FromFront job (together all named emitted)
+from-parts job all named emitted read parts = record {
   found = read.found;
   named = parts.named;
-  laid = parts.laid;
+  emitted = parts.emitted;
   asked = all.asked;
   read = read.read;
   ended = read.ended;
@@ -450,19 +450,19 @@ from-parts job all named laid read parts = record {
   start = parts.start;
   symbols = parts.symbols;
   rows = ap (take (end_card job)) parts.rows
-      ∙ take-front (end_card job) parts.laid.rows (quiet_rows (map (λ card. card.number) (behind_statements (cards_of job)))) (parts.count ∙ read.count);
+      ∙ take-issue (end_card job) parts.emitted.rows (quiet_rows (map (λ card. card.number) (behind_statements (cards_of job)))) (parts.count ∙ read.count);
   asks = read.went.asked;
   controls = refl;
   reader = read.reader;
 }
 
-from-front : (job : List ℕ) (a : Assembly) → assembly job ≡ Ok a → FromFront job a
+from-issue : (job : List ℕ) (a : Assembly) → assembly job ≡ Ok a → FromFront job a
 unfolding assembly
-from-front job a is =
-    let laying = λ (all : Found) (named : Named). pass_then (value_pass (table named.symbols) all.lines named.places) (λ laid. Ok (together all named laid)) in
+from-issue job a is =
+    let laying = λ (all : Found) (named : Named). pass_then (value_pass (table named.symbols) all.lines named.places) (λ emitted. Ok (together all named emitted)) in
     let f = and_then-ok (λ all. pass_then (name_pass all.lines) (laying all)) (form_pass job (cards_of job)) a is in
     let n = and_then-ok (laying f.first) (name_pass f.first.lines) a f.last in
-    let v = and_then-ok (λ laid. Ok (together f.first n.first laid)) (value_pass (table n.first.symbols) f.first.lines n.first.places) a n.last in
+    let v = and_then-ok (λ emitted. Ok (together f.first n.first emitted)) (value_pass (table n.first.symbols) f.first.lines n.first.places) a n.last in
     let same : together f.first n.first v.first ≡ a = cc in
     let read = job-read job f.first f.is in
     let ns = map (λ (card : Card). card.number) (behind_statements (cards_of job)) in
@@ -484,13 +484,13 @@ defaults-still ds asked = refl
 pub cards-differ : (job other : List ℕ) (a b : Assembly) → assembly job ≡ Ok a → assembly other ≡ Ok b → DifferInDelaysCards job other
     → AreAlikeBesideDelays job other a b
 cards-differ job other a b is also h =
-    let x = from-front job a is in
-    let y = from-front other b also in
+    let x = from-issue job a is in
+    let y = from-issue other b also in
     let found : x.found ≡ y.found =
     ok-same x.found y.found (form_texts found_at_start 1 (texts_up_to_end job)) x.read (ap (form_texts found_at_start 1) h.up_to_end ∙ y.read) in
     let named : x.named ≡ y.named =
     ok-same x.named y.named (name_pass x.found.lines) x.names (ap (λ (f : Found). name_pass f.lines) found ∙ y.names) in
-    let laid : x.laid ≡ y.laid = ok-same x.laid y.laid (value_pass (table x.named.symbols) x.found.lines x.named.places) x.values
+    let emitted : x.emitted ≡ y.emitted = ok-same x.emitted y.emitted (value_pass (table x.named.symbols) x.found.lines x.named.places) x.values
     (ap (λ (f : Found). value_pass (table x.named.symbols) f.lines x.named.places) found
     ∙ ap (λ (n : Named). value_pass (table n.symbols) y.found.lines n.places) named ∙ y.values) in
     let asks : still x.asked ≡ still y.asked =
@@ -500,9 +500,9 @@ cards-differ job other a b is also h =
     let ds = b.asked.delays in
     record {
       texts = h.up_to_end;
-      rows = x.rows ∙ ap (λ (l : Laid). l.rows) laid ∙ sym y.rows;
-      image = x.image ∙ ap (λ (l : Laid). l.image) laid ∙ sym y.image;
-      start = x.start ∙ ap (λ (l : Laid). l.start) laid ∙ sym y.start;
+      rows = x.rows ∙ ap (λ (l : Emitted). l.rows) emitted ∙ sym y.rows;
+      image = x.image ∙ ap (λ (l : Emitted). l.image) emitted ∙ sym y.image;
+      start = x.start ∙ ap (λ (l : Emitted). l.start) emitted ∙ sym y.start;
       symbols = x.symbols ∙ ap (λ (n : Named). n.symbols) named ∙ sym y.symbols;
       asked = ap (λ (z : Asked). record z { delays = ds }) x.controls
           ∙ defaults-still ds x.asked
@@ -526,25 +526,25 @@ form-again : (job : List ℕ) (found : Found) (z : Asked) → form_texts found_a
 unfolding form_pass
 form-again job found z read e no_faults asks =
     let cards = cards_of job in
-    let front = up_to_end cards in
+    let issue = up_to_end cards in
     let behind = behind_statements cards in
     let next = λ (from : Found) (cs : List Card). pass (form_card job) (λ card. card.number) from cs in
-    let split_good : AreGood job (front ++ behind) = subst (AreGood job) (sym (cards-split cards)) (are-good job cards (cards_stand job) no_faults) in
-    let numbered : AreNumbered 1 (front ++ behind) =
+    let split_good : AreGood job (issue ++ behind) = subst (AreGood job) (sym (cards-split cards)) (are-good job cards (cards_stand job) no_faults) in
+    let numbered : AreNumbered 1 (issue ++ behind) =
     subst (AreNumbered 1) (sym (cards-split cards)) (take-numbered 20001 1 (cards_from 1 0 (pieces_of line_end job)) (from-numbered 1 0 (pieces_of line_end job))) in
-    let first : next found_at_start front ≡ Ok found =
-    pass-texts job found_at_start 1 front (front-numbered 1 front behind numbered) (front-good job front behind split_good) ∙ read in
-    let last = all-go job found z behind (behind-good job front behind split_good) e asks in
-    let whole = ap (next found_at_start) (sym (cards-split cards)) ∙ pass-append (form_card job) (λ card. card.number) found_at_start front behind
+    let first : next found_at_start issue ≡ Ok found =
+    pass-texts job found_at_start 1 issue (issue-numbered 1 issue behind numbered) (issue-good job issue behind split_good) ∙ read in
+    let last = all-go job found z behind (behind-good job issue behind split_good) e asks in
+    let whole = ap (next found_at_start) (sym (cards-split cards)) ∙ pass-append (form_card job) (λ card. card.number) found_at_start issue behind
     ∙ ap (λ r. pass_then r (λ s. next s behind)) first ∙ last in
     ap (λ r. pass_then r (with_end (length cards))) whole
 
 -- the later passes over lines with cards that say nothing behind them
-again : (job : List ℕ) (all found : Found) (named : Named) (laid : Laid) (ns : List ℕ) → form_pass job (cards_of job) ≡ Ok all
-    → all.lines ≡ found.lines ++ quiet ns → name_pass found.lines ≡ Ok named → value_pass (table named.symbols) found.lines named.places ≡ Ok laid
-    → assembly job ≡ Ok (together all (with_places named (no_places ns)) (with_rows laid (quiet_rows ns)))
+again : (job : List ℕ) (all found : Found) (named : Named) (emitted : Emitted) (ns : List ℕ) → form_pass job (cards_of job) ≡ Ok all
+    → all.lines ≡ found.lines ++ quiet ns → name_pass found.lines ≡ Ok named → value_pass (table named.symbols) found.lines named.places ≡ Ok emitted
+    → assembly job ≡ Ok (together all (with_places named (no_places ns)) (with_rows emitted (quiet_rows ns)))
 unfolding assembly
-again job all found named laid ns formed lines names values =
+again job all found named emitted ns formed lines names values =
     let laying = λ (whole : Found) (n : Named). pass_then (value_pass (table n.symbols) whole.lines n.places) (λ l. Ok (together whole n l)) in
     let more = with_places named (no_places ns) in
     let has_names = ap name_pass lines ∙ names-parted found.lines ns ∙ ap (λ r. pass_then r (λ n. Ok (with_places n (no_places ns)))) names in
@@ -559,10 +559,10 @@ again job all found named laid ns formed lines names values =
 pub again-accepted : (job other : List ℕ) (a : Assembly) → assembly job ≡ Ok a → DifferInDelaysCards job other → HasGoodDelays other
     → (b : Assembly) × (assembly other ≡ Ok b)
 again-accepted job other a is h g =
-    let x = from-front job a is in
+    let x = from-issue job a is in
     let (e, good) = some-of (asked_in nothing_asked (delays_behind_end other)) g.delays in
     let (z, asks) = mixed (texts_behind_end other) x.found.asked nothing_asked (still x.asked) e (ap (λ (a : Asked). a.delays) x.opened)
     (ap (asked_with (still x.found.asked)) (sym h.others) ∙ x.asks) good in
     let ns = map (λ (card : Card). card.number) (behind_statements (cards_of other)) in
     let formed = form-again other x.found z (ap (form_texts found_at_start 1) (sym h.up_to_end) ∙ x.read) x.ended g.cards asks in
-    (_, again other (record { ended = true; asked = z; lines = x.found.lines ++ quiet ns }) x.found x.named x.laid ns formed refl x.names x.values)
+    (_, again other (record { ended = true; asked = z; lines = x.found.lines ++ quiet ns }) x.found x.named x.emitted ns formed refl x.names x.values)

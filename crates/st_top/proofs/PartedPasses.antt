@@ -8,7 +8,7 @@ use Rattle.st_asm.specs.Pass.{Refusal, onward, pass, pass_then}
 use Rattle.st_asm.specs.Lines.{silent_line}
 use Rattle.st_asm.specs.Symbols.{table, has_name, names_of}
 use Rattle.st_asm.specs.Naming.{Named, naming_at_start, name_fault, name_step, name_card, name_pass}
-use Rattle.st_asm.specs.Valuing.{Laid, laying_at_start, value_card, value_pass}
+use Rattle.st_asm.specs.Valuing.{Emitted, laying_at_start, value_card, value_pass}
 use Rattle.st_asm.specs.declared.naming.Symbol.{Symbol}
 use Rattle.st_asm.specs.declared.valuing.Listed.{Listed}
 use Rattle.st_asm.proofs.KeptLemmas.{name_pass-counts, value_pass-numbers}
@@ -118,24 +118,24 @@ abbrev pub quiet_rows : List ℕ → List Listed
 quiet_rows ns = map quiet_row ns
 
 -- what is laid with rows more
-abbrev pub with_rows : Laid → List Listed → Laid
-with_rows laid rows = record { image = laid.image; start = laid.start; rows = laid.rows ++ rows }
+abbrev pub with_rows : Emitted → List Listed → Emitted
+with_rows emitted rows = record { image = emitted.image; start = emitted.start; rows = emitted.rows ++ rows }
 
 -- cards that say nothing, with their places
 abbrev quiet_pairs : List ℕ → List (ReadCard × Option ℕ)
 quiet_pairs ns = map (λ n. (silent_line n, None)) ns
 
-value-silent : (symbols : List (List ℕ × ℕ)) (laid : Laid) (n : ℕ) → value_card symbols laid (silent_line n, None) ≡ Ok (with_rows laid (quiet_row n ∷ []))
+value-silent : (symbols : List (List ℕ × ℕ)) (emitted : Emitted) (n : ℕ) → value_card symbols emitted (silent_line n, None) ≡ Ok (with_rows emitted (quiet_row n ∷ []))
 unfolding value_card
-value-silent symbols laid n = refl
+value-silent symbols emitted n = refl
 
-value-quiet : (symbols : List (List ℕ × ℕ)) (laid : Laid) (ns : List ℕ)
-    → pass (value_card symbols) (λ p. p.0.card) laid (quiet_pairs ns) ≡ Ok (with_rows laid (quiet_rows ns))
-value-quiet symbols laid [] = ap (λ rows. Ok (record { image = laid.image; start = laid.start; rows = rows })) (sym (append-nil laid.rows))
-value-quiet symbols laid (n ∷ ns) =
-    ap (λ r. onward (λ s. pass (value_card symbols) (λ p. p.0.card) s (quiet_pairs ns)) n r) (value-silent symbols laid n)
-    ∙ value-quiet symbols (with_rows laid (quiet_row n ∷ [])) ns
-    ∙ ap (λ rows. Ok (record { image = laid.image; start = laid.start; rows = rows })) (append_assoc laid.rows (quiet_row n ∷ []) (quiet_rows ns))
+value-quiet : (symbols : List (List ℕ × ℕ)) (emitted : Emitted) (ns : List ℕ)
+    → pass (value_card symbols) (λ p. p.0.card) emitted (quiet_pairs ns) ≡ Ok (with_rows emitted (quiet_rows ns))
+value-quiet symbols emitted [] = ap (λ rows. Ok (record { image = emitted.image; start = emitted.start; rows = rows })) (sym (append-nil emitted.rows))
+value-quiet symbols emitted (n ∷ ns) =
+    ap (λ r. onward (λ s. pass (value_card symbols) (λ p. p.0.card) s (quiet_pairs ns)) n r) (value-silent symbols emitted n)
+    ∙ value-quiet symbols (with_rows emitted (quiet_row n ∷ [])) ns
+    ∙ ap (λ rows. Ok (record { image = emitted.image; start = emitted.start; rows = rows })) (append_assoc emitted.rows (quiet_row n ∷ []) (quiet_rows ns))
 
 quiet-zipped : (ns : List ℕ) → zip (quiet ns) (no_places ns) ≡ quiet_pairs ns
 quiet-zipped [] = refl
@@ -150,32 +150,32 @@ zipped-apart (l ∷ ls) (p ∷ ps) ns same = ap (λ rest. (l, p) ∷ rest) (zipp
 
 pub values-parted : (symbols : List (List ℕ × ℕ)) (lines : List ReadCard) (places : List (Option ℕ)) (ns : List ℕ) → length places ≡ length lines
     → value_pass symbols (lines ++ quiet ns) (places ++ no_places ns)
-    ≡ pass_then (value_pass symbols lines places) (λ laid. Ok (with_rows laid (quiet_rows ns)))
+    ≡ pass_then (value_pass symbols lines places) (λ emitted. Ok (with_rows emitted (quiet_rows ns)))
 unfolding value_pass
 values-parted symbols lines places ns same =
     ap (λ ps. pass (value_card symbols) (λ p. p.0.card) laying_at_start ps) (zipped-apart lines places ns same)
     ∙ pass-append (value_card symbols) (λ p. p.0.card) laying_at_start (zip lines places) (quiet_pairs ns)
     ∙ then-same (pass (value_card symbols) (λ p. p.0.card) laying_at_start (zip lines places)) where
-      then-same : (r : Result Laid Refusal) → pass_then r (λ s. pass (value_card symbols) (λ p. p.0.card) s (quiet_pairs ns))
-          ≡ pass_then r (λ laid. Ok (with_rows laid (quiet_rows ns)))
-      then-same (Ok laid) = value-quiet symbols laid ns
+      then-same : (r : Result Emitted Refusal) → pass_then r (λ s. pass (value_card symbols) (λ p. p.0.card) s (quiet_pairs ns))
+          ≡ pass_then r (λ emitted. Ok (with_rows emitted (quiet_rows ns)))
+      then-same (Ok emitted) = value-quiet symbols emitted ns
       then-same (Err e) = refl
 
 -- ---- both later passes
 
 -- what the name pass and the value pass leave of lines, and with cards that say nothing behind them
-pub record Parts (lines : List ReadCard) (ns : List ℕ) (all : Named) (whole : Laid) : Type 0 where
+pub record Parts (lines : List ReadCard) (ns : List ℕ) (all : Named) (whole : Emitted) : Type 0 where
   pub named : Named
-  pub laid : Laid
+  pub emitted : Emitted
   pub names : name_pass lines ≡ Ok named
-  pub values : value_pass (table named.symbols) lines named.places ≡ Ok laid
+  pub values : value_pass (table named.symbols) lines named.places ≡ Ok emitted
   pub symbols : all.symbols ≡ named.symbols
-  pub image : whole.image ≡ laid.image
-  pub start : whole.start ≡ laid.start
-  pub rows : whole.rows ≡ laid.rows ++ quiet_rows ns
-  pub count : length laid.rows ≡ length lines
+  pub image : whole.image ≡ emitted.image
+  pub start : whole.start ≡ emitted.start
+  pub rows : whole.rows ≡ emitted.rows ++ quiet_rows ns
+  pub count : length emitted.rows ≡ length lines
 
-pub passes-parted : (lines : List ReadCard) (ns : List ℕ) (all : Named) (whole : Laid) → name_pass (lines ++ quiet ns) ≡ Ok all
+pub passes-parted : (lines : List ReadCard) (ns : List ℕ) (all : Named) (whole : Emitted) → name_pass (lines ++ quiet ns) ≡ Ok all
     → value_pass (table all.symbols) (lines ++ quiet ns) all.places ≡ Ok whole → Parts lines ns all whole
 passes-parted lines ns all whole has_names has_values =
     let n = and_then-ok (λ named. Ok (with_places named (no_places ns))) (name_pass lines) all (sym (names-parted lines ns) ∙ has_names) in
@@ -183,18 +183,18 @@ passes-parted lines ns all whole has_names has_values =
     let counted = name_pass-counts lines n.first n.is in
     let at : value_pass (table n.first.symbols) (lines ++ quiet ns) (n.first.places ++ no_places ns) ≡ Ok whole =
     ap (λ (m : Named). value_pass (table m.symbols) (lines ++ quiet ns) m.places) is ∙ has_values in
-    let v = and_then-ok (λ laid. Ok (with_rows laid (quiet_rows ns))) (value_pass (table n.first.symbols) lines n.first.places) whole
+    let v = and_then-ok (λ emitted. Ok (with_rows emitted (quiet_rows ns))) (value_pass (table n.first.symbols) lines n.first.places) whole
     (sym (values-parted (table n.first.symbols) lines n.first.places ns counted) ∙ at) in
     let so : with_rows v.first (quiet_rows ns) ≡ whole = cc in
     record {
       named = n.first;
-      laid = v.first;
+      emitted = v.first;
       names = n.is;
       values = v.is;
       symbols = ap (λ (m : Named). m.symbols) (sym is);
-      image = ap (λ (l : Laid). l.image) (sym so);
-      start = ap (λ (l : Laid). l.start) (sym so);
-      rows = ap (λ (l : Laid). l.rows) (sym so);
+      image = ap (λ (l : Emitted). l.image) (sym so);
+      start = ap (λ (l : Emitted). l.start) (sym so);
+      rows = ap (λ (l : Emitted). l.rows) (sym so);
       count = sym (length-map v.first.rows (λ (row : Listed). row.card))
           ∙ ap length (value_pass-numbers (table n.first.symbols) lines n.first.places v.first v.is counted)
           ∙ length-map lines (λ (line : ReadCard). line.card);

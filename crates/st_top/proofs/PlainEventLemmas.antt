@@ -55,7 +55,7 @@ unmarked-before xs ys =
 pub unmarked-between : (xs ys zs : List (List ℕ)) → lines_unmarked (without_marks xs ++ with_marks ys ++ without_marks zs) ≡ xs ++ zs
 unmarked-between xs ys zs =
     unmarked-append (without_marks xs ++ with_marks ys) (without_marks zs)
-    ∙ ap (λ front. front ++ lines_unmarked (without_marks zs)) (unmarked-before xs ys)
+    ∙ ap (λ issue. issue ++ lines_unmarked (without_marks zs)) (unmarked-before xs ys)
     ∙ ap (λ rest. xs ++ rest) (unmarked-plain zs)
 
 -- ---- what happens in the plain run, as lines
@@ -121,7 +121,7 @@ report-lines asked [] are = refl
 report-lines asked (x ∷ xs) are =
     let lines = happening_lines asked.trace asked.dumps in
     unmarked-append (marked_lines asked (timed_reported_event x)) (marked_report asked (reported_events xs))
-    ∙ ap (λ front. front ++ lines_unmarked (marked_report asked (reported_events xs))) (event-lines asked x.done x.tick x.event are.0)
+    ∙ ap (λ issue. issue ++ lines_unmarked (marked_report asked (reported_events xs))) (event-lines asked x.done x.tick x.event are.0)
     ∙ ap (λ rest. flat_map lines (plain_event x.event) ++ rest) (report-lines asked xs are.1)
     ∙ sym (flat_map-append lines (plain_event x.event) (plain_run xs))
 

@@ -15,7 +15,7 @@ use st_beside::{MachineBeside, rewind, run_beside};
 use st_card::Controls;
 use st_io::{Failed, Sink};
 use st_report::line_back;
-use st_run::{Run, Seen};
+use st_run::{Run, StateView};
 use st_state::State;
 use st_telling::{Moment, put, write_run, write_state};
 
@@ -41,7 +41,7 @@ fn write_before<K: Sink>(
         (back_line steps ∷ block controls.now.dumps state.now) result }
 {
     write_steps(out, steps)?;
-    write_state(out, &Seen::new(state), controls)
+    write_state(out, &StateView::new(state), controls)
 }
 
 // Writes the state before the end to which the machine beside a run steps back, where there is one.

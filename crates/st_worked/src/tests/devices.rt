@@ -121,18 +121,18 @@ fn done_at(groups: &[(u32, u64)], line: u32) -> Option<u64> {
 
 // The first `lines` lines of a report.
 fn first_lines(alloc: Global, report: &str, lines: u32) -> Result<Vec<u8>, Fail> {
-    let mut front = Vec::new(alloc);
+    let mut issue = Vec::new(alloc);
     let mut left = lines;
     for byte in report.as_bytes() {
         if left == 0 {
             break;
         }
-        front.push(*byte)?;
+        issue.push(*byte)?;
         if *byte == b'\n' {
             left -= 1;
         }
     }
-    Ok(front)
+    Ok(issue)
 }
 
 // Makes the write of this line fail, counted from 0, and checks that the lines before it are
@@ -147,10 +147,10 @@ fn fails_at_line(alloc: Global, run: &Written, line: u32) -> Result<bool, Fail>
         check(whole, run.job)?;
         return Ok(false);
     };
-    let front = first_lines(alloc, run.report, line)?;
+    let issue = first_lines(alloc, run.report, line)?;
     let cut = answer.status == Status::WriteFault
         && answer.done == done
-        && out.bytes() == front.as_slice();
+        && out.bytes() == issue.as_slice();
     check(cut, run.job)?;
     Ok(true)
 }
@@ -168,11 +168,11 @@ fn each_write_that_fails_leaves_the_lines_before_it(rt: HostRuntime) -> Result<(
 }
 
 // Whether a sink with this much room receives a prefix of the report of one load.
-fn holds_front(alloc: Global, room: usize) -> Result<bool, Fail> {
+fn holds_issue(alloc: Global, room: usize) -> Result<bool, Fail> {
     let job = LOAD.as_bytes().to_vec(alloc)?;
     let (answer, out) = answer_failing(alloc, "run", job, (0, 0, room))?;
-    let front = LOADED.as_bytes().get(..room).ok_or("no such front")?;
-    Ok(answer.status == Status::WriteFault && answer.done == 2 && out.bytes() == front)
+    let issue = LOADED.as_bytes().get(..room).ok_or("no such front")?;
+    Ok(answer.status == Status::WriteFault && answer.done == 2 && out.bytes() == issue)
 }
 
 // Thirteen instructions take 58 ticks with eight levels, and 60 with seven.
@@ -186,7 +186,7 @@ fn a_sweep_answers_with_what_eight_levels_did(rt: HostRuntime) -> Result<(), Fai
 #[test]
 fn a_sink_that_is_full_holds_a_front_of_the_report(rt: HostRuntime) -> Result<(), Fail> {
     for room in 0..LOADED.len() {
-        check(holds_front(rt.alloc(), room)?, "a sink that is full")?;
+        check(holds_issue(rt.alloc(), room)?, "a sink that is full")?;
     }
     Ok(())
 }

@@ -1,7 +1,7 @@
 use Rattle.std.proofs.Common.{subst, ap}
 use Rattle.st_state.specs.Machine.{Machine, IsMachine}
 use Rattle.st_rows.proofs.Within.{delays-are}
-use Rattle.st_account.specs.Standing.{guessing}
+use Rattle.st_account.specs.Standing.{predicting}
 use Rattle.st_account.proofs.LastLemmas.{few-found}
 use Rattle.st_account.proofs.ReadLemmas.{banks-behind, soon-behind}
 use Rattle.st_account.proofs.behind.look_behind.Goals as goal
@@ -9,16 +9,16 @@ use Rattle.st_account.proofs.behind.look_behind.Goals as goal
 pub returns-clause-banks : goal.returns-clause-banks
 returns-clause-banks c reads start has =
     let l = c.args.last.now in
-    banks-behind c.args.timing.now.delays.now.list (delays-are c.args.timing.now.delays.now) c.args.timing.now.levels l.tick (guessing l.ic c.args.state.now) _ l.front
-    c.front_of-front.result (subst IsMachine c.look.ensures.state c.look.ensures.machine) c.requires.tight (ap (λ (s : Machine). record s { ic = l.ic }) c.state.view_is) c.front_of-front.ensures
-    reads start c.args.log.now c.look.new.log c.look.new.front.bus c.undo.new.banks has c.look.ensures.log c.look.ensures.bus c.undo.ensures
+    banks-behind c.args.timing.now.delays.now.list (delays-are c.args.timing.now.delays.now) c.args.timing.now.levels l.tick (predicting l.ic c.args.state.now) _ l.issue
+    c.issue_of-issue.result (subst IsMachine c.look.ensures.state c.look.ensures.machine) c.requires.tight (ap (λ (s : Machine). record s { ic = l.ic }) c.state.view_is) c.issue_of-issue.ensures
+    reads start c.args.log.now c.look.new.log c.look.new.issue.bus c.undo.new.banks has c.look.ensures.log c.look.ensures.bus c.undo.ensures
 
 pub returns-clause-soon : goal.returns-clause-soon
 returns-clause-soon c reads start has =
     let l = c.args.last.now in
-    soon-behind c.args.timing.now.delays.now.list (delays-are c.args.timing.now.delays.now) c.args.timing.now.levels l.tick (guessing l.ic c.args.state.now) _ l.front
-    c.front_of-front.result (subst IsMachine c.look.ensures.state c.look.ensures.machine) c.requires.tight (ap (λ (s : Machine). record s { ic = l.ic }) c.state.view_is) c.front_of-front.ensures
-    reads start c.args.log.now c.look.new.log c.look.new.front.bus c.undo.new.banks has c.look.ensures.log c.look.ensures.bus c.undo.ensures
+    soon-behind c.args.timing.now.delays.now.list (delays-are c.args.timing.now.delays.now) c.args.timing.now.levels l.tick (predicting l.ic c.args.state.now) _ l.issue
+    c.issue_of-issue.result (subst IsMachine c.look.ensures.state c.look.ensures.machine) c.requires.tight (ap (λ (s : Machine). record s { ic = l.ic }) c.state.view_is) c.issue_of-issue.ensures
+    reads start c.args.log.now c.look.new.log c.look.new.issue.bus c.undo.new.banks has c.look.ensures.log c.look.ensures.bus c.undo.ensures
 
 pub returns-clause-few : goal.returns-clause-few
 returns-clause-few c =

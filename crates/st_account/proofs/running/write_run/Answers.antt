@@ -8,78 +8,78 @@ use Rattle.st_account.proofs.running.write_run.Goals as goal
 
 pub entries-init : goal.entries-init
 entries-init g c =
-    run-taken _ _ _ _ _ _ _ _ _ _ _ _ _ _ c.new-coming.ensures c.signals.ensures c.budget-left.ensures
+    run-taken _ _ _ _ _ _ _ _ _ _ _ _ _ _ c.new-pending.ensures c.signals.ensures c.budget-left.ensures
     (run-starts _ c.args.ready.delays.list c.args.ready.levels c.args.controls.now.budget c.args.ready.state c.args.controls.now.signals c.args.ready.cards
     c.args.ready.origins c.new-account.result (ap length c.new-account.ensures.words ∙ c.requires.size) (delays-are c.args.ready.delays) c.requires.levels.1 c.new-account.ensures.machine c.requires.cards
     c.requires.fresh c.requires.limit c.new-account.ensures.none c.new-account.ensures.state c.new-account.ensures.origins c.new-account.ensures.number
-    c.new-account.ensures.tick c.new-account.ensures.front c.new-account.ensures.past c.new-account.ensures.missed c.new-account.ensures.counter
+    c.new-account.ensures.tick c.new-account.ensures.issue c.new-account.ensures.past c.new-account.ensures.mispredicted c.new-account.ensures.counter
     c.new-account.ensures.enabled c.new-account.ensures.below c.new-account.ensures.log c.new-account.ensures.tight c.new-account.ensures.unused c.new-account.ensures.waiting
     c.new-account.ensures.unwaited)
 
 -- ---- preconditions of the calls
 
 pub finish-written-requires-clause-few : goal.finish-written-requires-clause-few
-finish-written-requires-clause-few g c = omega (arith, few-then _ _ _ _ _ _ _ _ _ _ _ c.entries.invariant c.pass.new.self c.pass.new.coming.signals c.pass.new.coming.cards c.pass.ensures.rest (c.pass.ensures.came c.entries.invariant.b c.entries.invariant.m c.entries.invariant.at))
+finish-written-requires-clause-few g c = omega (arith, few-then _ _ _ _ _ _ _ _ _ _ _ c.entries.invariant c.take_events.new.self c.take_events.new.pending.signals c.take_events.new.pending.cards c.take_events.ensures.rest (c.take_events.ensures.came c.entries.invariant.b c.entries.invariant.m c.entries.invariant.at))
 
 pub finish-written-requires-clause-left : goal.finish-written-requires-clause-left
-finish-written-requires-clause-left g c = (c.pass.ensures.came c.entries.invariant.b c.entries.invariant.m c.entries.invariant.at).unchanged
+finish-written-requires-clause-left g c = (c.take_events.ensures.came c.entries.invariant.b c.entries.invariant.m c.entries.invariant.at).unchanged
 
-pub cross-requires-clause-few : goal.cross-requires-clause-few
-cross-requires-clause-few g c = omega (arith, few-then _ _ _ _ _ _ _ _ _ _ _ c.entries.invariant c.pass.new.self c.pass.new.coming.signals c.pass.new.coming.cards c.pass.ensures.rest (c.pass.ensures.came c.entries.invariant.b c.entries.invariant.m c.entries.invariant.at))
+pub write_to_next-requires-clause-few : goal.write_to_next-requires-clause-few
+write_to_next-requires-clause-few g c = omega (arith, few-then _ _ _ _ _ _ _ _ _ _ _ c.entries.invariant c.take_events.new.self c.take_events.new.pending.signals c.take_events.new.pending.cards c.take_events.ensures.rest (c.take_events.ensures.came c.entries.invariant.b c.entries.invariant.m c.entries.invariant.at))
 
-pub cross-requires-clause-left : goal.cross-requires-clause-left
-cross-requires-clause-left g c = (c.pass.ensures.came c.entries.invariant.b c.entries.invariant.m c.entries.invariant.at).unchanged
+pub write_to_next-requires-clause-left : goal.write_to_next-requires-clause-left
+write_to_next-requires-clause-left g c = (c.take_events.ensures.came c.entries.invariant.b c.entries.invariant.m c.entries.invariant.at).unchanged
 
-pub cross-requires-clause-soon : goal.cross-requires-clause-soon
-cross-requires-clause-soon g c = soon-then _ _ _ _ _ _ _ _ _ _ _ c.entries.invariant c.pass.new.self c.pass.new.coming.signals c.pass.new.coming.cards c.pass.ensures.rest (c.pass.ensures.came c.entries.invariant.b c.entries.invariant.m c.entries.invariant.at) (c.pass.ensures.soon c.entries.invariant.b c.entries.invariant.m c.entries.invariant.at)
+pub write_to_next-requires-clause-soon : goal.write_to_next-requires-clause-soon
+write_to_next-requires-clause-soon g c = soon-then _ _ _ _ _ _ _ _ _ _ _ c.entries.invariant c.take_events.new.self c.take_events.new.pending.signals c.take_events.new.pending.cards c.take_events.ensures.rest (c.take_events.ensures.came c.entries.invariant.b c.entries.invariant.m c.entries.invariant.at) (c.take_events.ensures.soon c.entries.invariant.b c.entries.invariant.m c.entries.invariant.at)
 
 -- ---- the end
 
 pub returns-then-is_over-clause-lines : goal.returns-then-is_over-clause-lines
 returns-then-is_over-clause-lines g c =
-    finishes _ _ _ _ _ _ _ _ _ _ _ c.entries.invariant c.pass.new.self c.pass.new.coming.signals c.pass.new.coming.cards c.pass.ensures.rest (c.pass.ensures.came c.entries.invariant.b c.entries.invariant.m c.entries.invariant.at)
-    _ c.finish-written.result (sym (over-is _ _ _ _ _ _ _ _ _ _ _ c.entries.invariant c.pass.new.self c.pass.new.coming.signals c.pass.new.coming.cards c.pass.ensures.rest (c.pass.ensures.came c.entries.invariant.b c.entries.invariant.m c.entries.invariant.at) c.is_over.result c.is_over.ensures) ∙ c.if-is_over.true)
-    (c.finish-written.ensures.lines _ _ c.entries.left _ _ _ _ (c.pass.ensures.came c.entries.invariant.b c.entries.invariant.m c.entries.invariant.at) (sym (over-is _ _ _ _ _ _ _ _ _ _ _ c.entries.invariant c.pass.new.self c.pass.new.coming.signals c.pass.new.coming.cards c.pass.ensures.rest (c.pass.ensures.came c.entries.invariant.b c.entries.invariant.m c.entries.invariant.at) c.is_over.result c.is_over.ensures) ∙ c.if-is_over.true))
+    finishes _ _ _ _ _ _ _ _ _ _ _ c.entries.invariant c.take_events.new.self c.take_events.new.pending.signals c.take_events.new.pending.cards c.take_events.ensures.rest (c.take_events.ensures.came c.entries.invariant.b c.entries.invariant.m c.entries.invariant.at)
+    _ c.finish-written.result (sym (over-is _ _ _ _ _ _ _ _ _ _ _ c.entries.invariant c.take_events.new.self c.take_events.new.pending.signals c.take_events.new.pending.cards c.take_events.ensures.rest (c.take_events.ensures.came c.entries.invariant.b c.entries.invariant.m c.entries.invariant.at) c.is_over.result c.is_over.ensures) ∙ c.if-is_over.true)
+    (c.finish-written.ensures.lines _ _ c.entries.left _ _ _ _ (c.take_events.ensures.came c.entries.invariant.b c.entries.invariant.m c.entries.invariant.at) (sym (over-is _ _ _ _ _ _ _ _ _ _ _ c.entries.invariant c.take_events.new.self c.take_events.new.pending.signals c.take_events.new.pending.cards c.take_events.ensures.rest (c.take_events.ensures.came c.entries.invariant.b c.entries.invariant.m c.entries.invariant.at) c.is_over.result c.is_over.ensures) ∙ c.if-is_over.true))
 
 pub returns-then-is_over-clause-sums : goal.returns-then-is_over-clause-sums
 returns-then-is_over-clause-sums g c =
-    λ x good. ap (sum_at x) c.finish-written.ensures.sums ∙ sums-are _ _ _ _ _ _ _ _ _ _ _ c.entries.invariant c.pass.new.self c.pass.new.coming.signals c.pass.new.coming.cards c.pass.ensures.rest (c.pass.ensures.came c.entries.invariant.b c.entries.invariant.m c.entries.invariant.at) x (sym (over-is _ _ _ _ _ _ _ _ _ _ _ c.entries.invariant c.pass.new.self c.pass.new.coming.signals c.pass.new.coming.cards c.pass.ensures.rest (c.pass.ensures.came c.entries.invariant.b c.entries.invariant.m c.entries.invariant.at) c.is_over.result c.is_over.ensures) ∙ c.if-is_over.true)
+    λ x good. ap (sum_at x) c.finish-written.ensures.sums ∙ sums-are _ _ _ _ _ _ _ _ _ _ _ c.entries.invariant c.take_events.new.self c.take_events.new.pending.signals c.take_events.new.pending.cards c.take_events.ensures.rest (c.take_events.ensures.came c.entries.invariant.b c.entries.invariant.m c.entries.invariant.at) x (sym (over-is _ _ _ _ _ _ _ _ _ _ _ c.entries.invariant c.take_events.new.self c.take_events.new.pending.signals c.take_events.new.pending.cards c.take_events.ensures.rest (c.take_events.ensures.came c.entries.invariant.b c.entries.invariant.m c.entries.invariant.at) c.is_over.result c.is_over.ensures) ∙ c.if-is_over.true)
 
 pub returns-then-is_over-clause-waits : goal.returns-then-is_over-clause-waits
 returns-then-is_over-clause-waits g c r s parted good =
-    waits-are _ _ _ _ _ _ _ _ _ _ _ c.entries.invariant c.pass.new.self c.pass.new.coming.signals c.pass.new.coming.cards c.pass.ensures.rest (c.pass.ensures.came c.entries.invariant.b c.entries.invariant.m c.entries.invariant.at)
-    r s c.finish-written.new.self.waiting.totals parted (sym (over-is _ _ _ _ _ _ _ _ _ _ _ c.entries.invariant c.pass.new.self c.pass.new.coming.signals c.pass.new.coming.cards c.pass.ensures.rest (c.pass.ensures.came c.entries.invariant.b c.entries.invariant.m c.entries.invariant.at) c.is_over.result c.is_over.ensures) ∙ c.if-is_over.true)
+    waits-are _ _ _ _ _ _ _ _ _ _ _ c.entries.invariant c.take_events.new.self c.take_events.new.pending.signals c.take_events.new.pending.cards c.take_events.ensures.rest (c.take_events.ensures.came c.entries.invariant.b c.entries.invariant.m c.entries.invariant.at)
+    r s c.finish-written.new.self.waiting.totals parted (sym (over-is _ _ _ _ _ _ _ _ _ _ _ c.entries.invariant c.take_events.new.self c.take_events.new.pending.signals c.take_events.new.pending.cards c.take_events.ensures.rest (c.take_events.ensures.came c.entries.invariant.b c.entries.invariant.m c.entries.invariant.at) c.is_over.result c.is_over.ensures) ∙ c.if-is_over.true)
     ((c.finish-written.ensures.waits good).sums r s parted)
 
 pub finish-written-requires-clause-waiting : goal.finish-written-requires-clause-waiting
-finish-written-requires-clause-waiting g c = waiting-then _ _ _ _ _ _ _ _ _ _ _ c.entries.invariant c.pass.new.self c.pass.new.coming.signals c.pass.new.coming.cards c.pass.ensures.rest (c.pass.ensures.came c.entries.invariant.b c.entries.invariant.m c.entries.invariant.at)
+finish-written-requires-clause-waiting g c = waiting-then _ _ _ _ _ _ _ _ _ _ _ c.entries.invariant c.take_events.new.self c.take_events.new.pending.signals c.take_events.new.pending.cards c.take_events.ensures.rest (c.take_events.ensures.came c.entries.invariant.b c.entries.invariant.m c.entries.invariant.at)
 
-pub cross-requires-clause-waiting : goal.cross-requires-clause-waiting
-cross-requires-clause-waiting g c = waiting-then _ _ _ _ _ _ _ _ _ _ _ c.entries.invariant c.pass.new.self c.pass.new.coming.signals c.pass.new.coming.cards c.pass.ensures.rest (c.pass.ensures.came c.entries.invariant.b c.entries.invariant.m c.entries.invariant.at)
+pub write_to_next-requires-clause-waiting : goal.write_to_next-requires-clause-waiting
+write_to_next-requires-clause-waiting g c = waiting-then _ _ _ _ _ _ _ _ _ _ _ c.entries.invariant c.take_events.new.self c.take_events.new.pending.signals c.take_events.new.pending.cards c.take_events.ensures.rest (c.take_events.ensures.came c.entries.invariant.b c.entries.invariant.m c.entries.invariant.at)
 
 -- ---- the run continues
 
-pub returns-in_err-cross-clause-lines : goal.returns-in_err-cross-clause-lines
-returns-in_err-cross-clause-lines g c =
-    crossing-fails _ _ _ _ _ _ _ _ _ _ _ c.entries.invariant c.pass.new.self c.pass.new.coming.signals c.pass.new.coming.cards c.pass.ensures.rest (c.pass.ensures.came c.entries.invariant.b c.entries.invariant.m c.entries.invariant.at) (sym (over-is _ _ _ _ _ _ _ _ _ _ _ c.entries.invariant c.pass.new.self c.pass.new.coming.signals c.pass.new.coming.cards c.pass.ensures.rest (c.pass.ensures.came c.entries.invariant.b c.entries.invariant.m c.entries.invariant.at) c.is_over.result c.is_over.ensures) ∙ c.if-is_over.false)
-    _ _ c.from_residual.result c.from_residual.ensures.0 (c.in_err-cross.ensures.lines _ _ c.entries.left _ _ _ _ (c.pass.ensures.came c.entries.invariant.b c.entries.invariant.m c.entries.invariant.at) (sym (over-is _ _ _ _ _ _ _ _ _ _ _ c.entries.invariant c.pass.new.self c.pass.new.coming.signals c.pass.new.coming.cards c.pass.ensures.rest (c.pass.ensures.came c.entries.invariant.b c.entries.invariant.m c.entries.invariant.at) c.is_over.result c.is_over.ensures) ∙ c.if-is_over.false))
+pub returns-in_err-write_to_next-clause-lines : goal.returns-in_err-write_to_next-clause-lines
+returns-in_err-write_to_next-clause-lines g c =
+    crossing-fails _ _ _ _ _ _ _ _ _ _ _ c.entries.invariant c.take_events.new.self c.take_events.new.pending.signals c.take_events.new.pending.cards c.take_events.ensures.rest (c.take_events.ensures.came c.entries.invariant.b c.entries.invariant.m c.entries.invariant.at) (sym (over-is _ _ _ _ _ _ _ _ _ _ _ c.entries.invariant c.take_events.new.self c.take_events.new.pending.signals c.take_events.new.pending.cards c.take_events.ensures.rest (c.take_events.ensures.came c.entries.invariant.b c.entries.invariant.m c.entries.invariant.at) c.is_over.result c.is_over.ensures) ∙ c.if-is_over.false)
+    _ _ c.from_residual.result c.from_residual.ensures.0 (c.in_err-write_to_next.ensures.lines _ _ c.entries.left _ _ _ _ (c.take_events.ensures.came c.entries.invariant.b c.entries.invariant.m c.entries.invariant.at) (sym (over-is _ _ _ _ _ _ _ _ _ _ _ c.entries.invariant c.take_events.new.self c.take_events.new.pending.signals c.take_events.new.pending.cards c.take_events.ensures.rest (c.take_events.ensures.came c.entries.invariant.b c.entries.invariant.m c.entries.invariant.at) c.is_over.result c.is_over.ensures) ∙ c.if-is_over.false))
 
 pub step-requires-clause-few : goal.step-requires-clause-few
-step-requires-clause-few g c = omega (arith, few-then _ _ _ _ _ _ _ _ _ _ _ c.entries.invariant c.pass.new.self c.pass.new.coming.signals c.pass.new.coming.cards c.pass.ensures.rest (c.pass.ensures.came c.entries.invariant.b c.entries.invariant.m c.entries.invariant.at), some _ _ _ _ _ _ _ _ _ _ _ c.entries.invariant c.pass.new.self c.pass.new.coming.signals c.pass.new.coming.cards c.pass.ensures.rest (c.pass.ensures.came c.entries.invariant.b c.entries.invariant.m c.entries.invariant.at) (sym (over-is _ _ _ _ _ _ _ _ _ _ _ c.entries.invariant c.pass.new.self c.pass.new.coming.signals c.pass.new.coming.cards c.pass.ensures.rest (c.pass.ensures.came c.entries.invariant.b c.entries.invariant.m c.entries.invariant.at) c.is_over.result c.is_over.ensures) ∙ c.if-is_over.false), ap (λ (u : Machine). u.done) c.in_ok-cross.ensures.state)
+step-requires-clause-few g c = omega (arith, few-then _ _ _ _ _ _ _ _ _ _ _ c.entries.invariant c.take_events.new.self c.take_events.new.pending.signals c.take_events.new.pending.cards c.take_events.ensures.rest (c.take_events.ensures.came c.entries.invariant.b c.entries.invariant.m c.entries.invariant.at), some _ _ _ _ _ _ _ _ _ _ _ c.entries.invariant c.take_events.new.self c.take_events.new.pending.signals c.take_events.new.pending.cards c.take_events.ensures.rest (c.take_events.ensures.came c.entries.invariant.b c.entries.invariant.m c.entries.invariant.at) (sym (over-is _ _ _ _ _ _ _ _ _ _ _ c.entries.invariant c.take_events.new.self c.take_events.new.pending.signals c.take_events.new.pending.cards c.take_events.ensures.rest (c.take_events.ensures.came c.entries.invariant.b c.entries.invariant.m c.entries.invariant.at) c.is_over.result c.is_over.ensures) ∙ c.if-is_over.false), ap (λ (u : Machine). u.done) c.in_ok-write_to_next.ensures.state)
 
 pub step-requires-clause-waits : goal.step-requires-clause-waits
 step-requires-clause-waits g c =
-    subst (λ t. AreWaitsWithin t c.cross.new.self.waiting.totals) (sym c.in_ok-cross.ensures.tick) (c.in_ok-cross.ensures.waits refl).within
+    subst (λ t. AreWaitsWithin t c.write_to_next.new.self.waiting.totals) (sym c.in_ok-write_to_next.ensures.tick) (c.in_ok-write_to_next.ensures.waits refl).within
 
 pub entries-preserved : goal.entries-preserved
 entries-preserved g c =
-    goes _ _ _ _ _ _ _ _ _ _ _ c.entries.invariant c.pass.new.self c.pass.new.coming.signals c.pass.new.coming.cards c.pass.ensures.rest (c.pass.ensures.came c.entries.invariant.b c.entries.invariant.m c.entries.invariant.at) (sym (over-is _ _ _ _ _ _ _ _ _ _ _ c.entries.invariant c.pass.new.self c.pass.new.coming.signals c.pass.new.coming.cards c.pass.ensures.rest (c.pass.ensures.came c.entries.invariant.b c.entries.invariant.m c.entries.invariant.at) c.is_over.result c.is_over.ensures) ∙ c.if-is_over.false)
-    c.cross.new.self (c.in_ok-cross.ensures.number _ _ c.entries.left _ _ _ _ (c.pass.ensures.came c.entries.invariant.b c.entries.invariant.m c.entries.invariant.at))
-    (c.in_ok-cross.ensures.front _ _ c.entries.left _ _ _ _ (c.pass.ensures.came c.entries.invariant.b c.entries.invariant.m c.entries.invariant.at) (sym (over-is _ _ _ _ _ _ _ _ _ _ _ c.entries.invariant c.pass.new.self c.pass.new.coming.signals c.pass.new.coming.cards c.pass.ensures.rest (c.pass.ensures.came c.entries.invariant.b c.entries.invariant.m c.entries.invariant.at) c.is_over.result c.is_over.ensures) ∙ c.if-is_over.false)) c.in_ok-cross.ensures.tick c.in_ok-cross.ensures.state c.in_ok-cross.ensures.origins
-    _ _ c.step.new.self (c.in_ok-cross.ensures.lines _ _ c.entries.left _ _ _ _ (c.pass.ensures.came c.entries.invariant.b c.entries.invariant.m c.entries.invariant.at) (sym (over-is _ _ _ _ _ _ _ _ _ _ _ c.entries.invariant c.pass.new.self c.pass.new.coming.signals c.pass.new.coming.cards c.pass.ensures.rest (c.pass.ensures.came c.entries.invariant.b c.entries.invariant.m c.entries.invariant.at) c.is_over.result c.is_over.ensures) ∙ c.if-is_over.false))
-    (c.in_ok-cross.ensures.words refl) c.in_ok-cross.ensures.sums (c.in_ok-cross.ensures.size refl)
+    goes _ _ _ _ _ _ _ _ _ _ _ c.entries.invariant c.take_events.new.self c.take_events.new.pending.signals c.take_events.new.pending.cards c.take_events.ensures.rest (c.take_events.ensures.came c.entries.invariant.b c.entries.invariant.m c.entries.invariant.at) (sym (over-is _ _ _ _ _ _ _ _ _ _ _ c.entries.invariant c.take_events.new.self c.take_events.new.pending.signals c.take_events.new.pending.cards c.take_events.ensures.rest (c.take_events.ensures.came c.entries.invariant.b c.entries.invariant.m c.entries.invariant.at) c.is_over.result c.is_over.ensures) ∙ c.if-is_over.false)
+    c.write_to_next.new.self (c.in_ok-write_to_next.ensures.number _ _ c.entries.left _ _ _ _ (c.take_events.ensures.came c.entries.invariant.b c.entries.invariant.m c.entries.invariant.at))
+    (c.in_ok-write_to_next.ensures.issue _ _ c.entries.left _ _ _ _ (c.take_events.ensures.came c.entries.invariant.b c.entries.invariant.m c.entries.invariant.at) (sym (over-is _ _ _ _ _ _ _ _ _ _ _ c.entries.invariant c.take_events.new.self c.take_events.new.pending.signals c.take_events.new.pending.cards c.take_events.ensures.rest (c.take_events.ensures.came c.entries.invariant.b c.entries.invariant.m c.entries.invariant.at) c.is_over.result c.is_over.ensures) ∙ c.if-is_over.false)) c.in_ok-write_to_next.ensures.tick c.in_ok-write_to_next.ensures.state c.in_ok-write_to_next.ensures.origins
+    _ _ c.step.new.self (c.in_ok-write_to_next.ensures.lines _ _ c.entries.left _ _ _ _ (c.take_events.ensures.came c.entries.invariant.b c.entries.invariant.m c.entries.invariant.at) (sym (over-is _ _ _ _ _ _ _ _ _ _ _ c.entries.invariant c.take_events.new.self c.take_events.new.pending.signals c.take_events.new.pending.cards c.take_events.ensures.rest (c.take_events.ensures.came c.entries.invariant.b c.entries.invariant.m c.entries.invariant.at) c.is_over.result c.is_over.ensures) ∙ c.if-is_over.false))
+    (c.in_ok-write_to_next.ensures.words refl) c.in_ok-write_to_next.ensures.sums (c.in_ok-write_to_next.ensures.size refl)
     (delays-are c.args.ready.delays) c.requires.levels.1
-    c.step.ensures.lines c.step.ensures.state c.step.ensures.last c.step.ensures.sums c.step.ensures.within c.step.ensures.enabled c.step.ensures.guess
+    c.step.ensures.lines c.step.ensures.state c.step.ensures.last c.step.ensures.sums c.step.ensures.within c.step.ensures.enabled c.step.ensures.prediction
     c.step.ensures.left c.step.ensures.words c.step.ensures.origins c.step.ensures.number
-    (c.in_ok-cross.ensures.earlier _ _ c.entries.left _ _ _ _ (c.pass.ensures.came c.entries.invariant.b c.entries.invariant.m c.entries.invariant.at) refl)
-    c.step.ensures.uses c.step.ensures.waiting (c.in_ok-cross.ensures.waits refl).sums c.step.ensures.stalled c.step.ensures.totals
+    (c.in_ok-write_to_next.ensures.earlier _ _ c.entries.left _ _ _ _ (c.take_events.ensures.came c.entries.invariant.b c.entries.invariant.m c.entries.invariant.at) refl)
+    c.step.ensures.uses c.step.ensures.waiting (c.in_ok-write_to_next.ensures.waits refl).sums c.step.ensures.stalled c.step.ensures.totals

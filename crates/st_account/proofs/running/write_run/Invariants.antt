@@ -15,7 +15,7 @@ invariant-entries g l =
     l.fn.ready.delays.list l.fn.ready.levels
     (λ x. ticks_for x (all_charges l.fn.ready.delays.list l.fn.ready.levels (entries_from l.fn.ready.delays.list l.fn.ready.levels l.controls.budget c)))
     (λ r s. stalled_from r s l.fn.ready.delays.list l.fn.ready.levels l.controls.budget [] c)
-    l.account l.coming.signals l.coming.cards l.left
+    l.account l.pending.signals l.pending.cards l.left
 
 abbrev pub decreases-entries : goal.decreases-entries
 decreases-entries g l = l.left

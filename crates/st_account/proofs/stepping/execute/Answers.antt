@@ -1,10 +1,10 @@
 use Rattle.std.proofs.Common.{◌∙◌, ap, if◌then◌else◌}
 use Rattle.st_prep.specs.declared.entries.Prepared.{Prepared}
-use Rattle.st_account.proofs.LastLemmas.{guess-is}
+use Rattle.st_account.proofs.LastLemmas.{prediction-is}
 use Rattle.st_account.proofs.stepping.execute.Goals as goal
 
-pub returns-clause-guess : goal.returns-clause-guess
-returns-clause-guess c =
-    guess-is c.args.taken c.args.state.now c.complete_in.new.state c.guessed_counter-last.result (c.complete_in.ensures.step c.args.taken c.requires.plan)
-    (c.guessed_counter-last.ensures.value
+pub returns-clause-prediction : goal.returns-clause-prediction
+returns-clause-prediction c =
+    prediction-is c.args.taken c.args.state.now c.complete_in.new.state c.predicted_counter-last.result (c.complete_in.ensures.step c.args.taken c.requires.plan)
+    (c.predicted_counter-last.ensures.value
     ∙ ap (λ (p : Prepared). if p.serial then c.complete_in.new.state.ic else p.following) c.requires.plan)

@@ -8,7 +8,7 @@ use Rattle.st_strap.specs.WellFormed.{IsWellFormedIfAny}
 use Rattle.st_asm.specs.Assembly.{Assembly}
 use Rattle.st_asm.specs.Forming.{form_pass, found_in}
 use Rattle.st_asm.specs.Naming.{name_pass, named_in}
-use Rattle.st_asm.specs.Valuing.{value_pass, laid_in}
+use Rattle.st_asm.specs.Valuing.{value_pass, emitted_in}
 use Rattle.st_asm.specs.Sound.{IsLocation, IsAssemblySound}
 use Rattle.st_asm.specs.Kept.{IsReadCard}
 use Rattle.st_asm.specs.declared.line.ReadCard.{ReadCard}
@@ -54,13 +54,13 @@ returns-clause-sound c =
     let formed = ap (λ (cs : List Card). form_pass c.args.job.now cs) (sym c.requires)
     ∙ c.in_ok-deck.ensures.ok in
     let named = ap (λ (ls : List ReadCard). name_pass ls) (sym c.as_slice.ensures.value) ∙ c.in_ok-names.ensures.ok in
-    let laid = ap (λ (t : List (List ℕ × ℕ)). value_pass t c.in_ok-deck.deck.lines.items c.in_ok-names.names.places.items)
+    let emitted = ap (λ (t : List (List ℕ × ℕ)). value_pass t c.in_ok-deck.deck.lines.items c.in_ok-names.names.places.items)
     (sym c.in_ok-names.ensures.kept.table_is)
     ∙ (ap (λ (ls : List ReadCard). value_pass c.in_ok-names.names.table ls c.in_ok-names.names.places.items) (sym c.as_slice-2.ensures.value)
     ∙ (ap (λ (ps : List (Option ℕ)). value_pass c.in_ok-names.names.table c.as_slice-2.result.now ps) (sym c.as_slice-3.ensures.value)
     ∙ c.in_ok-layout.ensures.ok)) in
-    let sound = together-sound c.args.job.now (found_in c.in_ok-deck.deck) (named_in c.in_ok-names.names) (laid_in c.in_ok-layout.layout)
-    formed named laid c.in_ok-layout.ensures.sound in
+    let sound = together-sound c.args.job.now (found_in c.in_ok-deck.deck) (named_in c.in_ok-names.names) (emitted_in c.in_ok-layout.layout)
+    formed named emitted c.in_ok-layout.ensures.sound in
     let assembled : Asked → Assembly = λ asked. record {
       image = c.in_ok-layout.layout.image.items;
       start = c.in_ok-layout.layout.start;

@@ -1,16 +1,16 @@
 use Rattle.std.proofs.Common.{◌≡◌, ◌<◌, length, None, sym, subst, ◌∙◌, ap, arith}
 use Rattle.std.proofs.lemmas.List.{length_push}
-use Rattle.st_exec.specs.Completion.{guessed_state}
+use Rattle.st_exec.specs.Completion.{predicted_state}
 use Rattle.st_state.specs.Machine.{Machine, IsMachine}
 use Rattle.st_prep.specs.Plan.{plan}
 use Rattle.st_prep.specs.declared.entries.Prepared.{Prepared}
 use Rattle.st_rows.specs.Asked.{formed_asked}
 use Rattle.st_rows.specs.Notes.{log_after_reads}
 use Rattle.st_rows.specs.Ranges.{IsEntryInTime}
-use Rattle.st_rows.specs.Rows.{row_of_entry, front_after_entry, bus_a, tick_p, reads_of_entry}
+use Rattle.st_rows.specs.Rows.{row_of_entry, issue_after_entry, bus_a, tick_p, reads_of_entry}
 use Rattle.st_rows.specs.declared.entry.Entry.{Entry}
-use Rattle.st_rows.specs.declared.front.Front.{Front}
-use Rattle.st_rows.specs.declared.front.EntryTicks.{EntryTicks}
+use Rattle.st_rows.specs.declared.issue.IssueState.{IssueState}
+use Rattle.st_rows.specs.declared.issue.EntryTicks.{EntryTicks}
 use Rattle.st_rows.proofs.Tight.{later-c}
 use Rattle.st_rows.proofs.Within.{delays-are}
 use Rattle.st_segment.specs.Entries.{entry}
@@ -20,7 +20,7 @@ use Rattle.st_plain.specs.Uses.{uses_of_entry}
 use Rattle.st_plain.specs.declared.known.Known.{Known}
 use Rattle.st_rows.specs.declared.uses.Use.{Use}
 use Rattle.st_plain.specs.declared.looking.Ahead.{Ahead as Seen}
-use Rattle.st_plain.proofs.LookLemmas.{guess-counted, guess-done, found-late, found-same, found-look, begun-here, begun-behind, bus-late, log-late, bus-look, log-look, first-next, some-more, row-p, after-c}
+use Rattle.st_plain.proofs.LookLemmas.{prediction-counted, prediction-done, found-late, found-same, found-look, begun-here, begun-behind, bus-late, log-late, bus-look, log-look, first-next, some-more, row-p, after-c}
 use Rattle.st_plain.proofs.UseLemmas.{all-used}
 use Rattle.st_plain.proofs.looking.+look.Goals as goal
 
@@ -33,7 +33,7 @@ pub returns-then-begun-reach-clause-late : goal.returns-then-begun-reach-clause-
 returns-then-begun-reach-clause-late t c =
     let ds = c.args.reach.now.timing.now.delays.now.list in
     let n = c.args.reach.now.timing.now.levels in
-    let f = c.args.front.now in
+    let f = c.args.issue.now in
     let s = c.args.state.now in
     let p = ap (tick_p ds n f) c.plan_entry-planned.ensures.entry in
     let is = c.finish-ticks.ensures.value ∙ ap (row_of_entry ds n f) c.plan_entry-planned.ensures.entry in
@@ -53,7 +53,7 @@ pub returns-then-begun-reach-clause-found : goal.returns-then-begun-reach-clause
 returns-then-begun-reach-clause-found t c =
     let ds = c.args.reach.now.timing.now.delays.now.list in
     let n = c.args.reach.now.timing.now.levels in
-    let f = c.args.front.now in
+    let f = c.args.issue.now in
     let s = c.args.state.now in
     let p = ap (tick_p ds n f) c.plan_entry-planned.ensures.entry in
     found-same ds n c.args.ahead.now.found.items _
@@ -63,7 +63,7 @@ pub returns-then-begun-reach-clause-log : goal.returns-then-begun-reach-clause-l
 returns-then-begun-reach-clause-log t c =
     let ds = c.args.reach.now.timing.now.delays.now.list in
     let n = c.args.reach.now.timing.now.levels in
-    let f = c.args.front.now in
+    let f = c.args.issue.now in
     let s = c.args.state.now in
     let p = ap (tick_p ds n f) c.plan_entry-planned.ensures.entry in
     log-late ds n c.args.reach.now.tick s f c.args.reach.now.more c.args.log.now c.begin.new.log
@@ -74,7 +74,7 @@ pub returns-then-begun-reach-clause-bus : goal.returns-then-begun-reach-clause-b
 returns-then-begun-reach-clause-bus t c =
     let ds = c.args.reach.now.timing.now.delays.now.list in
     let n = c.args.reach.now.timing.now.levels in
-    let f = c.args.front.now in
+    let f = c.args.issue.now in
     let s = c.args.state.now in
     let p = ap (tick_p ds n f) c.plan_entry-planned.ensures.entry in
     bus-late ds n c.args.reach.now.tick s f c.args.reach.now.more c.begin.new.begun.words.bus
@@ -85,31 +85,31 @@ returns-then-begun-reach-clause-bus t c =
 
 pub push-requires : goal.push-requires
 push-requires t c =
-    let some = some-more c.args.reach.now.timing.now.delays.now.list c.args.reach.now.timing.now.levels c.args.reach.now.more c.args.reach.now.tick c.args.front.now c.plan_entry-planned.result.entry c.args.reach.now.timing.now.some c.requires.first
+    let some = some-more c.args.reach.now.timing.now.delays.now.list c.args.reach.now.timing.now.levels c.args.reach.now.more c.args.reach.now.tick c.args.issue.now c.plan_entry-planned.result.entry c.args.reach.now.timing.now.some c.requires.first
     (omega (arith, c.begin.ensures.tick, c.if-begun-reach.false)) in
     let room : length c.args.ahead.now.found.items < 8 = omega (arith, c.requires.space, some) in
     (omega arith, room)
 
 pub overflow_sub-further : goal.overflow_sub-further
 overflow_sub-further t c =
-    some-more c.args.reach.now.timing.now.delays.now.list c.args.reach.now.timing.now.levels c.args.reach.now.more c.args.reach.now.tick c.args.front.now c.plan_entry-planned.result.entry c.args.reach.now.timing.now.some c.requires.first
+    some-more c.args.reach.now.timing.now.delays.now.list c.args.reach.now.timing.now.levels c.args.reach.now.more c.args.reach.now.tick c.args.issue.now c.plan_entry-planned.result.entry c.args.reach.now.timing.now.some c.requires.first
     (omega (arith, c.begin.ensures.tick, c.if-begun-reach.false))
 
 pub look-requires : goal.look-requires
 look-requires t c =
     let ds = c.args.reach.now.timing.now.delays.now.list in
     let n = c.args.reach.now.timing.now.levels in
-    let f = c.args.front.now in
+    let f = c.args.issue.now in
     let e = c.plan_entry-planned.result.entry in
     let some = some-more ds n c.args.reach.now.more c.args.reach.now.tick f e c.args.reach.now.timing.now.some c.requires.first
     (omega (arith, c.begin.ensures.tick, c.if-begun-reach.false)) in
-    let done = ap (λ (s : Machine). s.done) c.guess.ensures ∙ guess-done c.plan_entry-planned.new.p c.args.state.now in
+    let done = ap (λ (s : Machine). s.done) c.prediction.ensures ∙ prediction-done c.plan_entry-planned.new.p c.args.state.now in
     let more = ap length c.push.ensures.items ∙ length_push c.args.ahead.now.found.items _ in
     let range : IsEntryInTime e = c.plan_entry-planned.ensures.in_time in
-    let rises : f.c < c.finish-row.new.front.c =
+    let rises : f.c < c.finish-row.new.issue.c =
     omega (
       arith,
-      ap (λ (g : Front). g.c) c.finish-row.ensures.after,
+      ap (λ (g : IssueState). g.c) c.finish-row.ensures.after,
       after-c ds n f e,
       (later-c 255 ds (delays-are c.args.reach.now.timing.now.delays.now) n f e range c.requires.tight).0,
     ) in (
@@ -123,7 +123,7 @@ look-requires t c =
             (
               omega (arith, c.requires.late, rises),
               (
-                first-next ds n n c.args.reach.now.more c.args.reach.now.tick f c.finish-row.new.front e c.args.reach.now.timing.now.few some
+                first-next ds n n c.args.reach.now.more c.args.reach.now.tick f c.finish-row.new.issue e c.args.reach.now.timing.now.few some
                     c.args.reach.now.left c.requires.late rises c.requires.first c.finish-row.ensures.after,
                 omega (arith, more, c.requires.space, some),
               ),
@@ -135,8 +135,8 @@ look-requires t c =
 
 pub returns-clause-state : goal.returns-clause-state
 returns-clause-state t c =
-    let counted = guess-counted c.plan_entry-planned.new.p c.args.state.now in
-    c.undo.ensures ∙ c.keep-kept.ensures.undone _ counted.ic (c.look.ensures.state ∙ c.guess.ensures ∙ counted.is)
+    let counted = prediction-counted c.plan_entry-planned.new.p c.args.state.now in
+    c.undo.ensures ∙ c.keep-kept.ensures.undone _ counted.ic (c.look.ensures.state ∙ c.prediction.ensures ∙ counted.is)
 
 pub returns-clause-machine : goal.returns-clause-machine
 returns-clause-machine t c = subst IsMachine (sym (returns-clause-state t c)) c.plan_entry-planned.ensures.machine
@@ -145,7 +145,7 @@ pub returns-clause-found : goal.returns-clause-found
 returns-clause-found t c =
     let ds = c.args.reach.now.timing.now.delays.now.list in
     let n = c.args.reach.now.timing.now.levels in
-    let f = c.args.front.now in
+    let f = c.args.issue.now in
     let s = c.args.state.now in
     let some = some-more ds n c.args.reach.now.more c.args.reach.now.tick f c.plan_entry-planned.result.entry c.args.reach.now.timing.now.some c.requires.first
     (omega (arith, c.begin.ensures.tick, c.if-begun-reach.false)) in
@@ -163,38 +163,38 @@ returns-clause-found t c =
     ∙ ap (λ r. at (plan s None) r c.plan_entry-planned.result.known c.finish-row.new.uses) is
     ∙ ap (λ known. at (plan s None) (row_of_entry ds n f (entry None s)) known c.finish-row.new.uses) known_is
     ∙ ap (λ xs. at (plan s None) (row_of_entry ds n f (entry None s)) (known_at None s) (record { items = xs })) uses_are)
-    (c.guess.ensures ∙ ap (λ q. guessed_state q s) c.plan_entry-planned.ensures.plan)
-    (c.finish-row.ensures.after ∙ ap (front_after_entry ds n f) c.plan_entry-planned.ensures.entry)
+    (c.prediction.ensures ∙ ap (λ q. predicted_state q s) c.plan_entry-planned.ensures.plan)
+    (c.finish-row.ensures.after ∙ ap (issue_after_entry ds n f) c.plan_entry-planned.ensures.entry)
     c.push.ensures.items c.look.ensures.found
 
 pub returns-clause-late : goal.returns-clause-late
 returns-clause-late t c =
     let ds = c.args.reach.now.timing.now.delays.now.list in
     let n = c.args.reach.now.timing.now.levels in
-    let f = c.args.front.now in
+    let f = c.args.issue.now in
     let s = c.args.state.now in
     let some = some-more ds n c.args.reach.now.more c.args.reach.now.tick f c.plan_entry-planned.result.entry c.args.reach.now.timing.now.some c.requires.first
     (omega (arith, c.begin.ensures.tick, c.if-begun-reach.false)) in
     let p = ap (tick_p ds n f) c.plan_entry-planned.ensures.entry in
     begun-behind ds n c.args.reach.now.tick s f _ _ c.args.reach.now.more _ some
     (omega (arith, row-p ds n f (entry None s), p, c.begin.ensures.tick, c.if-begun-reach.false))
-    (c.guess.ensures ∙ ap (λ q. guessed_state q s) c.plan_entry-planned.ensures.plan)
-    (c.finish-row.ensures.after ∙ ap (front_after_entry ds n f) c.plan_entry-planned.ensures.entry)
+    (c.prediction.ensures ∙ ap (λ q. predicted_state q s) c.plan_entry-planned.ensures.plan)
+    (c.finish-row.ensures.after ∙ ap (issue_after_entry ds n f) c.plan_entry-planned.ensures.entry)
     c.look.ensures.late
 
 pub returns-clause-log : goal.returns-clause-log
 returns-clause-log t c =
     let ds = c.args.reach.now.timing.now.delays.now.list in
     let n = c.args.reach.now.timing.now.levels in
-    let f = c.args.front.now in
+    let f = c.args.issue.now in
     let s = c.args.state.now in
     let some = some-more ds n c.args.reach.now.more c.args.reach.now.tick f c.plan_entry-planned.result.entry c.args.reach.now.timing.now.some c.requires.first
     (omega (arith, c.begin.ensures.tick, c.if-begun-reach.false)) in
     let p = ap (tick_p ds n f) c.plan_entry-planned.ensures.entry in
-    log-look ds n c.args.reach.now.tick s f c.guess.new.state c.finish-row.new.front c.args.reach.now.more some
+    log-look ds n c.args.reach.now.tick s f c.prediction.new.state c.finish-row.new.issue c.args.reach.now.more some
     (omega (arith, row-p ds n f (entry None s), p, c.begin.ensures.tick, c.if-begun-reach.false))
-    (c.guess.ensures ∙ ap (λ q. guessed_state q s) c.plan_entry-planned.ensures.plan)
-    (c.finish-row.ensures.after ∙ ap (front_after_entry ds n f) c.plan_entry-planned.ensures.entry) c.args.log.now c.finish-row.new.log c.look.new.log
+    (c.prediction.ensures ∙ ap (λ q. predicted_state q s) c.plan_entry-planned.ensures.plan)
+    (c.finish-row.ensures.after ∙ ap (issue_after_entry ds n f) c.plan_entry-planned.ensures.entry) c.args.log.now c.finish-row.new.log c.look.new.log
     (c.finish-row.ensures.log c.args.log.now c.begin.ensures.log ∙ ap (λ (e : Entry). log_after_reads ds (reads_of_entry ds n f e) f.bus c.args.log.now) c.plan_entry-planned.ensures.entry)
     c.look.ensures.log
 
@@ -202,12 +202,12 @@ pub returns-clause-bus : goal.returns-clause-bus
 returns-clause-bus t c =
     let ds = c.args.reach.now.timing.now.delays.now.list in
     let n = c.args.reach.now.timing.now.levels in
-    let f = c.args.front.now in
+    let f = c.args.issue.now in
     let s = c.args.state.now in
     let some = some-more ds n c.args.reach.now.more c.args.reach.now.tick f c.plan_entry-planned.result.entry c.args.reach.now.timing.now.some c.requires.first
     (omega (arith, c.begin.ensures.tick, c.if-begun-reach.false)) in
     let p = ap (tick_p ds n f) c.plan_entry-planned.ensures.entry in
-    bus-look ds n c.args.reach.now.tick s f c.guess.new.state c.finish-row.new.front c.args.reach.now.more some
+    bus-look ds n c.args.reach.now.tick s f c.prediction.new.state c.finish-row.new.issue c.args.reach.now.more some
     (omega (arith, row-p ds n f (entry None s), p, c.begin.ensures.tick, c.if-begun-reach.false))
-    (c.guess.ensures ∙ ap (λ q. guessed_state q s) c.plan_entry-planned.ensures.plan)
-    (c.finish-row.ensures.after ∙ ap (front_after_entry ds n f) c.plan_entry-planned.ensures.entry) c.look.new.front.bus c.look.ensures.bus
+    (c.prediction.ensures ∙ ap (λ q. predicted_state q s) c.plan_entry-planned.ensures.plan)
+    (c.finish-row.ensures.after ∙ ap (issue_after_entry ds n f) c.plan_entry-planned.ensures.entry) c.look.new.issue.bus c.look.ensures.bus

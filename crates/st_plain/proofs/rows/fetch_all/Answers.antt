@@ -9,7 +9,7 @@ use Rattle.st_plain.proofs.rows.fetch_all.Goals as goal
 -- behind the entry's own words
 pub fetch_run-requires-2-clause-room : goal.fetch_run-requires-2-clause-room
 fetch_run-requires-2-clause-room c =
-    let f = c.args.front.now in
+    let f = c.args.issue.now in
     let m = f.c + 3 * 255 + 2 in
     let start : IsFetchingWithin m c.args.words.now = rw c.requires.start (record {
       bus = tight-bus 255 f c.requires.tight;
@@ -25,17 +25,17 @@ fetch_run-requires-2-clause-room c =
 
 pub returns-clause-words : goal.returns-clause-words
 returns-clause-words c =
-    words-fetched c.args.next.now.timing.now.delays.now.list c.args.front.now c.args.next.now.planned.now.entry c.args.words.now c.fetch_run.new.words c.fetch_run-2.new.words c.wanted_from-from.result _
+    words-fetched c.args.next.now.timing.now.delays.now.list c.args.issue.now c.args.next.now.planned.now.entry c.args.words.now c.fetch_run.new.words c.fetch_run-2.new.words c.wanted_from-from.result _
     c.requires.start c.wanted_from-from.ensures c.max-late.ensures c.fetch_run.ensures.words c.fetch_run-2.ensures.words
 
 pub returns-clause-log : goal.returns-clause-log
 returns-clause-log c =
-    noted-fetches c.args.next.now.timing.now.delays.now.list c.args.front.now c.args.next.now.planned.now.entry c.args.words.now c.fetch_run.new.words c.wanted_from-from.result _ c.args.log.now
+    noted-fetches c.args.next.now.timing.now.delays.now.list c.args.issue.now c.args.next.now.planned.now.entry c.args.words.now c.fetch_run.new.words c.wanted_from-from.result _ c.args.log.now
     c.fetch_run.new.log c.fetch_run-2.new.log c.requires.start c.wanted_from-from.ensures c.max-late.ensures c.fetch_run.ensures.words c.fetch_run.ensures.log
     c.fetch_run-2.ensures.log
 
 pub returns-clause-uses : goal.returns-clause-uses
 returns-clause-uses c =
-    fetches-used c.args.next.now.timing.now.delays.now.list c.args.front.now c.args.next.now.planned.now.entry c.args.words.now c.fetch_run.new.words c.wanted_from-from.result _ c.args.uses.now.items
+    fetches-used c.args.next.now.timing.now.delays.now.list c.args.issue.now c.args.next.now.planned.now.entry c.args.words.now c.fetch_run.new.words c.wanted_from-from.result _ c.args.uses.now.items
     c.fetch_run.new.uses.items c.fetch_run-2.new.uses.items c.requires.start c.wanted_from-from.ensures c.max-late.ensures c.fetch_run.ensures.words c.fetch_run.ensures.uses
     c.fetch_run-2.ensures.uses

@@ -1,6 +1,6 @@
 use Rattle.std.proofs.Common.{◌+◌, ◌-◌, ◌*◌, ◌^◌, refl, sym, subst, ap, arith}
 use Rattle.st_rows.specs.Ranges.{IsReadingWithin}
-use Rattle.st_rows.specs.Rows.{operands, tick_c, row_of_entry, front_after_entry}
+use Rattle.st_rows.specs.Rows.{operands, tick_c, row_of_entry, issue_after_entry}
 use Rattle.st_rows.proofs.Within.{delays-are, bus-weaker}
 use Rattle.st_rows.proofs.Stages.{bus_a-within, p-within, c-within, operands_of-within}
 use Rattle.st_rows.proofs.Tight.{tight-after}
@@ -8,11 +8,11 @@ use Rattle.st_plain.proofs.RowLemmas.{noted-prepared, noted-asked}
 use Rattle.st_plain.proofs.UseLemmas.{operands-read, prepared-used, put-following}
 use Rattle.st_plain.proofs.rows.finish.Goals as goal
 use Rattle.st_rows.specs.declared.fetching.Fetching.{Fetching}
-use Rattle.st_rows.specs.Words.{operands_read, read_words, bus_followed}
+use Rattle.st_rows.specs.Words.{operands_read, read_words, bus_after_prefetch}
 
 pub use_data-requires-clause-room : goal.use_data-requires-clause-room
 use_data-requires-clause-room c =
-    let f = c.args.front.now in
+    let f = c.args.issue.now in
     rw c.requires.bus
     (bus-weaker (f.c + 8 * 255 + 8) (2 ^ 64 - 2 ^ 17) _ (omega arith)
     (bus_a-within 255 c.args.next.now.timing.now.delays.now.list (delays-are c.args.next.now.timing.now.delays.now) f c.args.next.now.planned.now.entry c.requires.entry c.requires.tight))
@@ -20,11 +20,11 @@ use_data-requires-clause-room c =
 pub use_data-requires-clause-early : goal.use_data-requires-clause-early
 use_data-requires-clause-early c =
     rw c.requires.tick
-    (omega (arith, p-within 255 c.args.next.now.timing.now.delays.now.list (delays-are c.args.next.now.timing.now.delays.now) c.args.front.now c.args.next.now.planned.now.entry c.requires.entry c.requires.tight c.args.next.now.timing.now.levels))
+    (omega (arith, p-within 255 c.args.next.now.timing.now.delays.now.list (delays-are c.args.next.now.timing.now.delays.now) c.args.issue.now c.args.next.now.planned.now.entry c.requires.entry c.requires.tight c.args.next.now.timing.now.levels))
 
 pub overflow_add-c : goal.overflow_add-c
 overflow_add-c c =
-    let f = c.args.front.now in
+    let f = c.args.issue.now in
     let reads = operands-read c.args.next.now.timing.now.delays.now.list f c.args.next.now.planned.now.entry c.args.next.now.timing.now.levels c.use_data.new.words c.args.begun.now.words.bus
     c.args.begun.now.formed.p c.use_data.ensures.after c.requires.bus c.requires.tick in
     let read : IsReadingWithin (f.c + 40 * 255 + 41) c.use_data.new.words =
@@ -34,7 +34,7 @@ overflow_add-c c =
 
 pub follow-requires-clause-room : goal.follow-requires-clause-room
 follow-requires-clause-room c =
-    let f = c.args.front.now in
+    let f = c.args.issue.now in
     let reads = operands-read c.args.next.now.timing.now.delays.now.list f c.args.next.now.planned.now.entry c.args.next.now.timing.now.levels c.use_data.new.words c.args.begun.now.words.bus
     c.args.begun.now.formed.p c.use_data.ensures.after c.requires.bus c.requires.tick in
     rw (ap (λ (s : Fetching). s.bus) reads)
@@ -44,36 +44,36 @@ follow-requires-clause-room c =
 pub follow-requires-clause-early : goal.follow-requires-clause-early
 follow-requires-clause-early c =
     rw c.requires.tick
-    (omega (arith, p-within 255 c.args.next.now.timing.now.delays.now.list (delays-are c.args.next.now.timing.now.delays.now) c.args.front.now c.args.next.now.planned.now.entry c.requires.entry c.requires.tight c.args.next.now.timing.now.levels))
+    (omega (arith, p-within 255 c.args.next.now.timing.now.delays.now.list (delays-are c.args.next.now.timing.now.delays.now) c.args.issue.now c.args.next.now.planned.now.entry c.requires.entry c.requires.tight c.args.next.now.timing.now.levels))
 
 pub returns-clause-value : goal.returns-clause-value
 unfolding row_of_entry operands tick_c operands_read read_words
 returns-clause-value c =
-    let reads = operands-read c.args.next.now.timing.now.delays.now.list c.args.front.now c.args.next.now.planned.now.entry c.args.next.now.timing.now.levels c.use_data.new.words c.args.begun.now.words.bus
+    let reads = operands-read c.args.next.now.timing.now.delays.now.list c.args.issue.now c.args.next.now.planned.now.entry c.args.next.now.timing.now.levels c.use_data.new.words c.args.begun.now.words.bus
     c.args.begun.now.formed.p c.use_data.ensures.after c.requires.bus c.requires.tick in
     rw (c.max.ensures, c.from.ensures, ap (λ (s : Fetching). s.answered) reads, c.requires.tick, c.requires.address) refl
 
 pub returns-clause-after : goal.returns-clause-after
-unfolding front_after_entry bus_followed
+unfolding issue_after_entry bus_after_prefetch
 returns-clause-after c =
-    let reads = operands-read c.args.next.now.timing.now.delays.now.list c.args.front.now c.args.next.now.planned.now.entry c.args.next.now.timing.now.levels c.use_data.new.words c.args.begun.now.words.bus
+    let reads = operands-read c.args.next.now.timing.now.delays.now.list c.args.issue.now c.args.next.now.planned.now.entry c.args.next.now.timing.now.levels c.use_data.new.words c.args.begun.now.words.bus
     c.args.begun.now.formed.p c.use_data.ensures.after c.requires.bus c.requires.tick in
     c.pass.ensures c.args.next.now.timing.now.delays.now.list c.args.next.now.timing.now.levels (returns-clause-value c)
     (rw (c.follow.ensures.after, ap (λ (s : Fetching). s.bus) reads, c.requires.tick) refl)
 
 pub returns-clause-log : goal.returns-clause-log
 returns-clause-log c before made =
-    let reads = operands-read c.args.next.now.timing.now.delays.now.list c.args.front.now c.args.next.now.planned.now.entry c.args.next.now.timing.now.levels c.use_data.new.words c.args.begun.now.words.bus
+    let reads = operands-read c.args.next.now.timing.now.delays.now.list c.args.issue.now c.args.next.now.planned.now.entry c.args.next.now.timing.now.levels c.use_data.new.words c.args.begun.now.words.bus
     c.args.begun.now.formed.p c.use_data.ensures.after c.requires.bus c.requires.tick in
-    noted-asked c.args.next.now.timing.now.delays.now.list c.args.front.now c.args.next.now.planned.now.entry c.args.next.now.timing.now.levels c.args.begun.now.words.bus before c.args.log.now c.follow.new.log
+    noted-asked c.args.next.now.timing.now.delays.now.list c.args.issue.now c.args.next.now.planned.now.entry c.args.next.now.timing.now.levels c.args.begun.now.words.bus before c.args.log.now c.follow.new.log
     c.requires.bus made
-    (noted-prepared c.args.next.now.timing.now.delays.now.list c.args.front.now c.args.next.now.planned.now.entry c.args.next.now.timing.now.levels c.args.begun.now.words.bus c.use_data.new.words.bus c.args.begun.now.formed.p
+    (noted-prepared c.args.next.now.timing.now.delays.now.list c.args.issue.now c.args.next.now.planned.now.entry c.args.next.now.timing.now.levels c.args.begun.now.words.bus c.use_data.new.words.bus c.args.begun.now.formed.p
     c.args.log.now c.use_data.new.log c.follow.new.log c.requires.bus (ap (λ (s : Fetching). s.bus) reads) c.requires.tick c.use_data.ensures.log
     c.follow.ensures.log)
 
 pub returns-clause-uses : goal.returns-clause-uses
 returns-clause-uses c =
-    let f = c.args.front.now in
+    let f = c.args.issue.now in
     let reads = operands-read c.args.next.now.timing.now.delays.now.list f c.args.next.now.planned.now.entry c.args.next.now.timing.now.levels c.use_data.new.words c.args.begun.now.words.bus
     c.args.begun.now.formed.p c.use_data.ensures.after c.requires.bus c.requires.tick in
     prepared-used c.args.next.now.timing.now.delays.now.list f c.args.next.now.planned.now.entry c.args.next.now.timing.now.levels c.args.next.now.plan.now.reads c.args.begun.now.words.bus c.use_data.new.words
@@ -85,11 +85,11 @@ pub returns-clause-tight : goal.returns-clause-tight
 returns-clause-tight c =
     let are = delays-are c.args.next.now.timing.now.delays.now in
     rw (returns-clause-after c)
-    (tight-after 255 c.args.next.now.timing.now.delays.now.list are c.args.next.now.timing.now.levels c.args.front.now c.args.next.now.planned.now.entry c.requires.entry c.requires.tight)
+    (tight-after 255 c.args.next.now.timing.now.delays.now.list are c.args.next.now.timing.now.levels c.args.issue.now c.args.next.now.planned.now.entry c.requires.entry c.requires.tight)
 
 pub returns-clause-bound : goal.returns-clause-bound
-unfolding front_after_entry
+unfolding issue_after_entry
 returns-clause-bound c =
     let are = delays-are c.args.next.now.timing.now.delays.now in
     rw (returns-clause-after c)
-    (omega (arith, c-within 255 c.args.next.now.timing.now.delays.now.list are c.args.front.now c.args.next.now.planned.now.entry c.requires.entry c.requires.tight c.args.next.now.timing.now.levels))
+    (omega (arith, c-within 255 c.args.next.now.timing.now.delays.now.list are c.args.issue.now c.args.next.now.planned.now.entry c.requires.entry c.requires.tight c.args.next.now.timing.now.levels))

@@ -1,6 +1,6 @@
 use Rattle.std.proofs.Common.{◌≡◌, true, false, sym, subst, ◌∙◌, ap}
 use Rattle.st_state.specs.Machine.{Machine}
-use Rattle.st_run.specs.Outside.{signal_due}
+use Rattle.st_run.specs.ExternalEvents.{signal_due}
 use Rattle.st_run.specs.Together.{Together}
 use Rattle.st_ahead.specs.Overlap.{Overlap}
 use Rattle.st_refine.specs.Reached.{IsLed, IsLedOn}
@@ -11,21 +11,21 @@ use Rattle.st_run.proofs.leaving.pass_on.Goals as goal
 pub returns-clause-decided : goal.returns-clause-decided
 returns-clause-decided g c passed =
     passed-decided c.args.left c.args.driven.now c.driven.inside.machine c.go_on.new.self _ _ c.driven.view_is c.requires c.if-left-eq0.false
-    (ap (λ d. signal_due d c.driven.inside.coming.signals) (sym (c.done_in.ensures ∙ ap (λ (s : Machine). s.done) c.state.ensures))
+    (ap (λ d. signal_due d c.driven.inside.pending.signals) (sym (c.done_in.ensures ∙ ap (λ (s : Machine). s.done) c.state.ensures))
     ∙ sym c.is_due.ensures ∙ c.if-is_due.false)
     (c.is_quiet.ensures c.if-not-is_quiet.false) c.go_on.ensures
 
 pub returns-clause-delays : goal.returns-clause-delays
 returns-clause-delays g c =
     (passed-parts c.args.left c.args.driven.now c.driven.inside.machine c.go_on.new.self _ _ c.driven.view_is c.requires c.if-left-eq0.false
-    (ap (λ d. signal_due d c.driven.inside.coming.signals) (sym (c.done_in.ensures ∙ ap (λ (s : Machine). s.done) c.state.ensures))
+    (ap (λ d. signal_due d c.driven.inside.pending.signals) (sym (c.done_in.ensures ∙ ap (λ (s : Machine). s.done) c.state.ensures))
     ∙ sym c.is_due.ensures ∙ c.if-is_due.false)
     (c.is_quiet.ensures c.if-not-is_quiet.false) c.go_on.ensures).delays
 
 pub returns-clause-levels : goal.returns-clause-levels
 returns-clause-levels g c =
     (passed-parts c.args.left c.args.driven.now c.driven.inside.machine c.go_on.new.self _ _ c.driven.view_is c.requires c.if-left-eq0.false
-    (ap (λ d. signal_due d c.driven.inside.coming.signals) (sym (c.done_in.ensures ∙ ap (λ (s : Machine). s.done) c.state.ensures))
+    (ap (λ d. signal_due d c.driven.inside.pending.signals) (sym (c.done_in.ensures ∙ ap (λ (s : Machine). s.done) c.state.ensures))
     ∙ sym c.is_due.ensures ∙ c.if-is_due.false)
     (c.is_quiet.ensures c.if-not-is_quiet.false) c.go_on.ensures).levels
 

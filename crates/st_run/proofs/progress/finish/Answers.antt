@@ -1,7 +1,7 @@
 use Rattle.std.proofs.Common.{◌∷◌, ◌∙◌, sym, ap}
 use Rattle.st_run.specs.Telling.{state_told, ahead_of, told_as, rest_of}
 use Rattle.st_run.specs.declared.run_events.TimedRunEvent.{TimedRunEvent}
-use Rattle.st_run.specs.declared.turn.Turn.TheVariants as turns
+use Rattle.st_run.specs.declared.run_phase.RunPhase.TheVariants as turns
 use Rattle.st_run.proofs.ProgressLemmas.{end-tells, end-keeps, last-tells, last-keeps}
 use Rattle.st_run.proofs.progress.finish.Goals as goal
 

@@ -3,7 +3,7 @@ use Rattle.std.proofs.Common.{◌≤◌, ◌-◌, ◌∷◌, ◌∙◌, ap, ℕ,
 use Rattle.st_run.specs.ReportedEvents.{TimedReportedEvent}
 use Rattle.st_run.specs.Telling.{rest_of, state_told, ahead_of, told_as, AreInTime}
 use Rattle.st_run.specs.declared.run_events.TimedRunEvent.{TimedRunEvent}
-use Rattle.st_run.specs.declared.turn.Turn.TheVariants as turns
+use Rattle.st_run.specs.declared.run_phase.RunPhase.TheVariants as turns
 use Rattle.st_run.proofs.ProgressLemmas.{rest-quiet}
 use Rattle.st_run.proofs.LeftLemmas.{oldest-in_time, done-in_time}
 use Rattle.st_run.proofs.GoLemmas.{first-late, go-shows, go-leaves, go-tells}

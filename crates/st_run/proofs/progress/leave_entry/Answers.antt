@@ -1,8 +1,8 @@
 use Rattle.std.proofs.Common.{ℕ, ◌-◌, [], refl, sym, ◌∙◌, ap, subst}
 use Rattle.st_run.specs.Telling.{rest_of, IsRun}
 use Rattle.st_run.specs.Leaving.{nothing_decided}
-use Rattle.st_run.specs.declared.turn.Turn.{Turn}
-use Rattle.st_run.specs.declared.turn.Turn.TheVariants as turns
+use Rattle.st_run.specs.declared.run_phase.RunPhase.{RunPhase}
+use Rattle.st_run.specs.declared.run_phase.RunPhase.TheVariants as turns
 use Rattle.st_run.proofs.QuietLemmas.{quiet-rest, quiet-run}
 use Rattle.st_run.proofs.LeftLemmas.{left-told, left-keeps}
 use Rattle.st_run.proofs.progress.leave_entry.Goals as goal
@@ -16,7 +16,7 @@ returns-clause-kept g c =
     c.requires.left (passed.decided c.if-not-pass_on.false) passed.delays passed.levels refl in
     let same = subst {A = ℕ} (λ k. IsRun turns.Before k c.args.tick run.snaps.now run.waiting t) (sym c.one_less-run.ensures)
     (quiet-run turns.Before (run.left - 1) c.args.tick run.snaps.now run.waiting t c.requires.waits kept) in
-    subst {A = Turn} (λ k. IsRun k c.one_less-run.result c.args.tick run.snaps.now run.waiting t) (sym c.requires.turn) same
+    subst {A = RunPhase} (λ k. IsRun k c.one_less-run.result c.args.tick run.snaps.now run.waiting t) (sym c.requires.turn) same
 
 pub returns-clause-told : goal.returns-clause-told
 returns-clause-told g c =
@@ -27,4 +27,4 @@ returns-clause-told g c =
     c.requires.left (passed.decided c.if-not-pass_on.false) passed.delays passed.levels refl
     ∙ quiet-rest turns.Before (run.left - 1) c.args.tick run.snaps.now run.waiting t c.requires.waits
     ∙ ap {A = ℕ} (λ k. rest_of turns.Before k c.args.tick run.snaps.now run.waiting t) (sym c.one_less-run.ensures)
-    ∙ ap {A = Turn} (λ k. rest_of k c.one_less-run.result c.args.tick run.snaps.now run.waiting t) (sym c.requires.turn)
+    ∙ ap {A = RunPhase} (λ k. rest_of k c.one_less-run.result c.args.tick run.snaps.now run.waiting t) (sym c.requires.turn)

@@ -2,7 +2,7 @@ use Rattle.std.proofs.Common.{◌≡◌, [], ◌∷◌, List, refl, sym, ap, ◌
 use Rattle.st_ahead.specs.RowsDone.{Queue, queue_with}
 use Rattle.st_ahead.specs.declared.events.Row.{Row}
 use Rattle.st_run.specs.Telling.{rest_of, rows_then}
-use Rattle.st_run.specs.declared.turn.Turn.TheVariants as turns
+use Rattle.st_run.specs.declared.run_phase.RunPhase.TheVariants as turns
 use Rattle.st_run.proofs.LeftLemmas.{done-in_time}
 use Rattle.st_run.proofs.NextLemmas.{turn-run, turn-rest}
 use Rattle.st_run.proofs.PassLemmas.{ahead-is, far-waits}

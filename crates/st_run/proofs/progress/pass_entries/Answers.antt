@@ -1,5 +1,5 @@
 use Rattle.std.proofs.Common.{refl}
-use Rattle.st_run.specs.declared.turn.Turn.TheVariants as turns
+use Rattle.st_run.specs.declared.run_phase.RunPhase.TheVariants as turns
 use Rattle.st_run.proofs.NextLemmas.{turn-rest}
 use Rattle.st_run.proofs.PassLemmas.{far-passed}
 use Rattle.st_run.proofs.progress.pass_entries.Goals as goal

@@ -1,18 +1,18 @@
 use Rattle.std.proofs.Common.{ℕ, List, sym, ◌∙◌, ap}
 use Rattle.std.specs.Prelude.{◌||◌, not}
-use Rattle.st_run.specs.Outside.{Coming}
+use Rattle.st_run.specs.ExternalEvents.{PendingEvents}
 use Rattle.st_sweep.proofs.Stages.{settled-scene, settled-quiet}
 use Rattle.st_sweep.proofs.interlude.pass_interlude.Goals as goal
 
 pub returns-clause-came : goal.returns-clause-came
 returns-clause-came c =
-    let coming : List (List ℕ) → Coming = λ cards. record { signals = c.args.signals.now; cards = cards } in
-    settled-scene _ _ _ _ _ _ (c.new-coming.ensures ∙ ap coming c.empty.ensures) c.between-came.ensures.scene
+    let pending : List (List ℕ) → PendingEvents = λ cards. record { signals = c.args.signals.now; cards = cards } in
+    settled-scene _ _ _ _ _ _ (c.new-pending.ensures ∙ ap pending c.empty.ensures) c.between-came.ensures.scene
     c.between-came.ensures.fewer c.parts.ensures.signals
 
 pub returns-clause-quiet : goal.returns-clause-quiet
 returns-clause-quiet c =
-    let coming : List (List ℕ) → Coming = λ cards. record { signals = c.args.signals.now; cards = cards } in
+    let pending : List (List ℕ) → PendingEvents = λ cards. record { signals = c.args.signals.now; cards = cards } in
     c.is_kept.ensures ∙ ap (λ b. b || not c.between-came.result.waited) c.is_at_rest.ensures
-    ∙ sym (settled-quiet _ _ _ _ _ _ (c.new-coming.ensures ∙ ap coming c.empty.ensures) c.between-came.ensures.scene
+    ∙ sym (settled-quiet _ _ _ _ _ _ (c.new-pending.ensures ∙ ap pending c.empty.ensures) c.between-came.ensures.scene
     c.between-came.ensures.fewer c.parts.ensures.signals _ c.between-came.ensures.wait)

@@ -1,7 +1,7 @@
 use Rattle.std.specs.Prelude.{All}
 use Rattle.std.proofs.Common.{refl, sym, ◌∙◌, ap, subst}
 use Rattle.st_exec.specs.Ahead.{IsNotAmong}
-use Rattle.st_exec.specs.Completion.{guess}
+use Rattle.st_exec.specs.Completion.{prediction}
 use Rattle.st_rows.proofs.Within.{delays-are}
 use Rattle.st_segment.proofs.EntryRanges.{entry-ranges}
 use Rattle.st_plain.specs.Looking.{side_at}
@@ -34,7 +34,7 @@ returns-clause-lines c p end some is =
     (ap (λ (l : Last). l.done.row.ticks) rest ∙ c.count_on.ensures.row)
     (ap (λ (l : Last). l.done.row.level_wait) rest ∙ c.count_on.ensures.wait)
     (ap (λ (l : Last). l.done.n) rest ∙ c.count_on.ensures.number ∙ c.row_number-self.ensures.number)
-    (ap (λ (l : Last). l.missed) rest)
+    (ap (λ (l : Last). l.mispredicted) rest)
     (ap (λ (l : Last). l.plan) rest ∙ c.count_on.ensures.plan)
     (ap (λ (l : Last). l.done.known) rest ∙ c.count_on.ensures.known)
     (ap (λ (l : Last). l.done.before) rest ∙ c.count_on.ensures.before)
@@ -43,14 +43,14 @@ returns-clause-lines c p end some is =
     refl
     (ap (λ (l : Last). l.because) rest
     ∙ c.count_on.ensures.because
-    ∙ ap (λ us. because c.args.self.now.last.front (entry c.interrupt-taken.result c.args.self.now.state) c.count_on.new.last.done.row.ticks.a
+    ∙ ap (λ us. because c.args.self.now.last.issue (entry c.interrupt-taken.result c.args.self.now.state) c.count_on.new.last.done.row.ticks.a
     c.count_on.new.last.done.row.ticks.p c.count_on.new.last.done.row.level_wait
-    (formed_uses c.args.timing.now.delays.now.list c.args.self.now.last.front (entry c.interrupt-taken.result c.args.self.now.state)
+    (formed_uses c.args.timing.now.delays.now.list c.args.self.now.last.issue (entry c.interrupt-taken.result c.args.self.now.state)
     (side_at c.interrupt-taken.result c.args.self.now.state)) us)
     (sym c.count_on.ensures.earlier)
-    ∙ ap (λ (l : Last). because c.args.self.now.last.front (entry c.interrupt-taken.result c.args.self.now.state) l.done.row.ticks.a l.done.row.ticks.p
+    ∙ ap (λ (l : Last). because c.args.self.now.last.issue (entry c.interrupt-taken.result c.args.self.now.state) l.done.row.ticks.a l.done.row.ticks.p
     l.done.row.level_wait
-    (formed_uses c.args.timing.now.delays.now.list c.args.self.now.last.front (entry c.interrupt-taken.result c.args.self.now.state)
+    (formed_uses c.args.timing.now.delays.now.list c.args.self.now.last.issue (entry c.interrupt-taken.result c.args.self.now.state)
     (side_at c.interrupt-taken.result c.args.self.now.state)) l.before.items) (sym rest))
     ∙ ap (λ us. lines_of_entry (origin_at c.args.self.now.origins) c.args.timing.now.delays.now.list c.args.timing.now.levels end us p) (ap (λ (l : Last). l.before.items) rest ∙ c.count_on.ensures.earlier)
 
@@ -94,8 +94,8 @@ returns-clause-last c p is =
     entry-last c.args.timing.now.delays.now.list (delays-are c.args.timing.now.delays.now) c.args.timing.now.levels p c.args.self.now.state
     c.execute.new.state c.args.self.now.last
     c.count_on.new.last c.execute.new.last c.count_on.new.log c.interrupt-taken.result c.count_on.new.last.done.row.ticks is c.requires.tight c.interrupt-taken.ensures.value
-    (entry-ranges c.interrupt-taken.result c.args.self.now.state c.row_number-self.ensures.machine c.interrupt-taken.ensures.bound) c.execute.ensures.state c.execute.ensures.guess
-    c.execute.ensures.counter c.count_on.ensures.row c.count_on.ensures.tick c.count_on.ensures.front c.count_on.ensures.log
+    (entry-ranges c.interrupt-taken.result c.args.self.now.state c.row_number-self.ensures.machine c.interrupt-taken.ensures.bound) c.execute.ensures.state c.execute.ensures.prediction
+    c.execute.ensures.counter c.count_on.ensures.row c.count_on.ensures.tick c.count_on.ensures.issue c.count_on.ensures.log
     c.count_on.ensures.past c.execute.ensures.rest
 
 pub returns-clause-sums : goal.returns-clause-sums
@@ -113,9 +113,9 @@ returns-clause-within c =
 pub returns-clause-enabled : goal.returns-clause-enabled
 returns-clause-enabled c = ap (λ (l : Last). l.enabled) c.execute.ensures.rest
 
-pub returns-clause-guess : goal.returns-clause-guess
-returns-clause-guess c =
-    c.execute.ensures.guess ∙ ap (λ t. guess t c.args.self.now.state) c.interrupt-taken.ensures.value
+pub returns-clause-prediction : goal.returns-clause-prediction
+returns-clause-prediction c =
+    c.execute.ensures.prediction ∙ ap (λ t. prediction t c.args.self.now.state) c.interrupt-taken.ensures.value
 
 pub returns-clause-left : goal.returns-clause-left
 returns-clause-left c w above among =

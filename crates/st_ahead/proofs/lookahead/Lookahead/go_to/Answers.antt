@@ -13,7 +13,7 @@ push-requires g c =
     let n = g.row.N in
     let s = c.args.state.now in
     let goes = c.entries.invariant.going in
-    let is = c.plan_before.ensures.going goes.goes.table goes.goes.front goes.tick goes.goes.going in
+    let is = c.plan_before.ensures.going goes.goes.table goes.goes.issue goes.tick goes.goes.going in
     let yes = c.is_next_before.ensures.yes c.if-not-is_next_before.false in
     let at : c.due-due.result ≡ due_of c.plan_before.new.self.levels.plans = c.due-due.ensures.tick ∙ ap (λ (v : LevelsView). due_of v.plans) (sym c.plan_before.ensures.levels) in
     let p = c.next_prepared-p.ensures in (
@@ -27,8 +27,8 @@ push-requires g c =
             (
               record {
                 table = goes.goes.table;
-                front = goes.goes.front;
-                going = going-at ds n goes.tick c.due-due.result c.next_prepared-p.result (c.next_prepared-p.result + 1) goes.goes.table s goes.goes.front c.plan_before.new.self
+                issue = goes.goes.issue;
+                going = going-at ds n goes.tick c.due-due.result c.next_prepared-p.result (c.next_prepared-p.result + 1) goes.goes.table s goes.goes.issue c.plan_before.new.self
                     (omega (arith, p, is.late yes.0)) (omega (arith, p, yes.1, at)) yes.0 (sym p) is;
               },
               (yes.0, sym p),
@@ -48,15 +48,15 @@ entries-preserved g c =
     let at : c.due-due.result ≡ due_of c.plan_before.new.self.levels.plans = c.due-due.ensures.tick ∙ ap (λ (v : LevelsView). due_of v.plans) (sym c.plan_before.ensures.levels) in
     let p = c.next_prepared-p.ensures in
     let soon : c.next_prepared-p.result ≤ c.args.last = omega (arith, p, yes.2) in
-    let is = c.plan_before.ensures.going goes.goes.table goes.goes.front goes.tick goes.goes.going in
+    let is = c.plan_before.ensures.going goes.goes.table goes.goes.issue goes.tick goes.goes.going in
     record {
       going = record {
         tick = c.next_prepared-p.result;
         goes = record {
           table = goes.goes.table;
-          front = goes.goes.front;
-          going = c.push.ensures.going goes.goes.table goes.goes.front
-              (going-at ds n goes.tick c.due-due.result c.next_prepared-p.result (c.next_prepared-p.result + 1) goes.goes.table s goes.goes.front c.plan_before.new.self
+          issue = goes.goes.issue;
+          going = c.push.ensures.going goes.goes.table goes.goes.issue
+              (going-at ds n goes.tick c.due-due.result c.next_prepared-p.result (c.next_prepared-p.result + 1) goes.goes.table s goes.goes.issue c.plan_before.new.self
               (omega (arith, p, is.late yes.0)) (omega (arith, p, yes.1, at)) yes.0 (sym p) is);
         };
         soon = soon;

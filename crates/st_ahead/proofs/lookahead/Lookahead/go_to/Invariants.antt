@@ -1,5 +1,5 @@
 use Rattle.std.proofs.Common.{ℕ, ◌-◌, ◌≤◌, Option}
-use Rattle.st_rows.specs.declared.front.Front.{Front}
+use Rattle.st_rows.specs.declared.issue.IssueState.{IssueState}
 use Rattle.st_ahead.specs.Forecast.{count}
 use Rattle.st_ahead.specs.Going.{GoesUpTo, Reaches}
 use Rattle.st_ahead.proofs.lookahead.Lookahead.go_to.Given as goal
@@ -8,7 +8,7 @@ use Rattle.st_ahead.proofs.lookahead.Lookahead.go_to.Given as goal
 abbrev pub invariant-entries : goal.invariant-entries
 invariant-entries g l = record {
   going : Reaches l.delays.list g.row.N l.last l.state l.self;
-  each : (t : Option ℕ) (f : Front) (since : ℕ) → GoesUpTo l.delays.list g.row.N since l.last t l.state f l.fn.self → GoesUpTo l.delays.list g.row.N since l.last t l.state f l.self;
+  each : (t : Option ℕ) (f : IssueState) (since : ℕ) → GoesUpTo l.delays.list g.row.N since l.last t l.state f l.fn.self → GoesUpTo l.delays.list g.row.N since l.last t l.state f l.self;
   grows : count l.fn.self ≤ count l.self;
 }
 

@@ -19,9 +19,9 @@ returns-clause-value g c = λ ds n now t s f is.
     let level = c.level-level.result.now in
     let ready = nat_le c.plan.result.now.r c.args.tick in
     let there = subst (λ (r : List Level). slice_get r c.args.k ≡ Some level) c.ring.ensures.levels c.level-level.ensures.level in
-    let are = subst (λ (v : LookaheadView). AreLevels ds n now t s f v.front v.levels.ring v.levels.plans) (sym c.self.view_is) is.levels in
+    let are = subst (λ (v : LookaheadView). AreLevels ds n now t s f v.issue v.levels.ring v.levels.plans) (sym c.self.view_is) is.levels in
     subst (λ (v : LookaheadView). Some (level-of level.prepared.place.address level.p c.number_of.result c.kept_of.result ready)
     ≡ get_or (map (λ (a : Ahead). Some (level_shown c.args.tick a)) (ahead ds n (count v) t s f)) c.args.k None) c.self.view_is
     (some-kept level.prepared.place.address level.p c.number_of.result (option_map (λ x. x.number) level.prepared.index)
     c.kept_of.result (word_before_change level.prepared.index) ready c.number_of.ensures c.kept_of.ensures
-    ∙ some-shown ds n now c.args.tick c.args.k t s f i.front i.levels.ring i.levels.plans level _ are there c.plan.ensures)
+    ∙ some-shown ds n now c.args.tick c.args.k t s f i.issue i.levels.ring i.levels.plans level _ are there c.plan.ensures)

@@ -6,7 +6,7 @@ use Rattle.st_next.specs.Going.{GoesOnTo}
 use Rattle.st_ring.specs.Levels.{due_of}
 use Rattle.st_ahead.specs.Forecast.{LookaheadView, is_open, count}
 use Rattle.st_ahead.specs.Going.{IsGoing}
-use Rattle.st_ahead.proofs.Further.{going-planned, going-still, going-front, open-waits, closed-waits, some-by, known, known-further}
+use Rattle.st_ahead.proofs.Further.{going-planned, going-still, going-issue, open-waits, closed-waits, some-by, known, known-further}
 use Rattle.st_ahead.proofs.Gone.{before-due, due-last, due-first}
 use Rattle.st_ahead.proofs.lookahead.Lookahead.plan_before.Goals as goal
 use Rattle.st_ahead.proofs.Laws.{next_entries_are_known, open_levels_run_ahead}
@@ -16,7 +16,7 @@ returns-then-self-clause-going g c = λ t f tick given.
     let ds = c.args.delays.now.list in
     let n = g.row.N in
     let s = c.args.state.now in
-    let view : LookaheadView = record { levels = c.self.inside.levels; front = c.self.inside.front; log = c.self.inside.log; next = c.self.inside.next } in
+    let view : LookaheadView = record { levels = c.self.inside.levels; issue = c.self.inside.issue; log = c.self.inside.log; next = c.self.inside.next } in
     let is = subst (λ (w : LookaheadView). IsGoing ds n tick tick t s f w) (sym c.self.view_is) given in
     subst (λ (w : LookaheadView). IsGoing ds n tick c.args.due t s f w) c.self.view_is
     (going-planned ds n tick tick c.args.due t s f view c.if-self.true is)
@@ -28,31 +28,31 @@ plan_before-requires-clause-known g c = λ waits.
     let s = c.args.state.now in
     let due = c.args.due in
     let t = c.requires.going.goes.table in
-    let f = c.requires.going.goes.front in
+    let f = c.requires.going.goes.issue in
     let tick = c.requires.going.tick in
-    let view : LookaheadView = record { levels = c.self.inside.levels; front = c.self.inside.front; log = c.self.inside.log; next = c.self.inside.next } in
+    let view : LookaheadView = record { levels = c.self.inside.levels; issue = c.self.inside.issue; log = c.self.inside.log; next = c.self.inside.next } in
     let is = subst (λ (w : LookaheadView). IsGoing ds n tick tick t s f w) (sym c.self.view_is) c.requires.going.goes.going in
     let at : due ≡ due_of view.levels.plans = c.requires.due ∙ ap (λ (w : LookaheadView). due_of w.levels.plans) (sym c.self.view_is) in
     let opened : is_open view ≡ true =
-    open-waits (count view == 0) view.front.serial view.next.words.awaited view.front.c due waits
-    (λ none. omega (arith, at, due-last ds n tick t s f view.front view.levels.ring view.levels.plans is.machine is.indicator is.ahead.levels (some-by (count view) none))) in
+    open-waits (count view == 0) view.issue.serial view.next.words.awaited view.issue.c due waits
+    (λ none. omega (arith, at, due-last ds n tick t s f view.issue view.levels.ring view.levels.plans is.machine is.indicator is.ahead.levels (some-by (count view) none))) in
     let run = open_levels_run_ahead ds n tick t s f view is.ahead is.prepared is.not_done opened in
-    let late = before-due ds n tick (due - 1) t s f view.front view.levels.ring view.levels.plans is.machine is.indicator is.ahead.levels (omega (arith, waits, at)) in
+    let late = before-due ds n tick (due - 1) t s f view.issue view.levels.ring view.levels.plans is.machine is.indicator is.ahead.levels (omega (arith, waits, at)) in
     let before = next_entries_are_known ds n tick (due - 1) t s f view is.machine is.indicator is.ahead late
     (omega (arith, c.index.ensures.few, c.requires.few)) run in
-    subst (λ (x : List ℕ). IsKnown ds n (due - 1) view.front x s view.next) (sym c.index.ensures.words) (known ds n tick tick (due - 1) t s f view is opened before)
+    subst (λ (x : List ℕ). IsKnown ds n (due - 1) view.issue x s view.next) (sym c.index.ensures.words) (known ds n tick tick (due - 1) t s f view is opened before)
 
-pub plan_before-requires-clause-front : goal.plan_before-requires-clause-front
-plan_before-requires-clause-front g c =
+pub plan_before-requires-clause-issue : goal.plan_before-requires-clause-issue
+plan_before-requires-clause-issue g c =
     let ds = c.args.delays.now.list in
     let n = g.row.N in
     let s = c.args.state.now in
     let t = c.requires.going.goes.table in
-    let f = c.requires.going.goes.front in
+    let f = c.requires.going.goes.issue in
     let tick = c.requires.going.tick in
-    let view : LookaheadView = record { levels = c.self.inside.levels; front = c.self.inside.front; log = c.self.inside.log; next = c.self.inside.next } in
+    let view : LookaheadView = record { levels = c.self.inside.levels; issue = c.self.inside.issue; log = c.self.inside.log; next = c.self.inside.next } in
     let is = subst (λ (w : LookaheadView). IsGoing ds n tick tick t s f w) (sym c.self.view_is) c.requires.going.goes.going in
-    going-front ds n tick tick t s f view is c.requires.few c.index.ensures.few
+    going-issue ds n tick tick t s f view is c.requires.few c.index.ensures.few
     (omega (arith, c.requires.going.soon, c.requires.early))
 
 pub returns-clause-going : goal.returns-clause-going
@@ -61,21 +61,21 @@ returns-clause-going g c = λ t f tick given.
     let n = g.row.N in
     let s = c.args.state.now in
     let due = c.args.due in
-    let view : LookaheadView = record { levels = c.self.inside.levels; front = c.self.inside.front; log = c.self.inside.log; next = c.self.inside.next } in
+    let view : LookaheadView = record { levels = c.self.inside.levels; issue = c.self.inside.issue; log = c.self.inside.log; next = c.self.inside.next } in
     let is = subst (λ (w : LookaheadView). IsGoing ds n tick tick t s f w) (sym c.self.view_is) given in
     let at : due ≡ due_of view.levels.plans = c.requires.due ∙ ap (λ (w : LookaheadView). due_of w.levels.plans) (sym c.self.view_is) in
-    let last : (count view == 0) ≡ false → due ≤ view.front.c =
-    (λ none. omega (arith, at, due-last ds n tick t s f view.front view.levels.ring view.levels.plans is.machine is.indicator is.ahead.levels (some-by (count view) none))) in
+    let last : (count view == 0) ≡ false → due ≤ view.issue.c =
+    (λ none. omega (arith, at, due-last ds n tick t s f view.issue view.levels.ring view.levels.plans is.machine is.indicator is.ahead.levels (some-by (count view) none))) in
     elim (cases_Bool (is_open view)) [
       | inl opened ↦
           let run = open_levels_run_ahead ds n tick t s f view is.ahead is.prepared is.not_done opened in
           let first = due-first ds n tick due t s f view is at in
-          let late = before-due ds n tick (due - 1) t s f view.front view.levels.ring view.levels.plans is.machine is.indicator is.ahead.levels (omega (arith, at, first)) in
+          let late = before-due ds n tick (due - 1) t s f view.issue view.levels.ring view.levels.plans is.machine is.indicator is.ahead.levels (omega (arith, at, first)) in
           let before = next_entries_are_known ds n tick (due - 1) t s f view is.machine is.indicator is.ahead late
           (omega (arith, c.index.ensures.few, c.requires.few)) run in
-          let goes = subst (λ (x : List ℕ). GoesOnTo ds n (due - 1) view.front x s view.next c.plan_before.new.self due) c.index.ensures.words c.plan_before.ensures.next in
+          let goes = subst (λ (x : List ℕ). GoesOnTo ds n (due - 1) view.issue x s view.next c.plan_before.new.self due) c.index.ensures.words c.plan_before.ensures.next in
           known-further ds n tick due t s f view c.plan_before.new.self c.plan_before.new.log opened c.if-self.false before goes c.plan_before.ensures.further is
       | inr closed ↦
-          let still = c.plan_before.ensures.still (closed-waits (count view == 0) view.front.serial view.next.words.awaited view.front.c due closed last) in
+          let still = c.plan_before.ensures.still (closed-waits (count view == 0) view.issue.serial view.next.words.awaited view.issue.c due closed last) in
           going-still ds n tick tick due t s f view c.plan_before.new.self c.plan_before.new.log still.0 still.1 closed is
     ]

@@ -4,13 +4,13 @@ use Rattle.std.proofs.lemmas.Bool.{or_parts}
 use Rattle.st_state.specs.Machine.{Machine, word}
 use Rattle.st_banks.specs.declared.answers.LastAnswers.{LastAnswers}
 use Rattle.st_prep.specs.Plan.{plan}
-use Rattle.st_exec.specs.Completion.{guess}
+use Rattle.st_exec.specs.Completion.{prediction}
 use Rattle.st_exec.specs.Step.{interrupt, rests}
-use Rattle.st_rows.specs.Rows.{row_of_entry, front_after_entry}
+use Rattle.st_rows.specs.Rows.{row_of_entry, issue_after_entry}
 use Rattle.st_rows.proofs.Within.{delays-are}
 use Rattle.st_segment.specs.Entries.{entry}
-use Rattle.st_segment.proofs.GuessLemmas.{guess-machine}
-use Rattle.st_next.specs.declared.next.Next.{Next}
+use Rattle.st_segment.proofs.GuessLemmas.{prediction-machine}
+use Rattle.st_next.specs.declared.fetch_unit.FetchUnit.{FetchUnit}
 use Rattle.st_ahead.specs.RunTo.{may_come_from_outside}
 use Rattle.st_ahead.specs.Inside.{answers_before}
 use Rattle.st_ahead.proofs.Gone.{oldest-late}
@@ -20,7 +20,7 @@ use Rattle.st_ahead.specs.RowsDone.{queue_with}
 use Rattle.st_ahead.specs.declared.events.Row.{Row}
 use Rattle.st_ahead.proofs.Runs.{noting-starts, noting-on, running-idle, rows-idle, running-ends, banks-between, stopped-comes}
 use Rattle.st_ahead.proofs.Standing.{answers-same}
-use Rattle.st_ahead.proofs.TickCases.{guess-words}
+use Rattle.st_ahead.proofs.TickCases.{prediction-words}
 use Rattle.st_ahead.proofs.lookahead.Lookahead.run_to.Goals as goal
 use Rattle.st_ahead.proofs.Laws.{lookaheads_are_levels, the_banks_are_left}
 use Rattle.st_segment.proofs.Laws.{steps_are_guesses}
@@ -30,7 +30,7 @@ use Rattle.st_ring.proofs.OrderLemmas.{after-c}
 pub entries-init : goal.entries-init
 entries-init g c = record {
   each = λ f now start.
-      noting-starts c.args.delays.now.list g.row.N c.args.limits.count c.args.limits.last now c.args.present.now.taken c.args.present.now.state f c.args.self.now c.args.rows.now start;
+      noting-starts c.args.delays.now.list g.row.N c.args.limits.count c.args.limits.last now c.args.committed.now.taken c.args.committed.now.state f c.args.self.now c.args.rows.now start;
   done = c.requires.done;
 }
 
@@ -47,7 +47,7 @@ go_to-requires g c =
             c.args.limits.early,
             record {
               tick = run.tick;
-              goes = record { table = c.entries.present.taken; front = run.front; going = run.going };
+              goes = record { table = c.entries.committed.taken; issue = run.issue; going = run.going };
               soon = run.soon;
             },
           ),
@@ -59,35 +59,35 @@ pub complete-done-requires : goal.complete-done-requires
 complete-done-requires g c =
     let starts = c.requires.starts in
     let run = (c.entries.invariant.each starts.0 starts.1 starts.2).run in
-    let at = c.in-Some.ensures.goes c.entries.present.taken run.front run.tick (record { tick = run.tick; going = run.going; behind = omega arith; soon = run.soon }) in
+    let at = c.in-Some.ensures.goes c.entries.committed.taken run.issue run.tick (record { tick = run.tick; going = run.going; behind = omega arith; soon = run.soon }) in
     (omega arith, (at.some, c.entries.invariant.done))
 
 pub returns-in_default : goal.returns-in_default
 returns-in_default g c = λ f now start.
     let ds = c.args.delays.now.list in
     let n = g.row.N in
-    let k = c.entries.present.taken in
-    let u = c.entries.present.state in
+    let k = c.entries.committed.taken in
+    let u = c.entries.committed.state in
     let are = delays-are c.args.delays.now in
     let last = c.args.limits.last in
     let noting = c.entries.invariant.each f now start in
     let run = noting.run in
-    let out = c.in_default.ensures.goes k run.front run.tick (record { tick = run.tick; going = run.going; behind = omega arith; soon = run.soon }) in
-    let filled = (c.fill.ensures.filled ds last (last + 1) k u run.front are out (omega arith) (omega arith) out.not_done (λ w. refl)).0 in
+    let out = c.in_default.ensures.goes k run.issue run.tick (record { tick = run.tick; going = run.going; behind = omega arith; soon = run.soon }) in
+    let filled = (c.fill.ensures.filled ds last (last + 1) k u run.issue are out (omega arith) (omega arith) out.not_done (λ w. refl)).0 in
     let w = c.fill.new.self in
-    let late = oldest-late ds n last (last + 1) k u run.front w c.requires.some are (omega arith) filled
-    (lookaheads_are_levels ds n last (last + 1) k u run.front w c.requires.some c.requires.few are (omega arith) c.fill.ensures.few filled) in (
-      running-ends ds n c.args.limits.count last now c.args.present.now.taken k c.args.present.now.state u f c.entries.self w run late filled,
+    let late = oldest-late ds n last (last + 1) k u run.issue w c.requires.some are (omega arith) filled
+    (lookaheads_are_levels ds n last (last + 1) k u run.issue w c.requires.some c.requires.few are (omega arith) c.fill.ensures.few filled) in (
+      running-ends ds n c.args.limits.count last now c.args.committed.now.taken k c.args.committed.now.state u f c.entries.self w run late filled,
       noting.noted ∙ ap {A = List Row} (λ xs. queue_with xs c.args.rows.now)
-          (rows-idle ds n c.args.limits.count last now (last + 1) c.args.present.now.taken k c.args.present.now.state u f c.entries.self run (omega (arith, run.soon)) (omega (arith, late))),
+          (rows-idle ds n c.args.limits.count last now (last + 1) c.args.committed.now.taken k c.args.committed.now.state u f c.entries.self run (omega (arith, run.soon)) (omega (arith, late))),
     )
 
 pub entries-preserved : goal.entries-preserved
 entries-preserved g c =
     let ds = c.args.delays.now.list in
     let n = g.row.N in
-    let k = c.entries.present.taken in
-    let u = c.entries.present.state in
+    let k = c.entries.committed.taken in
+    let u = c.entries.committed.state in
     let are = delays-are c.args.delays.now in
     let starts = c.requires.starts in
     let run = (c.entries.invariant.each starts.0 starts.1 starts.2).run in
@@ -96,11 +96,11 @@ entries-preserved g c =
       each = λ f now start.
           let noting = c.entries.invariant.each f now start in
           let run = noting.run in
-          let at = c.in-Some.ensures.goes k run.front run.tick (record { tick = run.tick; going = run.going; behind = omega arith; soon = run.soon }) in
+          let at = c.in-Some.ensures.goes k run.issue run.tick (record { tick = run.tick; going = run.going; behind = omega arith; soon = run.soon }) in
           let due = c.in-Some.tick in
-          let all = c.complete-done.ensures ds (due - 1) due k run.front are at.lookahead at.row_is in
+          let all = c.complete-done.ensures ds (due - 1) due k run.issue are at.lookahead at.row_is in
           let counted = ap (λ (m : Machine). m.done) all.0 ∙ entries_count_as_one (plan u k) u in
-          noting-on ds n c.args.limits.count c.args.limits.last now due c.args.present.now.taken k c.args.present.now.state u c.complete-done.new.state f c.entries.self c.go_to.new.self
+          noting-on ds n c.args.limits.count c.args.limits.last now due c.args.committed.now.taken k c.args.committed.now.state u c.complete-done.new.state f c.entries.self c.go_to.new.self
           c.complete-done.new.self c.complete-done.result c.args.rows.now c.entries.rows noting at all.0 all.1 all.2 goes.0 goes.1 goes.2 goes.3
           (steps_are_guesses.right k u at.lookahead.machine at.lookahead.indicator) counted _ c.put.ensures c.row_of.ensures;
       done =
@@ -115,14 +115,14 @@ pub entries-smaller : goal.entries-smaller
 entries-smaller g c =
     let ds = c.args.delays.now.list in
     let n = g.row.N in
-    let k = c.entries.present.taken in
-    let u = c.entries.present.state in
+    let k = c.entries.committed.taken in
+    let u = c.entries.committed.state in
     let are = delays-are c.args.delays.now in
     let starts = c.requires.starts in
     let run = (c.entries.invariant.each starts.0 starts.1 starts.2).run in
-    let at = c.in-Some.ensures.goes k run.front run.tick (record { tick = run.tick; going = run.going; behind = omega arith; soon = run.soon }) in
+    let at = c.in-Some.ensures.goes k run.issue run.tick (record { tick = run.tick; going = run.going; behind = omega arith; soon = run.soon }) in
     let due = c.in-Some.tick in
-    let all = c.complete-done.ensures ds (due - 1) due k run.front are at.lookahead at.row_is in
+    let all = c.complete-done.ensures ds (due - 1) due k run.issue are at.lookahead at.row_is in
     let goes = c.is_stopped.ensures.goes c.if-is_stopped.false in
     let counted : c.complete-done.new.state.done ≡ u.done + 1 = ap (λ (m : Machine). m.done) all.0 ∙ entries_count_as_one (plan u k) u in
     omega (
@@ -135,34 +135,34 @@ pub returns-then-is_stopped : goal.returns-then-is_stopped
 returns-then-is_stopped g c = λ f now start.
     let ds = c.args.delays.now.list in
     let n = g.row.N in
-    let k = c.entries.present.taken in
-    let u = c.entries.present.state in
+    let k = c.entries.committed.taken in
+    let u = c.entries.committed.state in
     let are = delays-are c.args.delays.now in
     let noting = c.entries.invariant.each f now start in
     let run = noting.run in
-    let at = c.in-Some.ensures.goes k run.front run.tick (record { tick = run.tick; going = run.going; behind = omega arith; soon = run.soon }) in
+    let at = c.in-Some.ensures.goes k run.issue run.tick (record { tick = run.tick; going = run.going; behind = omega arith; soon = run.soon }) in
     let due = c.in-Some.tick in
     let w = c.go_to.new.self in
-    let all = c.complete-done.ensures ds (due - 1) due k run.front are at.lookahead at.row_is in
+    let all = c.complete-done.ensures ds (due - 1) due k run.issue are at.lookahead at.row_is in
     let e = entry k u in
-    let front = front_after_entry ds n run.front e in
+    let issue = issue_after_entry ds n run.issue e in
     let comp = c.complete-done.new.self in
-    let machine = guess-machine k u at.lookahead.machine at.lookahead.indicator in
-    let late : due < (row_of_entry ds n front (entry None (guess k u))).c = omega (arith, after-c ds n run.front e, at.row_is, done-later ds n None (guess k u) front machine tt) in
-    let waits = done-after ds n (due - 1) due None (guess k u) front comp.front comp.levels.ring comp.levels.plans machine tt all.2.ahead.levels late in
-    let filled = c.fill-then-is_stopped.ensures.filled ds (due - 1) due None (guess k u) front are all.2 (omega arith) (omega arith) waits
-    (λ x. ap (λ (m : Machine). word m x) all.0 ∙ guess-words k u x) in
+    let machine = prediction-machine k u at.lookahead.machine at.lookahead.indicator in
+    let late : due < (row_of_entry ds n issue (entry None (prediction k u))).c = omega (arith, after-c ds n run.issue e, at.row_is, done-later ds n None (prediction k u) issue machine tt) in
+    let waits = done-after ds n (due - 1) due None (prediction k u) issue comp.issue comp.levels.ring comp.levels.plans machine tt all.2.ahead.levels late in
+    let filled = c.fill-then-is_stopped.ensures.filled ds (due - 1) due None (prediction k u) issue are all.2 (omega arith) (omega arith) waits
+    (λ x. ap (λ (m : Machine). word m x) all.0 ∙ prediction-words k u x) in
     let final = c.fill-then-is_stopped.new.self in
     let same : answers_before due final ≡ answers_before due w =
-    answers-same due w final (filled.1 ∙ all.3) (ap (λ (x : Next). x.words) filled.2 ∙ all.4) in
-    let left = the_banks_are_left ds n (due - 1) due k u run.front w c.requires.some c.requires.few are
+    answers-same due w final (filled.1 ∙ all.3) (ap (λ (x : FetchUnit). x.words) filled.2 ∙ all.4) in
+    let left = the_banks_are_left ds n (due - 1) due k u run.issue w c.requires.some c.requires.few are
     (omega (arith, at.later)) c.in-Some.ensures.few at.some at.lookahead at.row_is in (
       record {
         table = k;
         state = u;
-        front = run.front;
+        issue = run.issue;
         ahead = w;
-        passed = running-idle ds n c.args.limits.count c.args.limits.last now due c.args.present.now.taken k c.args.present.now.state u f c.entries.self run at.later (omega (arith, at.row_is));
+        passed = running-idle ds n c.args.limits.count c.args.limits.last now due c.args.committed.now.taken k c.args.committed.now.state u f c.entries.self run at.later (omega (arith, at.row_is));
         soon = at.soon;
         none_taken = refl;
         machine = at.lookahead.machine;
@@ -173,14 +173,14 @@ returns-then-is_stopped g c = λ f now start.
           state = all.0;
           lookahead = filled.0;
           log = filled.1 ∙ all.3;
-          bus = ap (λ (x : Next). x.words) filled.2 ∙ all.4;
+          bus = ap (λ (x : FetchUnit). x.words) filled.2 ∙ all.4;
         };
-        banks = banks-between ds n due k u run.front w left.0 ∙ sym same;
+        banks = banks-between ds n due k u run.issue w left.0 ∙ sym same;
         near = subst (λ (x : LastAnswers). All (λ b. b ≤ due + 255) x.ticks) (sym same) left.1;
-        stops = stopped-comes ds n c.args.limits.count due k u run.front at.row_is (λ nothing missed none awake.
-            c.is_stopped.ensures.stops c.if-is_stopped.true (ap (may_come_from_outside c.args.limits.count) all.0 ∙ nothing) (all.1.missed ∙ missed)
+        stops = stopped-comes ds n c.args.limits.count due k u run.issue at.row_is (λ nothing mispredicted none awake.
+            c.is_stopped.ensures.stops c.if-is_stopped.true (ap (may_come_from_outside c.args.limits.count) all.0 ∙ nothing) (all.1.mispredicted ∙ mispredicted)
             (ap {A = Machine} interrupt all.0 ∙ none) (ap {A = Machine} rests all.0 ∙ awake));
       },
       noting.noted ∙ ap {A = List Row} (λ xs. queue_with xs c.args.rows.now)
-          (rows-idle ds n c.args.limits.count c.args.limits.last now due c.args.present.now.taken k c.args.present.now.state u f c.entries.self run at.later (omega (arith, at.row_is))),
+          (rows-idle ds n c.args.limits.count c.args.limits.last now due c.args.committed.now.taken k c.args.committed.now.state u f c.entries.self run at.later (omega (arith, at.row_is))),
     )

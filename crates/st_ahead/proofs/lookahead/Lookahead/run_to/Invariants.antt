@@ -1,5 +1,5 @@
 use Rattle.std.proofs.Common.{ℕ, ◌-◌, ◌<◌, ◌^◌}
-use Rattle.st_rows.specs.declared.front.Front.{Front}
+use Rattle.st_rows.specs.declared.issue.IssueState.{IssueState}
 use Rattle.st_ahead.specs.Running.{GoesFrom}
 use Rattle.st_ahead.proofs.Runs.{IsNoting}
 use Rattle.st_ahead.proofs.lookahead.Lookahead.run_to.Given as goal
@@ -7,10 +7,10 @@ use Rattle.st_ahead.proofs.lookahead.Lookahead.run_to.Given as goal
 -- ticks are passed so far
 abbrev pub invariant-entries : goal.invariant-entries
 invariant-entries g l = record {
-  each : (f : Front) (now : ℕ) → GoesFrom l.delays.list g.row.N l.last now l.fn.present.taken l.fn.present.state f l.fn.self
-      → IsNoting l.delays.list g.row.N l.count l.last now l.fn.present.taken l.fn.present.state f l.present.taken l.present.state l.self l.fn.rows l.rows;
-  done : l.present.state.done < 2 ^ 63;
+  each : (f : IssueState) (now : ℕ) → GoesFrom l.delays.list g.row.N l.last now l.fn.committed.taken l.fn.committed.state f l.fn.self
+      → IsNoting l.delays.list g.row.N l.count l.last now l.fn.committed.taken l.fn.committed.state f l.committed.taken l.committed.state l.self l.fn.rows l.rows;
+  done : l.committed.state.done < 2 ^ 63;
 }
 
 abbrev pub decreases-entries : goal.decreases-entries
-decreases-entries g l = l.count - l.present.state.done
+decreases-entries g l = l.count - l.committed.state.done

@@ -1,6 +1,6 @@
 use Rattle.std.proofs.Common.{◌≡◌, ◌+◌, ◌<◌, ◌^◌, true, false, None, sym, subst, arith}
 use Rattle.st_exec.specs.Step.{rests}
-use Rattle.st_ring.specs.Levels.{oldest_front}
+use Rattle.st_ring.specs.Levels.{oldest_issue}
 use Rattle.st_ahead.specs.Overlap.{Overlap, interrupt_due}
 use Rattle.st_ahead.specs.Calls.{machine_after_pass}
 use Rattle.st_ahead.specs.Inside.{overlap_of}
@@ -16,9 +16,9 @@ pub go_on-requires : goal.go_on-requires
 go_on-requires g c =
     let i = c.self.inside in
     let owes = subst (λ (m : Overlap). m.owed ≡ true) (sym c.self.view_is) c.requires.owed in
-    let right = subst (λ (m : Overlap). m.missed ≡ None) (sym c.self.view_is) c.requires.right in
-    let both = going-lookahead i.stopped g.row.N i.delays.list i.present.state i.present.taken i.missed i.now i.owed i.ended i.fresh i.lookahead c.self.invariant owes c.if-self.false right in
-    let f = oldest_front i.lookahead.levels.plans i.lookahead.front in (
+    let right = subst (λ (m : Overlap). m.mispredicted ≡ None) (sym c.self.view_is) c.requires.right in
+    let both = going-lookahead i.stopped g.row.N i.delays.list i.committed.state i.committed.taken i.mispredicted i.now i.owed i.ended i.fresh i.lookahead c.self.invariant owes c.if-self.false right in
+    let f = oldest_issue i.lookahead.levels.plans i.lookahead.issue in (
       omega arith,
       (
         c.self.invariant.some,
@@ -28,7 +28,7 @@ go_on-requires g c =
             both.1,
             record {
               tick = i.now;
-              goes = record { table = i.present.taken; front = f; going = lookahead-goes i.delays.list g.row.N i.now i.present.taken i.present.state f i.lookahead both.0 };
+              goes = record { table = i.committed.taken; issue = f; going = lookahead-goes i.delays.list g.row.N i.now i.committed.taken i.committed.state f i.lookahead both.0 };
               soon = omega arith;
             },
           ),
@@ -40,8 +40,8 @@ pub overflow_add-self : goal.overflow_add-self
 overflow_add-self g c =
     let i = c.self.inside in
     let owes = subst (λ (m : Overlap). m.owed ≡ true) (sym c.self.view_is) c.requires.owed in
-    let right = subst (λ (m : Overlap). m.missed ≡ None) (sym c.self.view_is) c.requires.right in
-    let both = going-lookahead i.stopped g.row.N i.delays.list i.present.state i.present.taken i.missed i.now i.owed i.ended i.fresh i.lookahead c.self.invariant owes c.if-self.false right in
+    let right = subst (λ (m : Overlap). m.mispredicted ≡ None) (sym c.self.view_is) c.requires.right in
+    let both = going-lookahead i.stopped g.row.N i.delays.list i.committed.state i.committed.taken i.mispredicted i.now i.owed i.ended i.fresh i.lookahead c.self.invariant owes c.if-self.false right in
     let early : i.now < 2 ^ 63 = both.1 in
     omega (arith, early)
 
@@ -51,15 +51,15 @@ invariant_of-self g c =
     let i = c.self.inside in
     let w = c.go_on.new.self in
     let owes = subst (λ (m : Overlap). m.owed ≡ true) (sym c.self.view_is) c.requires.owed in
-    let right = subst (λ (m : Overlap). m.missed ≡ None) (sym c.self.view_is) c.requires.right in
-    let both = going-lookahead i.stopped n i.delays.list i.present.state i.present.taken i.missed i.now i.owed i.ended i.fresh i.lookahead c.self.invariant owes c.if-self.false right in
-    let f = oldest_front i.lookahead.levels.plans i.lookahead.front in
-    let lookahead = c.go_on.ensures i.present.taken f both.0 in
-    (go-inside i.stopped n i.delays.list i.present.state i.present.taken i.missed i.now i.owed i.ended i.fresh i.lookahead w c.self.invariant
+    let right = subst (λ (m : Overlap). m.mispredicted ≡ None) (sym c.self.view_is) c.requires.right in
+    let both = going-lookahead i.stopped n i.delays.list i.committed.state i.committed.taken i.mispredicted i.now i.owed i.ended i.fresh i.lookahead c.self.invariant owes c.if-self.false right in
+    let f = oldest_issue i.lookahead.levels.plans i.lookahead.issue in
+    let lookahead = c.go_on.ensures i.committed.taken f both.0 in
+    (go-inside i.stopped n i.delays.list i.committed.state i.committed.taken i.mispredicted i.now i.owed i.ended i.fresh i.lookahead w c.self.invariant
     (subst (λ (m : Overlap). m.stopped ≡ false) (sym c.self.view_is) c.requires.stands) owes c.if-self.false right
     (subst (λ (m : Overlap). interrupt_due m ≡ None) (sym c.self.view_is) c.requires.due)
     (subst (λ (m : Overlap). rests m.state ≡ false) (sym c.self.view_is) c.requires.goes)
-    lookahead (levels_are_the_entries_ahead.oldest i.delays.list n i.now i.present.taken i.present.state f w.front w.levels lookahead.outlook.ahead)).0
+    lookahead (levels_are_the_entries_ahead.oldest i.delays.list n i.now i.committed.taken i.committed.state f w.issue w.levels lookahead.outlook.ahead)).0
 
 pub returns : goal.returns
 returns g c =
@@ -67,13 +67,13 @@ returns g c =
     let i = c.self.inside in
     let w = c.go_on.new.self in
     let owes = subst (λ (m : Overlap). m.owed ≡ true) (sym c.self.view_is) c.requires.owed in
-    let right = subst (λ (m : Overlap). m.missed ≡ None) (sym c.self.view_is) c.requires.right in
-    let both = going-lookahead i.stopped n i.delays.list i.present.state i.present.taken i.missed i.now i.owed i.ended i.fresh i.lookahead c.self.invariant owes c.if-self.false right in
-    let f = oldest_front i.lookahead.levels.plans i.lookahead.front in
-    let lookahead = c.go_on.ensures i.present.taken f both.0 in
-    subst (λ (m : Overlap). overlap_of n i.delays.list i.present.state i.present.taken i.missed (i.now + 1) false i.ended i.stopped false w ≡ machine_after_pass m) c.self.view_is
-    (go-inside i.stopped n i.delays.list i.present.state i.present.taken i.missed i.now i.owed i.ended i.fresh i.lookahead w c.self.invariant
+    let right = subst (λ (m : Overlap). m.mispredicted ≡ None) (sym c.self.view_is) c.requires.right in
+    let both = going-lookahead i.stopped n i.delays.list i.committed.state i.committed.taken i.mispredicted i.now i.owed i.ended i.fresh i.lookahead c.self.invariant owes c.if-self.false right in
+    let f = oldest_issue i.lookahead.levels.plans i.lookahead.issue in
+    let lookahead = c.go_on.ensures i.committed.taken f both.0 in
+    subst (λ (m : Overlap). overlap_of n i.delays.list i.committed.state i.committed.taken i.mispredicted (i.now + 1) false i.ended i.stopped false w ≡ machine_after_pass m) c.self.view_is
+    (go-inside i.stopped n i.delays.list i.committed.state i.committed.taken i.mispredicted i.now i.owed i.ended i.fresh i.lookahead w c.self.invariant
     (subst (λ (m : Overlap). m.stopped ≡ false) (sym c.self.view_is) c.requires.stands) owes c.if-self.false right
     (subst (λ (m : Overlap). interrupt_due m ≡ None) (sym c.self.view_is) c.requires.due)
     (subst (λ (m : Overlap). rests m.state ≡ false) (sym c.self.view_is) c.requires.goes)
-    lookahead (levels_are_the_entries_ahead.oldest i.delays.list n i.now i.present.taken i.present.state f w.front w.levels lookahead.outlook.ahead)).1
+    lookahead (levels_are_the_entries_ahead.oldest i.delays.list n i.now i.committed.taken i.committed.state f w.issue w.levels lookahead.outlook.ahead)).1

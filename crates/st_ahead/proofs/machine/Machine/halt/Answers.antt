@@ -6,7 +6,7 @@ use Rattle.st_ahead.proofs.machine.Machine.halt.Goals as goal
 pub invariant_of-self : goal.invariant_of-self
 invariant_of-self g c =
     let i = c.self.inside in
-    stop-inside i.stopped g.row.N i.delays.list i.present.state i.present.taken i.missed i.now i.owed i.ended i.fresh i.lookahead c.self.invariant
+    stop-inside i.stopped g.row.N i.delays.list i.committed.state i.committed.taken i.mispredicted i.now i.owed i.ended i.fresh i.lookahead c.self.invariant
     (subst (λ (m : Overlap). m.owed ≡ true) (sym c.self.view_is) c.requires)
 
 pub returns : goal.returns

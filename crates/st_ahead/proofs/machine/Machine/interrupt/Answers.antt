@@ -27,7 +27,7 @@ invariant_of-self g c =
     let off = subst (λ (m : Overlap). m.stopped ≡ false) (sym c.self.view_is) (rest.stopped ∙ c.requires.stands) in
     let none = subst (λ (m : Overlap). m.taken ≡ None) (sym c.self.view_is) (rest.taken ∙ due.0) in
     let now = subst (λ (m : Overlap). interrupt m.state ≡ Some c.args.indicator) (sym c.self.view_is) (ap interrupt rest.state ∙ due.1) in
-    (interrupt-taken i.stopped g.row.N i.delays.list i.present.state i.present.taken i.missed i.now i.owed i.ended i.fresh i.lookahead c.stand.new.self c.args.indicator none
+    (interrupt-taken i.stopped g.row.N i.delays.list i.committed.state i.committed.taken i.mispredicted i.now i.owed i.ended i.fresh i.lookahead c.stand.new.self c.args.indicator none
     c.self.invariant off owes over c.requires.known now c.place_of-place.ensures.value c.stand.ensures).0
 
 pub returns-clause-answer : goal.returns-clause-answer
@@ -35,7 +35,7 @@ returns-clause-answer g c =
     let i = c.self.inside in
     let rest = ended-rest c.args.self.now c.end-dropped.new.self c.args.self.now.ended refl c.end-dropped.ensures.after in
     let state = subst (λ (m : Overlap). m.state ≡ c.args.self.now.state) (sym c.self.view_is) rest.state in
-    let all = answer-interrupt c.args.self.now (overlap_of g.row.N i.delays.list i.present.state i.present.taken i.missed i.now i.owed i.ended i.stopped i.fresh i.lookahead) c.args.indicator c.end-dropped.result
+    let all = answer-interrupt c.args.self.now (overlap_of g.row.N i.delays.list i.committed.state i.committed.taken i.mispredicted i.now i.owed i.ended i.stopped i.fresh i.lookahead) c.args.indicator c.end-dropped.result
     state c.end-dropped.ensures.dropped c.requires.due in
     rw (c.done_in-done.ensures, c.counter_in-ic.ensures.value) all
 
@@ -49,7 +49,7 @@ returns-clause-after g c =
     let off = subst (λ (m : Overlap). m.stopped ≡ false) (sym c.self.view_is) (rest.stopped ∙ c.requires.stands) in
     let none = subst (λ (m : Overlap). m.taken ≡ None) (sym c.self.view_is) (rest.taken ∙ due.0) in
     let now = subst (λ (m : Overlap). interrupt m.state ≡ Some c.args.indicator) (sym c.self.view_is) (ap interrupt rest.state ∙ due.1) in
-    settled-interrupt c.args.self.now (overlap_of g.row.N i.delays.list i.present.state i.present.taken i.missed i.now i.owed i.ended i.stopped i.fresh i.lookahead) _ c.args.indicator
+    settled-interrupt c.args.self.now (overlap_of g.row.N i.delays.list i.committed.state i.committed.taken i.mispredicted i.now i.owed i.ended i.stopped i.fresh i.lookahead) _ c.args.indicator
     (c.self.view_is ∙ c.end-dropped.ensures.after) c.requires.due
-    (interrupt-taken i.stopped g.row.N i.delays.list i.present.state i.present.taken i.missed i.now i.owed i.ended i.fresh i.lookahead c.stand.new.self c.args.indicator none
+    (interrupt-taken i.stopped g.row.N i.delays.list i.committed.state i.committed.taken i.mispredicted i.now i.owed i.ended i.fresh i.lookahead c.stand.new.self c.args.indicator none
     c.self.invariant off owes over c.requires.known now c.place_of-place.ensures.value c.stand.ensures).1

@@ -11,6 +11,6 @@ returns-clause-yes g c = λ done. subst (λ (m : Overlap). IsSome m.closing) c.s
 pub returns-clause-no : goal.returns-clause-no
 returns-clause-no g c = λ stale.
     let i = c.self.inside in
-    let P : Overlap → Type 0 = λ m. (interrupt_due m ≡ None) × (rests m.state ≡ false) × (m.missed ≡ None) in
+    let P : Overlap → Type 0 = λ m. (interrupt_due m ≡ None) × (rests m.state ≡ false) × (m.mispredicted ≡ None) in
     subst P c.self.view_is
-    (quiet-inside i.stopped g.row.N i.delays.list i.present.state i.present.taken i.missed i.now i.owed i.ended i.fresh i.lookahead c.self.invariant (not-fresh i.fresh _ stale))
+    (quiet-inside i.stopped g.row.N i.delays.list i.committed.state i.committed.taken i.mispredicted i.now i.owed i.ended i.fresh i.lookahead c.self.invariant (not-fresh i.fresh _ stale))

@@ -15,23 +15,23 @@ pub returns-clause-value : goal.returns-clause-value
 returns-clause-value g c =
     let n = g.row.N in
     let i = c.self.inside in
-    let m = overlap_of n i.delays.list i.present.state i.present.taken i.missed i.now i.owed i.ended i.stopped i.fresh i.lookahead in
-    let lookahead = lookahead-inside i.stopped n i.delays.list i.present.state i.present.taken i.missed i.now i.owed i.ended i.fresh i.lookahead c.self.invariant in
-    let is = showing m i.lookahead lookahead (lookaheads_are_levels i.delays.list n (last_tick_made m) i.now i.present.taken (state_ahead m) m.front i.lookahead
+    let m = overlap_of n i.delays.list i.committed.state i.committed.taken i.mispredicted i.now i.owed i.ended i.stopped i.fresh i.lookahead in
+    let lookahead = lookahead-inside i.stopped n i.delays.list i.committed.state i.committed.taken i.mispredicted i.now i.owed i.ended i.fresh i.lookahead c.self.invariant in
+    let is = showing m i.lookahead lookahead (lookaheads_are_levels i.delays.list n (last_tick_made m) i.now i.committed.taken (state_ahead m) m.issue i.lookahead
     c.self.invariant.some c.self.invariant.few (delays-are i.delays) (soon-last i.owed i.now) c.level.ensures.few lookahead) in
     let tick = c.last_tick-tick.ensures ∙ ap (λ (x : Overlap). last_tick_made x) (sym c.self.view_is) in
     subst (λ (x : Overlap). c.level.result ≡ get_or (view_at_tick x).levels c.args.k None) c.self.view_is
-    (c.level.ensures.value i.delays.list n (last_tick_made m) i.present.taken (state_ahead m) m.front lookahead.outlook.ahead
-    ∙ ap (λ t. get_or (map (λ (a : Ahead). Some (level_shown t a)) (ahead i.delays.list n (count i.lookahead) i.present.taken (state_ahead m) m.front)) c.args.k None) tick
+    (c.level.ensures.value i.delays.list n (last_tick_made m) i.committed.taken (state_ahead m) m.issue lookahead.outlook.ahead
+    ∙ ap (λ t. get_or (map (λ (a : Ahead). Some (level_shown t a)) (ahead i.delays.list n (count i.lookahead) i.committed.taken (state_ahead m) m.issue)) c.args.k None) tick
     ∙ showing-level m i.lookahead c.args.k is)
 
 pub returns-clause-eight : goal.returns-clause-eight
 returns-clause-eight g c =
     let n = g.row.N in
     let i = c.self.inside in
-    let m = overlap_of n i.delays.list i.present.state i.present.taken i.missed i.now i.owed i.ended i.stopped i.fresh i.lookahead in
-    let lookahead = lookahead-inside i.stopped n i.delays.list i.present.state i.present.taken i.missed i.now i.owed i.ended i.fresh i.lookahead c.self.invariant in
-    let is = showing m i.lookahead lookahead (lookaheads_are_levels i.delays.list n (last_tick_made m) i.now i.present.taken (state_ahead m) m.front i.lookahead
+    let m = overlap_of n i.delays.list i.committed.state i.committed.taken i.mispredicted i.now i.owed i.ended i.stopped i.fresh i.lookahead in
+    let lookahead = lookahead-inside i.stopped n i.delays.list i.committed.state i.committed.taken i.mispredicted i.now i.owed i.ended i.fresh i.lookahead c.self.invariant in
+    let is = showing m i.lookahead lookahead (lookaheads_are_levels i.delays.list n (last_tick_made m) i.now i.committed.taken (state_ahead m) m.issue i.lookahead
     c.self.invariant.some c.self.invariant.few (delays-are i.delays) (soon-last i.owed i.now) c.level.ensures.few lookahead) in
     let most : count i.lookahead ≤ n = c.level.ensures.few in
     let few : n ≤ 8 = c.self.invariant.few in

@@ -16,7 +16,7 @@ overflow_add-self g c =
 pub invariant_of-self : goal.invariant_of-self
 invariant_of-self g c =
     let i = c.self.inside in
-    (pass-inside i.stopped g.row.N i.delays.list i.present.state i.present.taken i.missed i.now i.owed i.ended i.fresh i.lookahead c.self.invariant
+    (pass-inside i.stopped g.row.N i.delays.list i.committed.state i.committed.taken i.mispredicted i.now i.owed i.ended i.fresh i.lookahead c.self.invariant
     (subst (λ (m : Overlap). m.stopped ≡ false) (sym c.self.view_is) c.requires.stands)
     (subst (λ (m : Overlap). m.owed ≡ true) (sym c.self.view_is) c.requires.owed)
     (subst (λ (m : Overlap). m.ended ≡ true) (sym c.self.view_is) c.requires.ended)
@@ -26,8 +26,8 @@ invariant_of-self g c =
 pub returns : goal.returns
 returns g c =
     let i = c.self.inside in
-    subst (λ (m : Overlap). overlap_of g.row.N i.delays.list i.present.state i.present.taken None (i.now + 1) false false i.stopped false i.lookahead ≡ machine_after_pass m) c.self.view_is
-    (pass-inside i.stopped g.row.N i.delays.list i.present.state i.present.taken i.missed i.now i.owed i.ended i.fresh i.lookahead c.self.invariant
+    subst (λ (m : Overlap). overlap_of g.row.N i.delays.list i.committed.state i.committed.taken None (i.now + 1) false false i.stopped false i.lookahead ≡ machine_after_pass m) c.self.view_is
+    (pass-inside i.stopped g.row.N i.delays.list i.committed.state i.committed.taken i.mispredicted i.now i.owed i.ended i.fresh i.lookahead c.self.invariant
     (subst (λ (m : Overlap). m.stopped ≡ false) (sym c.self.view_is) c.requires.stands)
     (subst (λ (m : Overlap). m.owed ≡ true) (sym c.self.view_is) c.requires.owed)
     (subst (λ (m : Overlap). m.ended ≡ true) (sym c.self.view_is) c.requires.ended)

@@ -17,9 +17,9 @@ invariant_of-self g c =
     let n = g.row.N in
     let i = c.self.inside in
     let may = subst MayServe (sym c.self.view_is) c.requires.turn in
-    signal-inside i.stopped n i.delays.list i.present.state c.print_out.new.state i.present.taken i.missed i.now i.owed i.ended i.fresh i.lookahead c.self.invariant
+    signal-inside i.stopped n i.delays.list i.committed.state c.print_out.new.state i.committed.taken i.mispredicted i.now i.owed i.ended i.fresh i.lookahead c.self.invariant
     (inr (may.0, may.1)) c.print_out.ensures.after
-    (subst (λ (u : Machine). AreAlikeBesideOrders i.present.state u) (sym c.print_out.ensures.state) (orders_are_passed_over.printed i.present.state))
+    (subst (λ (u : Machine). AreAlikeBesideOrders i.committed.state u) (sym c.print_out.ensures.state) (orders_are_passed_over.printed i.committed.state))
     (λ x y f lookahead late done m alike. signals_leave_lookaheads.lookahead i.delays.list n i.now i.now x y f i.lookahead
     c.self.invariant.some c.self.invariant.few (delays-are i.delays) lookahead late done m alike)
 
@@ -31,5 +31,5 @@ pub returns-clause-after : goal.returns-clause-after
 returns-clause-after g c =
     let n = g.row.N in
     let i = c.self.inside in
-    subst (λ (m : Overlap). overlap_of n i.delays.list c.print_out.new.state i.present.taken i.missed i.now i.owed i.ended i.stopped i.fresh i.lookahead ≡ printed_by m) c.self.view_is
-    (ap (λ (u : Machine). overlap_of n i.delays.list u i.present.taken i.missed i.now i.owed i.ended i.stopped i.fresh i.lookahead) c.print_out.ensures.state)
+    subst (λ (m : Overlap). overlap_of n i.delays.list c.print_out.new.state i.committed.taken i.mispredicted i.now i.owed i.ended i.stopped i.fresh i.lookahead ≡ printed_by m) c.self.view_is
+    (ap (λ (u : Machine). overlap_of n i.delays.list u i.committed.taken i.mispredicted i.now i.owed i.ended i.stopped i.fresh i.lookahead) c.print_out.ensures.state)

@@ -17,9 +17,9 @@ invariant_of-self g c =
     let i = c.self.inside in
     let some = subst (λ (m : Overlap). IsSome m.state.reader) (sym c.self.view_is) c.requires.order in
     let may = subst MayServe (sym c.self.view_is) c.requires.turn in
-    signal-inside i.stopped n i.delays.list i.present.state c.read_in.new.state i.present.taken i.missed i.now i.owed i.ended i.fresh i.lookahead c.self.invariant
+    signal-inside i.stopped n i.delays.list i.committed.state c.read_in.new.state i.committed.taken i.mispredicted i.now i.owed i.ended i.fresh i.lookahead c.self.invariant
     (inr (may.0, may.1)) c.read_in.ensures.after
-    (no_card-alike i.present.state c.read_in.new.state i.present.state.reader (orders_are_passed_over.no_card i.present.state) some c.read_in.ensures.state)
+    (no_card-alike i.committed.state c.read_in.new.state i.committed.state.reader (orders_are_passed_over.no_card i.committed.state) some c.read_in.ensures.state)
     (λ x y f lookahead late done m alike. signals_leave_lookaheads.lookahead i.delays.list n i.now i.now x y f i.lookahead
     c.self.invariant.some c.self.invariant.few (delays-are i.delays) lookahead late done m alike)
 
@@ -27,6 +27,6 @@ pub returns : goal.returns
 returns g c =
     let n = g.row.N in
     let i = c.self.inside in
-    subst (λ (m : Overlap). IfSome m.state.reader (λ order. overlap_of n i.delays.list c.read_in.new.state i.present.taken i.missed i.now i.owed i.ended i.stopped i.fresh i.lookahead ≡ read_in_by order.word None m))
+    subst (λ (m : Overlap). IfSome m.state.reader (λ order. overlap_of n i.delays.list c.read_in.new.state i.committed.taken i.mispredicted i.now i.owed i.ended i.stopped i.fresh i.lookahead ≡ read_in_by order.word None m))
     c.self.view_is
-    (with-read i.present.state.reader None i.present.state c.read_in.new.state (λ (u : Machine). overlap_of n i.delays.list u i.present.taken i.missed i.now i.owed i.ended i.stopped i.fresh i.lookahead) c.read_in.ensures.state)
+    (with-read i.committed.state.reader None i.committed.state c.read_in.new.state (λ (u : Machine). overlap_of n i.delays.list u i.committed.taken i.mispredicted i.now i.owed i.ended i.stopped i.fresh i.lookahead) c.read_in.ensures.state)

@@ -13,9 +13,9 @@ pub returns-clause-levels : goal.returns-clause-levels
 returns-clause-levels g c =
     let n = g.row.N in
     let i = c.self.inside in
-    let m = overlap_of n i.delays.list i.present.state i.present.taken i.missed i.now i.owed i.ended i.stopped i.fresh i.lookahead in
-    let lookahead = lookahead-inside i.stopped n i.delays.list i.present.state i.present.taken i.missed i.now i.owed i.ended i.fresh i.lookahead c.self.invariant in
-    let is = showing m i.lookahead lookahead (lookaheads_are_levels i.delays.list n (last_tick_made m) i.now i.present.taken (state_ahead m) m.front i.lookahead
+    let m = overlap_of n i.delays.list i.committed.state i.committed.taken i.mispredicted i.now i.owed i.ended i.stopped i.fresh i.lookahead in
+    let lookahead = lookahead-inside i.stopped n i.delays.list i.committed.state i.committed.taken i.mispredicted i.now i.owed i.ended i.fresh i.lookahead c.self.invariant in
+    let is = showing m i.lookahead lookahead (lookaheads_are_levels i.delays.list n (last_tick_made m) i.now i.committed.taken (state_ahead m) m.issue i.lookahead
     c.self.invariant.some c.self.invariant.few (delays-are i.delays) (soon-last i.owed i.now) c.ring.ensures.few lookahead) in
     subst (λ (x : Overlap). AreLevelsOf x c.ring.result.now) c.self.view_is
     (subst (λ (levels : List Level). AreLevelsOf m levels) (sym c.ring.ensures.levels) (showing-ring m i.lookahead is))

@@ -2,7 +2,7 @@ use Rattle.std.specs.Prelude.{is_none, if◌then◌else◌}
 use Rattle.std.proofs.Common.{None, refl, ap, sym, ◌∙◌, arith}
 use Rattle.st_exec.specs.Step.{interrupt, rests}
 use Rattle.st_ahead.specs.Calls.{machine_after_pass}
-use Rattle.st_ahead.proofs.Settling.{ended-rest, answer-waits, settled-waits, answer-missed, settled-missed, answer-goes, settled-goes, misled}
+use Rattle.st_ahead.proofs.Settling.{ended-rest, answer-waits, settled-waits, answer-mispredicted, settled-mispredicted, answer-goes, settled-goes, mispredicted}
 use Rattle.st_ahead.proofs.machine.Machine.settle.Goals as goal
 
 pub returns-then-is_resting-clause-answer : goal.returns-then-is_resting-clause-answer
@@ -42,13 +42,13 @@ pub returns-clause-answer : goal.returns-clause-answer
 returns-clause-answer g c =
     let due = sym c.interrupt_due.ensures.value ∙ c.in_default.is in
     let goes = sym c.is_resting.ensures ∙ c.if-is_resting.false in
-    answer-missed c.args.self.now c.end-dropped.result c.end-dropped.ensures.dropped due goes
-    (misled c.args.self.now due goes (c.goes_on.ensures.no c.if-goes_on.false))
+    answer-mispredicted c.args.self.now c.end-dropped.result c.end-dropped.ensures.dropped due goes
+    (mispredicted c.args.self.now due goes (c.goes_on.ensures.no c.if-goes_on.false))
 
 pub returns-clause-after : goal.returns-clause-after
 returns-clause-after g c =
     let due = sym c.interrupt_due.ensures.value ∙ c.in_default.is in
     let goes = sym c.is_resting.ensures ∙ c.if-is_resting.false in
-    settled-missed c.args.self.now c.pass.new.self due goes
-    (misled c.args.self.now due goes (c.goes_on.ensures.no c.if-goes_on.false))
+    settled-mispredicted c.args.self.now c.pass.new.self due goes
+    (mispredicted c.args.self.now due goes (c.goes_on.ensures.no c.if-goes_on.false))
     (c.pass.ensures ∙ ap (λ m. machine_after_pass m) c.end-dropped.ensures.after)

@@ -15,15 +15,15 @@ invariant_of-self g c =
     let some = subst (λ (m : Overlap). IsSome m.state.reader) (sym c.self.view_is) c.requires.order in
     let over = subst (λ (m : Overlap). m.ended ≡ true) (sym c.self.view_is) c.requires.ended in
     let done = subst (λ (m : Overlap). IsSome m.closing) (sym c.self.view_is) c.requires.turn.1 in
-    let fresh = fresh-closing i.stopped n i.delays.list i.present.state i.present.taken i.missed i.now i.owed i.ended i.fresh i.lookahead done in
-    card-inside i.stopped n i.delays.list i.present.state c.read_in.new.state i.present.taken i.missed i.now i.owed i.ended i.fresh i.lookahead i.present.state.reader c.args.card c.self.invariant over fresh
+    let fresh = fresh-closing i.stopped n i.delays.list i.committed.state i.committed.taken i.mispredicted i.now i.owed i.ended i.fresh i.lookahead done in
+    card-inside i.stopped n i.delays.list i.committed.state c.read_in.new.state i.committed.taken i.mispredicted i.now i.owed i.ended i.fresh i.lookahead i.committed.state.reader c.args.card c.self.invariant over fresh
     refl some c.read_in.ensures.state c.read_in.ensures.after
 
 pub returns : goal.returns
 returns g c =
     let n = g.row.N in
     let i = c.self.inside in
-    subst (λ (m : Overlap). IfSome m.state.reader (λ order. overlap_of n i.delays.list c.read_in.new.state i.present.taken i.missed i.now i.owed i.ended i.stopped i.fresh i.lookahead
+    subst (λ (m : Overlap). IfSome m.state.reader (λ order. overlap_of n i.delays.list c.read_in.new.state i.committed.taken i.mispredicted i.now i.owed i.ended i.stopped i.fresh i.lookahead
     ≡ record m { state = read_in m.state order.word (Some c.args.card) }))
     c.self.view_is
-    (with-read i.present.state.reader (Some c.args.card) i.present.state c.read_in.new.state (λ (u : Machine). overlap_of n i.delays.list u i.present.taken i.missed i.now i.owed i.ended i.stopped i.fresh i.lookahead) c.read_in.ensures.state)
+    (with-read i.committed.state.reader (Some c.args.card) i.committed.state c.read_in.new.state (λ (u : Machine). overlap_of n i.delays.list u i.committed.taken i.mispredicted i.now i.owed i.ended i.stopped i.fresh i.lookahead) c.read_in.ensures.state)

@@ -1,6 +1,6 @@
 use Rattle.std.proofs.Common.{◌<◌, ◌≡◌, List, [], ◌∷◌, ◌++◌, length, All, sym, subst, ap, ◌∙◌, arith}
 use Rattle.std.proofs.lemmas.List.Elements.{All-push}
-use Rattle.st_prep.specs.EarlyChange.{words_after}
+use Rattle.st_prep.specs.SpeculativeChanges.{words_after}
 use Rattle.st_prep.specs.Ranges.{IsPrepared}
 use Rattle.st_ring.specs.declared.level.Level.{Level}
 use Rattle.st_segment.specs.Guesses.{guesses, table_behind}
@@ -24,7 +24,7 @@ invariant_of-self g c =
     }
 
 pub returns-clause-ahead : goal.returns-clause-ahead
-returns-clause-ahead g c = λ ds n tick t s f last m some h free front form numbers ticks.
+returns-clause-ahead g c = λ ds n tick t s f last m some h free issue form numbers ticks.
     let v = c.args.self.now in
     let u = guesses (length v.ring) t s in
     let i = table_behind (length v.ring) t in
@@ -33,12 +33,12 @@ returns-clause-ahead g c = λ ds n tick t s f last m some h free front form numb
     let new : LevelsView = record { ring = c.push_prepared.new.self; plans = c.push.new.self; x = c.change_index.new.x } in
     let ring : new.ring ≡ v.ring ++ pushed_level p filled ∷ [] = c.push_prepared.ensures.levels
     ∙ ap (λ (w : LevelsView). w.ring ++ pushed_level p filled ∷ []) c.self.view_is in
-    let plans : new.plans ≡ v.plans ++ planned_row c.args.front.now filled ∷ [] = c.push.ensures.rows
-    ∙ ap (λ (w : LevelsView). w.plans ++ planned_row c.args.front.now filled ∷ []) c.self.view_is in
+    let plans : new.plans ≡ v.plans ++ planned_row c.args.issue.now filled ∷ [] = c.push.ensures.rows
+    ∙ ap (λ (w : LevelsView). w.plans ++ planned_row c.args.issue.now filled ∷ []) c.self.view_is in
     let x : new.x ≡ words_after v.x p.index = c.change_index.ensures
     ∙ ap (λ (w : LevelsView). words_after w.x p.index) c.self.view_is in
-    push-ahead ds n tick t s f last v new (pushed_level p filled) (planned_row c.args.front.now filled) p m some h free form
-    (pushed-level ds n tick i u last p c.args.front.now filled front form numbers ticks)
+    push-ahead ds n tick t s f last v new (pushed_level p filled) (planned_row c.args.issue.now filled) p m some h free form
+    (pushed-level ds n tick i u last p c.args.issue.now filled issue form numbers ticks)
     ring plans x
 
 pub returns-clause-not_done : goal.returns-clause-not_done

@@ -2,7 +2,7 @@ use Rattle.std.proofs.Common.{◌≡◌, ◌+◌, ◌-◌, ◌%◌, List, ◌∷
 use Rattle.st_fetch.specs.Queue.{window}
 use Rattle.st_fetch.proofs.Windows.{length-window}
 use Rattle.st_rows.specs.declared.log.Made.{Made}
-use Rattle.st_rows.proofs.NoteLemmas.{window-front, window-full, take-few}
+use Rattle.st_rows.proofs.NoteLemmas.{window-issue, window-full, take-few}
 use Rattle.st_rows.proofs.log.Log.put.Goals as goal
 
 pub returns-then-self-lt-KEPT : goal.returns-then-self-lt-KEPT
@@ -10,7 +10,7 @@ returns-then-self-lt-KEPT c =
     let q = c.self.inside in
     let notes = window q.head q.len q.notes in
     let counted = length-window 64 q.head q.len q.notes c.self.invariant.inside c.self.invariant.few c.self.invariant.whole in
-    window-front q.head q.len q.notes c.args.note c.self.invariant.inside (omega arith) c.self.invariant.whole
+    window-issue q.head q.len q.notes c.args.note c.self.invariant.inside (omega arith) c.self.invariant.whole
     ∙ ap (λ (rest : List Made). c.args.note ∷ rest) (sym (take-few 63 notes (omega (arith, counted))) ∙ ap (take 63) c.self.view_is)
 
 pub returns-else-self-lt-KEPT : goal.returns-else-self-lt-KEPT

@@ -6,12 +6,12 @@ use Rattle.st_ahead.specs.Calls.{MaySignal}
 use Rattle.st_run.specs.Scenes.{IsScene}
 use Rattle.st_run.specs.Together.{Together}
 use Rattle.st_ahead.specs.RowsDone.{Queue}
-use Rattle.st_run.specs.Telling.{Waiting, IsRun, rest_of, rows_then}
-use Rattle.st_run.specs.declared.turn.Turn.TheVariants as turns
+use Rattle.st_run.specs.Telling.{OutputQueue, IsRun, rest_of, rows_then}
+use Rattle.st_run.specs.declared.run_phase.RunPhase.TheVariants as turns
 use Rattle.st_refine.specs.Reached.{CanStart, IsLed}
 use Rattle.st_run.proofs.LedLemmas.{start-led, due-led}
 use Rattle.st_run.proofs.StartLemmas.{IsIdle, started, start-run, start-told, none, with_scene}
-use Rattle.st_run.proofs.InterludeLemmas.{with_coming}
+use Rattle.st_run.proofs.InterludeLemmas.{with_pending}
 use Rattle.st_run.proofs.run.Run.new.Goals as goal
 
 pub invariant_of-result : goal.invariant_of-result
@@ -21,10 +21,10 @@ invariant_of-result g c =
     let idle : IsIdle c.args.state = record { enabled = r.enabled; waiting = r.waiting; reader = r.reader; printer = r.printer } in
     let is : IsScene scene = record { machine = c.new-machine.ensures.machine; cards = r.cards } in
     let same = started c.new-machine.result c.due_signals-rest.new.machine c.args.controls.now.signals.now c.due_signals-rest.result.now c.args.cards _
-    c.due_signals-rest.ensures.came c.due_signals-rest.ensures.machine c.new-coming.ensures
+    c.due_signals-rest.ensures.came c.due_signals-rest.ensures.machine c.new-pending.ensures
     ∙ ap {A = Overlap} (λ m. with_scene (record { machine = m; signals = scene.signals; cards = scene.cards })
     (with_due_signals (record scene { machine = m.state }))) c.new-machine.ensures.value in
-    let stands = subst {A = Waiting} (λ w. IsRun turns.Before (c.args.controls.now.budget - 1) 0 c.args.controls.now.snaps.now w (with_coming c.due_signals-rest.new.machine c.new-coming.result)) (sym c.new-waiting.ensures)
+    let stands = subst {A = OutputQueue} (λ w. IsRun turns.Before (c.args.controls.now.budget - 1) 0 c.args.controls.now.snaps.now w (with_pending c.due_signals-rest.new.machine c.new-pending.result)) (sym c.new-waiting.ensures)
     (subst {A = Together} (λ t. IsRun turns.Before (c.args.controls.now.budget - 1) 0 c.args.controls.now.snaps.now none t) (sym same)
     (start-run c.args.delays.list g.row.N scene idle is c.args.controls.now.budget c.args.controls.now.snaps.now r.some r.few (delays-are c.args.delays)
     r.some_done r.few_done r.done r.snaps)) in
@@ -37,11 +37,11 @@ returns-clause-rest g c =
     let idle : IsIdle c.args.state = record { enabled = r.enabled; waiting = r.waiting; reader = r.reader; printer = r.printer } in
     let is : IsScene scene = record { machine = c.new-machine.ensures.machine; cards = r.cards } in
     let same = started c.new-machine.result c.due_signals-rest.new.machine c.args.controls.now.signals.now c.due_signals-rest.result.now c.args.cards _
-    c.due_signals-rest.ensures.came c.due_signals-rest.ensures.machine c.new-coming.ensures
+    c.due_signals-rest.ensures.came c.due_signals-rest.ensures.machine c.new-pending.ensures
     ∙ ap {A = Overlap} (λ m. with_scene (record { machine = m; signals = scene.signals; cards = scene.cards })
     (with_due_signals (record scene { machine = m.state }))) c.new-machine.ensures.value in
-    ap {A = Queue} (λ q. rows_then q.rows (rest_of turns.Before (c.args.controls.now.budget - 1) 0 c.args.controls.now.snaps.now c.new-waiting.result (with_coming c.due_signals-rest.new.machine c.new-coming.result))) c.new-2.ensures
-    ∙ ap {A = Waiting} (λ w. rest_of turns.Before (c.args.controls.now.budget - 1) 0 c.args.controls.now.snaps.now w (with_coming c.due_signals-rest.new.machine c.new-coming.result)) c.new-waiting.ensures
+    ap {A = Queue} (λ q. rows_then q.rows (rest_of turns.Before (c.args.controls.now.budget - 1) 0 c.args.controls.now.snaps.now c.new-waiting.result (with_pending c.due_signals-rest.new.machine c.new-pending.result))) c.new-2.ensures
+    ∙ ap {A = OutputQueue} (λ w. rest_of turns.Before (c.args.controls.now.budget - 1) 0 c.args.controls.now.snaps.now w (with_pending c.due_signals-rest.new.machine c.new-pending.result)) c.new-waiting.ensures
     ∙ ap {A = Together} (λ t. rest_of turns.Before (c.args.controls.now.budget - 1) 0 c.args.controls.now.snaps.now none t) same
     ∙ start-told c.args.delays.list g.row.N scene idle is c.args.controls.now.budget c.args.controls.now.snaps.now r.some_done
 

@@ -1,5 +1,0 @@
-use Rattle.std.proofs.Common.{refl}
-use Rattle.st_account.proofs.account.Account.open.Goals as goal
-
-pub returns-clause-border : goal.returns-clause-border
-returns-clause-border c = rw (c.why_of.ensures, c.done_in.ensures, c.interrupt-taken.ensures.value) refl

@@ -1,0 +1,6 @@
+use Rattle.std.proofs.Common.{◌∙◌, sym}
+use Rattle.st_strap.proofs.StatementLemmas.{read-is}
+use Rattle.st_asm.proofs.alone.emitted_alone.Goals as goal
+
+pub emitted_by-requires : goal.emitted_by-requires
+emitted_by-requires c = read-is _ _ _ (sym c.read_compact.ensures ∙ c.in-Ok.is)

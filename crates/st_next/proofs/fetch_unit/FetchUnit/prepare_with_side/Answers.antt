@@ -1,0 +1,25 @@
+use Rattle.st_next.proofs.Preparing.{some-plan, words-seen, side-asked, without-side, ready-inside, ready-table, ready-fits, ready-words, ready-asked, ready-without}
+use Rattle.st_next.proofs.fetch_unit.FetchUnit.prepare_with_side.Goals as goal
+
+pub side_word-read-requires-clause-inside : goal.side_word-read-requires-clause-inside
+side_word-read-requires-clause-inside c = ready-inside _ _ c.args.self.now c.requires.planned c.requires.ready
+
+pub side_word-read-requires-clause-indicator : goal.side_word-read-requires-clause-indicator
+side_word-read-requires-clause-indicator c = ready-table _ _ c.args.self.now c.requires.planned c.requires.ready
+
+pub change_by_side-requires : goal.change_by_side-requires
+change_by_side-requires c = ready-fits _ _ c.args.self.now c.requires.planned c.requires.ready
+
+pub returns-clause-value : goal.returns-clause-value
+returns-clause-value c ds n now f t u table before is at alone =
+    some-plan ds n now f _ _ c.args.self.now c.requires.planned t u table before is _ _
+    (c.change_by_side.ensures.value _ _ (words-seen ds n now f _ _ c.args.self.now c.requires.planned t u table before is)
+    (side-asked ds n now f _ _ c.args.self.now c.requires.planned t u table before is c.requires.asked)
+    (without-side ds n now f _ _ c.args.self.now c.requires.planned t u table before is))
+    c.side_word-read.ensures at alone
+
+pub returns-clause-ranges : goal.returns-clause-ranges
+returns-clause-ranges c =
+    c.change_by_side.ensures.ranges _ _ (ready-words _ _ c.args.self.now c.requires.planned c.requires.ready)
+    (ready-asked _ _ c.args.self.now c.requires.planned c.requires.ready c.requires.asked)
+    (ready-without _ _ c.args.self.now c.requires.planned c.requires.ready)

@@ -1,9 +1,0 @@
-use Rattle.st_next.proofs.Goes.{goes-then}
-use Rattle.st_next.proofs.Asking.{further-then}
-use Rattle.st_next.proofs.next.Next.prepare_own_before.Goals as goal
-
-pub returns-clause-next : goal.returns-clause-next
-returns-clause-next c = goes-then _ _ _ _ _ _ _ _ _ _ _ c.begin.ensures.next c.prepare_before.ensures.next
-
-pub returns-clause-further : goal.returns-clause-further
-returns-clause-further c = further-then _ _ _ _ _ _ _ _ c.begin.ensures.further c.prepare_before.ensures.further

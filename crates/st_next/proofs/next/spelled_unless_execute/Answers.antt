@@ -1,9 +1,0 @@
-use Rattle.std.proofs.Common.{sym, ◌∙◌, ap}
-use Rattle.st_prep.specs.Reading.{is_execute}
-use Rattle.st_next.proofs.next.spelled_unless_execute.Goals as goal
-
-pub returns-clause-plain : goal.returns-clause-plain
-returns-clause-plain c =
-    ap is_execute (sym c.format_of-format.ensures)
-    ∙ sym (c.is_execute_format.ensures c.args.first c.args.second)
-    ∙ c.if-is_execute_format.false

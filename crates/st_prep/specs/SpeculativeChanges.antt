@@ -1,0 +1,156 @@
+-- Effective addresses, and what an instruction makes of an index word before its operands are read.
+use Rattle.std.specs.Prelude.{ℕ, ◌*◌, ◌/◌, ℤ, pos, neg_ℤ, ◌==◌, nat_lt, if◌then◌else◌, List, slice_index, slice_set, Option, None, Some, unwrap_or}
+use Rattle.st_bits.specs.Bits.{bits, part, with_part}
+use Rattle.st_bits.specs.IndexWord.{index_value, count_of, refill_of, index_word_with_value, with_count, with_refill}
+use Rattle.st_bits.specs.declared.operations.HalfOp.{HalfOp}
+use Rattle.st_bits.specs.declared.operations.HalfOp.TheVariants.{Lx, Lv, Lc, Lr, VPlus, VPlusC, Kv, Lvs, Lvi, Lci, Lri, VPlusI, VMinusI, VPlusIC, VPlusICR, Kvi, Kc, Kci, Cb, Cbr, R}
+use Rattle.st_format.specs.declared.instruction.Instr.{Instr}
+use Rattle.st_format.specs.declared.instruction.Instr.TheVariants.{Half, Branch, Floating, Vfl, Connect, Move, BitBranch, IndBranch, StoreCounter, Transfer, Invalid}
+use Rattle.st_index.specs.IndexChange.{effective_address, with_added, with_lower_count, selected_sum, comparison, index_result, progressive_word, progression}
+use Rattle.st_prep.specs.declared.entries.IndexChange.{IndexChange}
+use Rattle.st_prep.specs.declared.speculative.SpeculativeChange.{SpeculativeChange}
+
+-- ---- effective addresses
+
+-- index word I, and zero where I is 0
+unfoldable pub index_operand : List ℕ → ℕ → ℕ
+index_operand x i = if i == 0 then 0 else slice_index x i
+
+-- the effective address of a half-word instruction, whose address part is a half-word address
+unfoldable pub half_word_address : List ℕ → ℕ → ℕ → ℕ
+half_word_address x address i = effective_address (32 * address) (index_operand x i)
+
+-- the effective address of a full-word instruction
+unfoldable pub full_word_address : List ℕ → ℕ → ℕ → ℕ
+full_word_address x address i = effective_address address (index_operand x i)
+
+-- the field of a progressive form starts at the old value of its index word
+unfoldable pub field_address : List ℕ → ℕ → ℕ → ℕ → ℕ
+field_address x p address i =
+    if nat_lt p 2 then full_word_address x address i else effective_address 0 (slice_index x i)
+
+-- the bit address that an instruction points to; bits that spell none point to 0
+unfoldable pub effective : List ℕ → Instr → ℕ
+effective x (Half op address j i) = half_word_address x address i
+effective x (Branch op address i) = half_word_address x address i
+effective x (Floating number address i) = half_word_address x address i
+effective x (Vfl op d u n p length byte offset address i) = field_address x p address i
+effective x (Connect kind table p length byte offset address i) = field_address x p address i
+effective x (Move swap address i second count) = full_word_address x address i
+effective x (BitBranch sense change address i second) = full_word_address x address i
+effective x (IndBranch sense off address i second) = full_word_address x address i
+effective x (StoreCounter address i second) = full_word_address x address i
+effective x (Transfer write address i count) = full_word_address x address i
+effective x (Invalid first second full) = 0
+
+-- ---- the index-side word
+
+-- the refill address, where the count became zero
+unfoldable pub refill_word : ℕ → Option ℕ
+refill_word y = if count_of y == 0 then Some (refill_of y) else None
+
+-- the word that a half-word instruction reads for index word J, whose content is x
+unfoldable pub half_side : HalfOp → ℕ → ℕ → Option ℕ
+half_side Lx x e = Some (e / 64)
+half_side Lv x e = Some (e / 64)
+half_side Lc x e = Some (e / 64)
+half_side Lr x e = Some (e / 64)
+half_side VPlus x e = Some (e / 64)
+half_side VPlusC x e = Some (e / 64)
+half_side Kv x e = Some (e / 64)
+half_side Kc x e = Some (e / 64)
+half_side VPlusICR x e = refill_word (with_lower_count (with_added x (pos e)))
+half_side Cbr x e = refill_word (with_lower_count x)
+half_side R x e = Some (refill_of x)
+half_side _ x e = None
+
+-- the word that a progressive form reads for its index word, whose content is x
+unfoldable pub progressive_side : ℕ → ℕ → ℕ → Option ℕ
+progressive_side p x address =
+    if nat_lt p 2 then None
+    else let c = progression p x address in if c.refill then Some (refill_of c.word) else None
+
+-- the index-side word of an instruction with the effective address e
+unfoldable pub side : List ℕ → Instr → ℕ → Option ℕ
+side x (Half op address j i) e = half_side op (slice_index x j) e
+side x (Vfl op d u n p length byte offset address i) e =
+    progressive_side p (slice_index x i) address
+side x (Connect kind table p length byte offset address i) e =
+    progressive_side p (slice_index x i) address
+side x _ e = None
+
+-- ---- the change
+
+-- nothing is changed
+abbrev pub without_change : SpeculativeChange
+without_change = record { index = None; ind = record { on = 0; off = 0 } }
+
+-- two numbers are compared: no index word is changed, but indicators are
+unfoldable pub change_of_comparison : ℤ → ℤ → SpeculativeChange
+change_of_comparison a b = record { index = None; ind = comparison a b }
+
+-- index word j, which was x, becomes y, and then the word of a refill where there is one
+unfoldable pub change_of_index : ℕ → ℕ → ℕ → Option ℕ → SpeculativeChange
+change_of_index j x y refill = record {
+  index = Some (record { number = j; kept = x; word = unwrap_or refill y });
+  ind = index_result y;
+}
+
+-- the index-side word that was read
+abbrev pub index_side_word : Option ℕ → ℕ
+index_side_word read = unwrap_or read 0
+
+-- what a half-word instruction makes of index word j, whose content is x
+unfoldable pub half_change : HalfOp → List ℕ → ℕ → ℕ → ℕ → ℕ → Option ℕ → SpeculativeChange
+half_change Lx xs address j x e read = change_of_index j x (index_side_word read) None
+half_change Lv xs address j x e read = change_of_index j x
+    (with_part x 0 25 (part (index_side_word read) 0 25)) None
+half_change Lc xs address j x e read = change_of_index j x
+    (with_count x (count_of (index_side_word read))) None
+half_change Lr xs address j x e read = change_of_index j x
+    (with_refill x (refill_of (index_side_word read))) None
+half_change VPlus xs address j x e read = change_of_index j x
+    (with_added x (index_value (index_side_word read))) None
+half_change VPlusC xs address j x e read =
+    change_of_index j x (with_lower_count (with_added x (index_value (index_side_word read)))) None
+half_change Kv xs address j x e read = change_of_comparison (index_value x)
+    (index_value (index_side_word read))
+half_change Lvs xs address j x e read =
+    change_of_index j x (index_word_with_value x (selected_sum (bits 16 (address / 8)) xs)) None
+half_change Lvi xs address j x e read = change_of_index j x (index_word_with_value x (pos e)) None
+half_change Lci xs address j x e read = change_of_index j x (with_count x (e / 64)) None
+half_change Lri xs address j x e read = change_of_index j x (with_refill x (e / 64)) None
+half_change VPlusI xs address j x e read = change_of_index j x (with_added x (pos e)) None
+half_change VMinusI xs address j x e read = change_of_index j x (with_added x (neg_ℤ (pos e))) None
+half_change VPlusIC xs address j x e read = change_of_index j x
+    (with_lower_count (with_added x (pos e))) None
+half_change VPlusICR xs address j x e read = change_of_index j x
+    (with_lower_count (with_added x (pos e))) read
+half_change Kvi xs address j x e read = change_of_comparison (index_value x) (pos e)
+half_change Kc xs address j x e read =
+    change_of_comparison (pos (count_of x)) (pos (count_of (index_side_word read)))
+half_change Kci xs address j x e read = change_of_comparison (pos (count_of x)) (pos (e / 64))
+half_change Cb xs address j x e read = change_of_index j x (with_lower_count x) None
+half_change Cbr xs address j x e read = change_of_index j x (with_lower_count x) read
+half_change R xs address j x e read = change_of_index j x (index_side_word read) None
+half_change _ xs address j x e read = without_change
+
+-- what a progressive form makes of index word i, whose content is x
+unfoldable pub progressive_change : ℕ → ℕ → ℕ → ℕ → Option ℕ → SpeculativeChange
+progressive_change p i x address read =
+    if nat_lt p 2 then without_change else change_of_index i x (progressive_word p x address) read
+
+-- the early change by an instruction with the effective address e, its index-side word read from
+-- storage
+unfoldable pub change : List ℕ → Instr → ℕ → Option ℕ → SpeculativeChange
+change x (Half op address j i) e read = half_change op x address j (slice_index x j) e read
+change x (Vfl op d u n p length byte offset address i) e read =
+    progressive_change p i (slice_index x i) address read
+change x (Connect kind table p length byte offset address i) e read =
+    progressive_change p i (slice_index x i) address read
+change x _ e read = without_change
+
+-- the index words after it
+abbrev pub words_after : List ℕ → Option IndexChange → List ℕ
+words_after x None = x
+words_after x (Some c) = slice_set x c.number c.word

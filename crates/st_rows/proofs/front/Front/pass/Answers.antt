@@ -1,7 +1,0 @@
-use Rattle.std.proofs.Common.{refl}
-use Rattle.st_rows.specs.Rows.{row_of_entry, front_after_entry}
-use Rattle.st_rows.proofs.front.Front.pass.Goals as goal
-
-pub returns : goal.returns
-unfolding row_of_entry front_after_entry
-returns c ds n is bus = rw (c.put.ensures, bus, is) refl

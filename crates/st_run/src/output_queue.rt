@@ -1,0 +1,91 @@
+//! The pending events between two entries.
+ghost use Rattle.std.specs.Prelude.{◌≡◌, ℕ, [], ◌∷◌, None, MatchOption, IfSome, IsSome, List, true};
+ghost use Rattle.std.specs.Option.{IfNone};
+ghost use Rattle.st_state.specs.Machine.{Machine};
+ghost use Rattle.st_run.specs.Events.{Level};
+ghost use Rattle.st_run.specs.Telling.{reported_answer, queued_events};
+
+use crate::run_events::RunEvent;
+use arrayvec::{ArrayString, ArrayVec};
+use std::marker::Model;
+
+// The pending events: the flushed entries, each with its half-word address and the tick at which it
+// was prepared, oldest first; the text that is printed; the interrupt that is taken.
+#[derive(Drop)]
+pub(crate) struct OutputQueue {
+    pub drops: ArrayVec<(u32, u64), 8>,
+    pub text: Option<ArrayString<64>>,
+    pub taken: Option<u8>,
+}
+
+impl Model for OutputQueue {
+    ghost use Rattle.std.specs.Prelude.{option_map};
+    ghost use Rattle.st_run.specs.Telling.{OutputQueue};
+
+    ghost Value = { OutputQueue };
+
+    ghost view = { λ w. record {
+      drops = w.drops.items;
+      text = option_map (λ t. t.bytes) w.text;
+      taken = w.taken;
+    } };
+}
+
+impl OutputQueue {
+    ghost use Rattle.st_run.specs.Telling.{OutputQueue};
+
+    /// No pending events.
+    pub fn new() -> OutputQueue
+        ensures { result ≡ record { drops = []; text = None; taken = None } }
+    {
+        OutputQueue {
+            drops: ArrayVec::new(),
+            text: None,
+            taken: None,
+        }
+    }
+
+    /// Whether there are no pending events.
+    pub fn is_empty(&self) -> bool
+        ensures { result ≡ true → (s : Machine) → queued_events self.now s ≡ [] }
+    {
+        if self.drops.len() > 0 {
+            return false;
+        }
+        if self.text.is_some() {
+            return false;
+        }
+        if self.taken.is_some() {
+            return false;
+        }
+        true
+    }
+
+    /// Removes the next pending event and returns it: the youngest flushed entry, the text, which
+    /// then becomes the last printed one, or the interrupt. None if there is none.
+    pub fn next(&mut self, printed: &mut ArrayString<64>) -> Option<RunEvent>
+        ensures told { (s : Machine) → MatchOption result (queued_events self.old s ≡ [])
+            (λ event. queued_events self.old s ≡ reported_answer 0 s [] printed.new.bytes event
+            ∷ queued_events self.new s) }
+        ensures shown { (s t : Machine) (tick : ℕ) (levels : List Level) (text : List ℕ) →
+            (IsSome self.old.taken → s ≡ t)
+            → IfSome result (λ event. reported_answer 0 s [] text event
+            ≡ reported_answer tick t levels text event) }
+        ensures taken { IsSome self.new.taken → IsSome self.old.taken }
+        ensures none { IfNone result (self.new ≡ self.old) }
+    {
+        if let Some((address, p)) = self.drops.pop() {
+            return Some(RunEvent::Dropped { address, p });
+        }
+        if let Some(text) = self.text {
+            self.text = None;
+            *printed = text;
+            return Some(RunEvent::Printed);
+        }
+        let Some(indicator) = self.taken else {
+            return None;
+        };
+        self.taken = None;
+        Some(RunEvent::Interrupted(indicator))
+    }
+}
