@@ -74,7 +74,7 @@ fn signal() -> Signal
 }
 
 // A run on four levels from a state in which nothing has happened.
-fn begun<'a>(
+fn run_at_start<'a>(
     rt: &impl Abort,
     state: State,
     delays: Delays,
@@ -169,7 +169,7 @@ fn shown_states_are_split(rt: HostRuntime) -> Result<(), Fail> {
     let state = opened(&rt, rt.alloc())?;
     let signals = [signal()];
     let snaps = ticks();
-    let mut run = open_line(&rt, state, one_tick(rt.alloc())?, &signals, &snaps);
+    let mut run = run_at_start(&rt, state, one_tick(rt.alloc())?, &signals, &snaps);
     for _ in 0..20 {
         let Some(done) = next_shown(&mut run) else {
             return Err(Fail::new("a snapshot is missing"));
