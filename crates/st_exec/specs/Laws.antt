@@ -33,7 +33,7 @@ EntriesAheadLeaveTheRest = (p : Prepared) (s : Machine) → IsPrepared p → IsM
 
 -- The predicted state is the completed state unless the entry is mispredicted, and only a branch on
 -- an indicator can be mispredicted.
-pub record OnlyIndicatorBranchesAreMissed : Type 0 where
+pub record OnlyIndicatorBranchesAreMispredicted : Type 0 where
   pub right : (p : Prepared) (s : Machine) → IsPrepared p → is_mispredicted p s ≡ false
       → predicted_state p s ≡ state_after_completion p s
   pub mispredicted : (p : Prepared) (s : Machine) → IsPrepared p → is_mispredicted p s ≡ true
