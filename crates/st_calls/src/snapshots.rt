@@ -123,7 +123,7 @@ fn stepped(rt: &impl Abort, alloc: Global, done: u64) -> Result<State, Fail> {
     Ok(state)
 }
 
-// Makes the early change of an index word by the next entry.
+// Makes the speculative change of an index word by the next entry.
 fn begin(state: &mut State) {
     let mut entry = Prepared::default();
     plan_in(interrupt(state), state, &mut entry);
@@ -139,7 +139,7 @@ fn prediction(rt: &impl Abort, state: &mut State, counter: u32) {
     state.ic = counter;
 }
 
-// Makes the predicted steps of these levels; of the last one only the early change.
+// Makes the predicted steps of these levels; of the last one only the speculative change.
 fn go_ahead(rt: &impl Abort, state: &mut State, levels: &[Option<LevelView>]) {
     if let [Some(_), after @ ..] = levels {
         for level in after {

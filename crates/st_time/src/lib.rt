@@ -69,7 +69,7 @@ pub fn snap_line(view: &View) -> Line
     line_snap(view.tick, view.done, count(&view.levels))
 }
 
-// The number and the previous contents of the index word that was changed early, if one was.
+// The number and the previous contents of the index word that was changed speculatively, if any.
 fn change(index: Option<u8>, kept: u64) -> Option<(u8, u64)>
     ensures { result ≡ option_map (λ number. (number, kept)) index }
 {
