@@ -297,7 +297,7 @@ lookahead-done ds n tick now t s u f v levels b are h some due ahead e done =
       logged = subst (λ (more : List Read). IsLogged ds f'.bus.free (asked_ahead ds n (length levels.ring) None s' f' ++ more) f'.bus v.log) (sym (reads-same b ds u v)) rest;
     }
 
--- all of it for an equal view of the look-ahead, with or without a serializing last entry
+-- the look-ahead after a completion, for an equal view of it, with or without a serializing last entry
 pub all-done : (ds : List ℕ) (n tick now : ℕ) (t : Option ℕ) (s u : Machine) (f : IssueState) (v old : LookaheadView) (levels : LevelsView) (b : Bool)
     → v ≡ old → AreDelaysUpTo 255 ds → IsOutlook ds n tick now t s f old → 0 < count old → (row_of_entry ds n f (entry t s)).c ≡ now
     → AreAhead ds n tick None (prediction t s) (issue_after_entry ds n f (entry t s)) v.issue levels

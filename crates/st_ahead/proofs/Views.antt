@@ -83,7 +83,7 @@ pub some-kept : (address p : ℕ) (index number : Option ℕ) (kept word : ℕ) 
     → Some (level-of address p index kept ready) ≡ Some (level-of address p number word ready)
 some-kept address p index number kept word ready a b = rw (a, b) refl
 
--- ---- all of them
+-- ---- all levels
 
 pub showing-level : (m : Overlap) (v : LookaheadView) (k : ℕ) → IsShowing m v
     → get_or (map (λ a. Some (level_shown (last_tick_made m) a)) (ahead m.delays m.levels (count v) m.taken (state_ahead m) m.issue)) k None

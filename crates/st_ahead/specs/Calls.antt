@@ -104,7 +104,7 @@ settled_by None true mispredicted m = machine_after_segment m
 settled_by None false (Some h) m = machine_after_pass (machine_after_segment m)
 settled_by None false None m = machine_after_pass m
 
--- the result of a decision in each of these four cases
+-- the result of a decision: an interrupt, a wait, a mispredicted branch, or continuation
 abbrev pub answer_by : Option ℕ → Bool → Option ℕ → Overlap → Settled
 answer_by (Some i) at_rest mispredicted m = Interrupt i m.state.done m.state.ic (drop_count m)
 answer_by None true mispredicted m = Waits

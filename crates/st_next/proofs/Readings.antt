@@ -81,7 +81,7 @@ module _ (c : ℕ → ℕ) where
   unfolding words_read own_words outcome
   executes-reads w r all = elim (all (c w)) [ inl few ↦ inl (omega arith) | inr ex ↦ inr ex ]
 
-  -- the fetched instruction is this one
+  -- the fetched instruction is `own`
   abbrev IsOf : Decoded → Reading → Type 0
   IsOf own r = (outcome r c).instr ≡ own
 

@@ -47,7 +47,7 @@ decode_context-same now f x s u t p fd is place found =
     ∙ ap (λ b. decode_context_with (place_of u t) (fetched_at u (place_of u t)) (index_words u) b s.enabled) (sym is.bounds)
     ∙ ap (λ on. decode_context_with (place_of u t) (fetched_at u (place_of u t)) (index_words u) (word u 3) on) (sym is.enabled)
 
--- the entry from this decode context is the next entry of the state
+-- the entry from the known decode context is the next entry of the state
 pub entry-same : (t : Option ℕ) (u : Machine) (own target : WordRun) (v : DecodeContext) → own ≡ (entry t u).own → target ≡ (entry t u).target
     → v ≡ decode_context u (place_of u t) → entry_with own target (needs v) (preparation_without_side v) v.place.table v.fetched.fault ≡ entry t u
 entry-same t u own target v o g e = rw (o, g, e) (sym (entry-seen t u _))

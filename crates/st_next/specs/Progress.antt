@@ -19,7 +19,7 @@ use Rattle.st_next.specs.declared.fetch_unit.FetchUnit.{FetchUnit}
 
 -- ---- t is the indicator of a table instruction, u the state before the entry, f the issue state
 
--- no word of the entry is requested yet, and this is the bus
+-- no word of the entry is requested yet, on the given bus
 abbrev pub IsUnread : Bus → FetchUnit → Type 0
 IsUnread bus next = (next.planned ≡ false) × (next.entry.own ≡ no_run) × (next.entry.target ≡ no_run)
     × (next.words ≡ nothing_fetched bus)

@@ -24,11 +24,11 @@ words_alone own target = record {
   follows = false;
 }
 
--- the bus, the answers and the awaited completions after these words
+-- the bus, the answers and the awaited completions after the words so far
 abbrev pub words_so_far : List ℕ → IssueState → WordRun → WordRun → Fetching
 words_so_far ds f own target = words_tick ds f (words_alone own target)
 
--- the reads of these words
+-- the reads of the words so far
 abbrev pub asked_so_far : List ℕ → IssueState → WordRun → WordRun → List Read
 asked_so_far ds f own target = fetches_asked ds f (words_alone own target)
 

@@ -161,7 +161,7 @@ module _ (ds : List ℕ) where
   following-in-turn b e p v t low less =
       rw (following-told ds b e p) (following-if e.follows b (e.own.first + e.own.len) p v t low less)
 
--- ---- all of them
+-- ---- all words
 
 parts : (a b c d e f g h : List Use)
     → ((a ++ b) ++ c) ++ (((d ++ e) ++ (f ++ g)) ++ h) ≡ a ++ (b ++ (c ++ (d ++ (e ++ (f ++ (g ++ h))))))

@@ -13,7 +13,7 @@ use Rattle.st_plain.specs.Straight.{IsEntryPlanned}
 use Rattle.st_plain.specs.declared.entries.Planned.{Planned}
 use Rattle.st_plain.specs.declared.known.Known.{Known}
 
--- the entry at this place is planned, from all words that it reads
+-- the entry at the place q is planned, from all words that it reads
 abbrev pub IsPlannedAt : Machine → List ℕ → Place → Prepared → Planned → Type 0
 IsPlannedAt s x q p e =
     let r = reading_of s q in

@@ -37,7 +37,7 @@ turn_behind t (Held answer) = t
 turn_behind t (Forwarded writer) = t
 turn_behind t Register = t
 
--- the reads among these words are in order
+-- the reads among some words are in order
 unfoldable pub AreInTurn : ℕ → ℕ → List Use → Type 0
 AreInTurn w t [] = Unit {0}
 AreInTurn w t (u ∷ more) = IsInTurn w t u.supply

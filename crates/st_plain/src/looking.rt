@@ -37,7 +37,8 @@ pub struct Ahead {
 /// Predicted entries, oldest first, at most as many as there are levels.
 pub type Aheads = ArrayVec<Ahead, 8>;
 
-/// Makes the predicted step of a prepared entry: a branch on an indicator is not taken.
+/// Makes the predicted step of a prepared entry: a branch on an indicator is not taken. Fewer than
+/// 2^63 instructions are completed before.
 pub fn prediction(p: &Prepared, state: &mut State)
     requires prepared { IsPrepared p.now }
     requires few { state.old.done < 2 ^ 63 }

@@ -176,7 +176,7 @@ nothing-put None ticks p m now k behind =
 
 -- ---- levels by a tick
 
--- two states agree in each word whose latest writer among these entries has completed
+-- two states agree in each word whose latest writer in `past` has completed
 abbrev pub Agrees : ℕ → Machine → List Past → Machine → Type 0
 Agrees now m past u = (w : ℕ) → 32 ≤ w → latest_done past w ≤ now → word m w ≡ word u w
 

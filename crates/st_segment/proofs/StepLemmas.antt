@@ -9,7 +9,7 @@ use Rattle.st_exec.specs.Completion.{state_with_early_changes, is_taken, state_a
 use Rattle.st_exec.proofs.AheadLemmas.{predicted-right}
 use Rattle.st_exec.proofs.UnwrittenLemmas.{predicted-alone}
 
--- a conjunction holds, so its first part does
+-- the first part of a conjunction that holds
 first-false : (a b c : Bool) → (not a && not b && c) ≡ true → a ≡ false
 first-false false b c h = refl
 first-false true b c h = cc

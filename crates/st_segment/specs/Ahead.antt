@@ -52,7 +52,7 @@ module _ (ds : List ℕ) (n : ℕ) where
       next_ahead table s f ∷ ahead k None (prediction table s)
       (issue_after_entry ds n f (entry table s))
 
-  -- the issue state after these k entries
+  -- the issue state after the next k entries
   unfoldable pub issue_behind : ℕ → Option ℕ → Machine → IssueState → IssueState
   issue_behind zero table s f = f
   issue_behind (suc k) table s f =
