@@ -71,7 +71,7 @@ followings e p =
 -- ---- the uses of the entry e in issue state f, part by part
 
 module _ (ds : List ℕ) (f : IssueState) (e : Entry) where
-  -- the uses of its own instruction words
+  -- the uses of the entry's own instruction words
   abbrev pub own_uses : List Use
   own_uses = uses ds f.past (unused f.bus 0) (words_of Instruction (wanted_from f) e.own)
 
@@ -86,31 +86,31 @@ module _ (ds : List ℕ) (f : IssueState) (e : Entry) where
   unfoldable pub words_tick : Fetching
   words_tick = behind ds f.past own_fetched target_uses
 
-  -- A, the tick at which its address is formed
+  -- A, the tick at which the address of the entry is formed
   unfoldable pub tick_a : ℕ
   tick_a = address_tick f e words_tick.answered words_tick.awaited
 
-  -- the use of its index-side word
+  -- the use of the index-side word
   abbrev pub index_uses : List Use
   index_uses = uses ds f.past (unused words_tick.bus 0) (wish_of e.side tick_a)
 
   abbrev pub sided : Fetching
   sided = behind ds f.past (unused words_tick.bus 0) index_uses
 
-  -- the bus after its instruction words and its index-side word
+  -- the bus after the instruction words and the index-side word
   unfoldable pub bus_a : Bus
   bus_a = sided.bus
 
-  -- the tick at which its index-side word arrives
+  -- the tick at which the index-side word arrives
   unfoldable pub index_arrival : ℕ
   index_arrival = sided.answered
 
 module _ (ds : List ℕ) (n : ℕ) (f : IssueState) (e : Entry) where
-  -- P, the tick at which it is prepared
+  -- P, the tick at which the entry is prepared
   unfoldable pub tick_p : ℕ
   tick_p = preparation_tick n f.past (tick_a ds f e) (index_arrival ds f e)
 
-  -- the uses of its operand words, the first run and then the second
+  -- the uses of the operand words, the first run and then the second
   abbrev pub first_uses : List Use
   first_uses =
       uses ds f.past (unused (bus_a ds f e) tick_p) (words_of Operand tick_p e.reads.one)
@@ -124,11 +124,11 @@ module _ (ds : List ℕ) (n : ℕ) (f : IssueState) (e : Entry) where
   unfoldable pub operands : Fetching
   operands = behind ds f.past first_read second_uses
 
-  -- the uses of its following words, which do not wait for their writers
+  -- the uses of the following words, which do not wait for their writers
   abbrev pub following_uses : List Use
   following_uses = uses ds [] (unused operands.bus tick_p) (followings e tick_p)
 
-  -- the uses of all its words
+  -- the uses of all words of the entry
   unfoldable pub uses_of_entry : List Use
   uses_of_entry =
       ((own_uses ds f e ++ target_uses ds f e) ++ index_uses ds f e)
@@ -136,7 +136,7 @@ module _ (ds : List ℕ) (n : ℕ) (f : IssueState) (e : Entry) where
 
   -- ---- the row of the entry
 
-  -- C, the tick of completion: its cost after the later of R and C of the last entry
+  -- C, the tick of completion: the cost after the later of R and C of the last entry
   unfoldable pub tick_c : ℕ
   tick_c = max f.c operands.answered + e.cost
 
