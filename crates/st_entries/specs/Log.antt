@@ -1,11 +1,11 @@
 -- A log of the events of a timetable's entries, for a pipeline viewer.
 use Rattle.std.specs.Prelude.{ℕ, ◌-◌, nat_eq, if◌then◌else◌, List, [], ◌∷◌, ◌++◌, codes, decimal}
 use Rattle.st_entries.specs.Caption.{first_text, second_text, third_text, with_dots}
-use Rattle.st_kanata.specs.Moments.{happenings}
+use Rattle.st_entries.specs.Moments.{happenings}
 use Rattle.st_entries.specs.Plain.{plain_text}
-use Rattle.st_kanata.specs.declared.moments.LogMoment.{LogMoment}
-use Rattle.st_kanata.specs.declared.moments.LogStep.{LogStep}
-use Rattle.st_kanata.specs.declared.moments.LogStep.TheVariants.{Begin, Ready, Turn, End}
+use Rattle.st_entries.specs.declared.moments.LogMoment.{LogMoment}
+use Rattle.st_entries.specs.declared.moments.LogStep.{LogStep}
+use Rattle.st_entries.specs.declared.moments.LogStep.TheVariants.{Begin, Ready, Turn, End}
 use Rattle.st_entries.specs.declared.timetable.DrawnEntry.{DrawnEntry}
 use Rattle.st_entries.specs.declared.timetable.DrawnEntry.TheVariants.{Done, Dropped, Taken, Shown}
 

@@ -1,7 +1,7 @@
 -- Sorted items have nondecreasing keys.
 use Rattle.std.proofs.Common.{◌≡◌, ◌≤◌, refl, ℕ, nat_le, Bool, true, false, List, [], ◌∷◌, arith}
 use Rattle.std.proofs.lemmas.Bool.{leb-true, leb-false}
-use Rattle.st_kanata.specs.Moments.{ordered_with, in_order, KeysRise}
+use Rattle.st_entries.specs.Moments.{ordered_with, in_order, KeysRise}
 use Rattle.st_entries.specs.Plain.{plain_text, plain_byte}
 use Rattle.st_text.specs.Bytes.{is_printable, is_printable_byte}
 

@@ -3,8 +3,8 @@ use Rattle.std.proofs.Common.{◌≡◌, ◌∙◌, ◌≤◌, ℕ, zero, suc, s
 use Rattle.std.proofs.lemmas.Bool.{leb-false, cond-true, cond-false, cases_Bool}
 use Rattle.std.proofs.lemmas.Bool.Decides.{nat_tests}
 use Rattle.std.specs.List.Sorted.{ties, IsNonDecreasingBy, IsStableByKey}
-use Rattle.st_kanata.specs.Moments.{KeysRise, ordered_with, in_order}
-use Rattle.st_kanata.proofs.Forward.{in_order_rises}
+use Rattle.st_entries.specs.Moments.{KeysRise, ordered_with, in_order}
+use Rattle.st_entries.proofs.Forward.{in_order_rises}
 
 tied_numbers : (m n : ℕ) → (ties (λ x y. is_lt (nat_cmp x y)) m n ≡ true → m ≡ n) × (m ≡ n → ties (λ x y. is_lt (nat_cmp x y)) m n ≡ true)
 tied_numbers m n = (λ h. grind (arith, nat_tests), λ h. grind (arith, nat_tests))

@@ -1,8 +1,8 @@
 use Rattle.std.proofs.Common.{rules}
 use Rattle.std.proofs.lemmas.List.Sorted.{answers_always, IsNonDecreasingBy-from_sort}
-use Rattle.st_kanata.specs.declared.moments.LogMoment.{LogMoment}
-use Rattle.st_kanata.proofs.Sorting.{sorted_in_order}
-use Rattle.st_kanata.proofs.moments.sort_moments.Goals as goal
+use Rattle.st_entries.specs.declared.moments.LogMoment.{LogMoment}
+use Rattle.st_entries.proofs.Sorting.{sorted_in_order}
+use Rattle.st_entries.proofs.moments.sort_moments.Goals as goal
 
 pub returns : goal.returns
 returns c =

@@ -2,9 +2,9 @@
 use Rattle.std.specs.Prelude.{ℕ, ◌+◌, ◌≤◌, nat_le, max, if◌then◌else◌, List, [], ◌∷◌, ◌++◌, ⊤}
 use Rattle.st_io.specs.Count.{count_after}
 use Rattle.st_entries.specs.Phases.{first_tick}
-use Rattle.st_kanata.specs.declared.moments.LogMoment.{LogMoment}
-use Rattle.st_kanata.specs.declared.moments.LogStep.{LogStep}
-use Rattle.st_kanata.specs.declared.moments.LogStep.TheVariants.{Begin, Ready, Turn, End}
+use Rattle.st_entries.specs.declared.moments.LogMoment.{LogMoment}
+use Rattle.st_entries.specs.declared.moments.LogStep.{LogStep}
+use Rattle.st_entries.specs.declared.moments.LogStep.TheVariants.{Begin, Ready, Turn, End}
 use Rattle.st_entries.specs.declared.timetable.DrawnEntry.{DrawnEntry}
 use Rattle.st_entries.specs.declared.timetable.DrawnEntry.TheVariants.{Done, Dropped, Taken, Shown}
 

@@ -1,10 +1,10 @@
 //! The events of a timetable's entries, in the order of ticks.
 ghost use Rattle.std.specs.Prelude.{◌≡◌, ◌++◌, ◌∷◌, [], IfOk};
 ghost use Rattle.st_entries.specs.Phases.{first_tick as first_tick_of};
-ghost use Rattle.st_kanata.specs.Moments as spec;
-ghost use Rattle.st_kanata.specs.declared.moments.LogMoment.{LogMoment};
+ghost use Rattle.st_entries.specs.Moments as spec;
+ghost use Rattle.st_entries.specs.declared.moments.LogMoment.{LogMoment};
 
-use st_entries::{DrawnEntry, first_tick};
+use crate::timetable::{DrawnEntry, first_tick};
 use std::alloc::{AllocError, Global};
 
 /// An event in the life of an entry.

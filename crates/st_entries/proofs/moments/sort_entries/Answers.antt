@@ -1,8 +1,8 @@
 use Rattle.std.proofs.Common.{rules}
 use Rattle.std.proofs.lemmas.List.Sorted.{answers_always, IsNonDecreasingBy-from_sort}
 use Rattle.st_entries.specs.Phases.{first_tick}
-use Rattle.st_kanata.proofs.Sorting.{sorted_in_order}
-use Rattle.st_kanata.proofs.moments.sort_entries.Goals as goal
+use Rattle.st_entries.proofs.Sorting.{sorted_in_order}
+use Rattle.st_entries.proofs.moments.sort_entries.Goals as goal
 
 pub returns : goal.returns
 returns c =

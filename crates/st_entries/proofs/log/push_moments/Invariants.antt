@@ -1,7 +1,7 @@
 -- Loop invariant: the output so far, followed by the lines of the remaining moments, is the result.
 use Rattle.std.proofs.Common.{◌≡◌, ◌++◌, length}
-use Rattle.st_kanata.specs.Log.{moments_lines}
-use Rattle.st_kanata.proofs.log.push_moments.Given as goal
+use Rattle.st_entries.specs.Log.{moments_lines}
+use Rattle.st_entries.proofs.log.push_moments.Given as goal
 
 abbrev pub invariant-moments : goal.invariant-moments
 invariant-moments l =

@@ -2,11 +2,11 @@
 #![tactic(auto, unfolding(crate::specs::Log::heading, crate::specs::Log::label_line, crate::specs::Log::log_end_line, crate::specs::Log::log_entry_line, crate::specs::Log::log_front, crate::specs::Log::log_label, crate::specs::Log::cycles_line, crate::specs::Log::stage_line))]
 
 ghost use Rattle.std.specs.Prelude.{◌≡◌, ◌++◌, IfOk};
-ghost use Rattle.st_kanata.specs.Log as spec;
+ghost use Rattle.st_entries.specs.Log as spec;
 
-use st_entries::{
-    DrawnEntry, first_text, push_decimal, push_plain, second_text, third_text, with_dots,
-};
+use crate::caption::{first_text, second_text, third_text, with_dots};
+use crate::plain::{push_decimal, push_plain};
+use crate::timetable::DrawnEntry;
 use std::alloc::{AllocError, Global};
 
 // The header of the log's format, and the text before the tick at which the log starts.
@@ -93,7 +93,7 @@ pub fn push_end_line(out: &mut Vec<u8>, number: u64, row: u64, how: &[u8]) -> Re
 }
 
 /// The label of an entry: its three texts; the last one ends in dots if it is too long.
-pub fn label(alloc: Global, report: &[u8], entry: DrawnEntry) -> Result<Vec<u8>, AllocError>
+pub fn log_label(alloc: Global, report: &[u8], entry: DrawnEntry) -> Result<Vec<u8>, AllocError>
     ensures { IfOk result (λ text. text.items ≡ spec.log_label report.now entry) }
 {
     let mut text = first_text(alloc, entry)?;

@@ -1,8 +1,8 @@
 -- Loop invariant: the events so far, followed by those of the remaining entries, are the result;
 -- the number is the count of entries so far.
 use Rattle.std.proofs.Common.{◌≡◌, ◌++◌, ◌+◌, length}
-use Rattle.st_kanata.specs.Moments.{moments}
-use Rattle.st_kanata.proofs.moments.moments_of.Given as goal
+use Rattle.st_entries.specs.Moments.{moments}
+use Rattle.st_entries.proofs.moments.moments_of.Given as goal
 
 abbrev pub invariant-entries : goal.invariant-entries
 invariant-entries l = record {

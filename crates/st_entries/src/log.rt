@@ -1,12 +1,13 @@
 //! A log of the events of a timetable's entries, for a pipeline viewer.
 ghost use Rattle.std.specs.Prelude.{◌≡◌, ◌++◌, IfOk};
-ghost use Rattle.st_kanata.specs.Log as spec;
+ghost use Rattle.st_entries.specs.Log as spec;
 
-use crate::line::{
-    label, push_cycles, push_end_line, push_entry_line, push_label_line, push_opening, push_stage,
+use crate::log_line::{
+    log_label, push_cycles, push_end_line, push_entry_line, push_label_line, push_opening,
+    push_stage,
 };
 use crate::moments::{LogMoment, LogStep, happenings};
-use st_entries::DrawnEntry;
+use crate::timetable::DrawnEntry;
 use std::alloc::{AllocError, Global};
 
 // The stage in which an entry begins: waiting for its operands, dropped, an interrupt, a snapshot.
@@ -68,7 +69,7 @@ fn push_begin(
     ensures { IfOk result (λ _. out.new.items ≡ out.old.items
         ++ spec.begin_lines report.now number entry) }
 {
-    let text = label(alloc, report, entry)?;
+    let text = log_label(alloc, report, entry)?;
     push_entry_line(out, number)?;
     push_label_line(out, number, text.as_slice())?;
     push_stage(out, b"S", number, first_stage(entry))
