@@ -74,7 +74,7 @@ fn signal() -> Signal
 }
 
 // A run on four levels from a state in which nothing has happened.
-fn begun<'a>(
+fn open_line<'a>(
     rt: &impl Abort,
     state: State,
     delays: Delays,

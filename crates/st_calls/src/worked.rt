@@ -7,7 +7,7 @@ use std::test::Fail;
 
 mod decks;
 mod delays;
-mod devices;
+mod failures;
 
 // Calls the program with a word of the command line and a job. This function has no contract, so
 // the tests do not carry that of the program.
