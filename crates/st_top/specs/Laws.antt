@@ -5,7 +5,7 @@ use Rattle.st_io.specs.Lines.{text}
 use Rattle.st_dis.specs.Deck.{deck_text}
 use Rattle.st_object.specs.Object.{Program, IsReading, object_text}
 use Rattle.st_top.specs.ObjectText.{object_text_lines, deck_lines}
-use Rattle.st_command.specs.declared.command.TheConstants.{MOST_MADE_CARDS}
+use Rattle.st_top.specs.declared.command.TheConstants.{MOST_MADE_CARDS}
 use Rattle.st_top.specs.declared.reporting.TheConstants.{LEVELS}
 
 -- Each text is read as something, and as one thing alone: so a command writes one thing for a job.
