@@ -11,7 +11,7 @@ import re
 TOP = pathlib.Path(__file__).resolve().parent.parent
 CRATES = TOP / 'crates'
 # Crates that hold tests alone.
-TESTS = {'st_calls', 'st_worked'}
+TESTS = {'st_calls'}
 
 WORD = r"[\w'«»-]+"
 TAKEN = re.compile(r'^ *(?:ghost )?use Rattle\.([\w.]+)\.\{([^}]*)\};?$', re.MULTILINE)

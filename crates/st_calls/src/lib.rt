@@ -1,6 +1,6 @@
-//! Tests of public calls that no program makes, against values from outside. The tests of the
-//! programs are in `vectors/`. A crate with tests is proved twice, with and without them, so these
-//! tests have a crate of their own.
+//! Tests of calls that no run of a program makes, against values from outside: public calls, and
+//! `stretch` over sources and sinks in memory. The tests of the programs are in `vectors/`. A crate
+//! with tests is proved twice, with and without them, so these tests have a crate of their own.
 #![tactic(auto, using(st_bits::specs::Storage::words_of_storage_is))]
 
 #[cfg(test)]
@@ -15,3 +15,5 @@ mod plain;
 mod reads;
 #[cfg(test)]
 mod snapshots;
+#[cfg(test)]
+mod worked;

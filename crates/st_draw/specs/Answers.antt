@@ -4,8 +4,8 @@ use Rattle.st_io.specs.Count.{HasRisen}
 use Rattle.st_io.specs.Input.{InputState, CameWhole, CameWithin, CamePast}
 use Rattle.st_io.specs.Output.{OutputState, Wrote, WroteFront}
 use Rattle.st_draw.specs.Drawing.{svg}
-use Rattle.st_kanata.specs.Log.{log}
 use Rattle.st_draw.specs.Terminal.{page_text}
+use Rattle.st_entries.specs.Log.{log}
 use Rattle.st_entries.specs.Timetable.{timetable}
 use Rattle.st_draw.specs.declared.status.Status.{Status}
 use Rattle.st_draw.specs.declared.status.Status.TheVariants.{Done, NoRows, Usage, ReportTooLong, ReadFault, WriteFault, NoMemory}

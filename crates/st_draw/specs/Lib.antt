@@ -8,12 +8,12 @@ pub mod Terminal
 pub mod Words
 pub mod WellFormed
 pub use Rattle.st_entries.specs.Caption
+pub use Rattle.st_entries.specs.Log
 pub use Rattle.st_entries.specs.Phases
 pub use Rattle.st_entries.specs.Plain
 pub use Rattle.st_entries.specs.Timetable
 pub use Rattle.st_io.specs.Count
 pub use Rattle.st_io.specs.Input
 pub use Rattle.st_io.specs.Output
-pub use Rattle.st_kanata.specs.Log
 pub use Rattle.st_text.specs.Bytes
 pub use Rattle.st_text.specs.Number

@@ -9,9 +9,8 @@ use crate::drawing::draw_svg;
 use crate::status::Status;
 use crate::terminal::draw_text;
 use crate::words::{Choice, PictureKind, read_words};
-use st_entries::{DrawnEntry, read_timetable};
+use st_entries::{DrawnEntry, read_timetable, write_log};
 use st_io::{ReadError, Sink, Source, read_all, write_all};
-use st_kanata::write_log;
 use std::alloc::{AllocError, Global};
 
 // The most bytes of a report.

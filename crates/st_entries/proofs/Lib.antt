@@ -1,3 +1,5 @@
 pub mod Bytes
 pub mod Executing
+pub mod Forward
 pub mod Laws
+pub mod Sorting

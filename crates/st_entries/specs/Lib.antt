@@ -2,6 +2,8 @@ pub mod Caption
 pub mod Completions
 pub mod Label
 pub mod Laws
+pub mod Log
+pub mod Moments
 pub mod Phases
 pub mod Plain
 pub mod Report

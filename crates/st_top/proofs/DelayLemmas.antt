@@ -2,7 +2,7 @@
 use Rattle.st_state.specs.Machine.{Machine}
 use Rattle.st_run.specs.TimedRun.{timed_run}
 use Rattle.st_run.proofs.CourseLemmas.{last-same}
-use Rattle.st_beside.proofs.Rewinds.{states-same}
+use Rattle.st_top.proofs.Rewinds.{states-same}
 use Rattle.std.proofs.Common.{◌≡◌, ℕ, Bool, List, ◌++◌, sym, ◌∙◌, ap}
 use Rattle.std.specs.List.{flat_map}
 use Rattle.st_card.specs.Controls.{Asked}
@@ -12,7 +12,7 @@ use Rattle.st_run.specs.ReportedEvents.{reported_events}
 use Rattle.st_run.proofs.Untimed.{timed-plain}
 use Rattle.st_top.specs.Marks.{lines_unmarked, marked_report, marked_run}
 use Rattle.st_telling.specs.Report.{fixed as without_marks}
-use Rattle.st_beside.specs.States.{states}
+use Rattle.st_top.specs.States.{states}
 use Rattle.st_top.specs.StepsBack.{states_of_run, events_of_run, last_state, lines_of_steps_back}
 use Rattle.st_top.specs.declared.reporting.TheConstants.{LEVELS}
 use Rattle.st_top.proofs.PlainEventLemmas.{unmarked-append, unmarked-plain, happening_lines, report-lines, counted-run}

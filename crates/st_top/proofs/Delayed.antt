@@ -18,8 +18,8 @@ use Rattle.st_top.proofs.MarkLemmas.{lines-output}
 use Rattle.st_top.proofs.PlainEventLemmas.{unmarked-marked}
 use Rattle.st_top.proofs.JobLemmas.{jobs-same, loads-same, assembled-same, disassembled-same}
 use Rattle.st_top.proofs.PartedJobs.{cards-differ, again-accepted}
-use Rattle.st_command.specs.declared.command.Command.{Command}
-use Rattle.st_command.specs.declared.command.Command.TheVariants.{Run, Assemble, Load, Disassemble, Sweep, Soak}
+use Rattle.st_top.specs.declared.command.Command.{Command}
+use Rattle.st_top.specs.declared.command.Command.TheVariants.{Run, Assemble, Load, Disassemble, Sweep, Soak}
 
 -- ---- jobs that are not refused
 

@@ -1,7 +1,7 @@
 -- The lines of the requested state before the end.
 use Rattle.st_run.specs.Moments.{moment_at_start}
 use Rattle.st_run.proofs.CourseLemmas.{last-same}
-use Rattle.st_beside.proofs.Rewinds.{states-same}
+use Rattle.st_top.proofs.Rewinds.{states-same}
 use Rattle.st_top.specs.declared.reporting.TheConstants.{LEVELS}
 use Rattle.std.proofs.Common.{◌≡◌, ◌≤◌, ◌==◌, ℕ, zero, suc, ◌-◌, min, List, [], ◌∷◌, ◌++◌, true, false, length, take, drop, get_or, sym, ◌∙◌, ap, arith, if◌then◌else◌}
 use Rattle.std.proofs.lemmas.List.{length-drop, drop-append-le}
@@ -11,9 +11,9 @@ use Rattle.st_state.specs.Machine.{Machine}
 use Rattle.st_run.specs.Run.{Scene, run}
 use Rattle.st_back.specs.Steps.{states_before}
 use Rattle.st_report.specs.Line.{back_line}
-use Rattle.st_beside.specs.Beside.{Beside, IsBeside, HasMadeRun}
-use Rattle.st_beside.specs.States.{states}
-use Rattle.st_beside.proofs.Rewinds.{length-states_before}
+use Rattle.st_top.specs.Beside.{Beside, IsBeside, HasMadeRun}
+use Rattle.st_top.specs.States.{states}
+use Rattle.st_top.proofs.Rewinds.{length-states_before}
 use Rattle.st_telling.specs.Report.{block}
 use Rattle.st_top.specs.StepsBack.{states_of_run, block_before, lines_of_steps_back, last_state}
 

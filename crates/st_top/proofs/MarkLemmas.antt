@@ -32,8 +32,8 @@ use Rattle.st_top.specs.Marks.{marked_report, marked_run, up_to_end, end_card, l
 use Rattle.st_top.specs.Output.{Output, lines_alone, output_of, ran_by, loaded_by, assembled_by, disassembled_by, scene_of_assembly, loaded_start}
 use Rattle.st_telling.specs.Report.{Part as Marked, varying as with_marks, fixed as without_marks, joined, parts_at, lines_told, report}
 use Rattle.st_top.specs.StepsBack.{states_of_run, events_of_run, moment_at_end, last_state, lines_of_steps_back, run_report}
-use Rattle.st_command.specs.declared.command.Command.{Command}
-use Rattle.st_command.specs.declared.command.Command.TheVariants.{Run, Assemble, Load, Disassemble, Sweep, Soak}
+use Rattle.st_top.specs.declared.command.Command.{Command}
+use Rattle.st_top.specs.declared.command.Command.TheVariants.{Run, Assemble, Load, Disassemble, Sweep, Soak}
 
 -- ---- all lines
 

@@ -14,7 +14,7 @@ use Rattle.st_telling.specs.Report.{joined}
 use Rattle.st_top.specs.Marks.{lines_unmarked, marked_run, marked_output, texts_up_to_end, end_card}
 use Rattle.st_top.specs.Delays.{DifferInDelaysCards}
 use Rattle.st_top.specs.StepsBack.{run_report}
-use Rattle.st_command.specs.declared.command.Command.TheVariants.{Run, Assemble, Load, Disassemble}
+use Rattle.st_top.specs.declared.command.Command.TheVariants.{Run, Assemble, Load, Disassemble}
 
 -- two jobs have equal assemblies apart from the delays: the cards up to END have equal texts and
 -- rows, and the readers have equal cards

@@ -21,8 +21,8 @@ use Rattle.st_telling.specs.Report.{joined}
 use Rattle.st_top.specs.Marks.{lines_unmarked, marked_output, texts_up_to_end}
 use Rattle.st_top.specs.Output.{output_of}
 use Rattle.st_top.specs.declared.answer.Status.TheVariants.{Done}
-use Rattle.st_command.specs.declared.command.Command.{Command}
-use Rattle.st_command.specs.declared.command.Command.TheVariants.{Load, Disassemble}
+use Rattle.st_top.specs.declared.command.Command.{Command}
+use Rattle.st_top.specs.declared.command.Command.TheVariants.{Load, Disassemble}
 
 -- whether a keyword is that of delay cards
 abbrev pub is_delays : Option Keyword → Bool

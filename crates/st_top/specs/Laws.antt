@@ -1,11 +1,11 @@
 -- Laws of the reading of object texts, and of the lines of object texts and decks. The numbers that
--- definitions take from the code of this crate and of st_command.
+-- definitions take from the code of this crate.
 use Rattle.std.specs.Prelude.{◌≡◌, ℕ, List, Result}
 use Rattle.st_io.specs.Lines.{text}
 use Rattle.st_dis.specs.Deck.{deck_text}
 use Rattle.st_object.specs.Object.{Program, IsReading, object_text}
 use Rattle.st_top.specs.ObjectText.{object_text_lines, deck_lines}
-use Rattle.st_command.specs.declared.command.TheConstants.{MOST_MADE_CARDS}
+use Rattle.st_top.specs.declared.command.TheConstants.{MOST_MADE_CARDS}
 use Rattle.st_top.specs.declared.reporting.TheConstants.{LEVELS}
 
 -- Each text has exactly one reading, so the output of a command for a job is unique.

@@ -17,7 +17,7 @@ use Rattle.st_top.specs.Answers.{Writes, KeepsTime}
 use Rattle.st_object.specs.Object.{Program, IsReading}
 use Rattle.st_top.specs.Output.{Output, output_of, refusal_output}
 use Rattle.st_top.specs.declared.answer.Answer.{Answer}
-use Rattle.st_command.specs.declared.command.Command.{Command}
+use Rattle.st_top.specs.declared.command.Command.{Command}
 use Rattle.st_top.specs.declared.layer_error.LayerError.{LayerError}
 use Rattle.st_top.specs.declared.layer_error.LayerError.TheVariants.{Refused, TooLong, Unread, NoMemory}
 

@@ -27,8 +27,8 @@ use Rattle.st_top.specs.ObjectText.{program_in}
 use Rattle.st_top.specs.Output.{output_of, refusal_output, scene_of_assembly, loaded_by, loaded_start, deck_by}
 use Rattle.st_telling.specs.Report.{Part, fixed, varying, joined, parts_at}
 use Rattle.st_top.specs.StepsBack.{events_of_run, states_of_run, last_state, lines_of_steps_back}
-use Rattle.st_command.specs.declared.command.Command.{Command}
-use Rattle.st_command.specs.declared.command.Command.TheVariants.{Run, Assemble, Load, Disassemble}
+use Rattle.st_top.specs.declared.command.Command.{Command}
+use Rattle.st_top.specs.declared.command.Command.TheVariants.{Run, Assemble, Load, Disassemble}
 
 -- the lines that do not depend on the delays
 unfoldable pub lines_unmarked : List Part → List (List ℕ)

@@ -21,8 +21,8 @@ use Rattle.st_sweep.specs.declared.sweeping.Swept.{Swept}
 use Rattle.st_card.specs.declared.faults.Fault.TheVariants.{TooManyCards, BadObjectCard}
 use Rattle.st_top.specs.declared.answer.Status.{Status}
 use Rattle.st_top.specs.declared.answer.Status.TheVariants.{Done, Refused}
-use Rattle.st_command.specs.declared.command.Command.{Command}
-use Rattle.st_command.specs.declared.command.Command.TheVariants.{Run, Assemble, Load, Disassemble, Sweep, Soak}
+use Rattle.st_top.specs.declared.command.Command.{Command}
+use Rattle.st_top.specs.declared.command.Command.TheVariants.{Run, Assemble, Load, Disassemble, Sweep, Soak}
 
 -- the status, the lines, the number of completed instructions, the tick of the last completion, and
 -- the delays of storage of the run, if there is one

@@ -4,6 +4,8 @@
 #![tactic(auto, using(st_bits::specs::Storage::words_of_storage_is))]
 
 mod answer;
+mod beside;
+mod command;
 mod execution;
 mod job;
 mod layer_error;

@@ -8,10 +8,10 @@ ghost use Rattle.st_report.specs.Line.{back_line};
 ghost use Rattle.st_run.specs.ReportedEvents.{reported_events};
 ghost use Rattle.st_telling.specs.Report.{block};
 ghost use Rattle.st_top.specs.StepsBack.{states_of_run, lines_of_steps_back, last_state, events_of_run, moment_at_end, run_report};
-ghost use Rattle.st_beside.specs.Beside.{IsBesideReady, IsBesideAtStart, StandsAtStart, StandsAtEnd};
+ghost use Rattle.st_top.specs.Beside.{IsBesideReady, IsBesideAtStart, StandsAtStart, StandsAtEnd};
 ghost use Rattle.st_telling.specs.Running.{WritesEvents};
 
-use st_beside::{MachineBeside, rewind, run_beside};
+use crate::beside::{MachineBeside, rewind, run_beside};
 use st_card::Controls;
 use st_io::{Failed, Sink};
 use st_report::line_back;

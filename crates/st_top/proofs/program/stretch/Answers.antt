@@ -1,6 +1,6 @@
 use Rattle.std.proofs.Common.{◌≡◌, Some, map, ◌∙◌, rules}
 use Rattle.std.specs.String.{string_bytes}
-use Rattle.st_command.proofs.CommandLines.{command_within}
+use Rattle.st_top.proofs.CommandLines.{command_within}
 use Rattle.st_top.proofs.program.stretch.Goals as goal
 
 pub act-requires : goal.act-requires

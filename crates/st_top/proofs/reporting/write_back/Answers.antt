@@ -3,7 +3,7 @@ use Rattle.st_state.specs.Machine.{Machine}
 use Rattle.st_io.specs.Lines.{WritesLines}
 use Rattle.st_report.specs.Line.{back_line}
 use Rattle.st_telling.specs.Report.{block}
-use Rattle.st_beside.specs.Beside.{StandsAtEnd}
+use Rattle.st_top.specs.Beside.{StandsAtEnd}
 use Rattle.st_top.proofs.LinesBefore.{lines_before}
 use Rattle.st_top.proofs.reporting.write_back.Goals as goal
 

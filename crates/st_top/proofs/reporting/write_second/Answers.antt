@@ -1,5 +1,5 @@
 use Rattle.std.proofs.Common.{ℕ, subst}
-use Rattle.st_beside.specs.Beside.{StandsAtEnd}
+use Rattle.st_top.specs.Beside.{StandsAtEnd}
 use Rattle.st_top.proofs.reporting.write_second.Goals as goal
 
 pub returns : goal.returns

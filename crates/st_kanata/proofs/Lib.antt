@@ -1,3 +1,0 @@
-pub mod Forward
-pub mod Laws
-pub mod Sorting

@@ -1,0 +1,13 @@
+use Rattle.std.proofs.Common.{◌≡◌, ◌+◌, drop}
+use Rattle.std.specs.Prelude.{MatchOption}
+use Rattle.st_exec.specs.Transfer.{all_stored}
+use Rattle.st_back.specs.Steps.{newest_step, states_before}
+use Rattle.st_top.proofs.beside.put_card.Given as goal
+
+abbrev pub invariant-loop-k : goal.invariant-loop-k
+invariant-loop-k l = record {
+  state : all_stored l.machine (l.w + l.k) (drop l.k l.card) ≡ all_stored l.fn.machine l.w l.card;
+  depth : l.steps.depth ≡ l.fn.steps.depth;
+  states : states_before l.steps.kept l.machine ≡ states_before l.fn.steps.kept l.fn.machine;
+  fresh : MatchOption (newest_step l.steps.kept) ⊥ (λ kept. kept.puts ≡ l.k);
+}

@@ -1,0 +1,11 @@
+use Rattle.std.proofs.Common.{◌≡◌, length, map}
+use Rattle.std.specs.List.{list_all}
+use Rattle.std.specs.String.{string_bytes}
+use Rattle.st_top.specs.CommandLine.{is_plain}
+use Rattle.st_top.proofs.command.are_plain.Given as goal
+
+abbrev pub invariant-words : goal.invariant-words
+invariant-words l = list_all is_plain (map string_bytes l.rest) ≡ list_all is_plain (map string_bytes l.words)
+
+abbrev pub decreases-words : goal.decreases-words
+decreases-words l = length l.rest
