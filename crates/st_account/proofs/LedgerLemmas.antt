@@ -22,7 +22,7 @@ use Rattle.st_ledger.specs.Totals.{sum_at, stages, sums_by, sum_lines}
 use Rattle.st_ledger.proofs.Added.{sums-same}
 use Rattle.st_lines.specs.BorderLines.{machine_lines}
 use Rattle.st_lines.specs.declared.origins.Origin.{Origin}
-use Rattle.st_account.specs.Sums.{end_from, ledger_sums}
+use Rattle.st_account.specs.LedgerSums.{end_from, ledger_sums}
 use Rattle.st_account.specs.Text.{lines_from, totals_lines, stalled_from, wait_totals_lines, with_totals, ledger}
 
 wait-sums-same : (f g : Stage → Stall → ℕ) → ((r : Stage) (s : Stall) → is_parted r ≡ true → f r s ≡ g r s) → wait_sums_by f ≡ wait_sums_by g

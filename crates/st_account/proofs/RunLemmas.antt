@@ -25,7 +25,7 @@ use Rattle.st_reasons.specs.declared.waits.Stall.{Stall}
 use Rattle.st_lines.specs.declared.origins.Origin.{Origin}
 use Rattle.st_account.specs.Settling.{at_hand}
 use Rattle.st_account.specs.Standing.{still_by}
-use Rattle.st_account.specs.Sums.{end_lines, end_from}
+use Rattle.st_account.specs.LedgerSums.{end_lines, end_from}
 use Rattle.st_account.specs.Text.{segment_ends, segment_end_at, segment_lines, segment_after, uses_at, words_before, lines_of_entry, last_lines, lines_from, stalled_from}
 
 none-is : {A : Type 0} (o : Option A) → is_none o ≡ true → o ≡ None

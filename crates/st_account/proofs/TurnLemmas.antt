@@ -34,7 +34,7 @@ use Rattle.st_reasons.specs.declared.sums.WaitTotals.{WaitTotals}
 use Rattle.st_reasons.specs.declared.waits.Stall.{Stall}
 use Rattle.st_account.specs.Standing.{predicting, kept_lines, kept_stalled, IsWaiting, IsLast, IsStanding, IsAt, IsBehindMoment}
 use Rattle.st_account.specs.Text.{run_ends, segment_end_at, segment_lines, segment_after, uses_at, words_before, lines_of_entry, last_lines, lines_from, stalled_from}
-use Rattle.st_account.specs.Sums.{end_from}
+use Rattle.st_account.specs.LedgerSums.{end_from}
 use Rattle.st_report.specs.Line.{end_line as run_end_line, done_line, ticks_line}
 use Rattle.st_lines.specs.Origins.{origin_at}
 use Rattle.st_lines.specs.declared.origins.Origins.{Origins}
@@ -68,13 +68,14 @@ pub record IsRunning (s t : OutputState) (all : List (List ℕ)) (ds : List ℕ)
   pub counted : IsCounting ds n total waited a rest cards left m b
   pub so_far : LinesSoFar s t all (kept_lines a.k a.last (segment_end_at left m) ++ lines_from (origin_at a.origins) ds n left a.k b a.last.uses.items m)
 
--- Loop invariant of the totals: the remaining run ends with the lines with which the whole run does.
-pub record IsSumming (all : List (List ℕ)) (ds : List ℕ) (n : ℕ) (total : Stage → ℕ) (waited : Stage → Stall → ℕ) (a : Account) (rest : List Signal)
+-- Loop invariant of the totals: nothing is written, and the remaining run ends with the lines with which the whole run does.
+pub record IsSumming (s t : OutputState) (all : List (List ℕ)) (ds : List ℕ) (n : ℕ) (total : Stage → ℕ) (waited : Stage → Stall → ℕ) (a : Account) (rest : List Signal)
     (cards : List (List ℕ)) (left : ℕ) : Type 0 where
   pub m : Moment
   pub b : Machine
   pub counted : IsCounting ds n total waited a rest cards left m b
   pub ends : end_from ds n left m ≡ all
+  pub unwritten : t ≡ s
 
 next-done : (ds : List ℕ) (n : ℕ) (m : Moment) → (next_moment ds n (standing_at m)).scene.machine.done ≡ m.scene.machine.done + 1
 unfolding next_moment
@@ -137,10 +138,10 @@ module _ (ds : List ℕ) (n budget : ℕ) (state : Machine) (signals : List Sign
             (lines_none s all);
       }
 
-  pub sums-start : IsSumming (end_from ds n budget first) ds n
+  pub sums-start : (s : OutputState) → IsSumming s s (end_from ds n budget first) ds n
       (λ x. ticks_for x (all_charges ds n (entries_from ds n budget first)))
       (λ r z. stalled_from r z ds n budget [] first) a signals cards budget
-  sums-start = record { m = first; b = state; counted = counts-at-start; ends = refl }
+  sums-start s = record { m = first; b = state; counted = counts-at-start; ends = refl; unwritten = refl }
 
 -- an invariant of the loop after the signals and the budget have been taken from the controls
 taken : (Q : List Signal → List (List ℕ) → ℕ → Type 0) (x : PendingEvents) (xs ys : List Signal) (cards : List (List ℕ)) (left budget : ℕ)
@@ -154,11 +155,11 @@ pub run-taken : (s t : OutputState) (all : List (List ℕ)) (ds : List ℕ) (n :
 run-taken s t all ds n total waited a x xs ys cards left budget =
     taken (λ zs cs k. IsRunning s t all ds n total waited a zs cs k) x xs ys cards left budget
 
-pub sums-taken : (all : List (List ℕ)) (ds : List ℕ) (n : ℕ) (total : Stage → ℕ) (waited : Stage → Stall → ℕ) (a : Account) (x : PendingEvents)
+pub sums-taken : (s t : OutputState) (all : List (List ℕ)) (ds : List ℕ) (n : ℕ) (total : Stage → ℕ) (waited : Stage → Stall → ℕ) (a : Account) (x : PendingEvents)
     (xs ys : List Signal) (cards : List (List ℕ)) (left budget : ℕ) → x ≡ record { signals = xs; cards = cards } → xs ≡ ys → left ≡ budget
-    → IsSumming all ds n total waited a ys cards budget → IsSumming all ds n total waited a x.signals x.cards left
-sums-taken all ds n total waited a x xs ys cards left budget =
-    taken (λ zs cs k. IsSumming all ds n total waited a zs cs k) x xs ys cards left budget
+    → IsSumming s t all ds n total waited a ys cards budget → IsSumming s t all ds n total waited a x.signals x.cards left
+sums-taken s t all ds n total waited a x xs ys cards left budget =
+    taken (λ zs cs k. IsSumming s t all ds n total waited a zs cs k) x xs ys cards left budget
 
 -- ---- the state at the head of the loop
 
@@ -341,12 +342,13 @@ module _ (ds : List ℕ) (n : ℕ) (total : Stage → ℕ) (waited : Stage → S
             }
 
         -- the totals alone
-        pub sums-on : (all : List (List ℕ)) → end_from ds n left m ≡ all → (d : Account)
+        pub sums-on : (s t : OutputState) (all : List (List ℕ)) → end_from ds n left m ≡ all → t ≡ s → (d : Account)
             → IsCounting ds n total waited d ys cards' (left - 1) (next_moment ds n (standing_at m)) (next_state m)
-            → IsSumming all ds n total waited d ys cards' (left - 1)
-        sums-on all ends d counted = record {
+            → IsSumming s t all ds n total waited d ys cards' (left - 1)
+        sums-on s t all ends still d counted = record {
           m = next_moment ds n (standing_at m);
           b = next_state m;
           counted = counted;
           ends = sym (end-on ds n left m some on) ∙ ends;
+          unwritten = still;
         }

@@ -15,7 +15,7 @@ use Rattle.st_run.specs.Run.{Scene}
 use Rattle.st_report.specs.Line.{fault_line}
 use Rattle.st_account.specs.Settling.{at_hand}
 use Rattle.st_account.specs.FirstCards.{origin_of}
-use Rattle.st_account.specs.Sums.{ledger_sums}
+use Rattle.st_account.specs.LedgerSums.{ledger_sums}
 use Rattle.st_account.specs.Text.{ledger}
 use Rattle.st_account.specs.declared.program.Asked.{Asked}
 use Rattle.st_account.specs.declared.status.Status.{Status}

@@ -1,5 +1,5 @@
 pub mod Text
-pub mod Sums
+pub mod LedgerSums
 pub mod FirstCards
 pub mod Answers
 pub mod Standing

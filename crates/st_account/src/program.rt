@@ -18,7 +18,7 @@ ghost use Rattle.st_state.specs.Machine.{opening_state};
 ghost use Rattle.st_account.specs.FirstCards.{origin_of};
 ghost use Rattle.st_account.specs.Answers.{levels_by, levels_of_word as levels_of, is_sums as is_sums_of, asked_of as asked_with, asked_by, lines_by, ledger_lines_of, status_of, Writes, Did, IsAnswer};
 ghost use Rattle.st_account.specs.Settling.{at_hand};
-ghost use Rattle.st_account.specs.Sums.{ledger_sums};
+ghost use Rattle.st_account.specs.LedgerSums.{ledger_sums};
 ghost use Rattle.st_account.specs.Text.{ledger as ledger_of};
 
 use crate::job::Job;

@@ -15,7 +15,7 @@ ghost use Rattle.st_ledger.specs.Totals.{sum_at};
 ghost use Rattle.st_account.specs.Settling.{at_hand};
 ghost use Rattle.st_reasons.specs.Sums.{is_parted, waited_at};
 ghost use Rattle.st_reasons.specs.declared.waits.Stall.{Stall};
-ghost use Rattle.st_account.specs.Sums.{end_from, ledger_sums};
+ghost use Rattle.st_account.specs.LedgerSums.{end_from, ledger_sums};
 ghost use Rattle.st_account.specs.Text.{lines_from, stalled_from, ledger};
 
 use crate::account::Account;

@@ -1,4 +1,5 @@
-use Rattle.std.proofs.Common.{refl}
+use Rattle.std.specs.Prelude.{slice_set}
+use Rattle.std.proofs.Common.{ap}
 use Rattle.st_lines.proofs.ChangeLemmas.{copy-starts, copy-passes, copy-made, copy-size, copy-left, copy-ends}
 use Rattle.st_lines.proofs.changes.keep_changed.Goals as goal
 
@@ -13,16 +14,16 @@ words-init c =
 
 pub next_changed-next-requires-clause-size : goal.next_changed-next-requires-clause-size
 next_changed-next-requires-clause-size c =
-    copy-size c.args.old.now.items _ c.args.state.now c.words.w c.words.invariant c.words-test.true _ refl
+    copy-size c.args.old.now.items _ c.args.state.now c.words.w c.words.invariant c.words-test.true _ (ap (slice_set c.words.old.items c.words.w) c.word.ensures.value)
 
 pub next_changed-next-requires-clause-left : goal.next_changed-next-requires-clause-left
 next_changed-next-requires-clause-left c =
-    copy-left c.args.old.now.items _ c.args.state.now c.words.w c.words.invariant c.words-test.true _ refl c.args.may.now c.requires.left
+    copy-left c.args.old.now.items _ c.args.state.now c.words.w c.words.invariant c.words-test.true _ (ap (slice_set c.words.old.items c.words.w) c.word.ensures.value) c.args.may.now c.requires.left
 
 pub words-preserved : goal.words-preserved
 words-preserved c =
     copy-passes c.args.old.now.items _ c.args.state.now _ _
-    (copy-made c.args.old.now.items _ c.args.state.now c.words.w c.words.invariant c.words-test.true _ refl)
+    (copy-made c.args.old.now.items _ c.args.state.now c.words.w c.words.invariant c.words-test.true _ (ap (slice_set c.words.old.items c.words.w) c.word.ensures.value))
     c.next_changed-next.ensures.least c.next_changed-next.ensures.most c.next_changed-next.ensures.between
 
 pub returns : goal.returns

@@ -8,16 +8,13 @@ returns-in_default t c =
     parts_passed c.args.uses.now c.args.before.now c.args.from c.args.parts.now _ (nil_from_length _ c.in_default.ensures.cases) c.requires.within
 
 pub add_waits-requires : goal.add_waits-requires
-add_waits-requires t c κs within = (
+add_waits-requires t c = (
   search rules,
-  (
-    search rules,
-    record {
-      used = c.requires.used;
-      earlier = c.requires.earlier;
-      within = next_within c.args.uses.now c.args.before.now c.args.from _ _ _ _ c.later.ensures c.add_part.ensures;
-    },
-  ),
+  record {
+    used = c.requires.used;
+    earlier = c.requires.earlier;
+    within = next_within c.args.uses.now c.args.before.now c.args.from _ _ _ _ c.later.ensures c.add_part.ensures;
+  },
 )
 
 pub returns : goal.returns
