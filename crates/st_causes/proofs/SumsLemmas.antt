@@ -34,22 +34,22 @@ run-ends o ds n zero k b us m =
       front = h.front;
       is = lines-end ds n o zero k b us m (inl refl) ∙ h.is ∙ ap (λ ls. h.front ++ ls) (sym (end-last ds n zero m (inl refl)));
     }
-run-ends o ds n (suc left) k b us m = by (rests (next_state m)) refl
+run-ends o ds n (suc left) k b us m =
+    by (rests (next_state m)) refl (run-ends o ds n left (segment_after k m) (next_state m) (uses_at ds n (standing_at m)) (next_moment ds n (standing_at m)))
   where
-    p = standing_at m
-    after = next_moment ds n (standing_at m)
-
-    by : (r : Bool) → rests (next_state m) ≡ r → EndsWith (lines_from o ds n (suc left) k b us m) (end_from ds n (suc left) m)
-    by true is =
+    by : (r : Bool) → rests (next_state m) ≡ r
+        → EndsWith (lines_from o ds n left (segment_after k m) (next_state m) (uses_at ds n (standing_at m)) (next_moment ds n (standing_at m)))
+        (end_from ds n left (next_moment ds n (standing_at m)))
+        → EndsWith (lines_from o ds n (suc left) k b us m) (end_from ds n (suc left) m)
+    by true is rest =
         let h = last-ends o ds n k b m in
         record {
           front = h.front;
           is = lines-end ds n o (suc left) k b us m (inr is) ∙ h.is ∙ ap (λ ls. h.front ++ ls) (sym (end-last ds n (suc left) m (inr is)));
         }
-    by false is =
+    by false is h =
         let some : suc left ≢ 0 = λ none. absurd (omega (arith, none)) in
         let one : suc left - 1 ≡ left = omega arith in
-        let h = run-ends o ds n left (segment_after k m) (next_state m) (uses_at ds n (standing_at m)) (next_moment ds n (standing_at m)) in
         let row = segment_lines o ds n k b m ++ lines_of_entry o ds n (segment_end_at (suc left - 1) (next_moment ds n (standing_at m))) (words_before m us) (standing_at m) in
         record {
           front = row ++ h.front;
