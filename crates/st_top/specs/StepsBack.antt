@@ -24,7 +24,7 @@ abbrev pub lines_of_steps_back : Asked → List Machine → Machine → List (Li
 lines_of_steps_back asked states last =
     if asked.back == 0 then [] else block_before asked.dumps (min asked.back last.done) states last
 
--- ---- the overlapped machine
+-- ---- the run with its ticks
 
 -- the moments of a run
 abbrev pub moments_of_run : Asked → Scene → Course RunMoment
