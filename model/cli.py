@@ -56,10 +56,13 @@ def answer_of(command, read):
 
 def ledger_lines(words, read):
     """The same of the program `ledger` (docs/ledger.md), but that what is written comes line by line."""
-    if len(words) > 1 or words and not (len(words[0]) == 1 and '1' <= words[0] <= '8'):
+    is_short = words[-1:] == ['sums']
+    numbers = words[:-1] if is_short else words
+    if len(numbers) > 1 or numbers and not (len(numbers[0]) == 1 and '1' <= numbers[0] <= '8'):
         return [], NO_COMMAND
-    levels = int(words[0]) if words else 4
-    written, status = answer_of(lambda job: ledger.ledger(assembler.assemble(job), levels), read)
+    levels = int(numbers[0]) if numbers else 4
+    lines = ledger.totals if is_short else ledger.ledger
+    written, status = answer_of(lambda job: lines(assembler.assemble(job), levels), read)
     return ([written] if status else (text([line]) for line in written)), status
 
 

@@ -262,6 +262,15 @@ def ledger(program, levels):
     yield from (f'SUM {stage} {why} {sums[stage, why]}' for stage, why in WAITS)
 
 
+# The first words of the lines that `sums` writes.
+TOTALS = {'LEVELS', 'DELAYS', 'END', 'DONE', 'TICKS', 'SUM'}
+
+
+def totals(program, levels):
+    """The lines of the ledger that say nothing of a row or of what comes between rows."""
+    return (line for line in ledger(program, levels) if line.split(' ')[0] in TOTALS)
+
+
 def opened_by(run, moment, missed):
     """Why the next segment begins, where this one has ended."""
     if not run.ended:

@@ -1,6 +1,6 @@
 -- Lemmas on a whole ledger, part by part.
 use Rattle.std.specs.Prelude.{Option, Result, Ok, Err, IsErr}
-use Rattle.std.proofs.Common.{◌≡◌, ℕ, true, List, [], ◌++◌, refl, subst}
+use Rattle.std.proofs.Common.{◌≡◌, ℕ, true, List, [], ◌++◌, refl, sym, subst}
 use Rattle.st_state.specs.Machine.{Machine}
 use Rattle.st_io.specs.Output.{OutputState}
 use Rattle.st_io.specs.declared.Failed.{Failed}
@@ -22,7 +22,8 @@ use Rattle.st_ledger.specs.Totals.{sum_at, stages, sums_by, sum_lines}
 use Rattle.st_ledger.proofs.Added.{sums-same}
 use Rattle.st_lines.specs.BorderLines.{machine_lines}
 use Rattle.st_lines.specs.declared.origins.Origin.{Origin}
-use Rattle.st_account.specs.Text.{lines_from, totals_lines, stalled_from, wait_totals_lines, ledger}
+use Rattle.st_account.specs.LedgerSums.{end_from, ledger_sums}
+use Rattle.st_account.specs.Text.{lines_from, totals_lines, stalled_from, wait_totals_lines, with_totals, ledger}
 
 wait-sums-same : (f g : Stage → Stall → ℕ) → ((r : Stage) (s : Stall) → is_parted r ≡ true → f r s ≡ g r s) → wait_sums_by f ≡ wait_sums_by g
 wait-sums-same f g same =
@@ -37,56 +38,62 @@ wait-sums-same f g same =
       same Operand Storage refl,
     ) refl
 
-module _ (origin : Machine → ℕ → Option Origin) (ds : List ℕ) (n left : ℕ) (c : Scene) (s u : OutputState) (list : List ℕ) (same : list ≡ ds) where
-  run_lines : List (List ℕ)
-  run_lines = lines_from origin ds n left 0 c.machine [] (moment_at_start c)
+pub ledger-is : (origin : Machine → ℕ → Option Origin) (ds : List ℕ) (n left : ℕ) (c : Scene)
+    → ledger origin ds n left c ≡ with_totals ds n left c (lines_from origin ds n left 0 c.machine [] (moment_at_start c))
+unfolding ledger
+ledger-is origin ds n left c = refl
 
+pub sums-is : (ds : List ℕ) (n left : ℕ) (c : Scene) → ledger_sums ds n left c ≡ with_totals ds n left c (end_from ds n left (moment_at_start c))
+unfolding ledger_sums
+sums-is ds n left c = refl
+
+module _ (all run_lines : List (List ℕ)) (ds : List ℕ) (n left : ℕ) (c : Scene) (is : all ≡ with_totals ds n left c run_lines) (s u : OutputState) (list : List ℕ)
+    (same : list ≡ ds) where
   sums : List (List ℕ)
   sums = totals_lines (all_charges ds n (entries_of ds n left c))
 
   waits : List (List ℕ)
   waits = wait_totals_lines (λ r s. stalled_from r s ds n left [] (moment_at_start c))
 
-  whole : (r : Result (Unit {0}) Failed) → WritesLines s u (((machine_lines ds n ++ run_lines) ++ sums) ++ waits) r → WritesLines s u (ledger origin ds n left c) r
-  unfolding ledger run_lines sums waits
-  whole r h = h
+  whole : (r : Result (Unit {0}) Failed) → WritesLines s u (((machine_lines ds n ++ run_lines) ++ sums) ++ waits) r → WritesLines s u all r
+  unfolding sums waits
+  whole r h = subst (λ ls. WritesLines s u ls r) (sym is) h
 
   machine : (v : OutputState) (r : Result (Unit {0}) Failed) → WritesLines s v (machine_lines list n) r → WritesLines s v (machine_lines ds n) r
   machine v r h = subst (λ xs. WritesLines s v (machine_lines xs n) r) same h
 
   -- the run is not written completely
-  before-sums : (e : Failed) (r : Result (Unit {0}) Failed) → IsErr r → WritesLines s u (machine_lines ds n ++ run_lines) (Err e) → WritesLines s u (ledger origin ds n left c) r
+  before-sums : (e : Failed) (r : Result (Unit {0}) Failed) → IsErr r → WritesLines s u (machine_lines ds n ++ run_lines) (Err e) → WritesLines s u all r
   before-sums e r f h =
       whole r (lines_cut s u ((machine_lines ds n ++ run_lines) ++ sums) waits e r f (lines_cut s u (machine_lines ds n ++ run_lines) sums e (Err e) refl h))
 
-  pub machine-fails : (e : Failed) (r : Result (Unit {0}) Failed) → IsErr r → WritesLines s u (machine_lines list n) (Err e) → WritesLines s u (ledger origin ds n left c) r
+  pub machine-fails : (e : Failed) (r : Result (Unit {0}) Failed) → IsErr r → WritesLines s u (machine_lines list n) (Err e) → WritesLines s u all r
   machine-fails e r f h = before-sums e r f (lines_cut s u (machine_lines ds n) run_lines e (Err e) refl (machine u (Err e) h))
 
   pub run-fails : (v : OutputState) (x : Unit {0}) (e : Failed) (r : Result (Unit {0}) Failed) → IsErr r → WritesLines s v (machine_lines list n) (Ok x)
-      → WritesLines v u (lines_from origin ds n left 0 c.machine [] (moment_at_start c)) (Err e) → WritesLines s u (ledger origin ds n left c) r
-  unfolding run_lines
+      → WritesLines v u run_lines (Err e) → WritesLines s u all r
   run-fails v x e r f h later = before-sums e r f (lines_then s v u (machine_lines ds n) run_lines x (Err e) (machine v (Ok x) h) later)
 
   -- the run is written completely
   module _ (v w : OutputState) (x y : Unit {0}) (h : WritesLines s v (machine_lines list n) (Ok x))
-      (later : WritesLines v w (lines_from origin ds n left 0 c.machine [] (moment_at_start c)) (Ok y)) (totals : Totals)
+      (later : WritesLines v w run_lines (Ok y)) (totals : Totals)
       (each : (stage : Stage) → sum_at stage totals ≡ ticks_for stage (all_charges ds n (entries_of ds n left c))) where
     behind-run : (o : OutputState) (r : Result (Unit {0}) Failed) → WritesLines w o (sum_lines (sums_by (λ stage. sum_at stage totals) stages)) r
         → WritesLines s o ((machine_lines ds n ++ run_lines) ++ sums) r
-    unfolding run_lines sums
+    unfolding sums
     behind-run o r told =
         lines_then s w o (machine_lines ds n ++ run_lines) sums y r (lines_then s v w (machine_lines ds n) run_lines x (Ok y) (machine v (Ok x) h) later)
         (subst (λ xs. WritesLines w o (sum_lines xs) r)
         (sums-same (λ stage. sum_at stage totals) (λ stage. ticks_for stage (all_charges ds n (entries_of ds n left c))) stages each) told)
 
     pub sums-fail : (e : Failed) (r : Result (Unit {0}) Failed) → IsErr r → WritesLines w u (sum_lines (sums_by (λ stage. sum_at stage totals) stages)) (Err e)
-        → WritesLines s u (ledger origin ds n left c) r
+        → WritesLines s u all r
     sums-fail e r f told = whole r (lines_cut s u ((machine_lines ds n ++ run_lines) ++ sums) waits e r f (behind-run u (Err e) told))
 
     pub all-written : (o : OutputState) (z : Unit {0}) (r : Result (Unit {0}) Failed) (waited : WaitTotals)
         → WritesLines w o (sum_lines (sums_by (λ stage. sum_at stage totals) stages)) (Ok z)
         → ((r : Stage) (s : Stall) → is_parted r ≡ true → waited_at r s waited ≡ stalled_from r s ds n left [] (moment_at_start c))
-        → WritesLines o u (wait_sum_lines (wait_sums_by (λ r s. waited_at r s waited))) r → WritesLines s u (ledger origin ds n left c) r
+        → WritesLines o u (wait_sum_lines (wait_sums_by (λ r s. waited_at r s waited))) r → WritesLines s u all r
     unfolding waits
     all-written o z r waited told all last =
         whole r (lines_then s o u ((machine_lines ds n ++ run_lines) ++ sums) waits z r (behind-run o (Ok z) told)

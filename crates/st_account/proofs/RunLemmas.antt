@@ -25,6 +25,7 @@ use Rattle.st_reasons.specs.declared.waits.Stall.{Stall}
 use Rattle.st_lines.specs.declared.origins.Origin.{Origin}
 use Rattle.st_account.specs.Settling.{at_hand}
 use Rattle.st_account.specs.Standing.{still_by}
+use Rattle.st_account.specs.LedgerSums.{end_lines, end_from}
 use Rattle.st_account.specs.Text.{segment_ends, segment_end_at, segment_lines, segment_after, uses_at, words_before, lines_of_entry, last_lines, lines_from, stalled_from}
 
 none-is : {A : Type 0} (o : Option A) → is_none o ≡ true → o ≡ None
@@ -55,6 +56,22 @@ module _ (ds : List ℕ) (n : ℕ) where
       rw going
       (ap (λ j. (segment_lines o ds n k b m ++ lines_of_entry o ds n (segment_end_at j (next_moment ds n (standing_at m))) (words_before m us) (standing_at m))
       ++ lines_from o ds n j (segment_after k m) (next_state m) (uses_at ds n (standing_at m)) (next_moment ds n (standing_at m))) one)
+
+  -- ---- the lines of the end
+
+  pub end-last : (left : ℕ) (m : Moment) → (left ≡ 0) ⊎ (rests (next_state m) ≡ true) → end_from ds n left m ≡ end_lines m
+  unfolding end_from
+  end-last zero m end = refl
+  end-last (suc left) m (inl none) = let no : ⊥ = omega arith in absurd no
+  end-last (suc left) m (inr resting) = rw resting refl
+
+  pub end-on : (left : ℕ) (m : Moment) → left ≢ 0 → rests (next_state m) ≡ false
+      → end_from ds n left m ≡ end_from ds n (left - 1) (next_moment ds n (standing_at m))
+  unfolding end_from
+  end-on zero m some going = absurd (some refl)
+  end-on (suc left) m some going =
+      let one : left ≡ suc left - 1 = omega arith in
+      rw going (ap (λ j. end_from ds n j (next_moment ds n (standing_at m))) one)
 
   -- ---- the waits
 

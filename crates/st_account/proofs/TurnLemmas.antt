@@ -1,6 +1,6 @@
 -- Lemmas on the run at the head of its loop, and on the effect of one round.
 use Rattle.std.specs.Prelude.{Bool, Result, Ok, Err, IsErr, nat_eq, ◌||◌, All}
-use Rattle.std.proofs.Common.{◌≡◌, ◌≢◌, ℕ, ◌+◌, ◌-◌, ◌*◌, ◌^◌, ◌≤◌, ◌<◌, true, false, Option, List, [], ◌++◌, length, refl, sym, ◌∙◌, ap, subst, arith}
+use Rattle.std.proofs.Common.{◌≡◌, ◌≢◌, ℕ, ◌+◌, ◌-◌, ◌*◌, ◌^◌, ◌≤◌, ◌<◌, true, false, Option, List, [], ◌∷◌, ◌++◌, length, refl, sym, ◌∙◌, ap, subst, arith}
 use Rattle.st_bits.specs.declared.limits.TheConstants.{MOST_INSTRUCTIONS}
 use Rattle.st_card.specs.declared.control_cards.Signal.{Signal}
 use Rattle.st_io.specs.Output.{OutputState}
@@ -34,25 +34,23 @@ use Rattle.st_reasons.specs.declared.sums.WaitTotals.{WaitTotals}
 use Rattle.st_reasons.specs.declared.waits.Stall.{Stall}
 use Rattle.st_account.specs.Standing.{predicting, kept_lines, kept_stalled, IsWaiting, IsLast, IsStanding, IsAt, IsBehindMoment}
 use Rattle.st_account.specs.Text.{run_ends, segment_end_at, segment_lines, segment_after, uses_at, words_before, lines_of_entry, last_lines, lines_from, stalled_from}
+use Rattle.st_account.specs.LedgerSums.{end_from}
+use Rattle.st_report.specs.Line.{end_line as run_end_line, done_line, ticks_line}
 use Rattle.st_lines.specs.Origins.{origin_at}
 use Rattle.st_lines.specs.declared.origins.Origins.{Origins}
 use Rattle.st_account.proofs.LastLemmas.{start-last}
 use Rattle.st_account.proofs.EntryLemmas.{kept-none}
-use Rattle.st_account.proofs.RunLemmas.{next-stepped, next-at}
+use Rattle.st_account.proofs.RunLemmas.{next-stepped, next-at, end-last, end-on}
 use Rattle.st_account.proofs.LoopLemmas.{run-ends, border-fails, turn-made, sums-none, number-next, number-some, left-some, rests-not, ends-one, sums-next, sums-end, waits-next, waits-last}
 use Rattle.st_account.proofs.StallLemmas.{waited-none, kept-stalled-none}
 
--- Loop invariant: lines are written so far, and those of the last entry and of the remaining run
--- are to be written. The ticks still to be added and those already added are together the total.
-pub record IsRunning (s t : OutputState) (all : List (List ℕ)) (ds : List ℕ) (n : ℕ) (total : Stage → ℕ) (waited : Stage → Stall → ℕ) (a : Account) (rest : List Signal)
-    (cards : List (List ℕ)) (left : ℕ) : Type 0 where
-  pub m : Moment
-  pub b : Machine
+-- The account agrees with a moment of the run. The ticks still to be added and those already added are together the total.
+pub record IsCounting (ds : List ℕ) (n : ℕ) (total : Stage → ℕ) (waited : Stage → Stall → ℕ) (a : Account) (rest : List Signal)
+    (cards : List (List ℕ)) (left : ℕ) (m : Moment) (b : Machine) : Type 0 where
   pub at : IsAt ds n b m a rest cards
   pub bounds : IsMoment 255 n m
   pub meets : m.issue.c ≡ m.tick
   pub time : HasTime (64 * (255 + 4)) m.tick m.scene.machine
-  pub so_far : LinesSoFar s t all (kept_lines a.k a.last (segment_end_at left m) ++ lines_from (origin_at a.origins) ds n left a.k b a.last.uses.items m)
   pub number : a.k ≤ m.scene.machine.done
   pub few : m.scene.machine.done + left ≤ MOST_INSTRUCTIONS
   pub within : AreWithin a.last.tick a.sums
@@ -62,214 +60,295 @@ pub record IsRunning (s t : OutputState) (all : List (List ℕ)) (ds : List ℕ)
       → waited_at r z a.waiting.totals + (kept_stalled r z a.k a.last + stalled_from r z ds n left a.last.uses.items m) ≡ waited r z
   pub size : length a.words.items ≡ words_of_storage
 
+-- Loop invariant of the whole ledger: lines are written so far, and those of the last entry and of the remaining run are to be written.
+pub record IsRunning (s t : OutputState) (all : List (List ℕ)) (ds : List ℕ) (n : ℕ) (total : Stage → ℕ) (waited : Stage → Stall → ℕ) (a : Account) (rest : List Signal)
+    (cards : List (List ℕ)) (left : ℕ) : Type 0 where
+  pub m : Moment
+  pub b : Machine
+  pub counted : IsCounting ds n total waited a rest cards left m b
+  pub so_far : LinesSoFar s t all (kept_lines a.k a.last (segment_end_at left m) ++ lines_from (origin_at a.origins) ds n left a.k b a.last.uses.items m)
+
+-- Loop invariant of the totals: nothing is written, and the remaining run ends with the lines with which the whole run does.
+pub record IsSumming (s t : OutputState) (all : List (List ℕ)) (ds : List ℕ) (n : ℕ) (total : Stage → ℕ) (waited : Stage → Stall → ℕ) (a : Account) (rest : List Signal)
+    (cards : List (List ℕ)) (left : ℕ) : Type 0 where
+  pub m : Moment
+  pub b : Machine
+  pub counted : IsCounting ds n total waited a rest cards left m b
+  pub ends : end_from ds n left m ≡ all
+  pub unwritten : t ≡ s
+
 next-done : (ds : List ℕ) (n : ℕ) (m : Moment) → (next_moment ds n (standing_at m)).scene.machine.done ≡ m.scene.machine.done + 1
 unfolding next_moment
 next-done ds n m = step-done (next_state m) ∙ ap (λ d. d + 1) (settled-done m.scene)
 
 -- ---- the start
 
-pub run-starts : (s : OutputState) (ds : List ℕ) (n budget : ℕ) (state : Machine) (signals : List Signal) (cards : List (List ℕ)) (table : Origins) (a : Account)
-    → length a.words.items ≡ words_of_storage → AreDelaysUpTo 255 ds → n ≤ 8 → IsMachine state → All IsCard cards → state.done ≡ 0 → budget ≤ MOST_INSTRUCTIONS
-    → AreWithin 0 a.sums → a.state ≡ state → a.origins ≡ table → a.k ≡ 0 → a.last.tick ≡ 0 → a.last.issue ≡ opening_issue idle_banks 0
-    → a.last.past ≡ a.last.issue.past → a.last.mispredicted ≡ false → a.last.ic ≡ state.ic → a.last.enabled ≡ state.enabled → a.last.ic < 2 ^ 19 → a.log ≡ []
-    → IsTight 255 a.last.issue → a.last.uses.items ≡ [] → IsWaiting a.last a.waiting.totals → AreWaitsWithin 0 a.waiting.totals
-    → IsRunning s s (lines_from (origin_at table) ds n budget 0 state [] (moment_at_start (at_hand state signals cards))) ds n
-    (λ x. ticks_for x (all_charges ds n (entries_from ds n budget (moment_at_start (at_hand state signals cards)))))
-    (λ r z. stalled_from r z ds n budget [] (moment_at_start (at_hand state signals cards))) a signals cards budget
-run-starts s ds n budget state signals cards table a size are few machine each fresh limit none is same_table number tick issue past mispredicted ic enabled counter empty tight unused waiting unwaited =
-    let c = at_hand state signals cards in
-    let m = moment_at_start c in
-    let all = lines_from (origin_at table) ds n budget 0 state [] m in
-    record {
-      m = m;
-      b = state;
-      at = record {
-        scene = ap (λ u. at_hand u signals cards) (sym is);
-        each = each;
-        hand = start-last ds n c a.last a.log tick issue past mispredicted ic counter empty tight;
-        was = sym enabled;
-        predicted = λ some. absurd (some number);
-        words = λ some. absurd (some number);
-        unwritten = λ some. absurd (some number);
-      };
-      bounds = start-is 255 n ds are few c (record { machine = machine; cards = each });
-      meets = refl;
-      time = omega arith;
-      so_far = subst (LinesSoFar s s all)
-          (sym (ap (λ ls. ls ++ lines_from (origin_at a.origins) ds n budget a.k state a.last.uses.items m) (kept-none a.k a.last (segment_end_at budget m) number)
-          ∙ ap (λ y. lines_from (origin_at y) ds n budget a.k state a.last.uses.items m) same_table
-          ∙ ap (λ k. lines_from (origin_at table) ds n budget k state a.last.uses.items m) number
-          ∙ ap (λ us. lines_from (origin_at table) ds n budget 0 state us m) unused))
-          (lines_none s all);
-      number = omega (arith, number);
-      few = omega (arith, fresh, limit);
-      within = subst (λ t. AreWithin t a.sums) (sym tick) none;
-      sum = λ x. sums-none a.sums x _ none;
-      waiting = waiting;
-      waits = λ r z parted.
-          let nothing = waited-none a.waiting.totals r z unwaited in
-          let unkept = kept-stalled-none r z a.k a.last number in
-          let same = ap (λ us. stalled_from r z ds n budget us m) unused in
-          omega (arith, nothing, unkept, same);
-      size = size;
-    }
+module _ (ds : List ℕ) (n budget : ℕ) (state : Machine) (signals : List Signal) (cards : List (List ℕ)) (a : Account)
+    (size : length a.words.items ≡ words_of_storage) (are : AreDelaysUpTo 255 ds) (few : n ≤ 8) (machine : IsMachine state) (each : All IsCard cards)
+    (fresh : state.done ≡ 0) (limit : budget ≤ MOST_INSTRUCTIONS) (none : AreWithin 0 a.sums) (is : a.state ≡ state) (number : a.k ≡ 0) (tick : a.last.tick ≡ 0)
+    (issue : a.last.issue ≡ opening_issue idle_banks 0) (past : a.last.past ≡ a.last.issue.past) (mispredicted : a.last.mispredicted ≡ false)
+    (ic : a.last.ic ≡ state.ic) (enabled : a.last.enabled ≡ state.enabled) (counter : a.last.ic < 2 ^ 19) (empty : a.log ≡ []) (tight : IsTight 255 a.last.issue)
+    (unused : a.last.uses.items ≡ []) (waiting : IsWaiting a.last a.waiting.totals) (unwaited : AreWaitsWithin 0 a.waiting.totals) where
+  abbrev first : Moment
+  first = moment_at_start (at_hand state signals cards)
 
--- the invariant after the signals and the budget have been taken from the controls
+  counts-at-start : IsCounting ds n (λ x. ticks_for x (all_charges ds n (entries_from ds n budget first)))
+      (λ r z. stalled_from r z ds n budget [] first) a signals cards budget first state
+  counts-at-start = record {
+    at = record {
+      scene = ap (λ u. at_hand u signals cards) (sym is);
+      each = each;
+      hand = start-last ds n (at_hand state signals cards) a.last a.log tick issue past mispredicted ic counter empty tight;
+      was = sym enabled;
+      predicted = λ some. absurd (some number);
+      words = λ some. absurd (some number);
+      unwritten = λ some. absurd (some number);
+    };
+    bounds = start-is 255 n ds are few (at_hand state signals cards) (record { machine = machine; cards = each });
+    meets = refl;
+    time = omega arith;
+    number = omega (arith, number);
+    few = omega (arith, fresh, limit);
+    within = subst (λ t. AreWithin t a.sums) (sym tick) none;
+    sum = λ x. sums-none a.sums x _ none;
+    waiting = waiting;
+    waits = λ r z parted.
+        let nothing = waited-none a.waiting.totals r z unwaited in
+        let unkept = kept-stalled-none r z a.k a.last number in
+        let same = ap (λ us. stalled_from r z ds n budget us first) unused in
+        omega (arith, nothing, unkept, same);
+    size = size;
+  }
+
+  pub run-starts : (s : OutputState) (table : Origins) → a.origins ≡ table
+      → IsRunning s s (lines_from (origin_at table) ds n budget 0 state [] first) ds n
+      (λ x. ticks_for x (all_charges ds n (entries_from ds n budget first)))
+      (λ r z. stalled_from r z ds n budget [] first) a signals cards budget
+  run-starts s table same_table =
+      let all = lines_from (origin_at table) ds n budget 0 state [] first in
+      record {
+        m = first;
+        b = state;
+        counted = counts-at-start;
+        so_far = subst (LinesSoFar s s all)
+            (sym (ap (λ ls. ls ++ lines_from (origin_at a.origins) ds n budget a.k state a.last.uses.items first) (kept-none a.k a.last (segment_end_at budget first) number)
+            ∙ ap (λ y. lines_from (origin_at y) ds n budget a.k state a.last.uses.items first) same_table
+            ∙ ap (λ k. lines_from (origin_at table) ds n budget k state a.last.uses.items first) number
+            ∙ ap (λ us. lines_from (origin_at table) ds n budget 0 state us first) unused))
+            (lines_none s all);
+      }
+
+  pub sums-start : (s : OutputState) → IsSumming s s (end_from ds n budget first) ds n
+      (λ x. ticks_for x (all_charges ds n (entries_from ds n budget first)))
+      (λ r z. stalled_from r z ds n budget [] first) a signals cards budget
+  sums-start s = record { m = first; b = state; counted = counts-at-start; ends = refl; unwritten = refl }
+
+-- an invariant of the loop after the signals and the budget have been taken from the controls
+taken : (Q : List Signal → List (List ℕ) → ℕ → Type 0) (x : PendingEvents) (xs ys : List Signal) (cards : List (List ℕ)) (left budget : ℕ)
+    → x ≡ record { signals = xs; cards = cards } → xs ≡ ys → left ≡ budget → Q ys cards budget → Q x.signals x.cards left
+taken Q x xs ys cards left budget came is same h =
+    subst (λ (y : PendingEvents). Q y.signals y.cards left) (sym came) (subst (λ zs. Q zs cards left) (sym is) (subst (λ k. Q ys cards k) (sym same) h))
+
 pub run-taken : (s t : OutputState) (all : List (List ℕ)) (ds : List ℕ) (n : ℕ) (total : Stage → ℕ) (waited : Stage → Stall → ℕ) (a : Account) (x : PendingEvents)
     (xs ys : List Signal) (cards : List (List ℕ)) (left budget : ℕ) → x ≡ record { signals = xs; cards = cards } → xs ≡ ys → left ≡ budget
     → IsRunning s t all ds n total waited a ys cards budget → IsRunning s t all ds n total waited a x.signals x.cards left
-run-taken s t all ds n total waited a x xs ys cards left budget came is same h =
-    subst (λ (y : PendingEvents). IsRunning s t all ds n total waited a y.signals y.cards left) (sym came)
-    (subst (λ zs. IsRunning s t all ds n total waited a zs cards left) (sym is) (subst (λ k. IsRunning s t all ds n total waited a ys cards k) (sym same) h))
+run-taken s t all ds n total waited a x xs ys cards left budget =
+    taken (λ zs cs k. IsRunning s t all ds n total waited a zs cs k) x xs ys cards left budget
+
+pub sums-taken : (s t : OutputState) (all : List (List ℕ)) (ds : List ℕ) (n : ℕ) (total : Stage → ℕ) (waited : Stage → Stall → ℕ) (a : Account) (x : PendingEvents)
+    (xs ys : List Signal) (cards : List (List ℕ)) (left budget : ℕ) → x ≡ record { signals = xs; cards = cards } → xs ≡ ys → left ≡ budget
+    → IsSumming s t all ds n total waited a ys cards budget → IsSumming s t all ds n total waited a x.signals x.cards left
+sums-taken s t all ds n total waited a x xs ys cards left budget =
+    taken (λ zs cs k. IsSumming s t all ds n total waited a zs cs k) x xs ys cards left budget
 
 -- ---- the state at the head of the loop
 
-module _ (s t : OutputState) (all : List (List ℕ)) (ds : List ℕ) (n : ℕ) (total : Stage → ℕ) (waited : Stage → Stall → ℕ) (a : Account) (xs : List Signal)
-    (cards : List (List ℕ)) (left : ℕ) (h : IsRunning s t all ds n total waited a xs cards left) where
-  done : h.m.scene.machine.done ≡ a.state.done
+module _ (ds : List ℕ) (n : ℕ) (total : Stage → ℕ) (waited : Stage → Stall → ℕ) (a : Account) (xs : List Signal)
+    (cards : List (List ℕ)) (left : ℕ) (m : Moment) (b : Machine) (h : IsCounting ds n total waited a xs cards left m b) where
+  done : m.scene.machine.done ≡ a.state.done
   done = ap (λ (c : Scene). c.machine.done) h.at.scene
 
   -- ---- the events have been applied
 
   module _ (a' : Account) (ys : List Signal) (cards' : List (List ℕ)) (same : a' ≡ record a { state = a'.state; log = a'.log; behind = a'.behind })
-      (behind : IsBehindMoment ds n left h.b h.m a' ys cards') where
+      (behind : IsBehindMoment ds n left b m a' ys cards') where
     last : a'.last ≡ a.last
     last = ap (λ (x : Account). x.last) same
 
     segment : a'.k ≡ a.k
     segment = ap (λ (x : Account). x.k) same
 
-    next : next_state h.m ≡ a'.state
+    next : next_state m ≡ a'.state
     next = ap (λ (c : Scene). c.machine) behind.scene
 
     pub few-then : a'.state.done + left ≤ MOST_INSTRUCTIONS
-    few-then = omega (arith, h.few, ap (λ (u : Machine). u.done) (sym next) ∙ settled-done h.m.scene)
+    few-then = omega (arith, h.few, ap (λ (u : Machine). u.done) (sym next) ∙ settled-done m.scene)
 
     pub soon-then : All (λ t. t ≤ a.last.tick + 255) a'.behind.banks.ticks → All (λ t. t ≤ a'.last.tick + 255) a'.behind.banks.ticks
     soon-then soon = subst (λ (l : Last). All (λ t. t ≤ l.tick + 255) a'.behind.banks.ticks) (sym last) soon
 
     -- whether the run ends
-    pub over-is : (over : Bool) → over ≡ (nat_eq left 0 || rests a'.state) → over ≡ run_ends left h.m
+    pub over-is : (over : Bool) → over ≡ (nat_eq left 0 || rests a'.state) → over ≡ run_ends left m
     over-is over is = is ∙ ap (λ u. nat_eq left 0 || rests u) (sym next)
 
     kept : (end : Option ℕ) → kept_lines a'.k a'.last end ≡ kept_lines a.k a.last end
     kept end = ap (λ (x : Account). kept_lines x.k x.last end) same
 
-    pub finishes : (u : OutputState) (r : Result (Unit {0}) Failed) → run_ends left h.m ≡ true
-        → WritesLines t u (kept_lines a'.k a'.last (segment_end_at left h.m) ++ last_lines (origin_at a'.origins) ds n a'.k h.b h.m) r → WritesLines s u all r
-    finishes u r end writes =
-        run-ends (origin_at a.origins) ds n left a.k h.b a.last.uses.items h.m s t all (kept_lines a.k a.last (segment_end_at left h.m)) h.so_far u r (ends-one left (rests (next_state h.m)) end)
+    pub finishes : (s t : OutputState) (all : List (List ℕ)) → LinesSoFar s t all (kept_lines a.k a.last (segment_end_at left m) ++ lines_from (origin_at a.origins) ds n left a.k b a.last.uses.items m)
+        → (u : OutputState) (r : Result (Unit {0}) Failed) → run_ends left m ≡ true
+        → WritesLines t u (kept_lines a'.k a'.last (segment_end_at left m) ++ last_lines (origin_at a'.origins) ds n a'.k b m) r → WritesLines s u all r
+    finishes s t all so_far u r end writes =
+        run-ends (origin_at a.origins) ds n left a.k b a.last.uses.items m s t all (kept_lines a.k a.last (segment_end_at left m)) so_far u r (ends-one left (rests (next_state m)) end)
         (subst (λ ls. WritesLines t u ls r)
-        (ap (λ (x : Account). kept_lines x.k x.last (segment_end_at left h.m) ++ last_lines (origin_at x.origins) ds n x.k h.b h.m) same) writes)
+        (ap (λ (x : Account). kept_lines x.k x.last (segment_end_at left m) ++ last_lines (origin_at x.origins) ds n x.k b m) same) writes)
 
-    pub sums-are : (x : Stage) → run_ends left h.m ≡ true → sum_at x a'.sums ≡ total x
+    -- the lines of the end, of the state after the events
+    pub ends-with : (all : List (List ℕ)) → end_from ds n left m ≡ all → run_ends left m ≡ true
+        → all ≡ run_end_line (rests a'.state) ∷ done_line a'.state.done ∷ ticks_line a'.last.tick ∷ []
+    ends-with all ends end =
+        sym ends ∙ end-last ds n left m (ends-one left (rests (next_state m)) end)
+        ∙ ap (λ (u : Machine). run_end_line (rests u) ∷ done_line u.done ∷ ticks_line m.tick ∷ []) next
+        ∙ ap (λ t. run_end_line (rests a'.state) ∷ done_line a'.state.done ∷ ticks_line t ∷ []) behind.tick
+
+    pub sums-are : (x : Stage) → run_ends left m ≡ true → sum_at x a'.sums ≡ total x
     sums-are x end =
         ap (λ (y : Account). sum_at x y.sums) same
-        ∙ sums-end ds n left h.m x (sum_at x a.sums) (total x) (ends-one left (rests (next_state h.m)) end) (h.sum x)
+        ∙ sums-end ds n left m x (sum_at x a.sums) (total x) (ends-one left (rests (next_state m)) end) (h.sum x)
 
     pub waiting-then : IsWaiting a'.last a'.waiting.totals
     waiting-then = subst (λ (x : Account). IsWaiting x.last x.waiting.totals) (sym same) h.waiting
 
     waits-then : (r : Stage) (z : Stall) → is_parted r ≡ true
-        → waited_at r z a'.waiting.totals + (kept_stalled r z a'.k a'.last + stalled_from r z ds n left a.last.uses.items h.m) ≡ waited r z
+        → waited_at r z a'.waiting.totals + (kept_stalled r z a'.k a'.last + stalled_from r z ds n left a.last.uses.items m) ≡ waited r z
     waits-then r z parted =
-        subst (λ (x : Account). waited_at r z x.waiting.totals + (kept_stalled r z x.k x.last + stalled_from r z ds n left a.last.uses.items h.m) ≡ waited r z)
+        subst (λ (x : Account). waited_at r z x.waiting.totals + (kept_stalled r z x.k x.last + stalled_from r z ds n left a.last.uses.items m) ≡ waited r z)
         (sym same) (h.waits r z parted)
 
-    pub waits-are : (r : Stage) (z : Stall) (new : WaitTotals) → is_parted r ≡ true → run_ends left h.m ≡ true
+    pub waits-are : (r : Stage) (z : Stall) (new : WaitTotals) → is_parted r ≡ true → run_ends left m ≡ true
         → waited_at r z new ≡ waited_at r z a'.waiting.totals + kept_stalled r z a'.k a'.last → waited_at r z new ≡ waited r z
     waits-are r z new parted end told =
-        waits-last ds n left a.last.uses.items h.m r z _ _ _ (waited r z) (ends-one left (rests (next_state h.m)) end) (waits-then r z parted) told
+        waits-last ds n left a.last.uses.items m r z _ _ _ (waited r z) (ends-one left (rests (next_state m)) end) (waits-then r z parted) told
 
     -- the run continues
-    module _ (going : run_ends left h.m ≡ false) where
+    module _ (going : run_ends left m ≡ false) where
       pub some : left ≢ 0
-      some = left-some left (rests (next_state h.m)) going
+      some = left-some left (rests (next_state m)) going
 
-      on : rests (next_state h.m) ≡ false
-      on = rests-not (nat_eq left 0) (rests (next_state h.m)) going
+      on : rests (next_state m) ≡ false
+      on = rests-not (nat_eq left 0) (rests (next_state m)) going
 
       abbrev row : List (List ℕ)
-      row = kept_lines a.k a.last (segment_end_at left h.m)
+      row = kept_lines a.k a.last (segment_end_at left m)
 
-      crossed : (u : OutputState) (r : Result (Unit {0}) Failed) → WritesLines t u (kept_lines a'.k a'.last (segment_end_at left h.m) ++ segment_lines (origin_at a'.origins) ds n a'.k h.b h.m) r
-          → WritesLines t u (row ++ segment_lines (origin_at a.origins) ds n a.k h.b h.m) r
-      crossed u r writes = subst (λ ls. WritesLines t u ls r)
-          (ap (λ (x : Account). kept_lines x.k x.last (segment_end_at left h.m) ++ segment_lines (origin_at x.origins) ds n x.k h.b h.m) same) writes
+      crossed : (t u : OutputState) (r : Result (Unit {0}) Failed) → WritesLines t u (kept_lines a'.k a'.last (segment_end_at left m) ++ segment_lines (origin_at a'.origins) ds n a'.k b m) r
+          → WritesLines t u (row ++ segment_lines (origin_at a.origins) ds n a.k b m) r
+      crossed t u r writes = subst (λ ls. WritesLines t u ls r)
+          (ap (λ (x : Account). kept_lines x.k x.last (segment_end_at left m) ++ segment_lines (origin_at x.origins) ds n x.k b m) same) writes
 
-      pub crossing-fails : (u : OutputState) (e : Failed) (r : Result (Unit {0}) Failed) → IsErr r
-          → WritesLines t u (kept_lines a'.k a'.last (segment_end_at left h.m) ++ segment_lines (origin_at a'.origins) ds n a'.k h.b h.m) (Err e) → WritesLines s u all r
-      crossing-fails u e r f w =
-          border-fails (origin_at a.origins) ds n left a.k h.b a.last.uses.items h.m s t all (kept_lines a.k a.last (segment_end_at left h.m)) h.so_far some on u e r f (crossed u (Err e) w)
+      pub crossing-fails : (s t : OutputState) (all : List (List ℕ)) → LinesSoFar s t all (kept_lines a.k a.last (segment_end_at left m) ++ lines_from (origin_at a.origins) ds n left a.k b a.last.uses.items m)
+          → (u : OutputState) (e : Failed) (r : Result (Unit {0}) Failed) → IsErr r
+          → WritesLines t u (kept_lines a'.k a'.last (segment_end_at left m) ++ segment_lines (origin_at a'.origins) ds n a'.k b m) (Err e) → WritesLines s u all r
+      crossing-fails s t all so_far u e r f w =
+          border-fails (origin_at a.origins) ds n left a.k b a.last.uses.items m s t all (kept_lines a.k a.last (segment_end_at left m)) so_far some on u e r f (crossed t u (Err e) w)
 
-      module _ (c : Account) (number : c.k ≡ segment_after a'.k h.m) (issue : c.last.issue ≡ next_issue h.m) (tick : c.last.tick ≡ a'.last.tick)
+      module _ (c : Account) (number : c.k ≡ segment_after a'.k m) (issue : c.last.issue ≡ next_issue m) (tick : c.last.tick ≡ a'.last.tick)
           (state : c.state ≡ a'.state) (table : c.origins ≡ a'.origins) where
-        pub stands : IsStanding (standing_at h.m) c.state c.last
+        pub stands : IsStanding (standing_at m) c.state c.last
         stands = record { machine = next ∙ sym state; tick = behind.tick ∙ sym tick; issue = sym issue }
 
-        after : c.k ≡ segment_after a.k h.m
-        after = number ∙ ap (λ k. segment_after k h.m) segment
+        after : c.k ≡ segment_after a.k m
+        after = number ∙ ap (λ k. segment_after k m) segment
 
-        pub goes : (u : OutputState) (x : Unit {0}) (d : Account)
-            → WritesLines t u (kept_lines a'.k a'.last (segment_end_at left h.m) ++ segment_lines (origin_at a'.origins) ds n a'.k h.b h.m) (Ok x)
+        old-words : c.last.uses.items ≡ words_before m a'.last.uses.items → c.last.uses.items ≡ words_before m a.last.uses.items
+        old-words earlier = earlier ∙ ap (λ (l : Last). words_before m l.uses.items) last
+
+        -- the next entry is completed, and its lines are still to be written
+        pub counts : (d : Account)
             → c.words.items ≡ a'.state.words → c.sums ≡ a'.sums → length c.words.items ≡ words_of_storage → AreDelaysUpTo 255 ds → n ≤ 8
-            → ((p : Standing) (end : Option ℕ) → c.k ≢ 0 → IsStanding p c.state c.last → kept_lines d.k d.last end ≡ lines_of_entry (origin_at c.origins) ds n end c.last.uses.items p)
             → d.state ≡ step c.state → ((p : Standing) → IsStanding p c.state c.last → IsLast ds n (next_moment ds n p) d.last d.log)
             → ((p : Standing) (x : Stage) → IsStanding p c.state c.last → sum_at x d.sums ≡ sum_at x c.sums + ticks_for x (charges_at ds n p))
             → AreWithin d.last.tick d.sums → d.last.enabled ≡ c.state.enabled → predicting d.last.ic d.state ≡ prediction (interrupt c.state) c.state
-            → ((w : ℕ) → 32 ≤ w → IsNotAmong w d.last.plan.writes → word d.state w ≡ word c.state w) → d.words.items ≡ c.words.items → d.origins ≡ c.origins → d.k ≡ c.k
-            → c.last.uses.items ≡ words_before h.m a'.last.uses.items → ((p : Standing) → IsStanding p c.state c.last → d.last.uses.items ≡ uses_at ds n p)
+            → ((w : ℕ) → 32 ≤ w → IsNotAmong w d.last.plan.writes → word d.state w ≡ word c.state w) → d.words.items ≡ c.words.items → d.k ≡ c.k
+            → c.last.uses.items ≡ words_before m a'.last.uses.items → ((p : Standing) → IsStanding p c.state c.last → d.last.uses.items ≡ uses_at ds n p)
             → IsWaiting d.last d.waiting.totals
             → ((r : Stage) (z : Stall) → is_parted r ≡ true → waited_at r z c.waiting.totals ≡ waited_at r z a'.waiting.totals + kept_stalled r z a'.k a'.last)
             → ((p : Standing) (r : Stage) (z : Stall) → c.k ≢ 0 → IsStanding p c.state c.last
             → kept_stalled r z d.k d.last ≡ row_stalled r z (uses_at ds n p) c.last.uses.items (charges_at ds n p))
             → d.waiting.totals ≡ c.waiting.totals
-            → IsRunning s u all ds n total waited d ys cards' (left - 1)
-        goes u x d writes words sums size are few entry made hand added within enabled predicted unwritten kept_words kept_table segment' earlier used waits_new told kept totals =
-            let m' = next_moment ds n (standing_at h.m) in
-            let bounds = next-is 255 n ds are few h.m h.bounds in
-            let more = next-done ds n h.m in
-            let scene = next-stepped ds n h.m a'.state d.state ys cards' behind.scene (made ∙ ap step state) in
-            let here : next_state h.m ≡ c.state = next ∙ sym state in
-            let p = standing_at h.m in
-            let end = segment_end_at (left - 1) m' in
-            let old : c.last.uses.items ≡ words_before h.m a.last.uses.items = earlier ∙ ap (λ (l : Last). words_before h.m l.uses.items) last in
-            let later = number-some a.k c.k h.m after in
-            let same_table : c.origins ≡ a.origins = table ∙ ap (λ (x : Account). x.origins) same in
-            let stored : d.words.items ≡ (next_state h.m).words = kept_words ∙ words ∙ ap (λ (u : Machine). u.words) (sym next) in
+            → IsCounting ds n total waited d ys cards' (left - 1) (next_moment ds n (standing_at m)) (next_state m)
+        counts d words sums size are few made hand added within enabled predicted unwritten kept_words segment' earlier used waits_new told kept totals =
+            let bounds = next-is 255 n ds are few m h.bounds in
+            let more = next-done ds n m in
+            let scene = next-stepped ds n m a'.state d.state ys cards' behind.scene (made ∙ ap step state) in
+            let here : next_state m ≡ c.state = next ∙ sym state in
+            let old = old-words earlier in
+            let later = number-some a.k c.k m after in
+            let stored : d.words.items ≡ (next_state m).words = kept_words ∙ words ∙ ap (λ (u : Machine). u.words) (sym next) in
             record {
-              m = m';
-              b = next_state h.m;
               at = record {
                 scene = scene;
                 each = bounds.scene.cards;
-                hand = hand (standing_at h.m) stands;
+                hand = hand (standing_at m) stands;
                 was = ap (λ (u : Machine). u.enabled) here ∙ sym enabled;
                 predicted = λ later. ap (λ (c : Scene). predicting d.last.ic c.machine) scene ∙ predicted ∙ ap (λ u. prediction (interrupt u) u) (sym here);
                 words = λ later. stored;
                 unwritten = λ later w above among. unwritten w above among ∙ ap (λ (u : Machine). word u w) (sym here);
               };
               bounds = bounds;
-              meets = next-at ds n (standing_at h.m);
-              time = next-time 255 n ds are few h.m h.bounds h.time;
+              meets = next-at ds n (standing_at m);
+              time = next-time 255 n ds are few m h.bounds h.time;
+              number = number-next a.k d.k m m.scene.machine.done _ (segment' ∙ after) h.number more;
+              few = omega (arith, more, h.few, some);
+              within = within;
+              sum = λ z. sums-next ds n left m z (sum_at z a.sums) (sum_at z d.sums) (total z) some on (h.sum z)
+                  (added (standing_at m) z stands ∙ ap (λ t. sum_at z t + ticks_for z (charges_at ds n (standing_at m))) (sums ∙ ap (λ (x : Account). x.sums) same));
+              waiting = waits_new;
+              waits = λ r z parted.
+                  waits-next ds n left a.last.uses.items d.last.uses.items m r z _ _ _ _ (waited r z) some on (waits-then r z parted)
+                  (ap (waited_at r z) totals ∙ told r z parted)
+                  (kept (standing_at m) r z later stands ∙ ap (λ us. row_stalled r z (uses_at ds n (standing_at m)) us (charges_at ds n (standing_at m))) old) (used (standing_at m) stands);
+              size = ap length kept_words ∙ size;
+            }
+
+        -- and the lines of the entry before it are written
+        pub goes : (s t : OutputState) (all : List (List ℕ)) → LinesSoFar s t all (kept_lines a.k a.last (segment_end_at left m) ++ lines_from (origin_at a.origins) ds n left a.k b a.last.uses.items m)
+            → (u : OutputState) (x : Unit {0}) (d : Account)
+            → WritesLines t u (kept_lines a'.k a'.last (segment_end_at left m) ++ segment_lines (origin_at a'.origins) ds n a'.k b m) (Ok x)
+            → ((p : Standing) (end : Option ℕ) → c.k ≢ 0 → IsStanding p c.state c.last → kept_lines d.k d.last end ≡ lines_of_entry (origin_at c.origins) ds n end c.last.uses.items p)
+            → d.origins ≡ c.origins → d.k ≡ c.k → c.last.uses.items ≡ words_before m a'.last.uses.items
+            → ((p : Standing) → IsStanding p c.state c.last → d.last.uses.items ≡ uses_at ds n p)
+            → IsCounting ds n total waited d ys cards' (left - 1) (next_moment ds n (standing_at m)) (next_state m)
+            → IsRunning s u all ds n total waited d ys cards' (left - 1)
+        goes s t all so_far u x d writes entry kept_table segment' earlier used counted =
+            let m' = next_moment ds n (standing_at m) in
+            let p = standing_at m in
+            let end = segment_end_at (left - 1) m' in
+            let old = old-words earlier in
+            let later = number-some a.k c.k m after in
+            let same_table : c.origins ≡ a.origins = table ∙ ap (λ (x : Account). x.origins) same in
+            record {
+              m = m';
+              b = next_state m;
+              counted = counted;
               so_far = subst (LinesSoFar s u all)
-                  (ap (λ ls. ls ++ lines_from (origin_at a.origins) ds n (left - 1) (segment_after a.k h.m) (next_state h.m) (uses_at ds n p) m')
+                  (ap (λ ls. ls ++ lines_from (origin_at a.origins) ds n (left - 1) (segment_after a.k m) (next_state m) (uses_at ds n p) m')
                   (ap (λ us. lines_of_entry (origin_at a.origins) ds n end us p) (sym old)
                   ∙ ap (λ y. lines_of_entry (origin_at y) ds n end c.last.uses.items p) (sym same_table)
                   ∙ sym (entry p end later stands))
-                  ∙ ap (λ us. kept_lines d.k d.last end ++ lines_from (origin_at a.origins) ds n (left - 1) (segment_after a.k h.m) (next_state h.m) us m') (sym (used p stands))
-                  ∙ ap (λ k. kept_lines d.k d.last end ++ lines_from (origin_at a.origins) ds n (left - 1) k (next_state h.m) d.last.uses.items m') (sym (segment' ∙ after))
-                  ∙ ap (λ y. kept_lines d.k d.last end ++ lines_from (origin_at y) ds n (left - 1) d.k (next_state h.m) d.last.uses.items m') (sym (kept_table ∙ same_table)))
-                  (turn-made (origin_at a.origins) ds n left a.k h.b a.last.uses.items h.m s t all (kept_lines a.k a.last (segment_end_at left h.m)) h.so_far some on u x (crossed u (Ok x) writes));
-              number = number-next a.k d.k h.m h.m.scene.machine.done _ (segment' ∙ after) h.number more;
-              few = omega (arith, more, h.few, some);
-              within = within;
-              sum = λ z. sums-next ds n left h.m z (sum_at z a.sums) (sum_at z d.sums) (total z) some on (h.sum z)
-                  (added (standing_at h.m) z stands ∙ ap (λ t. sum_at z t + ticks_for z (charges_at ds n (standing_at h.m))) (sums ∙ ap (λ (x : Account). x.sums) same));
-              waiting = waits_new;
-              waits = λ r z parted.
-                  waits-next ds n left a.last.uses.items d.last.uses.items h.m r z _ _ _ _ (waited r z) some on (waits-then r z parted)
-                  (ap (waited_at r z) totals ∙ told r z parted)
-                  (kept p r z later stands ∙ ap (λ us. row_stalled r z (uses_at ds n p) us (charges_at ds n p)) old) (used p stands);
-              size = ap length kept_words ∙ size;
+                  ∙ ap (λ us. kept_lines d.k d.last end ++ lines_from (origin_at a.origins) ds n (left - 1) (segment_after a.k m) (next_state m) us m') (sym (used p stands))
+                  ∙ ap (λ k. kept_lines d.k d.last end ++ lines_from (origin_at a.origins) ds n (left - 1) k (next_state m) d.last.uses.items m') (sym (segment' ∙ after))
+                  ∙ ap (λ y. kept_lines d.k d.last end ++ lines_from (origin_at y) ds n (left - 1) d.k (next_state m) d.last.uses.items m') (sym (kept_table ∙ same_table)))
+                  (turn-made (origin_at a.origins) ds n left a.k b a.last.uses.items m s t all (kept_lines a.k a.last (segment_end_at left m)) so_far some on u x (crossed t u (Ok x) writes));
             }
+
+        -- the totals alone
+        pub sums-on : (s t : OutputState) (all : List (List ℕ)) → end_from ds n left m ≡ all → t ≡ s → (d : Account)
+            → IsCounting ds n total waited d ys cards' (left - 1) (next_moment ds n (standing_at m)) (next_state m)
+            → IsSumming s t all ds n total waited d ys cards' (left - 1)
+        sums-on s t all ends still d counted = record {
+          m = next_moment ds n (standing_at m);
+          b = next_state m;
+          counted = counted;
+          ends = sym (end-on ds n left m some on) ∙ ends;
+          unwritten = still;
+        }

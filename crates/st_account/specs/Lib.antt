@@ -1,4 +1,5 @@
 pub mod Text
+pub mod LedgerSums
 pub mod FirstCards
 pub mod Answers
 pub mod Standing

@@ -189,9 +189,14 @@ lines_from o ds n (suc left) k b us m =
     ++ lines_of_entry o ds n (segment_end_at left behind) (words_before m us) p)
     ++ lines_from o ds n left (segment_after k m) (next_state m) (uses_at ds n p) behind
 
+-- the lines of the machine before some lines of the run of a scene, and its totals after them
+abbrev pub with_totals : List ℕ → ℕ → ℕ → Scene → List (List ℕ) → List (List ℕ)
+with_totals ds n left c lines =
+    machine_lines ds n ++ lines
+    ++ totals_lines (all_charges ds n (entries_of ds n left c))
+    ++ wait_totals_lines (λ r s. stalled_from r s ds n left [] (moment_at_start c))
+
 -- the ledger of the run of a scene
 unfoldable pub ledger : (Machine → ℕ → Option Origin) → List ℕ → ℕ → ℕ → Scene → List (List ℕ)
 ledger o ds n left c =
-    machine_lines ds n ++ lines_from o ds n left 0 c.machine [] (moment_at_start c)
-    ++ totals_lines (all_charges ds n (entries_of ds n left c))
-    ++ wait_totals_lines (λ r s. stalled_from r s ds n left [] (moment_at_start c))
+    with_totals ds n left c (lines_from o ds n left 0 c.machine [] (moment_at_start c))

@@ -19,6 +19,7 @@ ghost use Rattle.st_plain.specs.Looking.{seen_ahead, first_late};
 ghost use Rattle.st_reasons.specs.Sums.{AreWaitsWithin, row_stalled};
 ghost use Rattle.st_reasons.specs.Words.{IsReadInTime};
 ghost use Rattle.st_reasons.specs.declared.waits.Stall.{Stall};
+ghost use Rattle.st_report.specs.Line.{end_line as run_end_line, done_line, ticks_line};
 ghost use Rattle.st_rows.specs.Asked.{made_before};
 ghost use Rattle.st_rows.specs.BusTimes.{Read};
 ghost use Rattle.st_rows.specs.Ranges.{IsTight};
@@ -40,10 +41,10 @@ use crate::stepping::{
 use st_banks::LastAnswers;
 use st_exec::{interrupt, is_at_rest, next_address};
 use st_io::{Failed, Sink};
-use st_ledger::{RowLine, Totals};
+use st_ledger::{RowLine, Totals, parts};
 use st_lines::{
-    Between, Border, Dropped, EntryDone, EntryRecord, FactLine, Origins, RowTelling, either,
-    write_border, write_done, write_end, write_marks, write_totals,
+    Between, Border, Dropped, EntryDone, EntryRecord, FactLine, Origins, RowTelling, add_waits,
+    copy_changed, either, write_border, write_done, write_end, write_marks, write_totals,
 };
 use st_reasons::{WaitTotals, Waits};
 use st_rows::{Log, Timing};
@@ -111,6 +112,24 @@ fn write_row<K: Sink>(
         before: last.before.as_slice(),
     };
     write_done(out, &entry, waiting)
+}
+
+// Adds the waits of the last entry to the totals. Before the first entry there are none.
+fn add_row(last: &Last, k: u32, waiting: &mut RowTelling)
+    requires { IsWaiting last.now waiting.old.totals }
+    ensures { AddsKeptWaits k last.now waiting.old.totals waiting.new.totals }
+{
+    if k == 0 {
+        return;
+    }
+    let done = &last.done;
+    add_waits(
+        done.before,
+        &parts(done.start, &done.row.ticks),
+        last.uses.as_slice(),
+        last.before.as_slice(),
+        waiting,
+    );
 }
 
 impl Account {
@@ -383,6 +402,75 @@ impl Account {
             may: &self.behind.may,
         };
         write_border(out, &border, &between, &mut self.words, &self.state)
+    }
+
+    /// Passes from the last entry to the next one as `write_to_next` does, and writes nothing.
+    pub fn skip_to_next(&mut self)
+        requires number { self.old.k ≤ MOST_INSTRUCTIONS }
+        requires early { self.old.last.tick ≤ 2 ^ 62 }
+        requires dropped { length self.old.behind.ahead.found.items ≤ 8 }
+        requires soon { All (λ t. t ≤ self.old.last.tick + MOST_DELAY) self.old.behind.banks.ticks }
+        requires past { self.old.last.past ≡ self.old.last.issue.past }
+        requires tight { IsTight MOST_DELAY self.old.last.issue }
+        requires done { self.old.last.issue.c ≡ self.old.last.tick }
+        requires size { length self.old.words.items ≡ words_of_storage }
+        requires left { IsCopyBehind self.old.k self.old.behind.may self.old.words.items
+            self.old.state }
+        requires waiting { IsWaiting self.old.last self.old.waiting.totals }
+
+        ensures number { (ds : List ℕ) (n left : ℕ) (b : Machine) (m : Moment)
+            (xs : List SignalOf) (cards : List (List ℕ)) →
+            IsBehindMoment ds n left b m self.old xs cards →
+            self.new.k ≡ segment_after self.old.k m }
+        ensures issue { (ds : List ℕ) (n left : ℕ) (b : Machine) (m : Moment)
+            (xs : List SignalOf) (cards : List (List ℕ)) →
+            IsBehindMoment ds n left b m self.old xs cards → run_ends left m ≡ false →
+            self.new.last.issue ≡ next_issue m }
+        ensures past { self.new.last.past ≡ self.new.last.issue.past }
+        ensures tick { self.new.last.tick ≡ self.old.last.tick }
+        ensures tight { IsTight MOST_DELAY self.new.last.issue }
+        ensures order { self.new.last.tick ≤ self.new.last.issue.c }
+        ensures bound { self.new.last.issue.c ≤ self.new.last.tick + 9 }
+        ensures words { self.new.words.items ≡ self.old.state.words }
+        ensures size { length self.new.words.items ≡ words_of_storage }
+        ensures state { self.new.state ≡ self.old.state }
+        ensures origins { self.new.origins ≡ self.old.origins }
+        ensures sums { self.new.sums ≡ self.old.sums }
+        ensures earlier { (ds : List ℕ) (n left : ℕ) (b : Machine) (m : Moment)
+            (xs : List SignalOf) (cards : List (List ℕ)) →
+            IsBehindMoment ds n left b m self.old xs cards →
+            self.new.last.uses.items ≡ words_before m self.old.last.uses.items }
+        ensures read { All IsReadInTime self.new.last.uses.items }
+        ensures waits { AddsKeptWaits self.old.k self.old.last self.old.waiting.totals
+            self.new.waiting.totals }
+    {
+        let k = self.k;
+        let border = self.enter_next();
+        add_row(&self.last, k, &mut self.waiting);
+        clear_if(border.ends, &mut self.last.uses);
+        self.state.shape();
+        copy_changed(k, &self.behind.may, &mut self.words, &self.state);
+    }
+
+    /// Adds the waits of the last entry, and writes the lines of the end of the run, without those
+    /// of the last entry and of the events after it.
+    pub fn finish_sums<K: Sink>(&mut self, out: &mut K) -> Result<(), Failed>
+        requires waiting { IsWaiting self.old.last self.old.waiting.totals }
+
+        ensures lines { WritesLines (K.output out.old) (K.output out.new)
+            (run_end_line (rests self.old.state) ∷ done_line self.old.state.done
+            ∷ ticks_line self.old.last.tick ∷ []) result }
+        ensures sums { self.new.sums ≡ self.old.sums }
+        ensures waits { AddsKeptWaits self.old.k self.old.last self.old.waiting.totals
+            self.new.waiting.totals }
+    {
+        add_row(&self.last, self.k, &mut self.waiting);
+        write_totals(
+            out,
+            is_at_rest(&self.state),
+            done_in(&self.state),
+            self.last.tick,
+        )
     }
 
     /// Writes the lines of the last entry, of the events after it, and of the end of the run.

@@ -14,5 +14,5 @@ mod status;
 mod stepping;
 
 pub use program::ledger;
-pub use running::{Ready, write_ledger};
+pub use running::{Ready, write_ledger, write_ledger_sums};
 pub use status::Status;

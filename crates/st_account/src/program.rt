@@ -1,6 +1,9 @@
 //! The program: it reads a job and writes its ledger.
-ghost use Rattle.std.specs.Prelude.{◌≡◌, ◌↔◌, ◌≤◌, ◌<◌, ◌^◌, ◌∷◌, [], IfOk, IfSome, None, Ok, All, map, length};
+ghost use Rattle.std.specs.Prelude.{◌≡◌, ◌↔◌, ◌≤◌, ◌<◌, ◌^◌, ◌∷◌, [], IfOk, IfSome, None, Ok, All, map, length, option_map, if◌then◌else◌};
+ghost use Rattle.std.specs.List.{AllPass};
 ghost use Rattle.std.specs.String.{string_bytes};
+ghost use Rattle.st_bits.specs.declared.limits.TheConstants.{MOST_INSTRUCTIONS};
+ghost use Rattle.st_card.specs.Limits.{is_signal};
 ghost use Rattle.st_bits.specs.Storage.{words_of_storage};
 ghost use Rattle.st_asm.specs.Assembly.{assembly_parts};
 ghost use Rattle.st_asm.specs.Sound.{IsAssemblySound};
@@ -13,11 +16,14 @@ ghost use Rattle.st_report.specs.Line.{fault_line};
 ghost use Rattle.st_run.specs.Reached.{IsCard};
 ghost use Rattle.st_state.specs.Machine.{opening_state};
 ghost use Rattle.st_account.specs.FirstCards.{origin_of};
-ghost use Rattle.st_account.specs.Answers.{levels_by, levels_asked, lines_by, ledger_lines_of, status_of, Writes, Did, IsAnswer};
+ghost use Rattle.st_account.specs.Answers.{levels_by, levels_of_word as levels_of, is_sums as is_sums_of, asked_of as asked_with, asked_by, lines_by, ledger_lines_of, status_of, Writes, Did, IsAnswer};
+ghost use Rattle.st_account.specs.Settling.{at_hand};
+ghost use Rattle.st_account.specs.LedgerSums.{ledger_sums};
+ghost use Rattle.st_account.specs.Text.{ledger as ledger_of};
 
 use crate::job::Job;
 use crate::origins::first_cards;
-use crate::running::{Ready, write_ledger};
+use crate::running::{Ready, write_ledger, write_ledger_sums};
 use crate::status::Status;
 use st_asm::{AsmError, Assembled, assemble_cards};
 use st_bits::NoMemory;
@@ -45,17 +51,67 @@ fn levels_by(c: u8) -> Option<u8>
     }
 }
 
-// The number of levels that the words of the command line request; `None` if they are invalid.
-fn read_words(words: &[String]) -> Option<u8>
-    ensures value { result ≡ levels_asked (map string_bytes words.now) }
+/// What the words of the command line request.
+#[derive(Clone, Copy, Debug, PartialEq, Eq)]
+pub(crate) struct Asked {
+    /// The number of levels of the machine, 1 to 8.
+    pub levels: u8,
+    /// Whether the totals are written alone.
+    pub sums: bool,
+}
+
+// Whether a word is `sums`.
+fn is_sums(word: &[u8]) -> bool
+    ensures { result ≡ is_sums_of word.now }
+{
+    let sums: &[u8] = b"sums";
+    word == sums
+}
+
+// The number of levels that a word requests; `None` if it requests none.
+fn levels_of_word(word: &[u8]) -> Option<u8>
+    ensures value { result ≡ levels_of word.now }
     ensures range { IfSome result (λ n. (1 ≤ n) × (n ≤ 8)) }
 {
+    match word {
+        [c] => levels_by(*c),
+        _ => None,
+    }
+}
+
+// The ledger on a machine with so many levels, or the totals alone.
+fn asked_of(sums: bool, levels: Option<u8>) -> Option<Asked>
+    requires range { IfSome levels (λ n. (1 ≤ n) × (n ≤ 8)) }
+    ensures value { result ≡ option_map (asked_with sums) levels }
+    ensures range { IfSome result (λ a. (1 ≤ a.levels) × (a.levels ≤ 8)) }
+{
+    match levels {
+        Some(levels) => Some(Asked { levels, sums }),
+        None => None,
+    }
+}
+
+// What the words of the command line request; `None` if they are invalid.
+fn read_words(words: &[String]) -> Option<Asked>
+    ensures value { result ≡ asked_by (map string_bytes words.now) }
+    ensures range { IfSome result (λ a. (1 ≤ a.levels) × (a.levels ≤ 8)) }
+{
     match words {
-        [] => Some(LEVELS),
-        [word] => match word.as_bytes() {
-            [c] => levels_by(*c),
-            _ => None,
-        },
+        [] => asked_of(false, Some(LEVELS)),
+        [word] => {
+            if is_sums(word.as_bytes()) {
+                asked_of(true, Some(LEVELS))
+            } else {
+                asked_of(false, levels_of_word(word.as_bytes()))
+            }
+        }
+        [first, second] => {
+            if is_sums(second.as_bytes()) {
+                asked_of(true, levels_of_word(first.as_bytes()))
+            } else {
+                None
+            }
+        }
         _ => None,
     }
 }
@@ -135,34 +191,62 @@ fn prepare(
     Ok((ready, controls))
 }
 
-// Writes the ledger of an assembled job, or returns why it does not.
+// Writes the ledger of a run that is ready, or the totals alone.
+fn write_asked<K: Sink>(
+    out: &mut K,
+    sums: bool,
+    ready: Ready,
+    controls: &Controls,
+) -> Result<(), Failed>
+    requires fresh { ready.state.done ≡ 0 }
+    requires cards { All IsCard ready.cards }
+    requires levels { (1 ≤ ready.levels) × (ready.levels ≤ 8) }
+    requires delays { ready.delays.list ≡ controls.now.delays }
+    requires signals { AllPass is_signal controls.now.signals }
+    requires limit { controls.now.budget ≤ MOST_INSTRUCTIONS }
+    requires size { length ready.words.items ≡ words_of_storage }
+
+    ensures { let c = at_hand ready.state controls.now.signals ready.cards in
+        WritesLines (K.output out.old) (K.output out.new)
+        (if sums then ledger_sums ready.delays.list ready.levels controls.now.budget c
+        else ledger_of (origin_at ready.origins) ready.delays.list ready.levels
+        controls.now.budget c) result }
+{
+    if sums {
+        write_ledger_sums(out, ready, controls)
+    } else {
+        write_ledger(out, ready, controls)
+    }
+}
+
+// Writes what is requested of the run of an assembled job, or returns why it does not.
 fn run_program<K: Sink>(
     alloc: Global,
-    n: u8,
+    asked: Asked,
     job: &Job<'_>,
     program: Assembled,
     out: &mut K,
 ) -> Status
-    requires levels { (1 ≤ n) × (n ≤ 8) }
+    requires levels { (1 ≤ asked.levels) × (asked.levels ≤ 8) }
     requires sound { IsAssemblySound (length (cards_of job.now.text.now)) (assembly_parts program) }
     ensures { Writes result (K.output out.old) (K.output out.new)
-        (lines_by n job.now.text.now (Ok (assembly_parts program))) Status.Done }
+        (lines_by asked job.now.text.now (Ok (assembly_parts program))) Status.Done }
 {
-    let Ok((ready, controls)) = prepare(alloc, n, job, program) else {
+    let Ok((ready, controls)) = prepare(alloc, asked.levels, job, program) else {
         return Status::NoMemory;
     };
-    match write_ledger(out, ready, &controls) {
+    match write_asked(out, asked.sums, ready, &controls) {
         Ok(()) => Status::Done,
         Err(_) => Status::WriteFault,
     }
 }
 
-// Writes the ledger of a job that has been read, or returns why it does not.
+// Writes what is requested of a job that has been read, or returns why it does not.
 #[tactic(auto, unfolding(crate::specs::Answers::ledger_lines_of, crate::specs::Answers::status_of))]
-fn run_job<K: Sink>(alloc: Global, n: u8, job: &[u8], out: &mut K) -> Status
-    requires levels { (1 ≤ n) × (n ≤ 8) }
+fn run_job<K: Sink>(alloc: Global, asked: Asked, job: &[u8], out: &mut K) -> Status
+    requires levels { (1 ≤ asked.levels) × (asked.levels ≤ 8) }
     requires short { length job.now < 2 ^ 32 }
-    ensures { Writes result (K.output out.old) (K.output out.new) (ledger_lines_of n job.now)
+    ensures { Writes result (K.output out.old) (K.output out.new) (ledger_lines_of asked job.now)
         (status_of job.now) }
 {
     let Ok(cards) = split(alloc, job) else {
@@ -173,20 +257,25 @@ fn run_job<K: Sink>(alloc: Global, n: u8, job: &[u8], out: &mut K) -> Status
         cards: cards.as_slice(),
     };
     match assemble_cards(alloc, job.text, job.cards) {
-        Ok(program) => run_program(alloc, n, &job, program, out),
+        Ok(program) => run_program(alloc, asked, &job, program, out),
         Err(AsmError::Refused { card, fault }) => refuse(out, card, fault),
         Err(AsmError::NoMemory) => Status::NoMemory,
     }
 }
 
-// Reads a job and writes its ledger, or returns why it does not.
-fn run_levels<S: Source, K: Sink>(alloc: Global, n: u8, job: &mut S, out: &mut K) -> Status
-    requires levels { (1 ≤ n) × (n ≤ 8) }
-    ensures { Did n result
+// Reads a job and writes what is requested of it, or returns why it does not.
+fn run_asked<S: Source, K: Sink>(
+    alloc: Global,
+    asked: Asked,
+    job: &mut S,
+    out: &mut K,
+) -> Status
+    requires levels { (1 ≤ asked.levels) × (asked.levels ≤ 8) }
+    ensures { Did asked result
         (S.input job.old) (S.input job.new) (K.output out.old) (K.output out.new) }
 {
     match read_all(alloc, job, LONGEST_JOB) {
-        Ok(text) => run_job(alloc, n, text.as_slice(), out),
+        Ok(text) => run_job(alloc, asked, text.as_slice(), out),
         Err(ReadError::TooLong) => Status::JobTooLong,
         Err(ReadError::Failed) => Status::ReadFault,
         Err(ReadError::NoMemory) => Status::NoMemory,
@@ -194,8 +283,8 @@ fn run_levels<S: Source, K: Sink>(alloc: Global, n: u8, job: &mut S, out: &mut K
 }
 
 /// Writes the ledger of a job of at most 2,000,000 bytes. `words` are the words of the command line
-/// after the program's name: none, for a machine of 4 levels, or one digit from 1 to 8, the number
-/// of levels. Each line is written with a call of its own, and all memory is allocated before the
+/// after the program's name: the number of levels, one digit from 1 to 8, or 4 without it, and
+/// then, if only the totals are to be written, `sums`. Each line is written with a call of its own, and all memory is allocated before the
 /// first one. `docs/ledger.md` has the rules.
 pub fn ledger<S: Source, K: Sink>(
     alloc: Global,
@@ -205,14 +294,14 @@ pub fn ledger<S: Source, K: Sink>(
 ) -> Status
     // For each meaning of the words and each status: the bytes that were read, and exactly the
     // bytes that were written.
-    ensures answer { IsAnswer (levels_asked (map string_bytes words.now)) result
+    ensures answer { IsAnswer (asked_by (map string_bytes words.now)) result
         (S.input job.old) (S.input job.new) (K.output out.old) (K.output out.new) }
 
     // The status is that of a bad command line if and only if the words are invalid.
-    ensures usage { result ≡ Status.Usage ↔ levels_asked (map string_bytes words.now) ≡ None }
+    ensures usage { result ≡ Status.Usage ↔ asked_by (map string_bytes words.now) ≡ None }
 {
     match read_words(words) {
-        Some(n) => run_levels(alloc, n, job, out),
+        Some(asked) => run_asked(alloc, asked, job, out),
         None => Status::Usage,
     }
 }

@@ -18,19 +18,23 @@ use Rattle.st_reasons.specs.Waits.{charge_waits}
 use Rattle.st_reasons.specs.Words.{read_of}
 use Rattle.st_reasons.specs.declared.waits.Wait.{Wait}
 use Rattle.st_account.specs.Text.{formed_at, uses_at}
-use Rattle.st_causes.specs.Laws.{LedgersTellWhereTicksWent, OneEntryIsBegun, StageSumsAddUp, WaitSumsAddUp, UsesOfARunAreTrue, WaitsOfARunAreTrue, WaitsOfARunCoverTheirCharges, NamedReadsAreMade, ReasonsStandWhereTicksAreLost, ReasonsOfARunAreTrue}
+use Rattle.st_causes.specs.Laws.{LedgersTellWhereTicksWent, TotalsAreTheLedgerWithoutRows, OneEntryIsBegun, StageSumsAddUp, WaitSumsAddUp, UsesOfARunAreTrue, WaitsOfARunAreTrue, WaitsOfARunCoverTheirCharges, NamedReadsAreMade, ReasonsStandWhereTicksAreLost, ReasonsOfARunAreTrue}
 use Rattle.st_causes.specs.Runs.{ToldRow, because_at}
 use Rattle.st_causes.specs.Summed.{all_summed}
 use Rattle.st_causes.proofs.RunLemmas.{row-read, row-brought, row-written, row-true, row-covered, row-ended, row-reasoned, each-told, sums-from, at-start, entries-fit}
 use Rattle.st_causes.proofs.BankRuns.{opened-banked, each-banked}
 use Rattle.st_causes.proofs.BegunLemmas.{one-begun}
 use Rattle.st_causes.proofs.TextLemmas.{ledger-told}
+use Rattle.st_causes.proofs.SumsLemmas.{without-rows}
 use Rattle.st_causes.proofs.TickLemmas.{named-early, each-lost}
 
 -- ---- the text
 
 pub ledgers_tell_where_ticks_went : LedgersTellWhereTicksWent
 ledgers_tell_where_ticks_went o ds n left c = ledger-told o ds n left c
+
+pub totals_are_the_ledger_without_rows : TotalsAreTheLedgerWithoutRows
+totals_are_the_ledger_without_rows o ds n left c = without-rows o ds n left c
 
 pub one_entry_is_begun : OneEntryIsBegun
 one_entry_is_begun ds n t s f some few costs = one-begun ds n t s f some few costs

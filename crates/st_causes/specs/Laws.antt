@@ -28,6 +28,8 @@ use Rattle.st_reasons.specs.Words.{read_of}
 use Rattle.st_reasons.specs.declared.waits.Stall.TheVariants.{Turn, Bank, Storage}
 use Rattle.st_reasons.specs.declared.waits.Wait.{Wait}
 use Rattle.st_lines.specs.declared.origins.Origin.{Origin}
+use Rattle.st_lines.specs.BorderLines.{machine_lines}
+use Rattle.st_account.specs.LedgerSums.{ledger_sums}
 use Rattle.st_account.specs.Text.{formed_at, totals_lines, wait_totals_lines, stalled_from, ledger}
 use Rattle.st_causes.specs.Heads.{is_spent_line}
 use Rattle.st_causes.specs.Runs.{ToldRow, told_of, lines_of_rows, because_at}
@@ -45,6 +47,20 @@ LedgersTellWhereTicksWent = (o : Machine → ℕ → Option Origin) (ds : List �
     ≡ lines_of_rows ds n (told_of ds n left c)
     ++ (ticks_line (all_ticks xs) ∷ (totals_lines xs
     ++ wait_totals_lines (λ r s. stalled_from r s ds n left [] (moment_at_start c))))
+
+-- Two texts begin alike and end alike, and the first has other lines between.
+pub record IsWithoutLines (whole part first : List (List ℕ)) : Type 0 where
+  pub between : List (List ℕ)
+  pub last : List (List ℕ)
+  pub whole_is : whole ≡ first ++ between ++ last
+  pub part_is : part ≡ first ++ last
+
+-- The totals are the ledger without the lines of its rows and of what comes between rows: both
+-- begin with the lines of the machine, and end alike.
+abbrev pub TotalsAreTheLedgerWithoutRows : Type 0
+TotalsAreTheLedgerWithoutRows = (o : Machine → ℕ → Option Origin) (ds : List ℕ) (n left : ℕ)
+    (c : Scene) →
+    IsWithoutLines (ledger o ds n left c) (ledger_sums ds n left c) (machine_lines ds n)
 
 -- Of the n + 1 entries after an issue state, at most n are prepared by the completion of its last
 -- entry, if each takes at least one tick; so one of them has begun and is not yet prepared.

@@ -57,18 +57,15 @@ same-starts old m w few = record { least = omega arith; most = few; between = λ
 
 -- ---- all of them
 
--- Loop invariant: the changes of the words below w are written, and these words are those of the
--- machine.
-pub record IsChanging (s t : OutputState) (old now : List ℕ) (m : Machine) (w : ℕ) : Type 0 where
-  pub so_far : LinesSoFar s t (lines_for (word_change_lines old m) WORDS 0) (lines_for (word_change_lines old m) (WORDS - w) w)
+-- the words below w are those of the machine, and the others are as they were
+pub record IsCopying (old now : List ℕ) (m : Machine) (w : ℕ) : Type 0 where
   pub most : w ≤ WORDS
   pub size : length now ≡ words_of_storage
   pub kept : (v : ℕ) → v < w → slice_index now v ≡ word m v
   pub left : (v : ℕ) → w ≤ v → slice_index now v ≡ slice_index old v
 
-pub change-starts : (s : OutputState) (old : List ℕ) (m : Machine) → length old ≡ words_of_storage → IsChanging s s old old m 0
-change-starts s old m size = record {
-  so_far = lines_none s (lines_for (word_change_lines old m) WORDS 0);
+pub copy-starts : (old : List ℕ) (m : Machine) → length old ≡ words_of_storage → IsCopying old old m 0
+copy-starts old m size = record {
   most = omega arith;
   size = size;
   kept = λ v below. absurd (omega arith);
@@ -76,11 +73,9 @@ change-starts s old m size = record {
 }
 
 -- words that did not change are skipped
-pub change-passes : (s t : OutputState) (old now : List ℕ) (m : Machine) (w c : ℕ) → IsChanging s t old now m w → w ≤ c → c ≤ WORDS
-    → ((v : ℕ) → w ≤ v → v < c → slice_index now v ≡ word m v) → IsChanging s t old now m c
-change-passes s t old now m w c h from most between = record {
-  so_far = subst (LinesSoFar s t (lines_for (word_change_lines old m) WORDS 0))
-      (passed (word_change_lines old m) WORDS w c from most (λ v low below. none-change old m v (sym (h.left v low) ∙ between v low below))) h.so_far;
+pub copy-passes : (old now : List ℕ) (m : Machine) (w c : ℕ) → IsCopying old now m w → w ≤ c → c ≤ WORDS
+    → ((v : ℕ) → w ≤ v → v < c → slice_index now v ≡ word m v) → IsCopying old now m c
+copy-passes old now m w c h from most between = record {
   most = most;
   size = h.size;
   kept = λ v below.
@@ -91,12 +86,67 @@ change-passes s t old now m w c h from most between = record {
   left = λ v low. h.left v (omega (arith, low, from));
 }
 
+-- one more word is copied
+module _ (old now : List ℕ) (m : Machine) (w : ℕ) (h : IsCopying old now m w) (some : w < WORDS) (new : List ℕ) (is : new ≡ slice_set now w (word m w)) where
+  inside : w < length now
+  inside = omega (arith, h.size, words_of_storage_is)
+
+  other : (v : ℕ) → v ≢ w → slice_index new v ≡ slice_index now v
+  other v differs = ap (λ xs. slice_index xs v) is ∙ get_or-set_other now w v (word m w) 0 differs
+
+  at : slice_index new w ≡ word m w
+  at = ap (λ xs. slice_index xs w) is ∙ get_or-set_same now w (word m w) 0 inside
+
+  pub copy-made : IsCopying old new m (w + 1)
+  copy-made = record {
+    most = omega arith;
+    size = ap length is ∙ length-set now w (word m w) ∙ h.size;
+    kept = λ v below.
+        elim (eqb_tells v w) [
+          | inl e ↦ subst (λ k. slice_index new k ≡ word m k) (sym e.1) at
+          | inr e ↦ other v e.1 ∙ h.kept v (omega (arith, e.1, below))
+        ];
+    left = λ v low. other v (omega arith) ∙ h.left v (omega arith);
+  }
+
+  pub copy-size : length new ≡ words_of_storage
+  copy-size = copy-made.size
+
+  pub copy-left : (may : Changeable) → AreOthersAlike may old m
+      → (v : ℕ) → w + 1 ≤ v → v < WORDS → IsUntouched v may → slice_index new v ≡ word m v
+  copy-left may same v low below left = copy-made.left v low ∙ same v below left
+
+-- all words are copied
+pub copy-ends : (old now : List ℕ) (m : Machine) (w : ℕ) → IsCopying old now m w → WORDS ≤ w → length m.words ≡ words_of_storage → now ≡ m.words
+copy-ends old now m w h end size = ext_get_or 0 now m.words (h.size ∙ sym size) (λ v inside. h.kept v (omega (arith, h.size, words_of_storage_is, inside)))
+
+-- Loop invariant: the changes of the words below w are written, and these words are those of the
+-- machine.
+pub record IsChanging (s t : OutputState) (old now : List ℕ) (m : Machine) (w : ℕ) : Type 0 where
+  pub so_far : LinesSoFar s t (lines_for (word_change_lines old m) WORDS 0) (lines_for (word_change_lines old m) (WORDS - w) w)
+  pub copied : IsCopying old now m w
+
+pub change-starts : (s : OutputState) (old : List ℕ) (m : Machine) → length old ≡ words_of_storage → IsChanging s s old old m 0
+change-starts s old m size = record {
+  so_far = lines_none s (lines_for (word_change_lines old m) WORDS 0);
+  copied = copy-starts old m size;
+}
+
+-- words that did not change are skipped
+pub change-passes : (s t : OutputState) (old now : List ℕ) (m : Machine) (w c : ℕ) → IsChanging s t old now m w → w ≤ c → c ≤ WORDS
+    → ((v : ℕ) → w ≤ v → v < c → slice_index now v ≡ word m v) → IsChanging s t old now m c
+change-passes s t old now m w c h from most between = record {
+  so_far = subst (LinesSoFar s t (lines_for (word_change_lines old m) WORDS 0))
+      (passed (word_change_lines old m) WORDS w c from most (λ v low below. none-change old m v (sym (h.copied.left v low) ∙ between v low below))) h.so_far;
+  copied = copy-passes old now m w c h.copied from most between;
+}
+
 module _ (s t : OutputState) (old now : List ℕ) (m : Machine) (w : ℕ) (h : IsChanging s t old now m w) (some : w < WORDS) where
   next : LinesSoFar s t (lines_for (word_change_lines old m) WORDS 0) (word_change_lines old m w ++ lines_for (word_change_lines old m) (WORDS - (w + 1)) (w + 1))
   next = lines_for_next s t (lines_for (word_change_lines old m) WORDS 0) (word_change_lines old m) WORDS w some h.so_far
 
   here : word_change_lines now m w ≡ word_change_lines old m w
-  here = same-change old now m w (h.left w (omega arith))
+  here = same-change old now m w (h.copied.left w (omega arith))
 
   pub change-fails : (u : OutputState) (e : Failed) (r : Result (Unit {0}) Failed) → IsErr r → WritesLines t u (word_change_lines now m w) (Err e)
       → WritesLines s u (lines_for (word_change_lines old m) WORDS 0) r
@@ -111,38 +161,16 @@ module _ (s t : OutputState) (old now : List ℕ) (m : Machine) (w : ℕ) (h : I
         let done = subst (λ ls. WritesLines t u ls (Ok x)) here wrote in
         lines_more s t u (lines_for (word_change_lines old m) WORDS 0) (word_change_lines old m w) (lines_for (word_change_lines old m) (WORDS - (w + 1)) (w + 1)) next done.ok
 
-    inside : w < length now
-    inside = omega (arith, h.size, words_of_storage_is)
-
-    other : (v : ℕ) → v ≢ w → slice_index new v ≡ slice_index now v
-    other v differs = ap (λ xs. slice_index xs v) is ∙ get_or-set_other now w v (word m w) 0 differs
-
-    at : slice_index new w ≡ word m w
-    at = ap (λ xs. slice_index xs w) is ∙ get_or-set_same now w (word m w) 0 inside
-
-    kept : (v : ℕ) → v < w + 1 → slice_index new v ≡ word m v
-    kept v below =
-        elim (eqb_tells v w) [
-          | inl e ↦ subst (λ k. slice_index new k ≡ word m k) (sym e.1) at
-          | inr e ↦ other v e.1 ∙ h.kept v (omega (arith, e.1, below))
-        ]
-
     -- the invariant after one more word
     pub change-made : IsChanging s u old new m (w + 1)
-    change-made = record {
-      so_far = made;
-      most = omega arith;
-      size = ap length is ∙ length-set now w (word m w) ∙ h.size;
-      kept = kept;
-      left = λ v low. other v (omega arith) ∙ h.left v (omega arith);
-    }
+    change-made = record { so_far = made; copied = copy-made old now m w h.copied some new is }
 
     pub change-size : length new ≡ words_of_storage
-    change-size = change-made.size
+    change-size = copy-size old now m w h.copied some new is
 
     pub change-left : (may : Changeable) → AreOthersAlike may old m
         → (v : ℕ) → w + 1 ≤ v → v < WORDS → IsUntouched v may → slice_index new v ≡ word m v
-    change-left may same v low below left = change-made.left v low ∙ same v below left
+    change-left = copy-left old now m w h.copied some new is
 
 -- the invariant at the end
 module _ (s t : OutputState) (old now : List ℕ) (m : Machine) (w : ℕ) (h : IsChanging s t old now m w) (end : WORDS ≤ w) where
@@ -153,7 +181,7 @@ module _ (s t : OutputState) (old now : List ℕ) (m : Machine) (w : ℕ) (h : I
   }
 
   pub words-kept : length m.words ≡ words_of_storage → now ≡ m.words
-  words-kept size = ext_get_or 0 now m.words (h.size ∙ sym size) (λ v inside. h.kept v (omega (arith, h.size, words_of_storage_is, inside)))
+  words-kept = copy-ends old now m w h.copied end
 
 -- ---- one of two
 

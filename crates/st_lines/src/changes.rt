@@ -208,6 +208,23 @@ pub(crate) fn write_changed<K: Sink>(
     Ok(())
 }
 
+/// Copies the words of a state that changed. `old` has the words as they were before.
+#[tactic(auto, using(st_bits::specs::Storage::words_of_storage_is))]
+pub(crate) fn keep_changed(old: &mut Vec<u64>, state: &State, may: &Changeable)
+    requires size { length old.old.items ≡ words_of_storage }
+    requires left { AreOthersAlike may.now old.old.items state.now }
+    ensures { old.new.items ≡ state.now.words }
+{
+    state.shape();
+    let first = next_changed(old, state, may, 0);
+    let mut w = first;
+    'words: while w < WORDS {
+        old[w as usize] = state.word(w);
+        let next = next_changed(old, state, may, w + 1);
+        w = next;
+    }
+}
+
 /// Copies all words of a state; both have the same number of words.
 pub(crate) fn keep_words(old: &mut Vec<u64>, state: &State)
     requires { length old.old.items ≡ words_of_storage }

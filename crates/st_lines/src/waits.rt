@@ -19,6 +19,7 @@ use st_reasons::{
     wait_sums,
 };
 use st_report::LineFromEnd;
+use st_rows::Use;
 
 // Puts the name of a kind of wait in front of a line.
 #[inline(always)]
@@ -173,6 +174,50 @@ pub fn write_charged<K: Sink>(
     let done = entry.done;
     let stages = parts(done.start, &done.row.ticks);
     write_parts(out, done.before, &stages, entry, waiting)
+}
+
+// Adds the waits of the charge of a stage after tick `from` to the totals, if the stage ends later.
+fn add_part(
+    from: u64,
+    part: StagePart,
+    uses: &[Use],
+    before: &[Use],
+    waiting: &mut RowTelling,
+)
+    requires { AreWaitsReady uses.now before.now from waiting.old.totals }
+    ensures { AddsWaits uses.now before.now from (part_charges from part) waiting.old.totals
+        waiting.new.totals }
+{
+    if part.end <= from {
+        return;
+    }
+    let charge = Charge {
+        from,
+        to: part.end,
+        stage: part.stage,
+    };
+    fill_waits(&mut waiting.waits, charge, uses, before);
+    waiting.totals.add(charge, waiting.waits.as_slice());
+}
+
+/// Adds the waits of the charges of stages after tick `from` to the totals, and writes nothing. The
+/// entry uses the words `uses`, and the entry before it the words `before`.
+pub fn add_waits(
+    from: u64,
+    parts: &[StagePart],
+    uses: &[Use],
+    before: &[Use],
+    waiting: &mut RowTelling,
+)
+    requires { AreWaitsReady uses.now before.now from waiting.old.totals }
+    ensures { AddsWaits uses.now before.now from (charges_behind from parts.now)
+        waiting.old.totals waiting.new.totals }
+{
+    let Some((&part, more)) = parts.split_first() else {
+        return;
+    };
+    add_part(from, part, uses, before, waiting);
+    add_waits(later(from, part.end), more, uses, before, waiting);
 }
 
 // Fills a line with `SUM stage why n`: the ticks of one kind of wait in a stage. The previous

@@ -12,7 +12,7 @@ ghost use Rattle.st_lines.specs.Changes.{AreOthersAlike, IsCopyBehind};
 ghost use Rattle.st_lines.specs.Origins.{origin_at};
 ghost use Rattle.st_lines.specs.BorderLines.{drop_lines, begun_entry_lines, segment_end_lines, differs, en_lines, prints_lines, nonzero_word_lines, word_change_lines, words_lines, marks_lines, taken_by, state_lines, machine_lines};
 
-use crate::changes::{Changeable, keep_words, write_changed};
+use crate::changes::{Changeable, keep_changed, keep_words, write_changed};
 use crate::digits::fill_counter;
 use crate::facts::{Facts, write_facts};
 use crate::lines::{
@@ -327,6 +327,19 @@ fn write_words<K: Sink>(
     }
     keep_words(old, state);
     write_each_word(out, state)
+}
+
+/// Copies the words of a state, as `write_marks` does, and writes nothing.
+pub fn copy_changed(k: u32, may: &Changeable, old: &mut Vec<u64>, state: &State)
+    requires size { length old.old.items ≡ words_of_storage }
+    requires left { IsCopyBehind k may.now old.old.items state.now }
+    ensures { old.new.items ≡ state.now.words }
+{
+    if k == 0 {
+        keep_words(old, state);
+    } else {
+        keep_changed(old, state, may);
+    }
 }
 
 /// The events between an entry and the next one, except the state.

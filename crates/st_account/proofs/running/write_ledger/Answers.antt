@@ -1,33 +1,41 @@
 use Rattle.std.proofs.Common.{refl, sym, ◌∙◌}
 use Rattle.st_lines.specs.Origins.{origin_at}
 use Rattle.st_account.specs.Settling.{at_hand}
-use Rattle.st_account.proofs.LedgerLemmas.{machine-fails, run-fails, sums-fail, all-written}
+use Rattle.st_account.proofs.LedgerLemmas.{ledger-is, machine-fails, run-fails, sums-fail, all-written}
 use Rattle.st_account.proofs.running.write_ledger.Goals as goal
 
 pub returns-in_err-write_machine : goal.returns-in_err-write_machine
 returns-in_err-write_machine g c =
-    machine-fails (origin_at c.args.ready.origins) c.args.ready.delays.list c.args.ready.levels c.args.controls.now.budget
-    (at_hand c.args.ready.state c.args.controls.now.signals c.args.ready.cards) _ _ _ (c.delays.ensures ∙ sym c.requires.delays)
+    machine-fails _ _ c.args.ready.delays.list c.args.ready.levels c.args.controls.now.budget
+    (at_hand c.args.ready.state c.args.controls.now.signals c.args.ready.cards)
+    (ledger-is (origin_at c.args.ready.origins) c.args.ready.delays.list c.args.ready.levels c.args.controls.now.budget
+    (at_hand c.args.ready.state c.args.controls.now.signals c.args.ready.cards)) _ _ _ (c.delays.ensures ∙ sym c.requires.delays)
     _ c.from_residual.result c.from_residual.ensures.0 c.in_err-write_machine.ensures
 
 pub returns-in_err-write_run : goal.returns-in_err-write_run
 returns-in_err-write_run g c =
-    run-fails (origin_at c.args.ready.origins) c.args.ready.delays.list c.args.ready.levels c.args.controls.now.budget
-    (at_hand c.args.ready.state c.args.controls.now.signals c.args.ready.cards) _ _ _ (c.delays.ensures ∙ sym c.requires.delays)
+    run-fails _ _ c.args.ready.delays.list c.args.ready.levels c.args.controls.now.budget
+    (at_hand c.args.ready.state c.args.controls.now.signals c.args.ready.cards)
+    (ledger-is (origin_at c.args.ready.origins) c.args.ready.delays.list c.args.ready.levels c.args.controls.now.budget
+    (at_hand c.args.ready.state c.args.controls.now.signals c.args.ready.cards)) _ _ _ (c.delays.ensures ∙ sym c.requires.delays)
     _ _ _ c.from_residual-in_err-write_run.result c.from_residual-in_err-write_run.ensures.0 c.in_ok-write_machine.ensures c.in_err-write_run.ensures.lines
 
 pub returns-in_err-write_sums : goal.returns-in_err-write_sums
 returns-in_err-write_sums g c =
-    sums-fail (origin_at c.args.ready.origins) c.args.ready.delays.list c.args.ready.levels c.args.controls.now.budget
-    (at_hand c.args.ready.state c.args.controls.now.signals c.args.ready.cards) _ _ _ (c.delays.ensures ∙ sym c.requires.delays)
+    sums-fail _ _ c.args.ready.delays.list c.args.ready.levels c.args.controls.now.budget
+    (at_hand c.args.ready.state c.args.controls.now.signals c.args.ready.cards)
+    (ledger-is (origin_at c.args.ready.origins) c.args.ready.delays.list c.args.ready.levels c.args.controls.now.budget
+    (at_hand c.args.ready.state c.args.controls.now.signals c.args.ready.cards)) _ _ _ (c.delays.ensures ∙ sym c.requires.delays)
     _ _ _ _ c.in_ok-write_machine.ensures c.in_ok-write_run.ensures.lines c.write_run.new.sums
     (λ stage. c.in_ok-write_run.ensures.sums stage refl)
     _ c.from_residual-in_err-write_sums.result c.from_residual-in_err-write_sums.ensures.0 c.in_err-write_sums.ensures
 
 pub returns : goal.returns
 returns g c =
-    all-written (origin_at c.args.ready.origins) c.args.ready.delays.list c.args.ready.levels c.args.controls.now.budget
-    (at_hand c.args.ready.state c.args.controls.now.signals c.args.ready.cards) _ _ _ (c.delays.ensures ∙ sym c.requires.delays)
+    all-written _ _ c.args.ready.delays.list c.args.ready.levels c.args.controls.now.budget
+    (at_hand c.args.ready.state c.args.controls.now.signals c.args.ready.cards)
+    (ledger-is (origin_at c.args.ready.origins) c.args.ready.delays.list c.args.ready.levels c.args.controls.now.budget
+    (at_hand c.args.ready.state c.args.controls.now.signals c.args.ready.cards)) _ _ _ (c.delays.ensures ∙ sym c.requires.delays)
     _ _ _ _ c.in_ok-write_machine.ensures c.in_ok-write_run.ensures.lines c.write_run.new.sums
     (λ stage. c.in_ok-write_run.ensures.sums stage refl)
     _ _ c.write_wait_sums.result c.write_run.new.waits c.in_ok-write_sums.ensures

@@ -12,7 +12,7 @@ words-init g c =
     c.next_changed-first.ensures.between
 
 pub write_change-requires-clause-size : goal.write_change-requires-clause-size
-write_change-requires-clause-size g c = c.words.invariant.size
+write_change-requires-clause-size g c = c.words.invariant.copied.size
 
 pub returns-in_err-write_change-clause-lines : goal.returns-in_err-write_change-clause-lines
 returns-in_err-write_change-clause-lines g c =
