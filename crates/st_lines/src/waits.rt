@@ -188,7 +188,7 @@ fn add_part(
     ensures { AddsWaits uses.now before.now from (part_charges from part) waiting.old.totals
         waiting.new.totals }
 {
-    if part.end <= from {
+    if from >= part.end {
         return;
     }
     let charge = Charge {

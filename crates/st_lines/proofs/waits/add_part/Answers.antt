@@ -2,16 +2,16 @@ use Rattle.std.proofs.Common.{◌∙◌, arith}
 use Rattle.st_lines.proofs.WaitLemmas.{part_passed, part_few, part_taken}
 use Rattle.st_lines.proofs.waits.add_part.Goals as goal
 
-pub returns-then-part-from : goal.returns-then-part-from
-returns-then-part-from c =
-    part_passed c.args.uses.now c.args.before.now c.args.from c.args.part _ (omega (arith, c.if-part-from.true)) c.requires.within
+pub returns-then-from-part : goal.returns-then-from-part
+returns-then-from-part c =
+    part_passed c.args.uses.now c.args.before.now c.args.from c.args.part _ (omega (arith, c.if-from-part.true)) c.requires.within
 
 pub add-requires-clause-few : goal.add-requires-clause-few
 add-requires-clause-few c =
-    part_few c.args.uses.now c.args.before.now c.args.from c.args.part _ (omega (arith, c.if-part-from.false)) c.requires.used
+    part_few c.args.uses.now c.args.before.now c.args.from c.args.part _ (omega (arith, c.if-from-part.false)) c.requires.used
     c.requires.earlier (c.as_slice.ensures.value ∙ c.fill_waits.ensures)
 
 pub returns : goal.returns
 returns c =
     part_taken c.args.uses.now c.args.before.now c.args.from c.args.part c.as_slice.result.now _ _
-    (omega (arith, c.if-part-from.false)) (c.as_slice.ensures.value ∙ c.fill_waits.ensures) c.add.ensures.within c.add.ensures.sums
+    (omega (arith, c.if-from-part.false)) (c.as_slice.ensures.value ∙ c.fill_waits.ensures) c.add.ensures.within c.add.ensures.sums
