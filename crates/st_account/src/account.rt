@@ -446,8 +446,9 @@ impl Account {
     {
         let k = self.k;
         let border = self.enter_next();
+        let ends = border.ends;
         add_row(&self.last, k, &mut self.waiting);
-        clear_if(border.ends, &mut self.last.uses);
+        clear_if(ends, &mut self.last.uses);
         self.state.shape();
         copy_changed(k, &self.behind.may, &mut self.words, &self.state);
     }
