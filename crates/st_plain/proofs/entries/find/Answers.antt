@@ -26,15 +26,15 @@ reads-init c =
 
 pub bounds-read-n : goal.bounds-read-n
 bounds-read-n c =
-    let some = (next-left _ _ _ _ _ _ (sym c.in-FetchUnit.ensures.value) c.reads.invariant.left).0 in omega arith
+    let some = (next-left _ _ _ _ _ _ (sym c.in-Next.ensures.value) c.reads.invariant.left).0 in omega arith
 
 pub bounds-contents-n : goal.bounds-contents-n
 bounds-contents-n c =
-    let some = (next-left _ _ _ _ _ _ (sym c.in-FetchUnit.ensures.value) c.reads.invariant.left).0 in omega arith
+    let some = (next-left _ _ _ _ _ _ (sym c.in-Next.ensures.value) c.reads.invariant.left).0 in omega arith
 
 pub reads-smaller : goal.reads-smaller
 reads-smaller c =
-    let some = (next-left _ _ _ _ _ _ (sym c.in-FetchUnit.ensures.value) c.reads.invariant.left).0 in omega arith
+    let some = (next-left _ _ _ _ _ _ (sym c.in-Next.ensures.value) c.reads.invariant.left).0 in omega arith
 
 pub reads-preserved : goal.reads-preserved
 reads-preserved c =
@@ -42,21 +42,21 @@ reads-preserved c =
     let s = c.args.state.now in
     let r = reading_at_place c.args.x.now (word s 3) s.enabled c.args.place.now in
     let n = c.reads.n in
-    let next = next-left _ _ _ _ _ _ (sym c.in-FetchUnit.ensures.value) i.left in
+    let next = next-left _ _ _ _ _ _ (sym c.in-Next.ensures.value) i.left in
     let content = take-set_at c.reads.contents n (n + 1) c.word.result refl (omega (arith, i.size, next.0)) in
-    let address = take-set_at c.reads.read n (n + 1) c.in-FetchUnit.word refl (omega (arith, i.room, next.0)) in
+    let address = take-set_at c.reads.read n (n + 1) c.in-Next.word refl (omega (arith, i.room, next.0)) in
     record {
       size = length-set _ _ _ ∙ i.size;
       room = length-set _ _ _ ∙ i.room;
       few = omega (arith, next.0);
-      own_few = omega (arith, i.own_few, c.own_after-own.ensures, one_own-few c.in-FetchUnit.target);
+      own_few = omega (arith, i.own_few, c.own_after-own.ensures, one_own-few c.in-Next.target);
       left = more-left _ _ _ _ _ _ _ _ (content ∙ ap (λ x. take n c.reads.contents ++ x ∷ []) c.word.ensures.value) (omega arith) next.1;
       so_far =
-          words-step r (word s) (take n c.reads.contents) _ c.in-FetchUnit.word c.word.result c.in-FetchUnit.target content c.word.ensures.value
-          (sym c.in-FetchUnit.ensures.value) (take n c.reads.read) _ address i.so_far;
+          words-step r (word s) (take n c.reads.contents) _ c.in-Next.word c.word.result c.in-Next.target content c.word.ensures.value
+          (sym c.in-Next.ensures.value) (take n c.reads.read) _ address i.so_far;
       own_so_far =
-          own-step r (word s) (take n c.reads.contents) _ c.in-FetchUnit.word c.word.result c.in-FetchUnit.target content c.word.ensures.value
-          (sym c.in-FetchUnit.ensures.value) c.reads.own _ c.own_after-own.ensures i.own_so_far;
+          own-step r (word s) (take n c.reads.contents) _ c.in-Next.word c.word.result c.in-Next.target content c.word.ensures.value
+          (sym c.in-Next.ensures.value) c.reads.own _ c.own_after-own.ensures i.own_so_far;
     }
 
 pub returns-in-Found-clause-own : goal.returns-in-Found-clause-own

@@ -3,7 +3,7 @@ use Rattle.st_prep.specs.declared.entries.Fetching.TheVariants.{Next}
 use Rattle.st_rows.proofs.Within.{delays-are}
 use Rattle.st_next.proofs.Steps.{own-goes}
 use Rattle.st_next.proofs.Asking.{known-early, known-place, own-above, own-asks, further-nothing}
-use Rattle.st_next.proofs.fetch_unit.Next.begin.Goals as goal
+use Rattle.st_next.proofs.fetch_unit.FetchUnit.begin.Goals as goal
 
 pub returns-then-self-ne0-clause-further : goal.returns-then-self-ne0-clause-further
 returns-then-self-ne0-clause-further c = further-nothing _ _ _ _

@@ -1,11 +1,11 @@
 use Rattle.std.proofs.Common.{◌≡◌, ◌+◌, refl, sym, ◌∙◌, ap, arith}
 use Rattle.st_prep.specs.declared.entries.Fetching.TheVariants.{Next}
 use Rattle.st_rows.proofs.Within.{delays-are}
-use Rattle.st_next.specs.declared.fetch_unit.Next.{Next as Entry}
+use Rattle.st_next.specs.declared.fetch_unit.FetchUnit.{FetchUnit as Entry}
 use Rattle.st_next.proofs.Goes.{goes-same, goes-then, goes-stop, known-then}
 use Rattle.st_next.proofs.Steps.{own-goes, target-goes, target-waits, prepared-goes}
 use Rattle.st_next.proofs.Asking.{known-words, known-early, known-place, own-above, target-above, own-asks, target-asks, further-then, further-nothing, count-most}
-use Rattle.st_next.proofs.fetch_unit.Next.prepare_before.Goals as goal
+use Rattle.st_next.proofs.fetch_unit.FetchUnit.prepare_before.Goals as goal
 
 pub words-init : goal.words-init
 words-init c = record {
