@@ -119,10 +119,10 @@ pub fn look(
     if begun.formed.p >= reach.tick {
         let mut scratch = Log::new();
         let bus = unit.words.bus;
-        let row = finish(issue, &mut unit, reach.timing, &mut scratch, &mut uses);
+        let ticks = finish(issue, &mut unit, reach.timing, &mut scratch, &mut uses);
         ahead.late = Ahead {
             plan: unit.prepared,
-            row,
+            row: ticks,
             known: begun.known,
             uses,
         };

@@ -1,10 +1,9 @@
 //! The row of the next entry of a state, and the words that it uses.
-ghost use Rattle.std.specs.Prelude.{◌≡◌, ℕ, ◌+◌, ◌-◌, ◌≤◌, ◌^◌, ◌∷◌, ◌++◌, true, List, length, take, IfSome};
+ghost use Rattle.std.specs.Prelude.{◌≡◌, ℕ, ◌+◌, ◌-◌, ◌≤◌, ◌^◌, ◌∷◌, ◌++◌, List, length, take, IfSome};
 ghost use Rattle.st_bits.specs.Indicators.{IsIndicatorIfAny};
 ghost use Rattle.st_bits.specs.declared.limits.TheConstants.{MOST_DELAY};
 ghost use Rattle.st_banks.specs.Bank.{last_of};
 ghost use Rattle.st_banks.specs.declared.answers.TheConstants.{BANKS as banks_there};
-ghost use Rattle.st_prep.specs.Fetch.{index_words as index_words_of};
 ghost use Rattle.st_prep.specs.Plan.{plan as plan_of};
 ghost use Rattle.st_prep.specs.Ranges.{IsPrepared, IsRuns};
 ghost use Rattle.st_state.specs.Machine.{IsMachine};
@@ -19,11 +18,11 @@ ghost use Rattle.st_segment.specs.Entries.{entry as entry_of};
 ghost use Rattle.st_plain.specs.Looking.{known_at, level_wait as level_wait_of};
 ghost use Rattle.st_plain.specs.Uses.{formed_uses, prepared_uses};
 
-use crate::known::{Known, known_of};
+use crate::known::{Known, known_by};
 use crate::uses::{use_data, use_side_register};
 use st_banks::{BANKS, LastAnswers};
 use st_next::{FetchUnit, PlanContext};
-use st_prep::{index_words, place_of};
+use st_prep::index_words;
 use st_rows::{
     Bus, Entry, EntryTicks, Formed, IssueState, LastEntries, Log, Past, Timing, Uses, Wanted,
     follow,
@@ -107,35 +106,6 @@ pub struct Begun {
     pub level_wait: u64,
 }
 
-// Plans the next entry of a state, whose words are there, and prepares it.
-#[inline(always)]
-fn plan_at(
-    unit: &mut FetchUnit,
-    table: Option<u8>,
-    before: &Before<'_>,
-    log: &mut Log,
-    uses: &mut Uses,
-) -> Known
-    requires indicator { IsIndicatorIfAny table }
-    requires tight { IsTight MOST_DELAY before.now.issue.now }
-    requires early { before.now.issue.now.c ≤ 2 ^ 63 + 2 ^ 20 }
-{
-    let state = before.state;
-    let issue = before.issue;
-    unit.words.bus = issue.bus;
-    unit.restart(place_of(state, table));
-    let index = index_words(state);
-    let context = PlanContext {
-        timing: *before.timing,
-        state,
-        issue,
-        index: &index,
-    };
-    unit.plan_before(u64::MAX, &context, log, uses);
-    unit.prepare(&index, state);
-    known_of(table, unit, &index, state)
-}
-
 /// Plans and prepares the next entry of a state behind a front, or the table instruction of an
 /// interrupt by the indicator in `table`, and notes the words that it uses until its address is
 /// formed. Whatever the unit was before, it is that entry.
@@ -179,8 +149,18 @@ pub fn begin(
         ++ formed_uses t.delays.now.list b.issue.now unit.new.entry result.known.side }
     ensures noted { length uses.new.items ≤ length uses.old.items + 6 }
 {
-    let known = plan_at(unit, table, before, log, uses);
-    use_side_register(uses, known.side);
+    let state = before.state;
+    let index = index_words(state);
+    let context = PlanContext {
+        timing: *before.timing,
+        state,
+        issue: before.issue,
+        index: &index,
+    };
+    let spelling = unit.plan(table, &context, log, uses);
+    let side = unit.needs.index_read;
+    use_side_register(uses, side);
+    let known = known_by(&spelling, side);
     let formed = unit.formed;
     let level_wait = level_wait(
         before.issue,
