@@ -106,19 +106,20 @@ module _ (ds : List ℕ) (past : List Past) (s : Fetching) where
   put-operands p run kept new is few = put-uses (words_of Operand p run) run.len kept new (omega (arith, wishes-length Operand p run.first run.len)) is few
 
 -- its instruction words and its index-side word
-pub put-formed : (ds : List ℕ) (f : IssueState) (e : Entry) (kept new : Items) → IsEntryInTime e → new ≡ uses_with (formed_told ds f e) kept → length kept.items + 5 ≤ 48
+pub put-formed : (ds : List ℕ) (f : IssueState) (e d : Entry) (kept new : Items) → e ≡ d → IsEntryInTime e → new ≡ uses_with (formed_told ds f d) kept → length kept.items + 5 ≤ 48
     → (new.items ≡ kept.items ++ formed_told ds f e) × (length new.items ≤ length kept.items + 5)
-put-formed ds f e kept new range is few =
+put-formed ds f e d kept new same range is few =
     let own = uses-count ds f.past (unused f.bus 0) (words_of Instruction (wanted_from f) e.own) in
     let target = uses-count ds f.past (own_fetched ds f e) (words_of Instruction (max (wanted_from f) f.c) e.target) in
     let side = uses-count ds f.past (unused (words_tick ds f e).bus 0) (wish_of e.side (tick_a ds f e)) in
     let a = told ds f.past (own_uses ds f e) in
     let b = told ds f.past (target_uses ds f e) in
-    let d = told ds f.past (index_uses ds f e) in
+    let i = told ds f.past (index_uses ds f e) in
     let counted : length (formed_told ds f e) ≤ 5 =
-    omega (arith, length-append (a ++ b) d, length-append a b, own, target, side, wishes-length Instruction (wanted_from f) e.own.first e.own.len,
+    omega (arith, length-append (a ++ b) i, length-append a b, own, target, side, wishes-length Instruction (wanted_from f) e.own.first e.own.len,
     wishes-length Instruction (max (wanted_from f) f.c) e.target.first e.target.len, one-side e.side, range.own_few, range.target_few) in
-    let all : new.items ≡ kept.items ++ formed_told ds f e = ap (λ (k : Items). k.items) is ∙ put-all (formed_told ds f e) kept (omega (arith, counted, few)) in
+    let all : new.items ≡ kept.items ++ formed_told ds f e =
+    ap (λ (k : Items). k.items) (is ∙ ap (λ (x : Entry). uses_with (formed_told ds f x) kept) (sym same)) ∙ put-all (formed_told ds f e) kept (omega (arith, counted, few)) in
     (all, omega (arith, ap length all, length-append kept.items (formed_told ds f e), counted))
   where
     one-side : (o : Option ℕ) → length (wish_of o (tick_a ds f e)) ≤ 1
