@@ -13,19 +13,19 @@ use Rattle.st_run.specs.declared.run_phase.RunPhase.TheVariants as turns
 module _ {n : ℕ} (run : Progress n) where
   -- the invariant of a run
   abbrev pub IsUnderWay : Type 0
-  IsUnderWay = IsRun run.turn run.left run.tick run.snaps.now run.waiting run.driven
+  IsUnderWay = IsRun run.turn run.left run.tick run.snaps.now run.queue run.driven
 
   -- the invariant of a run before the next entry
   abbrev pub IsBeforeNext : Type 0
-  IsBeforeNext = IsRun turns.Before run.left run.tick run.snaps.now run.waiting run.driven
+  IsBeforeNext = IsRun turns.Before run.left run.tick run.snaps.now run.queue run.driven
 
   -- the remaining events of the run
   abbrev pub rest_behind : List TimedReportedEvent
-  rest_behind = rest_of run.turn run.left run.tick run.snaps.now run.waiting run.driven
+  rest_behind = rest_of run.turn run.left run.tick run.snaps.now run.queue run.driven
 
   -- no event is pending
   abbrev pub IsTold : Type 0
-  IsTold = (s : Machine) → queued_events run.waiting s ≡ []
+  IsTold = (s : Machine) → queued_events run.queue s ≡ []
 
   -- the remaining events from the point before the next entry
   abbrev pub told_ahead : List TimedReportedEvent

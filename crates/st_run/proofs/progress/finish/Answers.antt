@@ -8,28 +8,28 @@ use Rattle.st_run.proofs.progress.finish.Goals as goal
 pub returns-in_default-clause-kept : goal.returns-in_default-clause-kept
 returns-in_default-clause-kept g c =
     let run = c.args.run.now in
-    end-keeps c.args.rests run.left run.tick run.snaps.now run.waiting run.driven c.requires.levels c.requires.in_time c.requires.waits
+    end-keeps c.args.rests run.left run.tick run.snaps.now run.queue run.driven c.requires.levels c.requires.in_time c.requires.waits
 
 pub returns-in_default-clause-told : goal.returns-in_default-clause-told
 returns-in_default-clause-told g c =
     let run = c.args.run.now in
-    end-tells c.args.rests run.left run.tick run.snaps.now run.waiting run.driven c.requires.levels c.requires.in_time c.requires.waits
+    end-tells c.args.rests run.left run.tick run.snaps.now run.queue run.driven c.requires.levels c.requires.in_time c.requires.waits
     c.in_default.ensures
-    ∙ ap {A = TimedRunEvent} (λ t. told_as t (state_told run.driven.machine) (ahead_of run.driven.machine) run.printed.bytes ∷ rest_of turns.Over run.left run.tick run.snaps.now run.waiting run.driven)
+    ∙ ap {A = TimedRunEvent} (λ t. told_as t (state_told run.driven.machine) (ahead_of run.driven.machine) run.printed.bytes ∷ rest_of turns.Over run.left run.tick run.snaps.now run.queue run.driven)
     (sym c.at_once.ensures)
 
 pub returns-clause-kept : goal.returns-clause-kept
 returns-clause-kept g c =
     let run = c.args.run.now in
     let split = c.in-Some.ensures in
-    last-keeps c.args.rests run.left run.tick run.snaps.now run.waiting run.driven c.requires.levels c.requires.in_time c.requires.waits
+    last-keeps c.args.rests run.left run.tick run.snaps.now run.queue run.driven c.requires.levels c.requires.in_time c.requires.waits
     c.in-Some.at c.in-Some.after.now run.turn split.0 split.1 c.requires.turn
 
 pub returns-clause-told : goal.returns-clause-told
 returns-clause-told g c =
     let run = c.args.run.now in
     let split = c.in-Some.ensures in
-    last-tells c.args.rests run.left run.tick run.snaps.now run.waiting run.driven c.requires.levels c.requires.in_time c.requires.waits
+    last-tells c.args.rests run.left run.tick run.snaps.now run.queue run.driven c.requires.levels c.requires.in_time c.requires.waits
     c.in-Some.at c.in-Some.after.now run.turn split.0 split.1 c.requires.turn
-    ∙ ap {A = TimedRunEvent} (λ t. told_as t (state_told run.driven.machine) (ahead_of run.driven.machine) run.printed.bytes ∷ rest_of run.turn run.left run.tick c.in-Some.after.now run.waiting run.driven)
+    ∙ ap {A = TimedRunEvent} (λ t. told_as t (state_told run.driven.machine) (ahead_of run.driven.machine) run.printed.bytes ∷ rest_of run.turn run.left run.tick c.in-Some.after.now run.queue run.driven)
     (sym c.at_once-2.ensures)

@@ -13,7 +13,7 @@ pub run_until-requires : goal.run_until-requires
 run_until-requires g c =
     let run = c.args.run.now in
     let stands = c.requires.run.stands in
-    let in_time = subst {A = List TimedReportedEvent} AreInTime (rest-quiet turns.Before run.left run.tick run.snaps.now run.waiting run.driven c.requires.waits) c.requires.run.in_time in (
+    let in_time = subst {A = List TimedReportedEvent} AreInTime (rest-quiet turns.Before run.left run.tick run.snaps.now run.queue run.driven c.requires.waits) c.requires.run.in_time in (
       omega arith,
       (
         stands.0,
@@ -32,7 +32,7 @@ pub show-requires : goal.show-requires
 show-requires g c =
     let run = c.args.run.now in
     let stands = c.requires.run.stands in
-    let in_time = subst {A = List TimedReportedEvent} AreInTime (rest-quiet turns.Before run.left run.tick run.snaps.now run.waiting run.driven c.requires.waits) c.requires.run.in_time in
+    let in_time = subst {A = List TimedReportedEvent} AreInTime (rest-quiet turns.Before run.left run.tick run.snaps.now run.queue run.driven c.requires.waits) c.requires.run.in_time in
     let rising = stands.1 in (
       omega arith,
       (
@@ -46,7 +46,7 @@ pub leave_entry-requires : goal.leave_entry-requires
 leave_entry-requires g c =
     let run = c.args.run.now in
     let stands = c.requires.run.stands in
-    let in_time = subst {A = List TimedReportedEvent} AreInTime (rest-quiet turns.Before run.left run.tick run.snaps.now run.waiting run.driven c.requires.waits) c.requires.run.in_time in
+    let in_time = subst {A = List TimedReportedEvent} AreInTime (rest-quiet turns.Before run.left run.tick run.snaps.now run.queue run.driven c.requires.waits) c.requires.run.in_time in
     let rising = stands.1 in (
       omega arith,
       (
@@ -60,10 +60,10 @@ pub returns-clause-told : goal.returns-clause-told
 returns-clause-told g c =
     let run = c.args.run.now in
     let stands = c.requires.run.stands in
-    let in_time = subst {A = List TimedReportedEvent} AreInTime (rest-quiet turns.Before run.left run.tick run.snaps.now run.waiting run.driven c.requires.waits) c.requires.run.in_time in
+    let in_time = subst {A = List TimedReportedEvent} AreInTime (rest-quiet turns.Before run.left run.tick run.snaps.now run.queue run.driven c.requires.waits) c.requires.run.in_time in
     let rising = stands.1 in
     let run_new = c.leave_entry.new.run in
     go-tells run.left run.tick run.snaps.now run.driven c.run_until.new.driven stands.0 rising in_time
     c.in-Some.row c.first_of-snap.result c.first_of-snap.ensures c.in-Some.ensures.made _ c.leave_entry.ensures.told
     ∙ ap {A = TimedRunEvent} (λ t. told_as t (state_told run_new.driven.machine) (ahead_of run_new.driven.machine) run_new.printed.bytes
-    ∷ rest_of run_new.turn run_new.left run_new.tick run_new.snaps.now run_new.waiting run_new.driven) (sym c.event_of_row.ensures)
+    ∷ rest_of run_new.turn run_new.left run_new.tick run_new.snaps.now run_new.queue run_new.driven) (sym c.event_of_row.ensures)

@@ -7,20 +7,20 @@ use Rattle.st_run.proofs.progress.go_far.Goals as goal
 pub count_of-count-requires : goal.count_of-count-requires
 count_of-count-requires g c =
     let run = c.args.run.now in
-    let is = ahead-is run.left run.tick run.snaps.now run.waiting run.driven c.requires.run c.requires.waits c.requires.snaps in
+    let is = ahead-is run.left run.tick run.snaps.now run.queue run.driven c.requires.run c.requires.waits c.requires.snaps in
     let few = done-in_time run.left run.tick [] run.driven is.before is.in_time in
     (omega arith, omega (arith, few, c.requires.done))
 
 pub run_many-requires : goal.run_many-requires
 run_many-requires g c =
     let run = c.args.run.now in
-    let is = ahead-is run.left run.tick run.snaps.now run.waiting run.driven c.requires.run c.requires.waits c.requires.snaps in
+    let is = ahead-is run.left run.tick run.snaps.now run.queue run.driven c.requires.run c.requires.waits c.requires.snaps in
     (omega arith, (is.before, (done-in_time run.left run.tick [] run.driven is.before is.in_time, c.count_of-count.ensures.few)))
 
 pub returns-in_default-clause-kept : goal.returns-in_default-clause-kept
 returns-in_default-clause-kept g c =
     let run = c.args.run.now in
-    let is = ahead-is run.left run.tick run.snaps.now run.waiting run.driven c.requires.run c.requires.waits c.requires.snaps in
+    let is = ahead-is run.left run.tick run.snaps.now run.queue run.driven c.requires.run c.requires.waits c.requires.snaps in
     let no : ⊥ = far-none c.count_of-count.result run.left run.tick run.driven c.run_many.new.driven is
     (omega (arith, c.count_of-count.ensures.left, c.requires.done))
     c.count_of-count.ensures.signal c.in_default.ensures.made in
@@ -29,7 +29,7 @@ returns-in_default-clause-kept g c =
 pub returns-in_default-clause-told : goal.returns-in_default-clause-told
 returns-in_default-clause-told g c =
     let run = c.args.run.now in
-    let is = ahead-is run.left run.tick run.snaps.now run.waiting run.driven c.requires.run c.requires.waits c.requires.snaps in
+    let is = ahead-is run.left run.tick run.snaps.now run.queue run.driven c.requires.run c.requires.waits c.requires.snaps in
     let no : ⊥ = far-none c.count_of-count.result run.left run.tick run.driven c.run_many.new.driven is
     (omega (arith, c.count_of-count.ensures.left, c.requires.done))
     c.count_of-count.ensures.signal c.in_default.ensures.made in
@@ -38,7 +38,7 @@ returns-in_default-clause-told g c =
 pub overflow_sub-run-2 : goal.overflow_sub-run-2
 overflow_sub-run-2 g c =
     let run = c.args.run.now in
-    let is = ahead-is run.left run.tick run.snaps.now run.waiting run.driven c.requires.run c.requires.waits c.requires.snaps in
+    let is = ahead-is run.left run.tick run.snaps.now run.queue run.driven c.requires.run c.requires.waits c.requires.snaps in
     let far = far-row c.count_of-count.result run.left run.tick run.driven c.run_many.new.driven is
     (omega (arith, c.count_of-count.ensures.left, c.requires.done))
     c.count_of-count.ensures.signal c.in-Some.row c.in-Some.ensures.made in
@@ -47,7 +47,7 @@ overflow_sub-run-2 g c =
 pub overflow_sub-run-3 : goal.overflow_sub-run-3
 overflow_sub-run-3 g c =
     let run = c.args.run.now in
-    let is = ahead-is run.left run.tick run.snaps.now run.waiting run.driven c.requires.run c.requires.waits c.requires.snaps in
+    let is = ahead-is run.left run.tick run.snaps.now run.queue run.driven c.requires.run c.requires.waits c.requires.snaps in
     let far = far-row c.count_of-count.result run.left run.tick run.driven c.run_many.new.driven is
     (omega (arith, c.count_of-count.ensures.left, c.requires.done))
     c.count_of-count.ensures.signal c.in-Some.row c.in-Some.ensures.made in
@@ -56,7 +56,7 @@ overflow_sub-run-3 g c =
 pub leave_entry-requires : goal.leave_entry-requires
 leave_entry-requires g c =
     let run = c.args.run.now in
-    let is = ahead-is run.left run.tick run.snaps.now run.waiting run.driven c.requires.run c.requires.waits c.requires.snaps in
+    let is = ahead-is run.left run.tick run.snaps.now run.queue run.driven c.requires.run c.requires.waits c.requires.snaps in
     let far = far-row c.count_of-count.result run.left run.tick run.driven c.run_many.new.driven is
     (omega (arith, c.count_of-count.ensures.left, c.requires.done))
     c.count_of-count.ensures.signal c.in-Some.row c.in-Some.ensures.made in
@@ -72,13 +72,13 @@ leave_entry-requires g c =
 pub returns-clause-told : goal.returns-clause-told
 returns-clause-told g c =
     let run = c.args.run.now in
-    let is = ahead-is run.left run.tick run.snaps.now run.waiting run.driven c.requires.run c.requires.waits c.requires.snaps in
+    let is = ahead-is run.left run.tick run.snaps.now run.queue run.driven c.requires.run c.requires.waits c.requires.snaps in
     let far = far-row c.count_of-count.result run.left run.tick run.driven c.run_many.new.driven is
     (omega (arith, c.count_of-count.ensures.left, c.requires.done))
     c.count_of-count.ensures.signal c.in-Some.row c.in-Some.ensures.made in
     let left : far.left_now ≡ run.left - (c.in-Some.row.number - 1 - c.args.done) =
     omega (arith, far.more, far.number, c.requires.done) in
     let after = c.leave_entry.new.run in
-    let rest = rest_of after.turn after.left after.tick after.snaps.now after.waiting after.driven in
+    let rest = rest_of after.turn after.left after.tick after.snaps.now after.queue after.driven in
     far-told c.count_of-count.result run.left run.tick run.snaps.now run.driven c.run_many.new.driven c.in-Some.row far _ left c.requires.snaps
     c.args.done c.args.most rest c.args.rows.now c.run_many.new.rows c.requires.done c.count_of-count.ensures.most c.leave_entry.ensures.told c.in-Some.ensures.rows

@@ -14,9 +14,9 @@ returns-clause-kept g c =
     let passed = c.pass_on.ensures in
     let kept = left-keeps run.left c.args.tick run.snaps.now run.driven t nothing_decided []
     c.requires.left (passed.decided c.if-not-pass_on.false) passed.delays passed.levels refl in
-    let same = subst {A = ℕ} (λ k. IsRun turns.Before k c.args.tick run.snaps.now run.waiting t) (sym c.one_less-run.ensures)
-    (quiet-run turns.Before (run.left - 1) c.args.tick run.snaps.now run.waiting t c.requires.waits kept) in
-    subst {A = RunPhase} (λ k. IsRun k c.one_less-run.result c.args.tick run.snaps.now run.waiting t) (sym c.requires.turn) same
+    let same = subst {A = ℕ} (λ k. IsRun turns.Before k c.args.tick run.snaps.now run.queue t) (sym c.one_less-run.ensures)
+    (quiet-run turns.Before (run.left - 1) c.args.tick run.snaps.now run.queue t c.requires.waits kept) in
+    subst {A = RunPhase} (λ k. IsRun k c.one_less-run.result c.args.tick run.snaps.now run.queue t) (sym c.requires.turn) same
 
 pub returns-clause-told : goal.returns-clause-told
 returns-clause-told g c =
@@ -25,6 +25,6 @@ returns-clause-told g c =
     let passed = c.pass_on.ensures in
     left-told run.left c.args.tick run.snaps.now run.driven t nothing_decided []
     c.requires.left (passed.decided c.if-not-pass_on.false) passed.delays passed.levels refl
-    ∙ quiet-rest turns.Before (run.left - 1) c.args.tick run.snaps.now run.waiting t c.requires.waits
-    ∙ ap {A = ℕ} (λ k. rest_of turns.Before k c.args.tick run.snaps.now run.waiting t) (sym c.one_less-run.ensures)
-    ∙ ap {A = RunPhase} (λ k. rest_of k c.one_less-run.result c.args.tick run.snaps.now run.waiting t) (sym c.requires.turn)
+    ∙ quiet-rest turns.Before (run.left - 1) c.args.tick run.snaps.now run.queue t c.requires.waits
+    ∙ ap {A = ℕ} (λ k. rest_of turns.Before k c.args.tick run.snaps.now run.queue t) (sym c.one_less-run.ensures)
+    ∙ ap {A = RunPhase} (λ k. rest_of k c.one_less-run.result c.args.tick run.snaps.now run.queue t) (sym c.requires.turn)

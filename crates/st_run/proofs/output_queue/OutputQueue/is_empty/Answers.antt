@@ -1,7 +1,7 @@
 use Rattle.std.proofs.Common.{sym, ◌∙◌, ap, arith}
 use Rattle.st_run.specs.Telling.{OutputQueue, queued_events}
 use Rattle.st_run.proofs.WaitingLemmas.{waiting_events-none, without-items, none-mapped, none-there}
-use Rattle.st_run.proofs.waiting.OutputQueue.is_empty.Goals as goal
+use Rattle.st_run.proofs.output_queue.OutputQueue.is_empty.Goals as goal
 
 pub returns : goal.returns
 returns c = λ is s.

@@ -1,7 +1,7 @@
 use Rattle.std.proofs.Common.{refl, sym, ◌∙◌, ap}
 use Rattle.st_run.specs.Telling.{OutputQueue, queued_events}
 use Rattle.st_run.proofs.WaitingLemmas.{waiting_events-drop, waiting_events-text, waiting_events-taken, waiting_events-none, no-items, waiting-same}
-use Rattle.st_run.proofs.waiting.OutputQueue.next.Goals as goal
+use Rattle.st_run.proofs.output_queue.OutputQueue.next.Goals as goal
 
 pub returns-in-Some-clause-told : goal.returns-in-Some-clause-told
 returns-in-Some-clause-told c s =

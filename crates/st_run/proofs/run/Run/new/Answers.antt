@@ -24,7 +24,7 @@ invariant_of-result g c =
     c.due_signals-rest.ensures.came c.due_signals-rest.ensures.machine c.new-pending.ensures
     ∙ ap {A = Overlap} (λ m. with_scene (record { machine = m; signals = scene.signals; cards = scene.cards })
     (with_due_signals (record scene { machine = m.state }))) c.new-machine.ensures.value in
-    let stands = subst {A = OutputQueue} (λ w. IsRun turns.Before (c.args.controls.now.budget - 1) 0 c.args.controls.now.snaps.now w (with_pending c.due_signals-rest.new.machine c.new-pending.result)) (sym c.new-waiting.ensures)
+    let stands = subst {A = OutputQueue} (λ w. IsRun turns.Before (c.args.controls.now.budget - 1) 0 c.args.controls.now.snaps.now w (with_pending c.due_signals-rest.new.machine c.new-pending.result)) (sym c.new-queue.ensures)
     (subst {A = Together} (λ t. IsRun turns.Before (c.args.controls.now.budget - 1) 0 c.args.controls.now.snaps.now none t) (sym same)
     (start-run c.args.delays.list g.row.N scene idle is c.args.controls.now.budget c.args.controls.now.snaps.now r.some r.few (delays-are c.args.delays)
     r.some_done r.few_done r.done r.snaps)) in
@@ -40,8 +40,8 @@ returns-clause-rest g c =
     c.due_signals-rest.ensures.came c.due_signals-rest.ensures.machine c.new-pending.ensures
     ∙ ap {A = Overlap} (λ m. with_scene (record { machine = m; signals = scene.signals; cards = scene.cards })
     (with_due_signals (record scene { machine = m.state }))) c.new-machine.ensures.value in
-    ap {A = Queue} (λ q. rows_then q.rows (rest_of turns.Before (c.args.controls.now.budget - 1) 0 c.args.controls.now.snaps.now c.new-waiting.result (with_pending c.due_signals-rest.new.machine c.new-pending.result))) c.new-2.ensures
-    ∙ ap {A = OutputQueue} (λ w. rest_of turns.Before (c.args.controls.now.budget - 1) 0 c.args.controls.now.snaps.now w (with_pending c.due_signals-rest.new.machine c.new-pending.result)) c.new-waiting.ensures
+    ap {A = Queue} (λ q. rows_then q.rows (rest_of turns.Before (c.args.controls.now.budget - 1) 0 c.args.controls.now.snaps.now c.new-queue.result (with_pending c.due_signals-rest.new.machine c.new-pending.result))) c.new-2.ensures
+    ∙ ap {A = OutputQueue} (λ w. rest_of turns.Before (c.args.controls.now.budget - 1) 0 c.args.controls.now.snaps.now w (with_pending c.due_signals-rest.new.machine c.new-pending.result)) c.new-queue.ensures
     ∙ ap {A = Together} (λ t. rest_of turns.Before (c.args.controls.now.budget - 1) 0 c.args.controls.now.snaps.now none t) same
     ∙ start-told c.args.delays.list g.row.N scene idle is c.args.controls.now.budget c.args.controls.now.snaps.now r.some_done
 
