@@ -1,3 +1,4 @@
+pub mod KnownLemmas
 pub mod RowLemmas
 pub mod LookLemmas
 pub mod SideLemmas

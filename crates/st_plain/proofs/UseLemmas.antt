@@ -31,14 +31,6 @@ use Rattle.st_rows.specs.declared.uses.Wish.{Wish}
 use Rattle.st_rows.specs.BusTimes.{bus_after_request}
 use Rattle.st_rows.proofs.Served.{wishes-length, followings-length}
 use Rattle.st_segment.specs.Entries.{side_to_read}
-use Rattle.st_state.specs.Machine.{Machine}
-use Rattle.st_prep.specs.Fetch.{place_of, words_fetched}
-use Rattle.st_prep.specs.Plan.{needs, decode_context}
-use Rattle.st_prep.specs.Reading.{is_execute}
-use Rattle.st_prep.specs.declared.entries.Fetched.{Fetched}
-use Rattle.st_prep.specs.declared.entries.Needs.{Needs}
-use Rattle.st_plain.specs.Looking.{side_at, executes_at, executed_code, code_found, known_at}
-use Rattle.st_plain.specs.declared.known.Known.{Known}
 
 -- the next word is noted, and the others are left
 turned : (us vs rest all : List Use) (u : Use) → vs ≡ us ++ u ∷ [] → all ≡ u ∷ rest → vs ++ rest ≡ us ++ all
@@ -221,10 +213,3 @@ pub all-used : (ds : List ℕ) (n : ℕ) (f : IssueState) (e d : Entry) (side in
 unfolding uses_of_entry
 all-used ds n f e d side index reads words us vs ws e_is side_is reads_are none one two =
     two ∙ rw (one, none, e_is, side_is, reads_are) refl
-
--- ---- what is known of it
-
-pub known-is : (t : Option ℕ) (s : Machine) (f : Fetched) (n : Needs) (k : Known) → f ≡ words_fetched s (place_of s t) → n ≡ needs (decode_context s (place_of s t))
-    → k ≡ record { side = n.index_read; execute = is_execute f.instr.instr; code = code_found f } → k ≡ known_at t s
-unfolding side_at executes_at executed_code
-known-is t s f n k fetched needed is = is ∙ rw (fetched, needed) refl

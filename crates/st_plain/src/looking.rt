@@ -116,12 +116,13 @@ pub fn look(
         timing: reach.timing,
     };
     let begun = begin(&mut unit, None, &before, log, &mut uses);
+    let p = unit.prepared;
     if begun.formed.p >= reach.tick {
         let mut scratch = Log::new();
         let bus = unit.words.bus;
         let ticks = finish(issue, &mut unit, reach.timing, &mut scratch, &mut uses);
         ahead.late = Ahead {
-            plan: unit.prepared,
+            plan: p,
             row: ticks,
             known: begun.known,
             uses,
@@ -131,7 +132,7 @@ pub fn look(
     }
     let row = finish(issue, &mut unit, reach.timing, log, &mut uses);
     ahead.found.push(Ahead {
-        plan: unit.prepared,
+        plan: p,
         row,
         known: begun.known,
         uses,
@@ -141,7 +142,6 @@ pub fn look(
         more: reach.more - 1,
         tick: reach.tick,
     };
-    let p = unit.prepared;
     let kept = keep(&p, state);
     prediction(&p, state);
     look(state, issue, &further, log, ahead);

@@ -18,8 +18,8 @@ ghost use Rattle.st_segment.specs.Entries.{entry as entry_of};
 ghost use Rattle.st_plain.specs.Looking.{known_at, level_wait as level_wait_of};
 ghost use Rattle.st_plain.specs.Uses.{formed_uses, prepared_uses};
 
-use crate::known::{Known, known_by};
-use crate::uses::{use_data, use_side_register};
+use crate::known::{Known, known_of};
+use crate::uses::{DataWords, use_data, use_side_register};
 use st_banks::{BANKS, LastAnswers};
 use st_next::{FetchUnit, PlanContext};
 use st_prep::index_words;
@@ -157,10 +157,9 @@ pub fn begin(
         issue: before.issue,
         index: &index,
     };
-    let spelling = unit.plan(table, &context, log, uses);
-    let side = unit.needs.index_read;
-    use_side_register(uses, side);
-    let known = known_by(&spelling, side);
+    unit.plan(table, &context, log, uses);
+    let known = known_of(unit, table, &index, state);
+    use_side_register(uses, known.side);
     let formed = unit.formed;
     let level_wait = level_wait(
         before.issue,
@@ -220,10 +219,14 @@ pub fn finish(
         delays: timing.delays,
         past: &issue.past,
     };
+    let data = DataWords {
+        all: unit.prepared.reads,
+        read: entry.reads,
+    };
     let words = &mut unit.words;
     words.answered = p;
     words.awaited = 0;
-    use_data(uses, words, log, &wanted, unit.prepared.reads, entry.reads);
+    use_data(uses, words, log, &wanted, data);
     let r = words.answered;
     let c = issue.c.max(r) + u64::from(entry.cost);
     follow(&mut words.bus, log, uses, &wanted, entry);

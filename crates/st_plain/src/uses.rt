@@ -97,23 +97,29 @@ fn use_run(
     words.read_on(log, uses, wanted, read);
 }
 
+/// The operand words of an entry, and those of them that are read from storage.
+#[derive(Clone, Copy)]
+pub(crate) struct DataWords {
+    pub all: Words,
+    pub read: WordRuns,
+}
+
 /// Notes the operand words of the next entry, which is prepared at the tick, and reads those that
-/// are no registers, which `read` has.
+/// are no registers.
 #[inline(always)]
 pub(crate) fn use_data(
     uses: &mut Uses,
     words: &mut Fetching,
     log: &mut Log,
     wanted: &Wanted<'_>,
-    all: Words,
-    read: WordRuns,
+    data: DataWords,
 )
     requires space { length uses.old.items + 32 ≤ 48 }
-    requires runs { IsRuns all }
-    requires one { IsReadable read.one }
-    requires one_few { read.one.len ≤ 16 }
-    requires two { IsReadable read.two }
-    requires two_few { read.two.len ≤ 16 }
+    requires runs { IsRuns data.all }
+    requires one { IsReadable data.read.one }
+    requires one_few { data.read.one.len ≤ 16 }
+    requires two { IsReadable data.read.two }
+    requires two_few { data.read.two.len ≤ 16 }
     requires room { IsBusWithin (2 ^ 64 - 2 ^ 17) words.old.bus }
     requires before { ArePastWithin (2 ^ 64 - 2 ^ 17) wanted.now.past.now }
     requires early { wanted.now.tick ≤ 2 ^ 64 - 2 ^ 17 }
@@ -121,13 +127,14 @@ pub(crate) fn use_data(
         ≡ record { bus = words.old.bus; answered = wanted.now.tick; awaited = 0 } }
 
     ensures after { let x = wanted.now in words.new
-        ≡ operands_read x.delays.now.list x.past.now words.old read x.tick }
+        ≡ operands_read x.delays.now.list x.past.now words.old data.read x.tick }
     ensures log { let x = wanted.now in log.new ≡ log_after_reads x.delays.now.list
-        (runs_asked x.past.now read x.tick) words.old.bus log.old }
+        (runs_asked x.past.now data.read x.tick) words.old.bus log.old }
     ensures items { let x = wanted.now in uses.new.items ≡ uses.old.items
-        ++ data_uses x.delays.now.list x.past.now words.old.bus x.tick all read }
+        ++ data_uses x.delays.now.list x.past.now words.old.bus x.tick data.all data.read }
     ensures room { length uses.new.items ≤ length uses.old.items + 32 }
 {
+    let DataWords { all, read } = data;
     let one = OperandRun {
         all: WordRun {
             first: all.first,
