@@ -4,11 +4,11 @@ use Rattle.st_next.proofs.fetch_unit.FetchUnit.prepare_before.Given as goal
 
 -- what was known of it is still, and the reads so far are noted
 abbrev pub invariant-words : goal.invariant-words
-invariant-words l = record {
+invariant-words g l = record {
   goes : GoesOnTo l.context.timing.delays.now.list l.context.timing.levels (l.due - 1) l.context.issue.now l.context.index.now l.context.state.now l.fn.self l.self 0;
   further : IsReadFurther l.context.timing.delays.now.list l.context.issue.now l.fn.self l.self l.fn.log l.log;
   unplanned : l.self.planned ≡ false;
 }
 
 abbrev pub decreases-words : goal.decreases-words
-decreases-words l = 5 - (l.self.entry.own.len + l.self.entry.target.len)
+decreases-words g l = 5 - (l.self.entry.own.len + l.self.entry.target.len)
