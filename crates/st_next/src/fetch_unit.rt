@@ -300,6 +300,8 @@ impl FetchUnit {
         ensures told { let b = context.now in IsToldFurther W.noted
             b.timing.delays.now.list b.issue.now self.old self.new watch.old watch.new }
         ensures planned { result ≡ self.new.planned }
+        ensures found { result ≡ true → given_so_far context.now.index.now context.now.state.now
+            self.new ≡ Found self.new.fetched.value }
         ensures still { let f = context.now.issue.now in
             due ≤ max self.old.words.awaited (if f.serial then f.c else 0) →
             (self.new ≡ self.old) × (log.new ≡ log.old) }
@@ -360,11 +362,8 @@ impl FetchUnit {
         ensures told { let b = context.now in let ds = b.timing.delays.now.list in watch.new
             ≡ W.noted (formed_told ds b.issue.now (entry_of table b.state.now)) watch.old }
     {
-        self.place = place_of(context.state, table);
-        self.entry.own = WordRun::default();
-        self.entry.target = WordRun::default();
-        self.words = Fetching::new(context.issue.bus);
-        self.planned = false;
+        self.words.bus = context.issue.bus;
+        self.restart(place_of(context.state, table));
         self.plan_before(u64::MAX, context, log, watch);
         let spelling = self.spelling(context.index, context.state);
         self.prepare(context.index, context.state);
