@@ -1,6 +1,6 @@
 -- What one step asks for, and what it needs; there is a state before the entry by which it is known.
 use Rattle.std.specs.Prelude.{All}
-use Rattle.std.proofs.Common.{◌≡◌, ℕ, ◌+◌, ◌*◌, ◌-◌, ◌^◌, ◌≤◌, max, Bool, true, false, if◌then◌else◌, List, [], ◌∷◌, ◌++◌, map, Option, None, Some, refl, sym, ◌∙◌, ap, arith, append_assoc}
+use Rattle.std.proofs.Common.{◌≡◌, ℕ, ◌+◌, ◌*◌, ◌-◌, ◌^◌, ◌≤◌, max, true, false, if◌then◌else◌, List, [], ◌∷◌, ◌++◌, map, Option, None, Some, refl, sym, ◌∙◌, ap, arith, append_assoc}
 use Rattle.std.proofs.lemmas.List.{append-nil}
 use Rattle.std.proofs.lemmas.List.Elements.{All-cons, All-nil}
 use Rattle.st_fetch.specs.Planned.{tick_of}
@@ -14,7 +14,7 @@ use Rattle.st_rows.specs.BusTimes.{bus_after_request, answer_tick_on}
 use Rattle.st_rows.specs.Notes.{log_after_reads}
 use Rattle.st_rows.specs.Ranges.{IsEntryInTime, AreDelaysUpTo}
 use Rattle.st_rows.specs.Rows.{words_tick, wanted_from, tick_a, bus_a, index_uses}
-use Rattle.st_rows.specs.Words.{fetch_word, bus_after_index_read, fetch_words, is_forwarded}
+use Rattle.st_rows.specs.Words.{fetch_word, bus_after_index_read, fetch_words}
 use Rattle.st_rows.specs.Supplies.{told}
 use Rattle.st_rows.specs.Uses.{behind_use, read_made, forwarded_at}
 use Rattle.st_rows.specs.declared.uses.Use.{Use}

@@ -1,6 +1,5 @@
 -- The next entry of a state is planned from nothing.
-use Rattle.std.specs.Prelude.{IfSome}
-use Rattle.std.proofs.Common.{◌≡◌, ℕ, ◌+◌, ◌*◌, ◌^◌, ◌-◌, ◌≤◌, ◌<◌, Bool, true, false, List, [], ◌++◌, Option, refl, sym, ◌∙◌, ap, arith}
+use Rattle.std.proofs.Common.{◌≡◌, ℕ, ◌+◌, ◌≤◌, Bool, true, false, List, [], ◌++◌, Option, refl, sym, ◌∙◌, ap, arith}
 use Rattle.st_bits.specs.Indicators.{IsIndicatorIfAny}
 use Rattle.st_state.specs.Machine.{Machine, IsMachine}
 use Rattle.st_prep.specs.Fetch.{index_words, place_of}
@@ -8,7 +7,6 @@ use Rattle.st_prep.specs.Plan.{needs, decode_context}
 use Rattle.st_prep.specs.Ranges.{IsPlace}
 use Rattle.st_prep.proofs.PlanLemmas.{decode_context-fits}
 use Rattle.st_rows.specs.Asked.{formed_asked}
-use Rattle.st_rows.specs.BusTimes.{Read}
 use Rattle.st_rows.specs.Notes.{log_after_reads}
 use Rattle.st_rows.specs.Ranges.{AreDelaysUpTo, IsEntryInTime}
 use Rattle.st_rows.specs.Rows.{tick_a, index_uses}

@@ -8,7 +8,6 @@ use Rattle.st_rows.specs.Rows.{wanted_from, words_tick, tick_a, index_uses}
 use Rattle.st_rows.specs.Supplies.{told, use_told}
 use Rattle.st_rows.specs.Uses.{Use as WordUse, use_of, uses, behind, wishes, unused, wish_of}
 use Rattle.st_rows.specs.Words.{fetch_word, fetch_words}
-use Rattle.st_rows.specs.declared.entry.Entry.{Entry}
 use Rattle.st_rows.specs.declared.entry.WordRun.{WordRun}
 use Rattle.st_rows.specs.declared.fetching.Fetching.{Fetching}
 use Rattle.st_rows.specs.declared.issue.IssueState.{IssueState}
