@@ -1,33 +1,30 @@
 //! The entry that is prepared next, as far as it is known.
 ghost use Rattle.std.specs.Prelude.{◌≡◌, ℕ, ◌+◌, ◌-◌, ◌<◌, ◌≤◌, true, false, max, take, map, List, [], ◌∷◌, ◌++◌, Option, IfSome, is_none, is_some, get_or, if◌then◌else◌};
+ghost use Rattle.st_bits.specs.Indicators.{IsIndicatorIfAny};
 ghost use Rattle.st_bits.specs.Storage.{words_of_storage};
 ghost use Rattle.st_fetch.specs.Planned.{tick_of};
-ghost use Rattle.st_state.specs.Machine.{word};
+ghost use Rattle.st_state.specs.Machine.{IsMachine, word};
+ghost use Rattle.st_prep.specs.Fetch.{index_words as index_words_of, place_of as place_by, words_fetched};
+ghost use Rattle.st_prep.specs.Plan.{plan as plan_of, needs as needs_of, decode_context};
 ghost use Rattle.st_prep.specs.Ranges.{HasFields, IsPlace, IsFetched, IsFetching, IsPrepared};
 ghost use Rattle.st_prep.specs.Reading.{fetched_plain, is_execute};
 ghost use Rattle.st_prep.specs.declared.entries.Fetching.TheVariants.{Found};
 ghost use Rattle.st_format.specs.Formats.{decoded_entry, instruction_of, spelled_as};
-ghost use Rattle.st_rows.specs.Asked.{word_asked};
+ghost use Rattle.st_rows.specs.Asked.{word_asked, formed_asked};
 ghost use Rattle.st_rows.specs.Notes.{log_after_reads};
 ghost use Rattle.st_rows.specs.Ranges.{IsEntryInTime};
-ghost use Rattle.st_rows.specs.Rows.{wanted_from};
-ghost use Rattle.st_rows.specs.Words.{fetch_word};
+ghost use Rattle.st_rows.specs.Rows.{wanted_from, tick_a, bus_a, tick_p};
 ghost use Rattle.st_rows.specs.Supplies.{told};
 ghost use Rattle.st_rows.specs.Uses.{use_of};
+ghost use Rattle.st_rows.specs.Words.{fetch_word};
 ghost use Rattle.st_rows.specs.declared.uses.Role.TheVariants.{Instruction};
-ghost use Rattle.st_rows.specs.Asked.{formed_asked};
-ghost use Rattle.st_rows.specs.Rows.{tick_a, tick_p, bus_a};
-ghost use Rattle.st_bits.specs.Indicators.{IsIndicatorIfAny};
-ghost use Rattle.st_state.specs.Machine.{IsMachine};
-ghost use Rattle.st_prep.specs.Fetch.{index_words as index_words_of, place_of as place_by, words_fetched};
-ghost use Rattle.st_prep.specs.Plan.{plan as plan_of, needs as needs_of, decode_context};
-ghost use Rattle.st_segment.specs.Entries.{entry as entry_of, side_to_read as side_to_read_of};
-ghost use Rattle.st_next.specs.Told.{formed_told, IsToldFurther};
-ghost use Rattle.st_next.specs.Spelled.{fetched_by, IsSpelling};
 ghost use Rattle.st_segment.specs.Alone.{words_of_run};
+ghost use Rattle.st_segment.specs.Entries.{entry as entry_of, side_to_read as side_to_read_of};
 ghost use Rattle.st_next.specs.Words.{words_alone, run_with_word as with_word_of};
 ghost use Rattle.st_next.specs.Progress.{IsUnread, IsKnown, IsNextReady};
 ghost use Rattle.st_next.specs.Going.{given_so_far, IsIssueInTime, IsEarly, GoesOnTo, IsReadFurther, IsPreparedBy, IsPlanAtItsTick, as_entry, prepared_as};
+ghost use Rattle.st_next.specs.Told.{formed_told, IsToldFurther};
+ghost use Rattle.st_next.specs.Spelled.{fetched_by, IsSpelling};
 
 use st_banks::Delays;
 use st_format::{Decoded, Format, FullOp, decode_as, format_of};
@@ -370,7 +367,7 @@ impl FetchUnit {
         spelling
     }
 
-    // How its instruction is spelled.
+    // How its instruction is spelled, whose words are all asked for, so that nothing else is given.
     #[inline(always)]
     fn spelling(&self, x: &[u64; 16], state: &State) -> Spelling
         requires place { IsPlace self.now.place }
