@@ -1,4 +1,4 @@
--- What one step asks for, and what it needs; there is a state before the entry by which it is known.
+-- The requests of one step and their premises, by a state before the entry that agrees with the known part.
 use Rattle.std.specs.Prelude.{All}
 use Rattle.std.proofs.Common.{◌≡◌, ℕ, ◌+◌, ◌*◌, ◌-◌, ◌^◌, ◌≤◌, max, true, false, if◌then◌else◌, List, [], ◌∷◌, ◌++◌, map, Option, None, Some, refl, sym, ◌∙◌, ap, arith, append_assoc}
 use Rattle.std.proofs.lemmas.List.{append-nil}
@@ -43,7 +43,7 @@ use Rattle.st_next.proofs.Late.{IsLate}
 use Rattle.st_next.proofs.Telling.{next_use, own-told, target-told, told-fetches, told-planned}
 use Rattle.st_next.proofs.Steps.{IsPlannedAs, what, comes-own, comes-target, comes-all, with_own, with_target, decode_context-same, entry-same}
 
--- ---- when they are wanted
+-- ---- request ticks
 
 data-late : (o : Option ℕ) (m w tick : ℕ) → m ≤ tick → All (IsLate m) (read_made (record { w = w; want = tick; fetch = false }) o)
 data-late (Some there) m w tick h = All-nil (IsLate m)
@@ -54,7 +54,7 @@ unfolding side_asked
 side-late past None m a h = All-nil (IsLate m)
 side-late past (Some w) m a h = data-late (forwarded_at past w a) m w a h
 
--- one word of an instruction on the bus
+-- the bus after the read of one instruction word
 served-read : (ds : List ℕ) (past : List Past) (from : ℕ) (s : Fetching) (w : ℕ) → (fetch_word ds past s w from).bus ≡ bus_after_reads ds (read_of ds past from s w) s.bus
 unfolding fetch_word bus_after_request behind_use answer_tick_on
 served-read ds past from s w = sym (served-word ds (tick_of s.bus.held.words w) w (want_of ds past from s) s.bus)
@@ -71,7 +71,7 @@ pub reads-planned : (ds : List ℕ) (f : IssueState) (next : FetchUnit) → next
 reads-planned ds f next is =
     ap (λ b. asked_so_far ds f next.entry.own next.entry.target ++ (if b then side_asked f.past next.entry.side next.formed.a else [])) is
 
--- ---- the front is early enough
+-- ---- the issue state is early enough
 
 pub words-early : (ds : List ℕ) (f : IssueState) (own target : WordRun) (words : Fetching) → AreDelaysUpTo 255 ds → IsIssueInTime f
     → IsEntryInTime (words_alone own target) → words ≡ words_so_far ds f own target → IsEarly f words
@@ -98,11 +98,11 @@ module _ (ds : List ℕ) (n now : ℕ) (f : IssueState) (x : List ℕ) (s : Mach
   known-place = rw k.is_next.read_on.place (decode_context-fits k.state k.table k.before.machine k.indicator).place
 
   module _ (due : before.words.awaited ≤ now) (cs : List ℕ) (contents : cs ≡ map (word s) (words_of_run before.entry.own ++ words_of_run before.entry.target)) where
-    -- an own word
+    -- an own word is next
     pub known-own : (w : ℕ) → what ds n now f x s before un due cs contents ≡ GivenWord w false → IsNextOwn before.entry.own before.entry.target (entry k.table k.state) w
     known-own w e = comes-own ds n now f x s before un due cs contents k.table k.state k.indicator k.before k.is_next.read_on w e
 
-    -- it lies in storage
+    -- an own word lies in storage
     pub own-above : (w : ℕ) → what ds n now f x s before un due cs contents ≡ GivenWord w false → 32 ≤ w
     own-above w e = let it = known-own w e in omega (arith, it.place, known-entry.own.above (omega (arith, it.more)))
 
@@ -139,7 +139,7 @@ module _ (ds : List ℕ) (n now : ℕ) (f : IssueState) (x : List ℕ) (s : Mach
           told = one;
         })
 
-    -- a word of the target
+    -- a word of the target is next
     pub known-target : (w : ℕ) → what ds n now f x s before un due cs contents ≡ GivenWord w true → IsNextTarget before.entry.own before.entry.target (entry k.table k.state) w
     known-target w e = comes-target ds n now f x s before un due cs contents k.table k.state k.indicator k.before k.is_next.read_on w e
 
@@ -181,7 +181,7 @@ module _ (ds : List ℕ) (n now : ℕ) (f : IssueState) (x : List ℕ) (s : Mach
           told = one;
         })
 
-    -- the plan
+    -- the entry is prepared
     module _ (e : what ds n now f x s before un due cs contents ≡ GivenAll before.fetched.value) (prepared : before ≡ prepared_as before.fetched.value x s before) where
       pub known-seen : IsEntryInTime before.entry
       known-seen =
@@ -228,7 +228,7 @@ plan-tells noted ds n f before after m o un made one =
       told = one;
     }
 
--- ---- steps after steps
+-- ---- steps in sequence
 
 pub further-then : (ds : List ℕ) (f : IssueState) (a b c : FetchUnit) (log one two : List Made) → IsReadFurther ds f a b log one → IsReadFurther ds f b c one two
     → IsReadFurther ds f a c log two
@@ -243,7 +243,7 @@ pub further-nothing : (ds : List ℕ) (f : IssueState) (a : FetchUnit) (log : Li
 unfolding bus_after_reads log_after_reads
 further-nothing ds f a log = record { added = []; so_far = sym (append-nil (reads_so_far ds f a)); bus = refl; kept = refl }
 
--- ---- how many words there are
+-- ---- the number of words
 
 pub count-most : (own target : WordRun) → IsEntryInTime (words_alone own target) → own.len + target.len ≤ 4
 count-most own target is = omega (arith, is.own_few, is.target_few)

@@ -13,7 +13,7 @@ use Rattle.st_plain.specs.Straight.{IsEntryPlanned}
 use Rattle.st_plain.specs.declared.entries.Planned.{Planned}
 use Rattle.st_plain.specs.declared.known.Known.{Known}
 
--- it is planned at this place, by all that it reads
+-- the entry at the place q is planned, from all words that it reads
 abbrev pub IsPlannedAt : Machine → List ℕ → Place → Prepared → Planned → Type 0
 IsPlannedAt s x q p e =
     let r = reading_of s q in
@@ -37,7 +37,7 @@ module _ (s : Machine) (table : Option ℕ) (q : Place) (x : List ℕ) (p : Prep
   unfolding entry instruction_words own_count decode_context place_of
   entry-planned = there.entry ∙ rw plan-planned refl
 
--- its index-side word, where that is read
+-- the index-side word, if it is read from storage
 pub side-planned : (s : Machine) (table : Option ℕ) (e : Entry) (k : Known) → e ≡ entry table s → k ≡ known_at table s → e.side ≡ side_to_read k.side
 unfolding entry side_at
 side-planned s table e k entry_is known_is = rw (entry_is, known_is) refl

@@ -1,4 +1,4 @@
--- The reads of an entry, part by part, in the log.
+-- The reads of an entry in the log, part by part.
 use Rattle.std.specs.Prelude.{slice_set, slice_index_or}
 use Rattle.std.proofs.Common.{◌≡◌, ℕ, zero, suc, ◌+◌, ◌-◌, ◌≤◌, max, List, [], ◌∷◌, length, take, refl, sym, ap, ◌∙◌, arith}
 use Rattle.st_fetch.specs.Planned.{tick_of}
@@ -56,7 +56,7 @@ module _ (ds : List ℕ) (f : IssueState) (e : Entry) where
   start : Fetching
   start = record { bus = f.bus; answered = 0; awaited = 0 }
 
-  -- the words of the target behind the entry's own ones
+  -- the words of the target after the entry's own words
   pub noted-fetches : (s t : Fetching) (from late : ℕ) (log one two : List Made) → s ≡ record { bus = f.bus; answered = 0; awaited = 0 }
       → from ≡ wanted_from f → late ≡ max from f.c
       → t ≡ fetch_words ds f.past s from e.own.first e.own.len → one ≡ log_after_reads ds (words_asked ds f.past s from e.own.first e.own.len) s.bus log
@@ -71,7 +71,7 @@ module _ (ds : List ℕ) (f : IssueState) (e : Entry) where
       ∙ rw (t_is, later, wanted) (noted-two ds own_reads (words_asked ds f.past behind (max (wanted_from f) f.c) e.target.first e.target.len) f.bus behind.bus log one
       (sym (served-words ds f.past (wanted_from f) start e.own.first e.own.len)) made)
 
-  -- the index-side word behind the instruction words
+  -- the index-side word after the instruction words
   pub noted-formed : (s : Fetching) (a : ℕ) (log one two : List Made) → s ≡ words_tick ds f e → a ≡ tick_a ds f e
       → one ≡ log_after_reads ds (fetches_asked ds f e) f.bus log → two ≡ log_after_reads ds (side_asked f.past e.side a) s.bus one
       → two ≡ log_after_reads ds (formed_asked ds f e) f.bus log
@@ -80,7 +80,7 @@ module _ (ds : List ℕ) (f : IssueState) (e : Entry) where
       ∙ rw (is, at) (noted-two ds (fetches_asked ds f e) (side_asked f.past e.side (tick_a ds f e)) f.bus (words_tick ds f e).bus log one
       (sym (served-fetches ds f e)) made)
 
-  -- the following words behind the operands
+  -- the following words after the operands
   pub noted-prepared : (n : ℕ) (b d : Bus) (p : ℕ) (log one two : List Made) → b ≡ bus_a ds f e → d ≡ (operands ds n f e).bus → p ≡ tick_p ds n f e
       → one ≡ log_after_reads ds (runs_asked f.past e.reads p) b log → two ≡ log_after_reads ds (following_asked ds d e p) d one
       → two ≡ log_after_reads ds (prepared_asked ds n f e) b log
@@ -91,7 +91,7 @@ module _ (ds : List ℕ) (f : IssueState) (e : Entry) where
       ∙ rw (then_bus, tick) (noted-two ds (runs_asked f.past e.reads (tick_p ds n f e)) (following_asked ds (operands ds n f e).bus e (tick_p ds n f e)) (bus_a ds f e)
       (operands ds n f e).bus log one (sym (served-runs ds n f e)) noted_one))
 
-  -- and what is wanted at preparation behind these
+  -- the reads from preparation on, after the reads before it
   pub noted-asked : (n : ℕ) (b : Bus) (log one two : List Made) → b ≡ bus_a ds f e → one ≡ log_after_reads ds (formed_asked ds f e) f.bus log
       → two ≡ log_after_reads ds (prepared_asked ds n f e) b one → two ≡ log_after_reads ds (reads_of_entry ds n f e) f.bus log
   noted-asked n b log one two is made next =
@@ -101,7 +101,7 @@ module _ (ds : List ℕ) (f : IssueState) (e : Entry) where
 
 -- ---- the last eight entries
 
--- each entry is put one place on, the last one first
+-- each entry moves one place on, the last one first
 abbrev moved : Past → ℕ → List Past → List Past
 moved d i xs = slice_set xs (i + 1) (slice_index_or xs i d)
 

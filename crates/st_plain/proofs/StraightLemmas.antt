@@ -32,7 +32,7 @@ chosen-other : (c : ℕ → ℕ) (b : Bool) (r q p : Reading) (ws : List ℕ) �
 chosen-other c true r q p ws e h = cc
 chosen-other c false r q p ws e h = h
 
--- it stands in the next word, which may be fetched
+-- the second half-word lies in the next word, which may be fetched
 pub lead-next : (c : ℕ → ℕ) (f : Option ℕ) (first h v content x half : ℕ) (k : Continuation) → f ≡ None → (h / 2 == v) ≡ false → x ≡ c (h / 2)
     → half ≡ half_of x h → IsReadOver c (with_second f false first h v content k) (k (allowed_found first half)) (h / 2 ∷ [])
 lead-next c None first h v content x half k e other is part =
@@ -82,7 +82,7 @@ module _ (c : ℕ → ℕ) (r : Reading) (f : Fetched) (ws : List ℕ) (lead : I
   lead-target : drop (own_words r c) (words_read r c) ≡ []
   lead-target = ap (λ k. drop k (words_read r c)) all-own ∙ ap (drop (length ws)) all-words ∙ drop_all (length ws) ws (omega arith)
 
--- an entry that is planned by its half-words, and the words that they come from, is planned by what is fetched
+-- an entry that is planned from its half-words and their words is planned from the fetched instruction
 module _ (s : Machine) (x : List ℕ) (q : Place) (first second : ℕ) (ws : List ℕ) (own target : WordRun) (p : Prepared) (e : Planned)
     (lead : (k : Continuation) → IsReadOver (word s) (instruction_at false (word s 3) s.enabled q.address k) (k (allowed_found first second)) ws)
     (other : is_execute (instruction_of first second) ≡ false) (o : own ≡ run_of ws) (t : target ≡ run_of []) where

@@ -1,4 +1,4 @@
--- The instruction words of an entry, read one after another.
+-- The instruction words of an entry, read in sequence.
 use Rattle.std.specs.Prelude.{Bool, if◌then◌else◌}
 use Rattle.std.proofs.Common.{◌≡◌, ℕ, zero, suc, ◌+◌, ◌-◌, ◌≤◌, true, false, List, [], ◌∷◌, ◌++◌, take, drop, append_assoc, refl, sym, ◌∙◌, ap, arith}
 use Rattle.std.proofs.lemmas.List.{append-nil, drop-take}
@@ -16,7 +16,7 @@ same_mark v w t u e = cc
 abbrev pub one_own : Bool → ℕ
 one_own t = if t then 0 else 1
 
--- what is left reads the word that is given, and then what is left behind its content
+-- the rest of a reading reads the next word, and then the words after its content
 next-words : (l : Reading) (c : ℕ → ℕ) (w : ℕ) (t : Bool) → fetching_of l ≡ Next w t → words_read l c ≡ w ∷ words_read (left_after l (c w ∷ [])) c
 unfolding fetching_of left_after words_read
 next-words (Finds f) c w t e = cc
@@ -60,7 +60,7 @@ module _ (r : Reading) (c : ℕ → ℕ) (cs ds : List ℕ) (w x : ℕ) (t : Boo
       let there : own_words (left_after (left_after r cs) (c w ∷ [])) c ≡ own_words (left_after r ds) c = ap (λ q. own_words q c) left-next in
       omega (arith, so_far, here, there, one)
 
--- nothing is left to be read where all is found
+-- no word remains if the instruction is found
 pub found-words : (l : Reading) (c : ℕ → ℕ) (f : Fetched) → fetching_of l ≡ Found f → words_read l c ≡ []
 unfolding fetching_of words_read
 found-words (Finds g) c f e = refl

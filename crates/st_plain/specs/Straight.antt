@@ -1,4 +1,4 @@
--- An entry that is planned at once: its words, and what the timetable sees of it.
+-- An entry that is planned at once: its words, and the entry as the timetable sees it.
 use Rattle.std.specs.Prelude.{ℕ, ◌+◌, ◌≡◌, Bool, true, false, List, [], ◌∷◌, ◌++◌, length}
 use Rattle.st_state.specs.Machine.{Machine}
 use Rattle.st_prep.specs.Plan.{decode_context_of, needs, prepared_entry, side_of}
@@ -13,22 +13,22 @@ use Rattle.st_plain.specs.declared.entries.Planned.{Planned}
 
 -- ---- words
 
--- a reading goes on as another one behind these words, all of which are the entry's own; word w has
--- the content c w
+-- the reading r reads the words ws, all of them the entry's own, and continues as the reading q;
+-- word w has the content c w
 pub record IsReadOver (c : ℕ → ℕ) (r q : Reading) (ws : List ℕ) : Type 0 where
   pub found : outcome r c ≡ outcome q c
   pub read : words_read r c ≡ ws ++ words_read q c
   pub own : own_words r c ≡ length ws + own_words q c
 
--- a word, if it is asked for
+-- a word, if it is read
 abbrev pub if_more : Bool → ℕ → List ℕ
 if_more true w = w ∷ []
 if_more false w = []
 
 -- ---- the entry
 
--- the entry at a place of a state is planned, by what is fetched there, by its runs of instruction
--- words and by the index words
+-- the entry at the place q of a state is planned, from the fetched instruction f, the runs of its
+-- instruction words, and the index words x
 pub record IsEntryPlanned (s : Machine) (x : List ℕ) (q : Place) (f : Fetched)
     (own target : WordRun) (p : Prepared) (e : Planned) : Type 0 where
   pub plan : let v = decode_context_of q f x s in p ≡ prepared_entry v (side_of s v)

@@ -25,7 +25,7 @@ use st_rows::{Entry, WordRun};
 use st_segment::{side_to_read, words_to_read, words_to_write};
 use st_state::{Access, State};
 
-// Words that follow each other, at most four, as a run.
+// At most four consecutive words, as a run.
 fn run_of(words: &[u32]) -> WordRun
     requires { length words.now ≤ 4 }
     ensures { result ≡ run_by words.now }
@@ -39,7 +39,7 @@ fn run_of(words: &[u32]) -> WordRun
     }
 }
 
-// The number of an entry's own words, after one that is read for it or for the target of EX.
+// The number of own words of an entry after one more word, which may be one of the target of EX.
 fn own_after(own: usize, target: bool) -> usize
     requires { own ≤ 4 }
     ensures { result ≡ own + (if target then 0 else 1) }
@@ -47,8 +47,7 @@ fn own_after(own: usize, target: bool) -> usize
     if target { own } else { own + 1 }
 }
 
-// An entry as far as it is fetched: what is fetched, and its instruction words, its own and those
-// of the target of EX.
+// A fetched entry, with the runs of its own instruction words and of those of the target of EX.
 #[derive(Drop)]
 struct Found {
     fetched: Fetched,
@@ -56,8 +55,8 @@ struct Found {
     target: WordRun,
 }
 
-// What is fetched at a place by these index words, which are those of the state. It tells which
-// words are read for that, where a plan of `st_prep` tells the entry alone.
+// Fetches the entry at a place; `x` are the index words of the state. The result includes the words
+// that are read, which a plan of `st_prep` does not.
 fn find(place: &Place, x: &[u64; 16], state: &State) -> Found
     requires place { IsPlace place.now }
     requires words { x.now ≡ index_words_of state.now }
@@ -93,7 +92,7 @@ fn find(place: &Place, x: &[u64; 16], state: &State) -> Found
     }
 }
 
-// Prepares the entry at `p.place` once more, by its index-side word, which it asks for.
+// Prepares the entry at `p.place` again, with the content of its index-side word.
 #[inline(never)]
 fn prepare_by_side(p: &mut Prepared, fetched: &Fetched, x: &[u64; 16], needs: Needs, state: &State)
     requires place { IsPlace p.old.place }
@@ -110,8 +109,7 @@ fn prepare_by_side(p: &mut Prepared, fetched: &Fetched, x: &[u64; 16], needs: Ne
     prepare_in(p, fetched, &mut after, read, state);
 }
 
-// Prepares what is fetched at `p.place` in a state, by these index words. The result says what it
-// needs.
+// Prepares the fetched entry at `p.place` in a state with these index words. Returns its needs.
 #[inline(always)]
 fn prepare_found(p: &mut Prepared, fetched: &Fetched, x: &[u64; 16], state: &State) -> Needs
     requires place { IsPlace p.old.place }
@@ -128,8 +126,7 @@ fn prepare_found(p: &mut Prepared, fetched: &Fetched, x: &[u64; 16], state: &Sta
     needs
 }
 
-// The half-words of an instruction, whose first word is read, and whether the word behind it is
-// read too.
+// The half-words of an instruction whose first word is read, and whether the next word is read too.
 #[derive(Clone, Copy, Debug, PartialEq, Eq)]
 struct Spelled {
     first: u32,
@@ -144,7 +141,7 @@ struct Second {
     more: bool,
 }
 
-// The content of the word at the word address `w`, unless it may not be fetched.
+// The content of the word at the word address `w`; None if it may not be fetched.
 #[inline(always)]
 fn fetched_word(w: u32, state: &State) -> Option<u64>
     ensures allowed { IfSome result (λ c. forbidden_by (word state.now 3) state.now.enabled
@@ -166,7 +163,7 @@ fn half_of(content: u64, h: u32) -> u32
 }
 
 // The second half-word of the instruction at the half-word address `h`, whose first word has this
-// content, unless it may not be fetched.
+// content; None if it may not be fetched.
 #[inline(always)]
 fn second_half(h: u32, content: u64, state: &State) -> Option<Second>
     requires address { h < 2 ^ 19 }
@@ -193,9 +190,8 @@ fn second_half(h: u32, content: u64, state: &State) -> Option<Second>
     }
 }
 
-// The half-words of the instruction at the half-word address `h`, the content of its first word
-// being known, unless one of them may not be fetched. Where there is only one, 0 stands for the
-// second.
+// The half-words of the instruction at the half-word address `h`, whose first word has this
+// content; None if one may not be fetched. A missing second half-word is 0.
 #[inline(always)]
 fn halves_in(h: u32, content: u64, state: &State) -> Option<Spelled>
     requires address { h < 2 ^ 19 }
@@ -225,8 +221,9 @@ fn halves_in(h: u32, content: u64, state: &State) -> Option<Spelled>
     }
 }
 
-// The same, its first word being read from the state. A row of the ledger takes 54 host
-// instructions less for it than by `halves_known` of `st_prep`, which is given both words.
+// The half-words of the instruction at the half-word address `h`; None if one may not be fetched. A
+// row of the ledger costs 54 host instructions less than with `halves_known` of `st_prep`, which is
+// given both words.
 #[inline(always)]
 fn halves_at(h: u32, state: &State) -> Option<Spelled>
     requires { h < 2 ^ 19 }
@@ -255,16 +252,16 @@ fn words_at(h: u32, more: bool) -> WordRun
     }
 }
 
-/// What is known of an entry that is planned, besides what it is.
+/// The facts of a planned entry that its plan does not have.
 #[derive(Clone, Copy, Debug, Default, PartialEq, Eq)]
 pub struct Planned {
-    /// What the timetable sees of it.
+    /// The entry as the timetable sees it.
     pub entry: Entry,
-    /// What else is known of it.
+    /// The other facts of the entry.
     pub known: Known,
 }
 
-// What is known of an entry that is found and prepared; `table` has the indicator of its interrupt.
+// The facts of a fetched and prepared entry; `table` has the indicator of its interrupt.
 #[inline(always)]
 fn show(found: &Found, table: Option<u8>, code: Option<Code>, needs: Needs, p: &Prepared) -> Planned
     ensures entry { result.entry ≡ entry_with found.now.own found.now.target needs p.now table
@@ -302,8 +299,8 @@ struct OwnHalves {
     words: WordRun,
 }
 
-// Plans the entry at `p.place`, an own instruction that is not EX and whose words may be fetched,
-// with its half-words.
+// Plans the entry at `p.place` from its own half-words: an instruction other than EX, whose words
+// may be fetched.
 #[inline(always)]
 fn plan_own(
     instr: Decoded,
@@ -334,9 +331,9 @@ fn plan_own(
     show(&found, table, code, needs, p)
 }
 
-// The same of half-words whose format is known. Each format that is told apart has a copy of its
-// own, with one caller, in which the format stays known; `KIND` is the copy's number. A row of the
-// ledger takes some 240 host instructions less for it.
+// Like `plan_own`, for half-words of a known format. Each frequent format has its own copy of this
+// function, with one caller, so that the format stays known in it; `KIND` is the number of the
+// copy. A row of the ledger costs some 240 host instructions less.
 #[inline(always)]
 fn plan_as<const KIND: u8>(
     format: Format,
@@ -357,7 +354,7 @@ fn plan_as<const KIND: u8>(
     plan_own(instr, halves, x, state, p)
 }
 
-// The same of a format that is not frequent.
+// Like `plan_as`, for a format that is not frequent.
 #[inline(never)]
 fn plan_cold(
     format: Format,
@@ -377,8 +374,8 @@ fn plan_cold(
     plan_as::<3>(format, halves, x, state, p)
 }
 
-// The same of any format. What follows knows the format of a frequent instruction, so that it is
-// told apart once.
+// Like `plan_as`, for any format. In the branches of frequent formats the format is known, and is
+// not tested again.
 #[inline(always)]
 fn plan_known(
     format: Format,
@@ -406,7 +403,7 @@ fn plan_known(
     }
 }
 
-// Plans the entry at `p.place`, which may be EX, or of which a word may not be fetched.
+// Plans the entry at `p.place`, which may be EX, or have a word that may not be fetched.
 #[inline(never)]
 fn plan_other(x: &[u64; 16], state: &State, p: &mut Prepared) -> Planned
     requires place { IsPlace p.old.place }
@@ -425,8 +422,8 @@ fn plan_other(x: &[u64; 16], state: &State, p: &mut Prepared) -> Planned
     show(&found, table, code, needs, p)
 }
 
-// Plans the entry at `p.place`, of which these are the half-words. A row of the ledger takes some
-// 400 host instructions less for it than by `plan_other`, what `plan_as` gains among them.
+// Plans the entry at `p.place` from its half-words. A row of the ledger costs some 400 host
+// instructions less than with `plan_other`, including those that `plan_as` saves.
 #[inline(always)]
 fn plan_spelled(spelled: Spelled, x: &[u64; 16], state: &State, p: &mut Prepared) -> Planned
     requires place { IsPlace p.old.place }
@@ -455,8 +452,8 @@ fn plan_spelled(spelled: Spelled, x: &[u64; 16], state: &State, p: &mut Prepared
     }
 }
 
-/// Plans the next entry of a state, or the table instruction of an interrupt by the indicator in
-/// `table`, in place. The result is what else is known of it.
+/// Plans the next entry of a state in `p`, or the table instruction of an interrupt by the
+/// indicator in `table`, 0 to 63. Returns the other facts of the entry.
 pub fn plan_entry(table: Option<u8>, state: &State, p: &mut Prepared) -> Planned
     requires indicator { IsIndicatorIfAny table }
 

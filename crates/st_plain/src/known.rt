@@ -1,4 +1,4 @@
-//! What is known of an entry besides how it is prepared.
+//! The facts of an entry that its plan does not have.
 ghost use Rattle.std.specs.Prelude.{◌≡◌, None, Some, if◌then◌else◌};
 ghost use Rattle.st_format.specs.Halves.{is_full as has_ones};
 ghost use Rattle.st_format.specs.Formats.{decoded_entry};
@@ -9,28 +9,28 @@ ghost use Rattle.st_plain.specs.Looking.{code_of as code_by, code_found as code_
 use st_format::{Instr, encode, length_in_halves};
 use st_prep::Fetched;
 
-/// The half-words that spell an instruction.
+/// The half-words of an instruction.
 #[derive(Clone, Copy, Debug, Default, PartialEq, Eq)]
 pub struct Code {
     /// The first half-word.
     pub first: u32,
-    /// The second one, where the instruction is a full word.
+    /// The second half-word, if the instruction is a full word.
     pub second: Option<u32>,
 }
 
-/// What is known of an entry besides how it is prepared.
+/// The facts of an entry that its plan does not have.
 #[derive(Clone, Copy, Debug, Default, PartialEq, Eq)]
 pub struct Known {
-    /// Its index-side word, a register or a word that is read from storage.
+    /// The index-side word: a register, or a word that is read from storage.
     pub side: Option<u32>,
-    /// Whether it is EX.
+    /// Whether the instruction is EX.
     pub execute: bool,
-    /// The half-words that it executes, of EX those of its target; none where a word of it may not
-    /// be fetched.
+    /// The half-words of the executed instruction, for EX those of its target; None if a word of
+    /// the entry may not be fetched.
     pub code: Option<Code>,
 }
 
-// The second half-word, where the first is that of a full word.
+// The second half-word, if the first one begins a full word.
 #[inline(always)]
 fn second_of(first: u32, second: u32) -> Option<u32>
     ensures { result ≡ (if has_ones first then Some second else None) }
@@ -42,7 +42,7 @@ fn second_of(first: u32, second: u32) -> Option<u32>
     }
 }
 
-// The half-words of an instruction that is not EX and whose words may be fetched.
+// The half-words of an instruction other than EX whose words may be fetched.
 #[inline(always)]
 pub(crate) fn code_in(first: u32, second: u32) -> Option<Code>
     ensures { result ≡ code_found_of (fetched_plain (decoded_entry first second)) }
@@ -60,7 +60,7 @@ fn second_where(full: bool, second: u32) -> Option<u32>
     if full { Some(second) } else { None }
 }
 
-// The half-words that spell an instruction.
+// The half-words of an instruction.
 fn code_of(instr: &Instr) -> Code
     requires { HasFields instr.now }
     ensures { result ≡ code_by instr.now }
@@ -90,7 +90,7 @@ fn code_of(instr: &Instr) -> Code
     }
 }
 
-// The half-words that an entry executes, which is fetched so.
+// The half-words that a fetched entry executes; None if one of its words may not be fetched.
 pub(crate) fn code_found(fetched: &Fetched) -> Option<Code>
     requires { IsFetched fetched.now }
     ensures { result ≡ code_found_of fetched.now }

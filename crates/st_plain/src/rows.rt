@@ -24,7 +24,7 @@ use st_rows::{
     Uses, Wanted, WordRun, follow,
 };
 
-/// One more entry is kept, and the oldest one given up.
+/// Puts the newest entry first, and drops the oldest one.
 pub fn put_past(past: &mut [Past; 8], newest: Past)
     ensures { past.new ≡ newest ∷ take 7 past.old }
 {
@@ -38,7 +38,7 @@ pub fn put_past(past: &mut [Past; 8], newest: Past)
     past[0] = newest;
 }
 
-// The instruction words of a run are fetched, and noted.
+// Fetches the instruction words of a run, and notes them.
 #[inline(always)]
 fn fetch_run(
     words: &mut Fetching,
@@ -72,18 +72,18 @@ fn fetch_run(
     }
 }
 
-/// The next entry as it is planned, and what its row depends on besides the front before it.
+/// The input of a row apart from the issue state: the next entry, and the timing of the machine.
 #[derive(Clone, Copy)]
 pub struct NextEntry<'a> {
-    /// How it is prepared.
+    /// The prepared entry.
     pub plan: &'a Prepared,
-    /// What the timetable sees of it.
+    /// The facts of the entry that its plan does not have.
     pub planned: &'a Planned,
-    /// The delays and levels of the machine.
+    /// The delays and the number of levels of the machine.
     pub timing: &'a Timing<'a>,
 }
 
-// All instruction words of the next entry are fetched, and noted.
+// Fetches all instruction words of the next entry, and notes them.
 #[inline(always)]
 fn fetch_all(
     words: &mut Fetching,
@@ -98,7 +98,7 @@ fn fetch_all(
     requires early { issue.now.c ≤ 2 ^ 63 + 2 ^ 20 }
     requires space { length uses.old.items + 4 ≤ 48 }
 
-    // The words fetched, the log of their reads, and their uses.
+    // The fetched words, the log of their reads, and their uses.
     ensures words { let t = next.now.timing.now in let e = next.now.planned.now.entry in
         words.new ≡ words_tick t.delays.now.list issue.now e }
     ensures log { let t = next.now.timing.now in let e = next.now.planned.now.entry in
@@ -122,7 +122,7 @@ fn fetch_all(
     fetch_run(words, &wanted, planned.entry.target, log, uses);
 }
 
-// The last answer of the bank that the word `w` is in, by those of all banks.
+// The last answer of the bank of the word `w`, given those of all banks.
 fn last_answer(ticks: &[u64; BANKS], w: u32) -> u64
     ensures value { result ≡ last_of ticks.now w }
     ensures all { length ticks.now ≡ banks_there }
@@ -130,8 +130,8 @@ fn last_answer(ticks: &[u64; BANKS], w: u32) -> u64
     LastAnswers { ticks: *ticks }.of(w)
 }
 
-// When the index-side word is there of an entry whose address is formed at `a`, 0 where it has
-// none. The bus is that behind its read.
+// The arrival tick of the index-side word of an entry whose address is formed at `a`; 0 if there is
+// none. The bus is the one after its read.
 fn side_there(past: &LastEntries, side: Option<u32>, a: u64, bus: &Bus) -> u64
     requires storage { IfSome side (λ w. 32 ≤ w) }
     ensures { (ds : List ℕ) (before : BusOf) → bus.now ≡ bus_after_index_read ds past.now before side a →
@@ -147,8 +147,8 @@ fn side_there(past: &LastEntries, side: Option<u32>, a: u64, bus: &Bus) -> u64
     last_answer(&bus.banks.ticks, w)
 }
 
-// For how many ticks an entry waits for a level, whose address is formed at `a`. The bus is that
-// behind its index-side word.
+// For how many ticks an entry whose address is formed at `a` waits for a level. The bus is the one
+// after its index-side word.
 fn level_wait(issue: &IssueState, timing: &Timing<'_>, entry: &Entry, a: u64, bus: &Bus) -> u64
     requires entry { IsEntryInTime entry.now }
     ensures { (ds : List ℕ) → a ≡ tick_a ds issue.now entry.now →
@@ -163,19 +163,19 @@ fn level_wait(issue: &IssueState, timing: &Timing<'_>, entry: &Entry, a: u64, bu
     done.saturating_sub(a.max(there))
 }
 
-/// The next entry as far as its address is formed, and what is known of its preparation by then.
+/// The next entry up to its address, with its P and its wait for a level.
 #[derive(Clone, Copy, Debug, Default, PartialEq, Eq)]
 pub struct Begun {
-    /// The bus behind its instruction words and its index-side word.
+    /// The bus after its instruction words and its index-side word.
     pub words: Fetching,
-    /// When its address is formed, and when it is prepared.
+    /// A and P: the ticks at which the address is formed and the entry is prepared.
     pub formed: Formed,
-    /// For how many ticks it waits for a level before it is prepared.
+    /// For how many ticks the entry waits for a level before it is prepared.
     pub level_wait: u64,
 }
 
-/// Forms the address of the next entry behind a front, and notes the words that it uses until then.
-/// What is begun is that entry, whatever it was.
+/// Forms the address of the next entry after an issue state, and notes the words that it uses until
+/// then. The old value of `begun` is ignored.
 pub fn begin(begun: &mut Begun, issue: &IssueState, next: &NextEntry<'_>, log: &mut Log, uses: &mut Uses)
     requires entry { IsEntryInTime next.now.planned.now.entry }
     requires tight { IsTight MOST_DELAY issue.now }
@@ -217,8 +217,8 @@ pub fn begin(begun: &mut Begun, issue: &IssueState, next: &NextEntry<'_>, log: &
     begun.formed = formed;
 }
 
-/// Goes on behind the next entry, whose address is formed as `begin` says, gives its row, and notes
-/// the words that it uses from its preparation on. What is begun is used up.
+/// Completes the row of an entry whose address is formed by `begin`: advances the issue state over
+/// it, and notes the words that it uses from its preparation on. Afterwards `begun` is invalid.
 pub fn finish(
     issue: &mut IssueState,
     next: &NextEntry<'_>,
@@ -277,8 +277,8 @@ pub fn finish(
 /// The row of an entry, with its wait for a level.
 #[derive(Clone, Copy, Debug, Default, PartialEq, Eq)]
 pub struct WaitedRow {
-    /// Its ticks.
+    /// The ticks of the row.
     pub ticks: EntryTicks,
-    /// For how many ticks it waited for a level before it was prepared.
+    /// For how many ticks the entry waited for a level before it was prepared.
     pub level_wait: u64,
 }

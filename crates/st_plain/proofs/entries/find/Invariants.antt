@@ -4,7 +4,7 @@ use Rattle.st_prep.specs.Reading.{reading_at_place, left_after, words_read, own_
 use Rattle.st_prep.proofs.ReadingLemmas.{IsLeft}
 use Rattle.st_plain.proofs.entries.find.Given as goal
 
--- the words so far are the first ones that the reading reads, and what is left of it reads the others
+-- the words so far are the first ones of the reading, and the rest of the reading reads the others
 abbrev pub invariant-reads : goal.invariant-reads
 invariant-reads l =
     let r = reading_at_place l.x (word l.state 3) l.state.enabled l.place in

@@ -6,7 +6,7 @@ use Rattle.st_plain.proofs.RowLemmas.{noted-fetches}
 use Rattle.st_plain.proofs.UseLemmas.{words-fetched, fetches-used}
 use Rattle.st_plain.proofs.rows.fetch_all.Goals as goal
 
--- behind the entry's own words
+-- after the entry's own words
 pub fetch_run-requires-2-clause-room : goal.fetch_run-requires-2-clause-room
 fetch_run-requires-2-clause-room c =
     let f = c.args.issue.now in

@@ -7,7 +7,7 @@ use Rattle.st_rows.specs.Words.{fetch_words}
 use Rattle.st_plain.specs.Uses.{instruction_uses}
 use Rattle.st_plain.proofs.rows.fetch_run.Given as goal
 
--- the words that are left make of it, of the log and of the uses what all words make of what they were; there is time and room left for each
+-- the remaining words complete the fetching, the log and the uses as all words do; there are time and room for each
 abbrev pub invariant-words : goal.invariant-words
 invariant-words l = record {
   value : fetch_words l.wanted.delays.now.list l.wanted.past.now l.words l.wanted.tick l.w l.left

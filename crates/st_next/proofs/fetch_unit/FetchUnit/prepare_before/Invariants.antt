@@ -3,7 +3,7 @@ use Rattle.st_next.specs.Going.{GoesOnTo, IsReadFurther}
 use Rattle.st_next.specs.Told.{IsToldFurther}
 use Rattle.st_next.proofs.fetch_unit.FetchUnit.prepare_before.Given as goal
 
--- what was known of it is still, and the reads so far are noted
+-- the known facts of the entry stay true, and the reads so far are noted
 abbrev pub invariant-words : goal.invariant-words
 invariant-words g l = record {
   goes : GoesOnTo l.context.timing.delays.now.list l.context.timing.levels (l.due - 1) l.context.issue.now l.context.index.now l.context.state.now l.fn.self l.self 0;
