@@ -341,7 +341,7 @@ def claims(path=TOP / 'docs' / 'CLAIMS.md'):
             section = found[1]
         elif section and '*Carried by*' in found[0]:
             words = re.sub(r'\s+', ' ', found[0][2:]).strip()
-            carried = ' '.join(re.findall(r'\*Carried by\*(.*?)(?=\*Offered besides\*|$)', words))
+            carried = ' '.join(re.findall(r'\*Carried by\*(.*?)(?=\*Also offered\*|$)', words))
             title = ' '.join(re.split(r'(?<=[.;:,]) |\*Carried', words)[0].split()[:9]).rstrip('.,;:')
             yield Claim(text.count('\n', 0, found.start()) + 1, f'{section}: {title}', words, re.findall('`([^`]+)`', carried))
 

@@ -1,4 +1,4 @@
--- Lemmas on the lines between two segments, and on the front after them.
+-- Lemmas on the lines between two segments, and on the issue state after them.
 use Rattle.std.specs.Prelude.{Bool, if◌then◌else◌, nat_eq, ◌||◌, is_some, map}
 use Rattle.std.proofs.Common.{◌≡◌, ◌≢◌, ℕ, zero, suc, ◌+◌, true, false, List, [], ◌∷◌, ◌++◌, length, Option, None, Some, refl, sym, ◌∙◌, ap, arith}
 use Rattle.std.proofs.lemmas.List.{length-map}

@@ -215,7 +215,7 @@ module _ (ds : List ℕ) (are : AreDelaysUpTo 255 ds) (n t : ℕ) (s : Machine) 
         (All-weaker (λ x. x ≤ (made_before ds t all_reads start).free + 255) (λ x. x ≤ t + 255) (λ x low. omega (arith, low, bounds.1))
         (made_before ds t all_reads start).banks.ticks bounds.0.banks)
 
--- the banks for an equal state and an equal front
+-- the banks for an equal state and an equal issue state
 module _ (ds : List ℕ) (are : AreDelaysUpTo 255 ds) (n t : ℕ) (s u : Machine) (f g : IssueState) (m : IsMachine u) (tight : IsTight 255 f) (state : u ≡ s) (issue : g ≡ f)
     (reads : List Read) (start : Bus) (log new : List Made) (bus : Bus) (banks : LastAnswers) (has : HasReads ds t reads start f.bus log)
     (logs : new ≡ log_after_reads ds (reads_up_to ds n t (ahead ds n (suc n) None u g)) g.bus log)

@@ -201,7 +201,7 @@ pub next-stepped : (ds : List ℕ) (n : ℕ) (m : Moment) (t u : Machine) (ys : 
 unfolding next_moment
 next-stepped ds n m t u ys qs scene made = ap scene_after_step scene ∙ ap (λ w. at_hand w ys qs) (sym made)
 
--- the front of a moment is that of the entry that completed then
+-- the issue state of a moment is that of the entry that completed then
 pub next-at : (ds : List ℕ) (n : ℕ) (p : Standing) → (next_moment ds n p).issue.c ≡ (next_moment ds n p).tick
 unfolding next_moment next_row row_of_entry issue_after_entry
 next-at ds n p = refl

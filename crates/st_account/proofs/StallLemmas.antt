@@ -78,7 +78,7 @@ waiting-none l sums none tick unused before done start ticks = record {
   within = waits-later 0 l.done.before sums (omega arith) none;
 }
 
--- the waits do not depend on the front of the next entry
+-- the waits do not depend on the issue state of the next entry
 pub waiting-same : (l k : Last) (t u : WaitTotals) → k ≡ record l { issue = k.issue; past = k.past } → u ≡ t → IsWaiting l t → IsWaiting k u
 waiting-same l k t u same is h =
     subst (λ x. IsWaiting x u) (sym same) (record {
@@ -112,7 +112,7 @@ adds-some k l us bs old new some reach used earlier is = record {
       ∙ ap (λ n. waited_at r s old + n) (sym (kept-stalled-some r s k l some));
 }
 
--- the totals of waits do not depend on the front of the next entry
+-- the totals of waits do not depend on the issue state of the next entry
 pub adds-same : (k : ℕ) (l o : Last) (t u new : WaitTotals) → o ≡ record l { issue = o.issue; past = o.past } → t ≡ u
     → AddsKeptWaits k o t new → AddsKeptWaits k l u new
 adds-same k l o t u new same is h = record {

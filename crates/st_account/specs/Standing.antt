@@ -50,8 +50,9 @@ pub record HasReads (ds : List ℕ) (t : ℕ) (reads : List Read) (start bus : B
   pub near : IsNear MOST_DELAY start
   pub free : start.free ≤ t
 
--- the facts agree with the moment: its tick and its front, whether the entry was mispredicted, and
--- the values that determine the entries that run ahead and the reads that are made
+-- the facts agree with the moment: its tick and its issue state, whether the entry was
+-- mispredicted, and the values that determine the entries that run ahead and the reads that are
+-- made
 pub record IsLast (ds : List ℕ) (n : ℕ) (m : Moment) (l : Last) (log : List Made) : Type 0 where
   pub tick : m.tick ≡ l.tick
   pub issue : m.issue ≡ l.issue
@@ -68,7 +69,7 @@ pub record IsLast (ds : List ℕ) (n : ℕ) (m : Moment) (l : Last) (log : List 
   pub counter : l.ic < 2 ^ 19
 
 -- the next entry is executed in this state, and the facts have the tick of the last entry and the
--- front
+-- issue state
 pub record IsStanding (p : Standing) (s : Machine) (l : Last) : Type 0 where
   pub machine : p.scene.machine ≡ s
   pub tick : p.tick ≡ l.tick

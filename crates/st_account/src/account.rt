@@ -211,8 +211,8 @@ impl Account {
         );
     }
 
-    /// Applies the events after the last entry: the signals and cards in `coming` that are due, and
-    /// the end of a wait. `left` is the number of entries that may still complete.
+    /// Applies the events after the last entry: the signals and cards in `pending` that are due,
+    /// and the end of a wait. `left` is the number of entries that may still complete.
     pub fn take_events(&mut self, timing: &Timing<'_>, left: u64, pending: &mut PendingEvents<'_>)
         requires few { self.old.state.done + 8 < 2 ^ 63 }
         requires tight { IsTight MOST_DELAY self.old.last.issue }
@@ -252,8 +252,8 @@ impl Account {
         left == 0 || is_at_rest(&self.state)
     }
 
-    // The border between the last entry and the next one; afterwards the front and the segment are
-    // those of the next entry.
+    // The border between the last entry and the next one; afterwards the issue state and the
+    // segment are those of the next entry.
     fn enter_next(&mut self) -> Border
         requires number { self.old.k ≤ MOST_INSTRUCTIONS }
         requires early { self.old.last.tick ≤ 2 ^ 62 }
@@ -316,7 +316,7 @@ impl Account {
     }
 
     /// Writes the lines of the last entry and of the events after it, with the end and the start of
-    /// a segment if there are any. Afterwards the front and the segment are those of the next
+    /// a segment if there are any. Afterwards the issue state and the segment are those of the next
     /// entry.
     pub fn write_to_next<K: Sink>(&mut self, out: &mut K) -> Result<(), Failed>
         requires few { self.old.state.done ≤ MOST_INSTRUCTIONS }

@@ -36,9 +36,9 @@ pub(crate) struct DoneEntry {
 pub(crate) struct Last {
     /// The tick at which the entry completed; 0 before the first entry.
     pub tick: u64,
-    /// The front from which the row of the next entry is computed, if the segment continues.
+    /// The issue state from which the row of the next entry is computed, if the segment continues.
     pub issue: IssueState,
-    /// The last eight entries of the front, newest first.
+    /// The last eight entries of the issue state, newest first.
     pub past: [Past; 8],
     /// Whether the entry was mispredicted, so that the entries that ran ahead of it were wrong.
     pub mispredicted: bool,
@@ -58,7 +58,7 @@ pub(crate) struct Last {
     pub because: StallCause,
 }
 
-// A list of eight entries in the form that a front has, newest first.
+// A list of eight entries in the form that an issue state has, newest first.
 fn entries_of(past: &[Past; 8]) -> LastEntries
     ensures { result ≡ past.now }
 {
@@ -74,7 +74,7 @@ fn entries_of(past: &[Past; 8]) -> LastEntries
     entries
 }
 
-/// The front after the last entry, as a copy.
+/// The issue state after the last entry, as a copy.
 pub(crate) fn issue_of(last: &Last) -> IssueState
     requires { last.now.past ≡ last.now.issue.past }
     ensures { result ≡ last.now.issue }
@@ -141,7 +141,8 @@ pub(crate) fn open_segment(last: &mut Last, banks: LastAnswers, dropped: u64)
     last.past = [Past::default(); 8];
 }
 
-/// Begins a segment with the next entry if the last segment ends; otherwise the front is unchanged.
+/// Begins a segment with the next entry if the last segment ends; otherwise the issue state is
+/// unchanged.
 pub(crate) fn open_if(ends: bool, last: &mut Last, banks: LastAnswers, dropped: u64)
     requires dropped { dropped ≤ 8 }
     requires early { last.old.tick ≤ 2 ^ 62 }

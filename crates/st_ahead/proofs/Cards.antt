@@ -1,4 +1,4 @@
--- What a machine keeps when a card comes.
+-- The invariant of a machine when a card comes.
 use Rattle.std.specs.Prelude.{IfSome, IsSome, take, drop}
 use Rattle.std.proofs.Common.{◌≡◌, ℕ, ◌+◌, ◌<◌, ◌≤◌, Bool, true, false, List, [], ◌∷◌, length, Option, None, Some, refl, sym, subst, ◌∙◌, ap, arith}
 use Rattle.std.proofs.lemmas.List.{length-take, length-drop, length-set, ext_get_or, get_or-take, get_or-drop, get_or-set_other}
@@ -18,7 +18,7 @@ use Rattle.st_ahead.specs.Forecast.{LookaheadView, IsOpened}
 use Rattle.st_ahead.specs.Inside.{answers_before, overlap_of, IsBetween, IsInside}
 use Rattle.st_ahead.proofs.Standing.{inside-fresh}
 
--- ---- states that agree below storage
+-- ---- states that agree in the index words
 
 record AreAlikeBelow (s u : Machine) : Type 0 where
   size : length u.words ≡ length s.words
@@ -71,7 +71,7 @@ read-below s w card above =
     (joined s free (all_stored free w card) (record { size = refl; words = λ k low few. refl; ic = refl }) (all-below free w card above))
     (signalled-below (all_stored free w card) 12)
 
--- ---- all of it
+-- ---- the whole invariant
 
 card-opened : (s u : Machine) (f : IssueState) (v : LookaheadView) → AreAlikeBelow s u → IsOpened None s f v → IsOpened None u f v
 unfolding place_of
@@ -107,7 +107,7 @@ pub no_card-alike : (s u : Machine) (order : Option Order) → ((w : ℕ) → Ar
 no_card-alike s u None alike some h = absurd (cc some)
 no_card-alike s u (Some o) alike some h = subst (λ x. AreAlikeBesideOrders s x) (sym h) (alike o.word)
 
--- ---- what is made of the machine
+-- ---- the machine afterwards
 
 pub with-read : (order : Option Order) (card : Option (List ℕ)) (s u : Machine) (f : Machine → Overlap) → IfSome order (λ o. u ≡ read_in s o.word card)
     → IfSome order (λ o. f u ≡ f (read_in s o.word card))

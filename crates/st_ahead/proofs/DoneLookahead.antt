@@ -1,4 +1,4 @@
--- What runs ahead once the oldest entry is done, and once the operands that come at the tick are there.
+-- The look-ahead after the oldest entry completes, and after the operands of the tick arrive.
 use Rattle.std.proofs.Common.{◌≡◌, ℕ, zero, suc, ◌+◌, ◌*◌, ◌<◌, ◌≤◌, Bool, true, false, not, ◌&&◌, ◌||◌, List, [], ◌∷◌, ◌++◌, append_assoc, length, inl, Option, None, refl, sym, subst, ◌∙◌, ap, arith}
 use Rattle.std.specs.Prelude.{All, IfSome, ◌==◌, if◌then◌else◌}
 use Rattle.std.proofs.lemmas.List.Elements.{All-nil, All-head, All-tail}
@@ -41,7 +41,7 @@ or-second : (a b : Bool) → a ≡ false → (a || b) ≡ b
 or-second true b e = absurd (cc e)
 or-second false b e = refl
 
--- ---- the entry that is prepared next, said of its state and front
+-- ---- the next entry, by its state and its issue state
 
 abbrev NextAt : Bool → List ℕ → ℕ → ℕ → Option ℕ → Machine → IssueState → FetchUnit → Type 0
 NextAt true ds n now t u f next = IsNext ds n t u f next × Rests now t u f next
@@ -59,7 +59,7 @@ next-if : (b : Bool) (ds : List ℕ) (n now : ℕ) (t : Option ℕ) (s : Machine
 next-if true ds n now t s v h = h
 next-if false ds n now t s v h = h
 
--- it is the same with so many levels, whatever operands they have
+-- the next entry depends on the number of levels, not on their operands
 next-same : (ds : List ℕ) (n now : ℕ) (t : Option ℕ) (s : Machine) (v : LookaheadView) (levels : LevelsView)
     → length levels.ring ≡ count v → IsNextIf (is_open v) ds n now t s v
     → let w = record v { levels = levels } in IsNextIf (is_open w) ds n now t s w
@@ -115,13 +115,13 @@ lookahead-without ds n tick now t s f v empty lookahead =
     let ahead : AreAhead ds n now t s f v.issue v.levels = record { levels = levels.0; index = h.ahead.index; run_ahead = h.ahead.run_ahead } in
     record { outlook = assumption; full = full-without ds n now t s f v.levels.ring empty }
 
--- ---- once the oldest entry is done
+-- ---- after the oldest entry completes
 
--- the entry that is prepared next has its place then, where all before it was done alone
+-- the fetch unit gets its place now, if all entries before are completed and the last one is serializing
 abbrev pub next_behind : Machine → LookaheadView → Bool → FetchUnit
 next_behind u v here = if here then record v.next { place = place_of u None } else v.next
 
--- whether it is so
+-- whether no level remains and the last entry is serializing
 abbrev pub is_alone : LookaheadView → LevelsView → Bool
 is_alone v levels = (length levels.ring == 0) && v.issue.serial
 
@@ -138,7 +138,7 @@ words-same : (b : Bool) (u : Machine) (v : LookaheadView) → (next_behind u v b
 words-same true u v = refl
 words-same false u v = refl
 
--- of an entry that nothing is known of
+-- the first word after a serializing entry is requested at its C or later
 wanted-alone : (f : IssueState) → f.serial ≡ true → f.c ≤ wanted_from f
 wanted-alone f alone = rw alone (omega arith)
 
@@ -169,7 +169,7 @@ closed-issue true ds n now t u f next e h = h
 closed-issue false ds n now t u f next e h = absurd (cc e)
 
 module _ (ds : List ℕ) (n now : ℕ) (t : Option ℕ) (s u : Machine) (v : LookaheadView) where
-  -- the entry that is prepared next, behind k levels that are left
+  -- the fetch unit is at the entry after the k levels that remain
   abbrev At : Bool → ℕ → FetchUnit → Type 0
   At b k next = NextAt b ds n now None (guesses k None (prediction t s)) v.issue next
 
@@ -187,7 +187,7 @@ module _ (ds : List ℕ) (n now : ℕ) (t : Option ℕ) (s u : Machine) (v : Loo
       let closed = closed-issue v.issue.serial ds n now None (prediction t s) v.issue v.next alone first in
       subst P (sym none_left) (opened-at ds n now (prediction t s) v.issue (next_behind u v true) closed alone (late none_left) (place none_left alone))
 
-  -- the same of what is said of the whole
+  -- the fetch unit is at the entry after the remaining levels of the look-ahead
   next-kept : (b : Bool) (levels : LevelsView) → b ≡ is_alone v levels → count v ≡ suc (length levels.ring) → IsNextIf (is_open v) ds n now t s v
       → (length levels.ring ≡ 0 → now ≤ v.issue.c) → (length levels.ring ≡ 0 → v.issue.serial ≡ true → place_of u None ≡ place_of (prediction t s) None)
       → let w = record v { levels = levels; next = next_behind u v b } in IsNextIf (is_open w) ds n now None (prediction t s) w
@@ -203,7 +203,7 @@ module _ (ds : List ℕ) (n now : ℕ) (t : Option ℕ) (s u : Machine) (v : Loo
       next-if (is_open w) ds n now None (prediction t s) w
       (subst (λ (i : Option ℕ). NextAt (is_open w) ds n now i (guesses k None (prediction t s)) v.issue w.next) (sym (behind-none k)) behind)
 
--- the levels that are left
+-- the remaining levels
 levels-left : (ds : List ℕ) (n tick now : ℕ) (t : Option ℕ) (s : Machine) (f last : IssueState) (ring more : List Level) (plans rows : List PlannedRow)
     → IsMachine s → IfSome t (λ i. i < 64) → 1 ≤ length ring → AreLevels ds n tick t s f last ring plans
     → AreLevels ds n tick None (prediction t s) (issue_after_entry ds n f (entry t s)) last more rows → All (λ level. level.p < now) ring
@@ -218,7 +218,7 @@ levels-left ds n tick now t s f last (level ∷ levels) more (q ∷ qs) rows m s
           (All-tail (λ (x : Level). x.p < now) level levels each),
     )
 
--- and it is not done before
+-- the oldest entry does not complete before
 oldest-open : (ds : List ℕ) (n tick : ℕ) (t : Option ℕ) (s : Machine) (f last : IssueState) (ring : List Level) (plans : List PlannedRow)
     → 1 ≤ length ring → AreLevels ds n tick t s f last ring plans → All (λ q. tick < q.c) plans → tick < (row_of_entry ds n f (entry t s)).c
 unfolding AreLevels
@@ -229,7 +229,7 @@ oldest-open ds n tick t s f last (level ∷ levels) (q ∷ qs) one h each =
     let later : tick < q.c = All-head (λ (r : PlannedRow). tick < r.c) q qs each in
     omega arith
 
--- its reads are left behind, and noted before those that are left
+-- without the reads of the completed entry, the remaining reads are logged
 logged-behind : (ds : List ℕ) (n : ℕ) (f : IssueState) (e : Entry) (rest : List Read) (log : List Made) → IsLogged ds f.bus.free (reads_of_entry ds n f e ++ rest) f.bus log
     → IsLogged ds (issue_after_entry ds n f e).bus.free rest (issue_after_entry ds n f e).bus log
 logged-behind ds n f e rest log h =
@@ -297,7 +297,7 @@ lookahead-done ds n tick now t s u f v levels b are h some due ahead e done =
       logged = subst (λ (more : List Read). IsLogged ds f'.bus.free (asked_ahead ds n (length levels.ring) None s' f' ++ more) f'.bus v.log) (sym (reads-same b ds u v)) rest;
     }
 
--- the same where it is seen through the whole, and whatever is said of whether the next entry is behind one that is done alone
+-- the look-ahead after a completion, for an equal view of it, with or without a serializing last entry
 pub all-done : (ds : List ℕ) (n tick now : ℕ) (t : Option ℕ) (s u : Machine) (f : IssueState) (v old : LookaheadView) (levels : LevelsView) (b : Bool)
     → v ≡ old → AreDelaysUpTo 255 ds → IsOutlook ds n tick now t s f old → 0 < count old → (row_of_entry ds n f (entry t s)).c ≡ now
     → AreAhead ds n tick None (prediction t s) (issue_after_entry ds n f (entry t s)) v.issue levels

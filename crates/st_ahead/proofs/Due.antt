@@ -1,4 +1,4 @@
--- The next entry at the tick at which it is prepared: what is known of it, its reads, and the room for it.
+-- The next entry at its P: its known part, its reads, and the room for it.
 use Rattle.std.specs.Prelude.{All, if◌then◌else◌, get_or, ◌-◌, ◌^◌}
 use Rattle.std.proofs.Common.{◌≡◌, ℕ, zero, suc, ◌+◌, ◌<◌, ◌≤◌, Bool, true, false, List, [], ◌∷◌, ◌++◌, inl, inr, length, Option, None, refl, sym, subst, ◌∙◌, ap, ap₂, arith}
 use Rattle.std.proofs.lemmas.List.{get_or-take}
@@ -56,10 +56,10 @@ pub after-p : (ds : List ℕ) (n : ℕ) (f : IssueState) (e : Entry) → (issue_
 unfolding issue_after_entry
 after-p ds n f e = refl
 
--- ---- what the last front keeps of the levels
+-- ---- the levels among the past entries of the last issue state
 
 module _ (ds : List ℕ) (n tick : ℕ) where
-  -- an older entry lies behind all levels
+  -- entries before the levels follow them among the past entries
   past-behind : (j : ℕ) (d : Past) (t : Option ℕ) (s : Machine) (f last : IssueState) (ring : List Level) (plans : List PlannedRow)
       → AreLevels ds n tick t s f last ring plans → length ring + j < 8 → get_or last.past (length ring + j) d ≡ get_or f.past j d
   unfolding AreLevels issue_after_entry
@@ -74,7 +74,7 @@ module _ (ds : List ℕ) (n tick : ℕ) where
       ∙ past-behind (suc j) d None (prediction t s) (issue_after_entry ds n f (entry t s)) last levels qs h.1 (omega arith)
       ∙ get_or-take 7 f.past j d (omega arith)
 
-  -- the oldest of n levels is the entry n before the next one
+  -- if there are n levels, the oldest is the entry n before the next one
   pub full-behind : (now : ℕ) (t : Option ℕ) (s : Machine) (f last : IssueState) (ring : List Level) (plans : List PlannedRow)
       → AreLevels ds n tick t s f last ring plans → All (λ q. now < q.c) plans → 1 ≤ n → n ≤ 8 → length ring ≡ n → now < done_before n last.past
   unfolding AreLevels issue_after_entry row_of_entry
@@ -107,7 +107,7 @@ reads-formed ds n k u f next is planned =
     ∙ ap₂ (λ (x : Entry) (a : ℕ). side_asked f.past x.side a) is.entry is.address in
     ap₂ (λ a b. a ++ b) fetches sides
 
--- ---- all of it
+-- ---- the next entry becomes a level
 
 pub planned-open : (b : Bool) (ds : List ℕ) (n rest : ℕ) (t : Option ℕ) (s : Machine) (v : LookaheadView) → IsNextIf b ds n rest t s v
     → v.next.planned ≡ true → b ≡ true

@@ -1,4 +1,4 @@
--- The next entry is known further, behind levels that are not done.
+-- More becomes known of the next entry while the levels before it are not completed.
 use Rattle.std.specs.Prelude.{All, if◌then◌else◌, ◌==◌, ◌-◌, ◌^◌}
 use Rattle.std.proofs.Common.{◌≡◌, ℕ, zero, suc, ◌<◌, ◌≤◌, ◌||◌, max, Bool, true, false, not, List, [], ◌∷◌, ◌++◌, append_assoc, length, inl, inr, Option, refl, sym, subst, ◌∙◌, ap, arith, ◌+◌}
 use Rattle.std.proofs.lemmas.List.Elements.{All-head}
@@ -35,7 +35,7 @@ use Rattle.st_ahead.specs.Forecast.{LookaheadView, IsNextIf, count, is_open, ask
 use Rattle.st_ahead.specs.Going.{IsGoing}
 use Rattle.st_ahead.proofs.Served.{served-ahead}
 
--- ---- what rests up to a tick rests up to an earlier one
+-- ---- an entry that rests up to a tick rests up to an earlier one
 
 rests-sooner : (now sooner : ℕ) (t : Option ℕ) (u : Machine) (f : IssueState) (next : FetchUnit) → sooner ≤ now → Rests now t u f next → Rests sooner t u f next
 rests-sooner now sooner t u f next early rests = λ un. elim (rests un) [
@@ -49,7 +49,7 @@ next-sooner true ds n now sooner t s v early is =
     (is.0, rests-sooner now sooner (table_behind (count v) t) (guesses (count v) t s) v.issue v.next early is.1)
 next-sooner false ds n now sooner t s v early is = is
 
--- ---- it is planned already
+-- ---- the entry is already planned
 
 pub next-planned : (b : Bool) (ds : List ℕ) (n now later : ℕ) (t : Option ℕ) (s : Machine) (v : LookaheadView) → v.next.planned ≡ true
     → IsNextIf b ds n now t s v → IsNextIf b ds n later t s v
@@ -60,7 +60,7 @@ pub going-planned : (ds : List ℕ) (n now rest later : ℕ) (t : Option ℕ) (s
     → IsGoing ds n now rest t s f v → IsGoing ds n now later t s f v
 going-planned ds n now rest later t s f v planned is = assumption (next-planned (is_open v) ds n rest later t s v planned is.next)
 
--- ---- behind a level that is done alone nothing is known of it
+-- ---- after a serializing level nothing is known of the entry
 
 closed-on : (b : Bool) (ds : List ℕ) (n now later : ℕ) (t : Option ℕ) (s : Machine) (v : LookaheadView) → b ≡ false
     → IsNextIf b ds n now t s v → IsNextIf b ds n later t s v
@@ -71,13 +71,13 @@ pub going-closed : (ds : List ℕ) (n now rest later : ℕ) (t : Option ℕ) (s 
     → IsGoing ds n now rest t s f v → IsGoing ds n now later t s f v
 going-closed ds n now rest later t s f v closed is = assumption (closed-on (is_open v) ds n rest later t s v closed is.next)
 
--- and nothing is asked for
+-- after a serializing level no word is requested
 pub going-still : (ds : List ℕ) (n now rest later : ℕ) (t : Option ℕ) (s : Machine) (f : IssueState) (v : LookaheadView) (next : FetchUnit) (log : List Made)
     → next ≡ v.next → log ≡ v.log → is_open v ≡ false → IsGoing ds n now rest t s f v
     → IsGoing ds n now later t s f (record { levels = v.levels; issue = v.issue; log = log; next = next })
 going-still ds n now rest later t s f v next log same kept closed is = rw (same, kept) (going-closed ds n now rest later t s f v closed is)
 
--- where it waits for less than the completion of the oldest level, the youngest one is not done alone
+-- if the entry awaits nothing as late as the oldest completion, the youngest level is not serializing
 pub open-waits : (first alone : Bool) (a c due : ℕ) → max a (if alone then c else 0) < due → (first ≡ false → due ≤ c) → (first || not alone) ≡ true
 open-waits true alone a c due early late = refl
 open-waits false false a c due early late = refl
@@ -92,7 +92,7 @@ pub some-by : (k : ℕ) → (k == 0) ≡ false → 1 ≤ k
 some-by zero e = absurd (cc e)
 some-by (suc k) e = omega arith
 
--- ---- the youngest level is not done
+-- ---- the youngest level is not completed
 
 pub youngest-late : (now : ℕ) (f last : IssueState) (plans : List PlannedRow) → All (λ q. now < q.c) plans
     → All (λ q. (f.c < q.c) × (q.c ≤ last.c)) plans → 1 ≤ length plans → now < last.c
@@ -131,7 +131,7 @@ going-issue ds n now rest t s f v is most few early =
     let early : v.issue.c ≤ 2 ^ 63 + 2 ^ 20 = omega (arith, is.early) in
     assumption
 
--- ---- the bus behind all reads is that of the next entry's words
+-- ---- the bus after all reads is that of the fetch unit
 
 bus-next : (b : Bool) (ds : List ℕ) (n now : ℕ) (t : Option ℕ) (s : Machine) (v : LookaheadView) → IsNextIf b ds n now t s v
     → bus_after_reads ds (reads_so_far ds v.issue v.next) v.issue.bus ≡ v.next.words.bus
@@ -158,7 +158,7 @@ logged-more ds now before so_far after added b d log new is bus kept h =
     (subst (λ (l : List Read). IsLogged ds now l b (log_after_reads ds added (bus_after_reads ds (before ++ so_far) b) log)) list
     (logged-noted ds now (before ++ so_far) added b log h))
 
--- ---- it is known further
+-- ---- more of the entry is known
 
 pub known-further : (ds : List ℕ) (n now later : ℕ) (t : Option ℕ) (s : Machine) (f : IssueState) (v : LookaheadView) (next : FetchUnit) (log : List Made)
     → is_open v ≡ true → v.next.planned ≡ false → IsStateBefore (later - 1) v.issue.past v.levels.x s (guesses (count v) t s)

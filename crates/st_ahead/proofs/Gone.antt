@@ -1,4 +1,4 @@
--- What runs ahead goes on to a later tick: to the one at which the next entry is prepared, or to the end of the way.
+-- The look-ahead advances to a later tick: to P of the next entry, or to the last tick.
 use Rattle.std.specs.Prelude.{All, ◌-◌, ◌^◌, nat_le, if◌then◌else◌}
 use Rattle.std.proofs.Common.{◌≡◌, ℕ, zero, suc, ◌+◌, ◌<◌, ◌≤◌, Bool, true, false, List, [], ◌∷◌, length, Option, None, Some, refl, sym, subst, ◌∙◌, arith, ◌*◌}
 use Rattle.std.specs.Option.{IfSome}
@@ -25,7 +25,7 @@ use Rattle.st_ahead.proofs.LevelTicks.{done-after, done-later}
 use Rattle.st_ahead.proofs.TickCases.{none-prepared}
 use Rattle.st_ahead.proofs.TickCases as cases
 
--- ---- the tick at which the oldest level is done
+-- ---- the tick at which the oldest level completes
 
 All-first : (f last : IssueState) (q : PlannedRow) (qs : List PlannedRow) → All (λ (x : PlannedRow). (f.c < x.c) × (x.c ≤ last.c)) (q ∷ qs) → (f.c < q.c) × (q.c ≤ last.c)
 All-first f last q qs each = All-head (λ (x : PlannedRow). (f.c < x.c) × (x.c ≤ last.c)) q qs each
@@ -65,7 +65,7 @@ module _ (ds : List ℕ) (n tick : ℕ) where
       let same : due ≡ q.c = is in
       omega (arith, first, same)
 
-  -- none of them is done before it, the youngest neither
+  -- the youngest level does not complete before the oldest one
   pub due-last : (t : Option ℕ) (s : Machine) (f last : IssueState) (ring : List Level) (plans : List PlannedRow) → IsMachine s
       → IfSome t (λ i. i < 64) → AreLevels ds n tick t s f last ring plans → 1 ≤ length ring → due_of plans ≤ last.c
   due-last t s f last ring plans m some h one =
@@ -76,7 +76,7 @@ module _ (ds : List ℕ) (n tick : ℕ) where
       due-below f last [] each one = absurd (omega (arith, one))
       due-below f last (q ∷ qs) each one = let first = All-first f last q qs each in omega (arith, first)
 
--- it is not tick 0
+-- the oldest level does not complete at tick 0
 pub due-first : (ds : List ℕ) (n tick due : ℕ) (t : Option ℕ) (s : Machine) (f : IssueState) (v : LookaheadView) → IsGoing ds n tick tick t s f v
     → due ≡ due_of v.levels.plans → 1 ≤ due
 due-first ds n tick due t s f v is at =
@@ -97,7 +97,7 @@ going-at ds n tick rest now later t s f v behind before planned due is =
     let late : v.next.planned ≡ true → now ≤ v.next.formed.p = λ yes. omega (arith, due) in
     assumption (All-weaker (λ (x : Level). x.p < tick + 1) (λ x. x.p < now + 1) (λ x h. omega (arith, h, behind)) v.levels.ring is.prepared, before-due ds n now now t s f v.issue v.levels.ring v.levels.plans is.machine is.indicator ahead_.levels before, next-planned (is_open v) ds n rest later t s v planned is.next)
 
--- ---- to the end: the next entry is not prepared before it
+-- ---- to the last tick: the next entry is not prepared before it
 
 going-gone : (ds : List ℕ) (n tick rest now : ℕ) (t : Option ℕ) (s : Machine) (f : IssueState) (v : LookaheadView) → tick ≤ now → now < due_of v.levels.plans
     → now + 1 ≤ rest → (v.next.planned ≡ true → now < v.next.formed.p) → IsGoing ds n tick rest t s f v → IsOutlook ds n now (now + 1) t s f v
@@ -147,7 +147,7 @@ gone-by true ds n since tick last due t s f v e behind soon early is_due waits i
 gone-by false ds n since tick last due t s f v e behind soon early is_due waits is =
     gone-far ds n since tick last due t s f v soon is_due (leb-false due last e) waits is
 
--- where it was not done by then, all ticks up to `last` are passed
+-- if the oldest entry completes after `last`, all ticks up to `last` are passed
 pub gone-on : (o : Option ℕ) (ds : List ℕ) (n since last : ℕ) (t : Option ℕ) (s : Machine) (f : IssueState) (v : LookaheadView) → last < (row_of_entry ds n f (entry t s)).c
     → HasGone ds n since last t s f v o → IsOutlook ds n last (last + 1) t s f v
 gone-on None ds n since last t s f v late h = h
@@ -159,7 +159,7 @@ pub outlook-of : (ds : List ℕ) (n tick now : ℕ) (t : Option ℕ) (s : Machin
     → IsOutlook ds n tick now t s f v
 outlook-of ds n tick now t s f v is = is.outlook
 
--- ---- the oldest entry is done later
+-- ---- the oldest entry completes later
 
 oldest-by : (ds : List ℕ) (n tick now k : ℕ) (t : Option ℕ) (s : Machine) (f : IssueState) (v : LookaheadView) → count v ≡ k → 1 ≤ n → AreDelaysUpTo 255 ds → tick ≤ now
     → IsLookahead ds n tick now t s f v → prepared_before now (ahead ds n n t s f) ≡ ahead ds n (count v) t s f → tick < (row_of_entry ds n f (entry t s)).c

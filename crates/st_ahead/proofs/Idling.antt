@@ -1,4 +1,4 @@
--- Ticks at which nothing happens, passed over at once.
+-- Ticks at which nothing happens are passed at once.
 use Rattle.std.specs.Prelude.{is_none, nat_le, if◌then◌else◌}
 use Rattle.std.proofs.Common.{◌≡◌, ℕ, zero, suc, ◌+◌, ◌<◌, ◌≤◌, Bool, true, false, List, Option, None, Some, refl, sym, subst, ◌∙◌, ap, arith}
 use Rattle.std.proofs.lemmas.Bool.{ne_eqb, cond-false, or_parts}
@@ -20,7 +20,7 @@ pub passed-none : (count : ℕ) (m : Overlap) → ArePassed count 0 m m
 unfolding after_ticks
 passed-none count m = record { each = λ i before. absurd (omega (arith, before)); after = refl }
 
--- ---- a machine between two ticks, of which no interrupt is due and which is not at rest
+-- ---- a machine between two ticks, with no interrupt due and not at rest
 
 module _ (ds : List ℕ) (n : ℕ) (s : Machine) (t : Option ℕ) (f : IssueState) (due : (if is_none t then interrupt s else None) ≡ None) (awake : rests s ≡ false) where
   abbrev hazard_free : ℕ → Overlap
@@ -55,7 +55,7 @@ module _ (ds : List ℕ) (n : ℕ) (s : Machine) (t : Option ℕ) (f : IssueStat
     after = sym (after-idle k now late);
   }
 
--- ---- what idle ticks leave of any machine
+-- ---- any machine after idle ticks
 
 goes-by : (due : Option ℕ) (at_rest : Bool) (behind : Option ℕ) (m : Overlap) → answer_by due at_rest behind m ≡ Goes
     → settled_by due at_rest behind m ≡ machine_after_pass m
@@ -75,6 +75,6 @@ late-ticked m e = cond-false (is_done m) (machine_after_completion m) (record m 
 pub less-than : (a b : ℕ) → nat_le a b ≡ false → b < a
 less-than a b test = grind (arith, nat_tests)
 
--- where no instruction may be done, something always may
+-- if the count is 0, an external event is always possible
 pub zero-comes : (m : Overlap) → may_come_from_outside 0 m.state ≡ false → ⊥
 zero-comes m none = let less = less-than 0 m.state.done (or_parts (nat_le 0 m.state.done) _ none).0 in omega (arith, less)

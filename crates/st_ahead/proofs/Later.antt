@@ -1,4 +1,4 @@
--- The entry that is prepared next is prepared at the tick or later, and what is not asked for yet is wanted then or later.
+-- The next entry is prepared at the tick or later, and its remaining reads are requested then or later.
 use Rattle.std.specs.Prelude.{All, ◌==◌, if◌then◌else◌, IfSome}
 use Rattle.std.proofs.Common.{◌≡◌, ℕ, zero, suc, ◌+◌, ◌<◌, ◌≤◌, ◌||◌, max, Bool, true, false, not, List, [], ◌∷◌, ◌++◌, append_assoc, length, length-append, drop, Option, None, Some, refl, sym, subst, ◌∙◌, ap, ap₂, arith}
 use Rattle.std.proofs.lemmas.Bool.{lt-ltb, le-ltb}
@@ -43,14 +43,14 @@ use Rattle.st_rows.specs.Uses.{reads_of, uses, wishes}
 abbrev none : WordRun
 none = record { first = 0; len = 0 }
 
--- the ticks of rows in their order, and when their reads are wanted
+-- the ticks of rows, and the request ticks of their reads, are in order
 pub record AreOrdered (ds : List ℕ) (n : ℕ) : Type 0 where
   pub alone : (f : IssueState) (e : Entry) → (e.serial || f.serial) ≡ true → f.c < (row_of_entry ds n f e).a
   pub prepared : (f : IssueState) (e : Entry) → (row_of_entry ds n f e).a < (row_of_entry ds n f e).p
   pub fetches : (f : IssueState) (e : Entry) → All (λ (r : Read). wanted_from f ≤ r.want) (fetches_asked ds f e)
   pub behind : (f : IssueState) (e : Entry) → All (λ (r : Read). tick_a ds f e ≤ r.want) (data_of ds n f e)
 
--- the entry e behind the front f, of which so much is asked for
+-- the entry e is prepared at the tick `now` or later, and its remaining reads are requested then or later
 pub record IsLater (ds : List ℕ) (n now : ℕ) (f : IssueState) (e : Entry) (next : FetchUnit) : Type 0 where
   pub rest : List Read
   pub reads : reads_of_entry ds n f e ≡ reads_so_far ds f next ++ rest
@@ -58,7 +58,7 @@ pub record IsLater (ds : List ℕ) (n now : ℕ) (f : IssueState) (e : Entry) (n
   pub prepared : now ≤ (row_of_entry ds n f e).p
 
 module _ (ds : List ℕ) (n now : ℕ) (ordered : AreOrdered ds n) where
-  -- ---- it is planned
+  -- ---- a planned entry
 
   all-fetched : (f : IssueState) (e : Entry) → asked_so_far ds f e.own e.target ≡ fetches_asked ds f e
   unfolding fetches_asked words_asked fetch_words
@@ -84,7 +84,7 @@ module _ (ds : List ℕ) (n now : ℕ) (ordered : AreOrdered ds n) where
         prepared = omega arith;
       }
 
-  -- ---- it is not
+  -- ---- an entry that is not planned
 
   behind-fetches : (f : IssueState) (e : Entry) (next : FetchUnit) (rest : List Read) → next.planned ≡ false
       → fetches_asked ds f e ≡ asked_so_far ds f next.entry.own next.entry.target ++ rest → All (λ (r : Read). now ≤ r.want) rest
@@ -123,7 +123,7 @@ module _ (ds : List ℕ) (n now : ℕ) (ordered : AreOrdered ds n) where
       by-planned true e = planned-later t u f next (is.planned e) e (late e)
       by-planned false e = unplanned-later t u f next is e rests
 
-  -- ---- behind a level that is done alone
+  -- ---- after a serializing level
 
   alone-later : (e : Entry) (f : IssueState) (next : FetchUnit) → next.planned ≡ false → next.entry.own ≡ none → next.entry.target ≡ none
       → f.serial ≡ true → now ≤ f.c → IsLater ds n now f e next
@@ -144,9 +144,9 @@ module _ (ds : List ℕ) (n now : ℕ) (ordered : AreOrdered ds n) where
       wanted_if true e = omega arith
       wanted_if false e = absurd (cc e)
 
--- ---- behind levels
+-- ---- after levels
 
--- the youngest level is not done by the tick
+-- the youngest level does not complete by the tick
 last-done : (tick : ℕ) (f last : IssueState) (plans : List PlannedRow) → All (λ q. tick < q.c) plans
     → All (λ q. (f.c < q.c) × (q.c ≤ last.c)) plans → 1 ≤ length plans → tick < last.c
 last-done tick f last [] late order some = absurd (omega arith)
@@ -209,7 +209,7 @@ levels-reads ds n tick now (suc m) t k s u f last (level ∷ levels) (q ∷ qs) 
     (All-tail (λ (x : Level). x.p < now) level levels each) (table ∙ sym (behind-none (length levels))) state late (omega arith))
     ∙ sym (append_assoc (reads_of_entry ds n f (entry t s)) (asked_ahead ds n (length levels) None (prediction t s) (issue_after_entry ds n f (entry t s))) (reads_of_entry ds n last (entry k u)))
 
--- the oldest level is prepared
+-- the oldest level is prepared before the tick
 oldest-prepared : (ds : List ℕ) (n tick now : ℕ) (t : Option ℕ) (s : Machine) (f last : IssueState) (ring : List Level) (plans : List PlannedRow)
     → AreLevels ds n tick t s f last ring plans → All (λ level. level.p < now) ring → 1 ≤ length ring
     → (row_of_entry ds n f (entry t s)).p < now
@@ -221,7 +221,7 @@ oldest-prepared ds n tick now t s f last (level ∷ levels) (q ∷ qs) h each so
     let is : level.p ≡ (row_of_entry ds n f (entry t s)).p = h.0.p in
     omega arith
 
--- ---- at most 39 reads are accepted at the tick at which the oldest level is done, or later
+-- ---- at most 39 reads are accepted at the completion of the oldest level or later
 
 few-prepared : (ds : List ℕ) (n : ℕ) (f : IssueState) (e : Entry) → IsEntryInTime e → length (prepared_asked ds n f e) ≤ 34
 few-prepared ds n f e range =
@@ -276,7 +276,7 @@ few-next false ds n now t s v is range =
       ap (λ (r : WordRun). r.len) is.2,
     )
 
--- the reads in two parts: behind the first ones the bus is free by then, and the others are few
+-- two parts of the reads: after the first one the bus is free by the tick, and the second one is short
 record AreFew (ds : List ℕ) (now : ℕ) (reads : List Read) (b : Bus) : Type 0 where
   first : List Read
   rest : List Read
@@ -360,7 +360,7 @@ banks-left ds n tick now t s f v ordered are soon few some is order free range =
     (few_are_undone ds now split.first split.rest f.bus older split.few split.free early)))
     ∙ ap (λ (b : Bus). answers_left now v.log b.banks.ticks) (bus-ahead ds n tick now t s f v is.next is.ahead)
 
--- what is asked for before the tick is answered soon
+-- reads that are accepted before the tick are answered soon after it
 pub made-soon : (most now : ℕ) (ds : List ℕ) (reads : List Read) (b : Bus) → AreDelaysUpTo most ds → IsNear most b → b.free ≤ now
     → All (λ x. x ≤ now + most) (made_before ds now reads b).banks.ticks
 made-soon most now ds reads b are near free =

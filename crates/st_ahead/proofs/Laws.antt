@@ -1,4 +1,4 @@
--- What the next entry is known by, while it is not there yet, proved.
+-- Proofs of the laws of the look-ahead.
 use Rattle.std.proofs.Common.{◌<◌, ◌≤◌, ◌+◌, arith, sym, ◌∙◌, ◌≡◌, true, ℕ, Bool, subst, None, List, All}
 use Rattle.std.proofs.lemmas.List.Elements.{All-weaker}
 use Rattle.st_ring.specs.declared.plans.PlannedRow.{PlannedRow}

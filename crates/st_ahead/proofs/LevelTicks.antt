@@ -1,4 +1,4 @@
--- Levels at a tick: which of them are done, how many there are, and how late the front behind them is.
+-- Levels at a tick: which of them are completed, how many there are, and C of the issue state after them.
 use Rattle.std.proofs.Common.{◌≡◌, ℕ, zero, suc, ◌+◌, ◌*◌, ◌<◌, ◌≤◌, List, [], ◌∷◌, length, Option, None, refl, sym, ◌∙◌, ap, arith}
 use Rattle.std.specs.Prelude.{All, IfSome}
 use Rattle.std.proofs.lemmas.List.Elements.{All-nil, All-cons, All-head, All-tail}
@@ -26,7 +26,7 @@ module _ (ds : List ℕ) (n : ℕ) where
   unfolding row_of_entry tick_c
   done-later t s f m some = omega (arith, (entry-ranges t s m some).costs.0)
 
-  -- ---- the front behind several
+  -- ---- the issue state after several entries
 
   behind-later : (k : ℕ) (t : Option ℕ) (s : Machine) (f : IssueState) → IsMachine s → IfSome t (λ i. i < 64)
       → f.c + k ≤ (issue_behind ds n k t s f).c
@@ -78,7 +78,7 @@ module _ (ds : List ℕ) (n : ℕ) where
   same-place (suc j) (suc k) t s f m some same =
       ap suc (same-place j k None (prediction t s) (issue_after_entry ds n f (entry t s)) (prediction-machine t s m some) tt same)
 
-  -- ---- levels between two fronts, whatever operands they have
+  -- ---- levels between two issue states, with any operands
 
   module _ (a b : ℕ) where
     pub same-count : (t : Option ℕ) (s : Machine) (f last : IssueState) (ring more : List Level) (plans rows : List PlannedRow) → IsMachine s
@@ -104,7 +104,7 @@ module _ (ds : List ℕ) (n : ℕ) where
         (prepared-still now None (prediction t s) (issue_after_entry ds n f (entry t s)) last ls xs qs rs g.1 h.1 (omega (arith, same))
         (All-tail (λ (level : Level). level.p < now) l ls each))
 
-  -- ---- where the first of them is done later, all are
+  -- ---- if the first level completes later, all do
 
   pub done-after : (tick now : ℕ) (t : Option ℕ) (s : Machine) (f last : IssueState) (ring : List Level) (plans : List PlannedRow) → IsMachine s
       → IfSome t (λ i. i < 64) → AreLevels ds n tick t s f last ring plans → now < (row_of_entry ds n f (entry t s)).c → All (λ q. now < q.c) plans

@@ -1,4 +1,4 @@
--- Rows of the entries that are done in ticks, and rows that wait.
+-- The rows of entries that complete in some ticks, and the queue of rows.
 use Rattle.std.specs.Prelude.{take, drop, nat_eq, if◌then◌else◌}
 use Rattle.std.proofs.Common.{◌≡◌, ℕ, zero, suc, ◌+◌, ◌-◌, ◌≤◌, Bool, true, false, List, [], ◌∷◌, ◌++◌, length, inl, inr, refl, sym, ◌∙◌, ap, arith, append_assoc, length-drop, length-append}
 use Rattle.std.proofs.lemmas.Bool.{cases_eq, eq-eqb, ne_eqb}
@@ -10,7 +10,7 @@ use Rattle.st_ahead.specs.RowsDone.{Queue, queue_with, rows_in_ticks}
 use Rattle.st_ahead.specs.declared.events.Row.{Row}
 use Rattle.st_ahead.proofs.Idling.{zero-comes}
 
--- ---- rows that wait
+-- ---- the queue
 
 take-both : (n : ℕ) (xs ys : List Row) → take n (xs ++ ys) ≡ take n xs ++ take (n - length xs) ys
 take-both zero xs ys = let none : 0 - length xs ≡ 0 = omega arith in sym (ap (λ k. take k ys) none)
@@ -38,7 +38,7 @@ queue-none q =
     let room : q.room - 0 ≡ q.room = omega arith in
     rw (rows, room) refl
 
--- none waits where as many were taken as there were
+-- the queue is empty if as many rows were taken as were put
 pub none-left : (first end : ℕ) (slots rows : List Row) → first ≤ end → end ≤ length slots → drop first (take end slots) ≡ rows
     → nat_eq first end ≡ nat_eq (length rows) 0
 none-left first end slots rows order within are =
@@ -68,7 +68,7 @@ none-done m is = by (is_done m) refl
     by true done = absurd (zero-comes (machine_after_tick m) (is.nothing done))
     by false late = refl
 
--- none where no entry is done
+-- without a completion there is no row
 pub rows-none : (k : ℕ) (m new : Overlap) → ArePassed 0 k m new → rows_in_ticks k m ≡ []
 unfolding after_ticks rows_in_ticks
 rows-none zero m new are = refl
@@ -97,7 +97,7 @@ pub no-rows : (m : Overlap) → rows_in_ticks 0 m ≡ []
 unfolding rows_in_ticks
 no-rows m = refl
 
--- where there is no room
+-- there is no room
 pub queue-shut : (xs : List Row) (q : Queue) → q.room ≡ 0 → queue_with xs q ≡ q
 queue-shut xs q shut =
     let none : take q.room xs ≡ [] = ap {A = ℕ} (λ k. take k xs) shut in
@@ -105,7 +105,7 @@ queue-shut xs q shut =
     let room : q.room - length xs ≡ q.room = omega (arith, shut) in
     rw (rows, room) refl
 
--- where there is room for all
+-- there is room for all rows
 pub queue-all : (xs : List Row) (q : Queue) → length xs ≤ q.room → queue_with xs q ≡ record { rows = q.rows ++ xs; room = q.room - length xs }
 queue-all xs q few = rw (take-few xs q.room few) refl
   where

@@ -1,4 +1,4 @@
--- Where the next entry can be known, no level is done alone.
+-- If the next entry can be known, no level is serializing.
 use Rattle.std.specs.Prelude.{true, false, not}
 use Rattle.std.proofs.Common.{◌≡◌, ℕ, ◌≤◌, ◌||◌, ◌==◌, List, [], ◌∷◌, length, Option, sym, ◌∙◌, ap, arith}
 use Rattle.std.proofs.lemmas.Bool.{not-true}
@@ -12,7 +12,7 @@ use Rattle.st_segment.specs.Alone.{RunAhead}
 use Rattle.st_ring.specs.Levels.{AreLevels}
 use Rattle.st_ring.specs.declared.plans.PlannedRow.{PlannedRow}
 
--- of one level the front behind it tells whether it is done alone
+-- the issue state after a single level says whether the level is serializing
 one-level : (ds : List ℕ) (n tick : ℕ) (t : Option ℕ) (s : Machine) (f last : IssueState) (level : Level) (plans : List PlannedRow)
     → AreLevels ds n tick t s f last (level ∷ []) plans → last.serial ≡ false → (plan s t).serial ≡ false
 unfolding AreLevels issue_after_entry entry
@@ -20,7 +20,7 @@ one-level ds n tick t s f last level [] h alone = absurd h
 one-level ds n tick t s f last level (q ∷ []) h alone = sym (ap (λ (g : IssueState). g.serial) h.1) ∙ alone
 one-level ds n tick t s f last level (q ∷ r ∷ qs) h alone = absurd h.1
 
--- several levels run ahead, and one does where the front behind it says so
+-- several levels are not serializing; a single one is not if the issue state after it says so
 pub levels-run : (ds : List ℕ) (n tick : ℕ) (t : Option ℕ) (s : Machine) (f last : IssueState) (ring : List Level) (plans : List PlannedRow)
     → AreLevels ds n tick t s f last ring plans → ((length ring == 0) || not last.serial) ≡ true
     → (2 ≤ length ring → RunAhead (length ring) t s) → RunAhead (length ring) t s

@@ -1,4 +1,4 @@
--- At the opening of a segment nothing runs ahead.
+-- The opening of a segment is a look-ahead without levels.
 use Rattle.std.specs.Prelude.{All, if◌then◌else◌, Bool, true, false}
 use Rattle.std.proofs.Common.{◌≡◌, ℕ, ◌+◌, ◌<◌, ◌≤◌, max, List, [], inl, Option, IfSome, refl, sym, subst, ◌∙◌, ap, arith}
 use Rattle.std.proofs.lemmas.List.{append-nil}
@@ -35,7 +35,7 @@ use Rattle.st_rows.specs.Uses.{behind, reads_of, uses, wishes}
 abbrev none : WordRun
 none = record { first = 0; len = 0 }
 
--- ---- the front
+-- ---- the issue state
 
 opening-near : (start : ℕ) (banks : LastAnswers) → All (λ b. b ≤ start + 255) banks.ticks → IsNear 255 (opening_issue banks start).bus
 opening-near start banks early = record {
@@ -82,7 +82,7 @@ no-reads : (ds : List ℕ) (f : IssueState) → asked_so_far ds f none none ≡ 
 unfolding fetches_asked words_asked fetch_words reads_of uses wishes fetch_word
 no-reads ds f = refl
 
--- ---- the entry that is prepared next
+-- ---- the next entry
 
 start-none : (run whole : WordRun) → run ≡ none → IsStart run whole
 start-none run whole e =
@@ -127,7 +127,7 @@ next-none ds n now t s f next place no_own no_target unplanned words late alone 
     wanted_if false e = omega arith
     wanted_if true e = absurd (cc e)
 
--- ---- all of it
+-- ---- the look-ahead
 
 pub opening-lookahead : (ds : List ℕ) (n tick now start : ℕ) (t : Option ℕ) (s : Machine) (banks : LastAnswers) (v : LookaheadView)
     → IsOpened t s (opening_issue banks start) v → IsMachine s → IfSome t (λ i. i < 64)

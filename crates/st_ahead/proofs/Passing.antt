@@ -1,4 +1,4 @@
--- Ticks that are passed, and entries that are done at some of them.
+-- Passed ticks, with completions at some of them.
 use Rattle.std.specs.Prelude.{nat_le, nat_lt}
 use Rattle.std.proofs.Common.{◌≡◌, ℕ, zero, suc, ◌+◌, ◌-◌, ◌<◌, ◌≤◌, ◌^◌, if◌then◌else◌, Bool, true, false, None, refl, sym, subst, ◌∙◌, ap, arith}
 use Rattle.std.proofs.lemmas.Bool.Decides.{nat_tests}
@@ -10,7 +10,7 @@ use Rattle.st_ahead.specs.RunTo.{after_ticks, may_come_from_outside, IsPassed, A
 use Rattle.st_ahead.specs.declared.events.Settled.TheVariants.{Goes}
 use Rattle.st_ahead.proofs.Idling.{less-than, zero-comes, goes-passed, late-ticked}
 
--- ---- ticks behind ticks
+-- ---- ticks in sequence
 
 after-join : (j k : ℕ) (m : Overlap) → after_ticks (j + k) m ≡ after_ticks k (after_ticks j m)
 unfolding after_ticks
@@ -49,7 +49,7 @@ passed-one count m new is after = record {
   after = after;
 }
 
--- where no entry is done the number of instructions does not count
+-- without a completion the count of instructions does not matter
 pub passed-any : (count k : ℕ) (old new : Overlap) → ArePassed 0 k old new → ArePassed count k old new
 passed-any count k old new are = record {
   each = λ i before. record {
@@ -84,7 +84,7 @@ ticked-now m = by (is_done m)
 few-none : (count : ℕ) (t : Overlap) → count ≤ 2 ^ 63 → may_come_from_outside count t.state ≡ false → t.state.done < 2 ^ 63
 few-none count t few none = omega (arith, less-than count t.state.done (or_parts (nat_le count t.state.done) _ none).0, few)
 
--- what a tick that is passed leaves
+-- the machine after a passed tick
 pub passed-keeps : (count : ℕ) (m : Overlap) → IsPassed count m → count ≤ 2 ^ 63 → m.state.done < 2 ^ 63
     → ((machine_after_settling (machine_after_tick m)).owed ≡ false) × ((machine_after_settling (machine_after_tick m)).now ≡ m.now + 1) × ((machine_after_settling (machine_after_tick m)).state.done < 2 ^ 63)
 passed-keeps count m is few small =
@@ -98,7 +98,7 @@ passed-keeps count m is few small =
     by true done = few-none count (machine_after_tick m) few (is.nothing done)
     by false late = let state = ap (λ (x : Overlap). x.state.done) (late-ticked m late) in omega (arith, state, small)
 
--- each tick that is passed counts
+-- the number of the tick grows by one with each passed tick
 pub passed-now : (k count : ℕ) (m new : Overlap) → ArePassed count k m new → new.now ≡ m.now + k
 unfolding after_ticks
 passed-now zero count m new are = let same = ap (λ (x : Overlap). x.now) are.after in omega (arith, same)

@@ -1,4 +1,4 @@
--- What runs ahead once the next entry is a level.
+-- The look-ahead after the next entry has become a level.
 use Rattle.std.specs.Prelude.{All, if◌then◌else◌, ◌==◌}
 use Rattle.std.proofs.Common.{◌≡◌, ℕ, suc, ◌+◌, ◌<◌, ◌≤◌, ◌||◌, max, Bool, true, false, not, List, [], ◌∷◌, ◌++◌, length, Option, None, refl, sym, subst, ◌∙◌, ap, arith}
 use Rattle.std.proofs.lemmas.List.{append-nil}
@@ -28,7 +28,7 @@ use Rattle.st_ahead.proofs.Further.{bus-ahead, logged-more}
 use Rattle.st_ahead.proofs.Due.{reads-formed}
 use Rattle.st_ahead.proofs.Served.{asked-more}
 
--- ---- the entry behind it
+-- ---- the entry after the new level
 
 place-behind : (k : Option ℕ) (u : Machine) (following : ℕ) → k ≡ None → u.ic ≡ following
     → record { counter = following; address = following; table = None } ≡ place_of u k
@@ -76,7 +76,7 @@ module _ (ds : List ℕ) (n now : ℕ) (t : Option ℕ) (s : Machine) (f : Issue
             new-rests now (table_behind (count w) t) (guesses (count w) t s) w.issue w.next unplanned (omega (arith, from, ticked)),
           )
 
-  -- ---- all of it
+  -- ---- the look-ahead
 
   logged-pushed : IsGoing ds n now (now + 1) t s f v → BecomesLevel ds n now t s f v → v.next.planned ≡ true
       → count w ≡ suc (count v) → reads_so_far ds w.issue w.next ≡ []

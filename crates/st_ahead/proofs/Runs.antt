@@ -1,4 +1,4 @@
--- What runs ahead of a machine makes ticks, and entries are done at some of them.
+-- The look-ahead of a machine that makes ticks, with completions at some of them.
 use Rattle.std.specs.Prelude.{◌-◌}
 use Rattle.std.proofs.Common.{◌≡◌, ℕ, zero, suc, ◌+◌, ◌<◌, ◌≤◌, if◌then◌else◌, Bool, true, false, List, [], ◌∷◌, ◌++◌, Option, None, Some, refl, sym, subst, ◌∙◌, ap, arith, ◌*◌}
 use Rattle.std.specs.Option.{IfSome}
@@ -38,7 +38,7 @@ use Rattle.st_ahead.proofs.Standing.{same-answers, same-row, told}
 use Rattle.st_ring.proofs.OrderLemmas.{after-c}
 use Rattle.st_rows.specs.Ranges.{most_ticks_of_entry}
 
--- ---- an entry is done at a tick
+-- ---- an entry completes at a tick
 
 module _ (ds : List ℕ) (n now : ℕ) (t : Option ℕ) (s : Machine) (f : IssueState) (due : (row_of_entry ds n f (entry t s)).c ≡ now) where
   abbrev before : Overlap
@@ -70,7 +70,7 @@ module _ (ds : List ℕ) (n now : ℕ) (t : Option ℕ) (s : Machine) (f : Issue
           nothing = λ done. ap {A = Overlap} (λ m. may_come_from_outside count m.state) ticked-done ∙ nothing;
         }) (sym next-done)
 
--- what goes on has nothing due, and was not misled
+-- a machine that continues has no interrupt due and no mispredicted branch
 goes-parts : (due behind : Option ℕ) (at_rest : Bool) (m : Overlap) → answer_by due at_rest behind m ≡ Goes
     → (due ≡ None) × (at_rest ≡ false) × (behind ≡ None)
 goes-parts (Some i) behind at_rest m goes = absurd (cc goes)
@@ -90,7 +90,7 @@ stopped-comes ds n count now t s f due stops goes =
     let parts = goes-parts (interrupt_due m) m.mispredicted (rests m.state) m goes_on in
     ap {A = Overlap} (λ m. may_come_from_outside count m.state) same ∙ true_from_ne_false (may_come_from_outside count (state_after_execution t s)) (λ nothing. stops nothing parts.2 parts.0 parts.1)
 
--- ---- ticks at which none is
+-- ---- ticks without a completion
 
 move : (ds : List ℕ) (n count k j now to at : ℕ) (t x : Option ℕ) (s u : Machine) (f g : IssueState) → k ≡ j → to ≡ at
     → ArePassed count k (machine_between_ticks ds n s t f now) (machine_between_ticks ds n u x g to) → ArePassed count j (machine_between_ticks ds n s t f now) (machine_between_ticks ds n u x g at)
@@ -98,8 +98,8 @@ move ds n count k j now to at t x s u f g same there are =
     subst (λ (i : ℕ). ArePassed count j (machine_between_ticks ds n s t f now) (machine_between_ticks ds n u x g i)) there
     (subst (λ (i : ℕ). ArePassed count i (machine_between_ticks ds n s t f now) (machine_between_ticks ds n u x g to)) same are)
 
--- from the tick `now` on all ticks are passed up to a tick, `last` at the latest; v runs ahead of
--- the state u, and k says whether its next entry is a table instruction
+-- from `now` on all ticks are passed up to a tick, not after `last`; v is the look-ahead of the state u, and k says
+-- whether its next entry is a table instruction
 pub record IsRunning (ds : List ℕ) (n count last now : ℕ) (t : Option ℕ) (s : Machine) (f : IssueState)
     (k : Option ℕ) (u : Machine) (v : LookaheadView) : Type 0 where
   pub tick : ℕ
@@ -119,7 +119,7 @@ running-idle ds n count last now to t k s u f v is later soon =
     move ds n count _ _ now _ _ t k s u f is.issue (omega (arith, later, is.behind)) (omega (arith, later))
     (passed-join count (is.tick + 1 - now) (to - (is.tick + 1)) _ _ _ is.passed (passed-any count (to - (is.tick + 1)) _ _ idle))
 
--- no entry is done in them
+-- no entry completes in the passed ticks
 pub rows-idle : (ds : List ℕ) (n count last now to : ℕ) (t k : Option ℕ) (s u : Machine) (f : IssueState) (v : LookaheadView)
     (is : IsRunning ds n count last now t s f k u v) → is.tick < to → to ≤ (row_of_entry ds n is.issue (entry k u)).c
     → rows_in_ticks (is.tick + 1 - now) (machine_between_ticks ds n s t f now) ≡ rows_in_ticks (to - now) (machine_between_ticks ds n s t f now)
@@ -137,7 +137,7 @@ rows-idle ds n count last now to t k s u f v is later soon =
     ∙ append-nil (rows_in_ticks j start) in
     sym all
 
--- ---- it starts
+-- ---- the start
 
 start-by : (ds : List ℕ) (n count now : ℕ) (t : Option ℕ) (s : Machine) (f : IssueState) → IsMachine s → IfSome t (λ i. i < 64) → IsAwake t s
     → ArePassed count (now - 1 + 1 - now) (machine_between_ticks ds n s t f now) (machine_between_ticks ds n s t f (now - 1 + 1))
@@ -159,7 +159,7 @@ running-starts ds n count last now t s f v is = record {
   going = lookahead-runs ds n now t s f v is.lookahead;
 }
 
--- so it runs, and of the entries that are done the rows wait
+-- the ticks are passed, and the rows of the entries that complete in them are queued
 pub record IsNoting (ds : List ℕ) (n count last now : ℕ) (t : Option ℕ) (s : Machine) (f : IssueState) (k : Option ℕ) (u : Machine) (v : LookaheadView)
     (old new : Queue) : Type 0 where
   pub run : IsRunning ds n count last now t s f k u v
@@ -174,7 +174,7 @@ noting-starts ds n count last now t s f v q is = record {
       (sym (rows-none (now - 1 + 1 - now) _ _ (start-by ds n 0 now t s f is.lookahead.outlook.machine is.lookahead.outlook.indicator is.awake)));
 }
 
--- ---- behind an entry that is done it goes on
+-- ---- continuation after a completion
 
 going-done : (ds : List ℕ) (n due : ℕ) (s : Machine) (f : IssueState) (v : LookaheadView) → f.c ≡ due → IsOutlook ds n (due - 1) due None s f v
     → IsGoing ds n due due None s f v
@@ -249,7 +249,7 @@ module _ (ds : List ℕ) (n count last now due : ℕ) (t k : Option ℕ) (s u x 
       ∙ ap {A = List Row} (λ xs. xs ++ row ∷ []) (sym (rows-idle ds n count last now due t k s u f v is at.later (omega (arith, at.row_is)))) in
       sym all
 
-  -- its row waits
+  -- the row of the completed entry is queued
   pub noted-on : (old mid : Queue) → mid ≡ queue_with (rows_in_ticks (is.tick + 1 - now) start) old
       → queue_with (row ∷ []) mid ≡ queue_with (rows_in_ticks (due + 1 - now) start) old
   noted-on old mid noted =
@@ -274,7 +274,7 @@ module _ (ds : List ℕ) (n count last now due : ℕ) (t k : Option ℕ) (s u x 
         ∙ noted-on ds n count last now due t k s u x f v w new done is.run at told_of counted old mid is.noted;
   }
 
--- ---- it ends
+-- ---- the end
 
 pub running-ends : (ds : List ℕ) (n count last now : ℕ) (t k : Option ℕ) (s u : Machine) (f : IssueState) (v w : LookaheadView)
     (is : IsRunning ds n count last now t s f k u v) → last < (row_of_entry ds n is.issue (entry k u)).c → IsLookahead ds n last (last + 1) k u is.issue w
@@ -286,7 +286,7 @@ running-ends ds n count last now t k s u f v w is late lookahead = record {
   lookahead = lookahead;
 }
 
--- the answers of the banks at the end of a segment
+-- the last answers of the banks at the end of a segment
 pub banks-between : (ds : List ℕ) (n now : ℕ) (t : Option ℕ) (s : Machine) (f : IssueState) (v : LookaheadView)
     → (made_before ds now (reads_of_entry ds n f (entry t s) ++ reads_before ds n now (ahead ds n (suc n) None (prediction t s) (issue_after_entry ds n f (entry t s)))) f.bus).banks.ticks
     ≡ (answers_before now v).ticks

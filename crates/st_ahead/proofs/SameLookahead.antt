@@ -1,4 +1,4 @@
--- States that differ in their indicators and orders alone have the same entries ahead of them.
+-- States that differ only in indicators and orders have equal entries in flight.
 use Rattle.std.proofs.Common.{◌≡◌, ℕ, zero, suc, ◌<◌, ◌≤◌, Bool, true, false, List, ◌++◌, ◌⊎◌, Option, None, refl, sym, subst, ◌∙◌, ap, arith}
 use Rattle.std.proofs.lemmas.List.Elements.{All-weaker}
 use Rattle.st_state.specs.Machine.{Machine, IsMachine}
@@ -27,7 +27,7 @@ use Rattle.st_next.specs.Progress.{IsNext, IsPlanned, preparation_without_side, 
 use Rattle.st_next.specs.declared.fetch_unit.FetchUnit.{FetchUnit}
 use Rattle.st_ahead.specs.Forecast.{LookaheadView, IsLookahead, IsOpened, IsNextIf, asked_ahead, count, is_open}
 
--- ---- guesses
+-- ---- predictions
 
 pub prediction-same : (s u : Machine) → IsMachine s → AreAlikeBesideOrders s u → (plan s None).serial ≡ false
     → AreAlikeBesideOrders (prediction None s) (prediction None u)
@@ -47,7 +47,7 @@ module _ (ds : List ℕ) (n : ℕ) where
       ∙ ap (λ reads. reads_of_entry ds n f (entry None s) ++ reads)
       (asked-same k (prediction None s) (prediction None u) (issue_after_entry ds n f (entry None s)) (prediction-machine None s m tt) (prediction-same s u m beside run.0) run.1)
 
-  -- ---- the entry that is prepared next
+  -- ---- the next entry
 
   planned-same : (t : Option ℕ) (s u : Machine) (f : IssueState) (next : FetchUnit) → AreAlikeBesideOrders s u
       → IsPlanned ds n t s f next → IsPlanned ds n t u f next
@@ -92,7 +92,7 @@ module _ (ds : List ℕ) (n : ℕ) where
   )
   next-if_same false now s u v beside is = is
 
--- ---- all of it
+-- ---- the look-ahead
 
 pub lookahead-same : (ds : List ℕ) (n tick now : ℕ) (s u : Machine) (f : IssueState) (v : LookaheadView) → RunAhead (count v) None s
     → IsLookahead ds n tick now None s f v → IsMachine u → AreAlikeBesideOrders s u → IsLookahead ds n tick now None u f v
@@ -118,7 +118,7 @@ lookahead-same ds n tick now s u f v run is m beside =
       full = full-same ds n tick s u f v.levels.ring is.outlook.machine beside run is.full;
     }
 
--- behind the entry before that is done at the tick, no level that is not done by then is done alone
+-- if the previous entry completes at the tick, no uncompleted level is serializing
 pub lookahead-ahead : (ds : List ℕ) (n tick now : ℕ) → ((f : IssueState) (e : Entry) → AwaitsLast ds n f e)
     → (t : Option ℕ) (s : Machine) (f : IssueState) (v : LookaheadView) → IsLookahead ds n tick now t s f v → AreNotDone now v.levels
     → now ≤ f.c → RunAhead (count v) t s
@@ -131,7 +131,7 @@ lookahead-ahead ds n tick now awaits t s f v is late done = by-count (count v) r
         (behind-ahead ds n tick now awaits t s f v.issue v.levels.ring v.levels.plans is.outlook.ahead.levels is.outlook.prepared
         (All-weaker (λ (q : PlannedRow). now < q.c) (λ (q : PlannedRow). now ≤ q.c) (λ q h. omega arith) v.levels.plans late) done (omega arith)).1
 
--- an opening stands in both
+-- an opening is one for both states
 pub opened-same : (t : Option ℕ) (s u : Machine) (f : IssueState) (v : LookaheadView) → IsOpened t s f v → AreAlikeBesideOrders s u
     → IsOpened t u f v
 opened-same t s u f v is beside = assumption (is.index ∙ sym (same-index s u beside), is.place ∙ sym (same-place s u t beside))

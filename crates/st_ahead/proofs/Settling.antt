@@ -1,4 +1,4 @@
--- What a machine keeps when a tick is settled.
+-- The invariant of a machine when a tick is settled.
 use Rattle.std.specs.Prelude.{All, IsSome, is_none, is_some, ◌&&◌, if◌then◌else◌, IfSome}
 use Rattle.std.proofs.Common.{◌≡◌, ℕ, ◌+◌, ◌-◌, ◌<◌, ◌≤◌, ◌^◌, ◌||◌, not, Bool, true, false, List, length, Option, None, Some, refl, sym, subst, ◌∙◌, ap, arith, ◌*◌}
 use Rattle.std.proofs.lemmas.List.Elements.{All-weaker, All-replicate}
@@ -28,7 +28,7 @@ use Rattle.st_ahead.proofs.Further.{next-sooner}
 use Rattle.st_ahead.proofs.Standing.{opened-answers, opened-issue, same-fields, inside-fresh, inside-between}
 use Rattle.st_rows.specs.Ranges.{most_ticks_of_entry}
 
--- ---- what is due where no entry was done
+-- ---- nothing is due if no entry completed
 
 pub quiet-inside : (halt : Bool) (n : ℕ) (ds : List ℕ) (s : Machine) (t b : Option ℕ) (now : ℕ) (owed over fresh : Bool) (v : LookaheadView)
     → IsInside (overlap_of n ds s t b now owed over halt fresh v) fresh v → (overlap_of n ds s t b now owed over halt fresh v).closing ≡ None
@@ -43,7 +43,7 @@ counted-index (Some h) s = refl
 
 -- ---- the end of a segment
 
--- what the end of a segment leaves
+-- the fields after the end of a segment
 pub record IsEnded (m e : Overlap) : Type 0 where
   pub state : e.state ≡ m.state
   pub taken : e.taken ≡ m.taken
@@ -82,7 +82,7 @@ due-none (Some j) p i e = absurd (cc e)
 pub due-taken : (m : Overlap) (i : ℕ) → interrupt_due m ≡ Some i → (m.taken ≡ None) × (interrupt m.state ≡ Some i)
 due-taken m i e = due-none m.taken (interrupt m.state) i e
 
--- ---- answers
+-- ---- decisions
 
 pub answer-interrupt : (m e : Overlap) (i d : ℕ) → e.state ≡ m.state → d ≡ drop_count m → interrupt_due m ≡ Some i
     → Interrupt i e.state.done e.state.ic d ≡ answer m
@@ -129,7 +129,7 @@ pub settled-goes : (m x : Overlap) → interrupt_due m ≡ None → rests m.stat
 unfolding machine_after_settling
 settled-goes m x due goes right is = rw (due, goes, right) is
 
--- ---- the levels that are dropped
+-- ---- the flushed levels
 
 pub levels-counted : (halt : Bool) (n : ℕ) (ds : List ℕ) (s : Machine) (t b : Option ℕ) (now : ℕ) (fresh : Bool) (v : LookaheadView)
     → prepared_before now (ahead ds n n t (with_counter b s) (oldest_issue v.levels.plans v.issue)) ≡ ahead ds n (count v) t (with_counter b s) (oldest_issue v.levels.plans v.issue)
@@ -168,7 +168,7 @@ end-hazard_free halt n ds s b now v w is m most levels opened early =
       same-fields halt ds n s s None b b _ _ now true true _ _ refl refl (issue ∙ ap (λ k. opening_issue (answers_before now v) (now + 1 + k)) (sym levels)) (ap Some banks),
     )
 
--- where the segment has ended already
+-- the segment has already ended
 pub end-again : (halt : Bool) (n : ℕ) (ds : List ℕ) (s : Machine) (t b : Option ℕ) (now : ℕ) (owed over fresh : Bool) (v : LookaheadView) → over ≡ true
     → (0 ≡ drop_count (overlap_of n ds s t b now owed over halt fresh v))
     × (overlap_of n ds s t b now owed over halt fresh v ≡ machine_after_segment (overlap_of n ds s t b now owed over halt fresh v))
@@ -193,7 +193,7 @@ end-first halt n ds s (Some i) b now true false true v w is m owes ends done mos
 end-first halt n ds s None b now true false true v w is m owes ends done most levels opened early =
     end-hazard_free halt n ds s b now v w is m most (levels-counted halt n ds s None b now true v (levels is.lookahead)) (opened is.lookahead) early
 
--- where no entry was done at the tick
+-- no entry completed at the tick
 given-hazard_free : (halt : Bool) (n : ℕ) (ds : List ℕ) (s : Machine) (t b : Option ℕ) (now : ℕ) (v w : LookaheadView)
     → IsInside (overlap_of n ds s t b now true false halt false v) false v → IsMachine s → count v ≤ n
     → length (levels_of (overlap_of n ds s t b now true false halt false v)) ≡ count v
@@ -248,13 +248,13 @@ given-up halt n ds s t b now true false true v w is m owes ends none most levels
 given-up halt n ds s t b now true false false v w is m owes ends none most levels opened =
     given-hazard_free halt n ds s t b now v w is m most (levels-counted halt n ds s t b now false v (levels is.lookahead)) (opened is.lookahead)
 
--- what it asks for: the number of the tick, and the indicator that was taken, are within their ranges
+-- the number of the tick and the indicator of the interrupt are in their ranges
 pub giving-up : (halt : Bool) (n : ℕ) (ds : List ℕ) (s : Machine) (t b : Option ℕ) (now : ℕ) (owed over fresh : Bool) (v : LookaheadView)
     → IsInside (overlap_of n ds s t b now owed over halt fresh v) fresh v → owed ≡ true → (now < 2 ^ 63) × IfSome t (λ i. i < 64)
 giving-up halt n ds s t b now false over fresh v is owes = absurd (cc owes)
 giving-up halt n ds s t b now true over fresh v is owes = (is.in_time, is.indicator)
 
--- what the end of one asks for
+-- the premises of the end of a segment
 pub record IsEnding (n : ℕ) (ds : List ℕ) (s : Machine) (t b : Option ℕ) (now : ℕ) (v : LookaheadView) : Type 0 where
   pub lookahead : IsLookahead ds n now now t (with_counter b s) (oldest_issue v.levels.plans v.issue) v
   pub done : (oldest_issue v.levels.plans v.issue).c ≡ now
@@ -367,7 +367,7 @@ interrupt-taken halt n ds s None b now owed over fresh v w i none is off owes en
     subst P (sym (there ∙ ap (λ p. record v { next = record v.next { place = p } }) at))
     (interrupt-inside halt n ds s b now owed over fresh v i is off owes ends few due)
 
--- ---- what runs ahead goes on
+-- ---- the look-ahead advances
 
 pub lookahead-goes : (ds : List ℕ) (n now : ℕ) (t : Option ℕ) (s : Machine) (f : IssueState) (v : LookaheadView) → IsLookahead ds n now now t s f v
     → IsGoing ds n now now t s f v
@@ -377,7 +377,7 @@ lookahead-goes ds n now t s f v lookahead =
     let early : v.issue.c ≤ (now + 1) + 9 + most_ticks_of_entry * count v = omega (arith, is.early) in
     assumption (All-weaker (λ (level : Level). level.p < now) (λ level. level.p < now + 1) (λ level h. omega arith) v.levels.ring is.prepared)
 
--- the same before a tick that is not made
+-- the look-ahead before a tick that is not made
 pub lookahead-runs : (ds : List ℕ) (n now : ℕ) (t : Option ℕ) (s : Machine) (f : IssueState) (v : LookaheadView) → IsLookahead ds n (now - 1) now t s f v
     → IsGoing ds n (now - 1) (now - 1) t s f v
 lookahead-runs ds n now t s f v lookahead =
@@ -412,17 +412,17 @@ go-inside halt n ds s t None now true false fresh v w is off owes ends right due
   same-fields halt ds n s s t None None _ _ (now + 1) false false None None refl refl issue refl,
 )
 
--- where no entry was done at a tick, nothing closes at it
+-- if no entry completed at a tick, there are no answers for the end of the segment
 pub not-fresh : (fresh : Bool) (banks : LastAnswers) → fresh ≡ false → (if fresh then Some banks else None) ≡ None
 not-fresh true banks stale = absurd (cc stale)
 not-fresh false banks stale = refl
 
--- and where one was, there is what the banks are left with
+-- if an entry completed at a tick, there are answers for the end of the segment
 pub fresh-some : (fresh : Bool) (banks : LastAnswers) → fresh ≡ true → IsSome (if fresh then Some banks else None)
 fresh-some true banks done = refl
 fresh-some false banks done = absurd (cc done)
 
--- whether it goes on, by three tests
+-- three tests say whether the machine continues
 both-none : (b d : Option ℕ) → (is_some b || is_some d) ≡ false → (d ≡ None) × (b ≡ None)
 both-none (Some h) d none = absurd (cc none)
 both-none None (Some i) none = absurd (cc none)

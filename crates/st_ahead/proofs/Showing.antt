@@ -1,4 +1,4 @@
--- What is shown of a machine, and lent.
+-- The view of a machine, and its lent parts.
 use Rattle.std.specs.Prelude.{if◌then◌else◌, ◌-◌}
 use Rattle.std.specs.List.{AllZip}
 use Rattle.std.proofs.Common.{◌≡◌, ℕ, ◌+◌, ◌≤◌, Bool, true, false, List, [], ◌∷◌, length, Option, None, sym, subst, ◌∙◌, ap, arith}
@@ -20,9 +20,9 @@ use Rattle.st_ahead.specs.Inside.{answers_before, overlap_of, IsBetween, IsInsid
 use Rattle.st_ahead.proofs.Openings.{opening-lookahead}
 use Rattle.st_ahead.proofs.Standing.{opened-issue}
 
--- ---- what runs ahead, at each moment
+-- ---- the look-ahead, at each moment
 
--- it is there also where a segment has ended
+-- the look-ahead exists also after the end of a segment
 pub lookahead-inside : (halt : Bool) (n : ℕ) (ds : List ℕ) (s : Machine) (t b : Option ℕ) (now : ℕ) (owed over fresh : Bool) (v : LookaheadView)
     → IsInside (overlap_of n ds s t b now owed over halt fresh v) fresh v
     → IsLookahead ds n (last_tick_made (overlap_of n ds s t b now owed over halt fresh v)) now t (state_ahead (overlap_of n ds s t b now owed over halt fresh v)) (oldest_issue v.levels.plans v.issue) v
@@ -52,7 +52,7 @@ levels-zip ds n tick t s f last (level ∷ levels) (q ∷ qs) is full = (
   levels-zip ds n tick None (prediction t s) (issue_after_entry ds n f (entry t s)) last levels qs is.1 full.1,
 )
 
--- the levels are those that a machine stands for
+-- the levels are those of the abstract state
 pub record IsShowing (m : Overlap) (v : LookaheadView) : Type 0 where
   pub lookahead : IsLookahead m.delays m.levels (last_tick_made m) m.now m.taken (state_ahead m) m.issue v
   pub levels : levels_of m ≡ ahead m.delays m.levels (count v) m.taken (state_ahead m) m.issue

@@ -1,4 +1,4 @@
--- What a machine keeps when a signal comes, or an order takes effect.
+-- The invariant of a machine when a signal comes, or an order takes effect.
 use Rattle.std.specs.Prelude.{IsSome, is_none, if◌then◌else◌}
 use Rattle.std.proofs.Common.{◌≡◌, ◌⊎◌, inl, inr, ℕ, ◌-◌, Bool, true, false, List, Option, None, Some, refl, sym, subst, ◌∙◌, arith}
 use Rattle.std.proofs.lemmas.Bool.{and_left}
@@ -15,7 +15,7 @@ use Rattle.st_ahead.specs.Inside.{answers_before, overlap_of, IsBetween, IsInsid
 use Rattle.st_ahead.proofs.SameLookahead.{opened-same}
 use Rattle.st_ahead.proofs.Standing.{off-if, inside-fresh}
 
--- ---- the counter of a guess
+-- ---- the predicted counter
 
 pub counted-alike : (c : Option ℕ) (s u : Machine) → AreAlikeBesideOrders s u → AreAlikeBesideOrders (with_counter c s) (with_counter c u)
 counted-alike None s u is = is
@@ -25,7 +25,7 @@ counted-machine : (c : Option ℕ) (s u : Machine) → IsMachine (with_counter c
 counted-machine None s u was is = is
 counted-machine (Some h) s u was is = assumption
 
--- ---- all of it
+-- ---- the whole invariant
 
 abbrev LooksAhead : List ℕ → ℕ → ℕ → LookaheadView → Type 0
 LooksAhead ds n now v = (x y : Machine) (f : IssueState) → IsLookahead ds n now now None x f v → AreNotDone now v.levels → f.c ≡ now

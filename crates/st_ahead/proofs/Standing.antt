@@ -1,4 +1,4 @@
--- What a machine keeps, from one of its moments to the next.
+-- The invariant of a machine, from one moment to the next.
 use Rattle.std.specs.Prelude.{All, is_none, replicate, if◌then◌else◌, IfSome}
 use Rattle.std.proofs.Common.{◌≡◌, ℕ, ◌+◌, ◌-◌, ◌<◌, ◌≤◌, ◌^◌, zero, suc, Bool, true, false, List, [], ◌∷◌, ◌++◌, length, Option, None, Some, refl, sym, subst, ◌∙◌, ap, arith}
 use Rattle.std.proofs.lemmas.Bool.{eq-eqb, ne_eqb, and_left, cond-true, cond-false}
@@ -35,7 +35,7 @@ pub off-if : (b : Bool) (x : Option ℕ) → b ≡ false → (if b then x else N
 off-if false x e = refl
 off-if true x e = absurd (cc e)
 
--- ---- machines that agree
+-- ---- equal machines
 
 abbrev pub overlap : Bool → List ℕ → ℕ → Machine → Option ℕ → Option ℕ → IssueState → ℕ → Bool → Bool → Option LastAnswers → Overlap
 overlap halt ds n s t b f now owed ended closing = record {
@@ -56,28 +56,28 @@ pub same-fields : (halt : Bool) (ds : List ℕ) (n : ℕ) (s u : Machine) (t : O
     → s ≡ u → b ≡ c → f ≡ g → x ≡ y → overlap halt ds n s t b f now owed ended x ≡ overlap halt ds n u t c g now owed ended y
 same-fields halt ds n s u t b c f g now owed ended x y state behind issue closing = rw (state, behind, issue, closing) refl
 
--- a row that is told
+-- a row
 abbrev pub told : ℕ → ℕ → ℕ → ℕ → ℕ → Row
 told number address p r c = record { number = number; address = address; p = p; r = r; c = c }
 
--- ---- fronts
+-- ---- issue states
 
 pub opened-issue : (t : Option ℕ) (s : Machine) (f : IssueState) (v : LookaheadView) → IsOpened t s f v → oldest_issue v.levels.plans v.issue ≡ f
 opened-issue t s f v is = subst (λ (plans : List PlannedRow). oldest_issue plans v.issue ≡ f) (sym is.plans) is.issue
 
--- the answers of the banks by the log and the bus
+-- the log and the bus determine the last answers of the banks
 pub answers-same : (now : ℕ) (v w : LookaheadView) → w.log ≡ v.log → w.next.words ≡ v.next.words → answers_before now w ≡ answers_before now v
 answers-same now v w log words = rw (log, words) refl
 
--- at an opening nothing is to be taken back
+-- at an opening there is no read to undo
 pub opened-answers : (now : ℕ) (t : Option ℕ) (s : Machine) (banks : LastAnswers) (start : ℕ) (v : LookaheadView) → IsOpened t s (opening_issue banks start) v
     → answers_before now v ≡ banks
 unfolding answers_left
 opened-answers now t s banks start v is = rw (is.log, is.next.3) refl
 
--- ---- a machine and what runs ahead of it
+-- ---- a machine and its look-ahead
 
--- where an entry was done at a tick that is not settled
+-- after a completion, with the decision owed
 pub inside-fresh : (halt over : Bool) (n : ℕ) (ds : List ℕ) (s : Machine) (b : Option ℕ) (now : ℕ) (v : LookaheadView) → 1 ≤ n → n ≤ 8 → now < 2 ^ 63
     → IsLookaheadOf over (overlap_of n ds s None b now true over halt true v) v → (over ≡ false → (oldest_issue v.levels.plans v.issue).c ≡ now)
     → All (λ x. x ≤ now + 255) (answers_before now v).ticks → IsInside (overlap_of n ds s None b now true over halt true v) true v
@@ -93,7 +93,7 @@ inside-fresh halt over n ds s b now v some few early lookahead done near = recor
   unstarted = λ e. absurd (cc e);
 }
 
--- between two ticks, behind the first
+-- between two ticks, after the first one
 pub inside-between : (halt : Bool) (n : ℕ) (ds : List ℕ) (s : Machine) (t : Option ℕ) (now : ℕ) (v : LookaheadView) → 1 ≤ n → n ≤ 8 → halt ≡ false → now < 2 ^ 63
     → IsLookahead ds n now (now + 1) t s (oldest_issue v.levels.plans v.issue) v → IfSome t (λ i. i < 64)
     → interrupt_due (overlap_of n ds s t None (now + 1) false false halt false v) ≡ None → rests s ≡ false
@@ -137,7 +137,7 @@ started-inside n ds s v some few m enabled waiting is =
 
 -- ---- between two ticks
 
--- where nothing is owed
+-- the fields without a decision owed
 pub record IsIdle (n : ℕ) (ds : List ℕ) (s : Machine) (t b : Option ℕ) (now : ℕ) (over done : Bool) (v : LookaheadView) : Type 0 where
   pub ended : over ≡ false
   pub fresh : done ≡ false
@@ -159,7 +159,7 @@ idle halt n ds s t b now false false false v is e =
       lookahead = subst (λ (c : Option ℕ). IsLookahead ds n (now - 1) now t (with_counter c s) (oldest_issue v.levels.plans v.issue) v) behind is.lookahead;
     }
 
--- a level was prepared at a tick before
+-- a level was prepared at an earlier tick
 pub not-first : (now : ℕ) (ring : List Level) → All (λ level. level.p < now) ring → 1 ≤ length ring → now ≡ now - 1 + 1
 not-first now [] each some = absurd (omega (arith, some))
 not-first now (level ∷ levels) each some = let early : level.p < now = All-head (λ (l : Level). l.p < now) level levels each in omega (arith, early)
@@ -212,7 +212,7 @@ passed-tick halt n ds s u t b now false false true v w is e early by issue = abs
 passed-tick halt n ds s u t (Some h) now false false false v w is e early by issue = absurd (cc ((is.quiet refl).2))
 passed-tick halt n ds s u t None now false false false v w is e early by issue = passed-hazard_free halt n ds s u t now v w is early by issue
 
--- what runs ahead goes on by the guess
+-- the entries in flight follow the predicted counter
 pub prediction-seen : (t : Option ℕ) (s u : Machine) (b : Bool) (mispredicted : Option ℕ) → is_mispredicted (plan s t) s ≡ b
     → u ≡ state_after_execution t s → mispredicted ≡ (if b then Some (plan s t).following else None)
     → (is_mispredicted (plan s t) s ≡ false → prediction t s ≡ state_after_execution t s)
@@ -263,7 +263,7 @@ done-tick halt n ds s u t b now false false true v w done is e early by issue ba
 done-tick halt n ds s u t (Some h) now false false false v w done is e early by issue banks near predicted = absurd (cc ((is.quiet refl).2))
 done-tick halt n ds s u t None now false false false v w done is e early by issue banks near predicted = done-hazard_free halt n ds s u t now v w done is early by issue banks near predicted
 
--- ---- what is told of an entry that is done
+-- ---- the row of a completed entry
 
 pub same-row : (number address p r c number' address' p' r' : ℕ) → number ≡ number' → address ≡ address' → p ≡ p' → r ≡ r'
     → told number address p r c ≡ told number' address' p' r' c

@@ -1,4 +1,4 @@
--- What a machine keeps once ticks are made in one call.
+-- The invariant of a machine after several ticks in one call.
 use Rattle.std.specs.Prelude.{◌-◌, ◌^◌}
 use Rattle.std.proofs.Common.{◌≡◌, ℕ, ◌+◌, ◌<◌, ◌≤◌, Bool, true, false, List, Option, None, Some, refl, sym, subst, ◌∙◌, ap, arith}
 use Rattle.st_state.specs.Machine.{Machine}
@@ -18,7 +18,7 @@ use Rattle.st_ahead.proofs.Runs.{is-due, ticked-done, row-between}
 use Rattle.st_ahead.proofs.Standing.{idle, same-fields, told, inside-fresh, inside-between}
 use Rattle.st_ring.proofs.OrderLemmas.{after-c}
 
--- a machine that nothing is owed of may go on
+-- a machine with no decision owed can continue
 pub start-inside : (halt : Bool) (n : ℕ) (ds : List ℕ) (s : Machine) (t b : Option ℕ) (now last : ℕ) (owed ended fresh : Bool) (v : LookaheadView)
     → IsInside (overlap_of n ds s t b now owed ended halt fresh v) fresh v → owed ≡ false → now ≤ last
     → GoesFrom ds n last now t s (oldest_issue v.levels.plans v.issue) v
@@ -28,7 +28,7 @@ start-inside halt n ds s t b now last false ended false v is e soon =
     let quiet = is.quiet refl in
     record { lookahead = (idle halt n ds s t b now false ended false v is e).lookahead; soon = soon; awake = record { due = quiet.0; goes = quiet.1 } }
 
--- and is a machine between two ticks
+-- a machine with no decision owed is between two ticks
 pub settled-between : (halt : Bool) (n : ℕ) (ds : List ℕ) (s : Machine) (t b : Option ℕ) (now : ℕ) (owed ended fresh : Bool) (v : LookaheadView)
     → IsInside (overlap_of n ds s t b now owed ended halt fresh v) fresh v → owed ≡ false
     → machine_between_ticks ds n s t (oldest_issue v.levels.plans v.issue) now ≡ overlap_of n ds s t b now owed ended halt fresh v
@@ -64,7 +64,7 @@ passed-machine true n ds s u t k b now last count false false false v w is e ear
 passed-machine false n ds s u t k (Some h) now last count false false false v w is e early by issue = absurd (cc ((is.quiet refl).2))
 passed-machine false n ds s u t k None now last count false false false v w is e early by issue = passed-hazard_free n ds s u t k now last count v w is early by issue
 
--- an entry is done, behind which something may come
+-- an entry completes, after which an event is possible
 stopped-hazard_free : (n : ℕ) (ds : List ℕ) (s u : Machine) (t : Option ℕ) (now last count tick number : ℕ) (v w : LookaheadView) (done : Completed)
     → IsInside (overlap_of n ds s t None now false false false false v) false v → last < 2 ^ 63
     → (is : HasStopped ds n count last now t s (oldest_issue v.levels.plans v.issue) None u w tick done)

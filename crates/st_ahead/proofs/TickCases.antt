@@ -1,4 +1,4 @@
--- Whether the oldest entry is done at a tick.
+-- Whether the oldest entry completes at a tick.
 use Rattle.std.proofs.Common.{◌≡◌, ◌≢◌, ℕ, zero, suc, ◌+◌, ◌<◌, ◌≤◌, Bool, true, false, List, [], ◌∷◌, length, Option, refl, arith}
 use Rattle.std.specs.Prelude.{All, nat_lt, ◌==◌, if◌then◌else◌}
 use Rattle.std.proofs.lemmas.Bool.{eq-eqb, ltb-false}
@@ -60,7 +60,7 @@ unprepared ds n k now t s f some empty are range tight h = λ due.
     let p = none-prepared ds n n k now t s f some empty h in
     absurd (omega (arith, due, p, done-behind ds n f (entry t s) are range tight))
 
--- ---- a guess
+-- ---- a prediction
 
 words-of : (b : Bool) (s : Machine) (h w : ℕ) → word s w ≡ word (if b then s else record s { ic = h }) w
 words-of true s h w = refl

@@ -1,4 +1,4 @@
--- What is shown of the levels.
+-- The view of the levels.
 use Rattle.std.specs.Prelude.{◌++◌, map, replicate, get_or, slice_get, nat_le, option_map, ◌-◌}
 use Rattle.std.proofs.Common.{◌≡◌, ℕ, zero, suc, ◌≤◌, Bool, List, [], ◌∷◌, length, Option, None, Some, refl, sym, ◌∙◌, ap, arith}
 use Rattle.std.proofs.lemmas.List.{length-append, length-map, length-replicate}
@@ -45,7 +45,7 @@ one-shown : (ds : List ℕ) (n tick now : ℕ) (t : Option ℕ) (s : Machine) (f
 one-shown ds n tick now t s f level q is =
     same-shown level.prepared (plan s t) level.p (row_of_entry ds n f (entry t s)).p q.r (row_of_entry ds n f (entry t s)).r now is.prepared is.p is.r
 
--- level k is entry k ahead
+-- level k is entry k in flight
 pub none-shown : (ds : List ℕ) (n now m k : ℕ) (t : Option ℕ) (s : Machine) (f : IssueState) → m ≤ k
     → None ≡ get_or (map (λ a. Some (level_shown now a)) (ahead ds n m t s f)) k None
 unfolding ahead
@@ -83,7 +83,7 @@ pub some-kept : (address p : ℕ) (index number : Option ℕ) (kept word : ℕ) 
     → Some (level-of address p index kept ready) ≡ Some (level-of address p number word ready)
 some-kept address p index number kept word ready a b = rw (a, b) refl
 
--- ---- all of them
+-- ---- all levels
 
 pub showing-level : (m : Overlap) (v : LookaheadView) (k : ℕ) → IsShowing m v
     → get_or (map (λ a. Some (level_shown (last_tick_made m) a)) (ahead m.delays m.levels (count v) m.taken (state_ahead m) m.issue)) k None

@@ -1,4 +1,4 @@
--- What the calls of an overlapped machine make of what it stands for, and what they answer.
+-- The effect of the calls of an overlapped machine, and their results.
 use Rattle.std.specs.Prelude.{ℕ, ◌≡◌, ◌+◌, ◌==◌, Bool, true, false, if◌then◌else◌, List, length, Option, None, Some, IsSome, ◌⊎◌}
 use Rattle.st_banks.specs.Bank.{idle_banks}
 use Rattle.st_banks.specs.declared.answers.LastAnswers.{LastAnswers}
@@ -18,11 +18,11 @@ use Rattle.st_ahead.specs.declared.events.Settled.TheVariants.{Goes, Interrupt, 
 
 -- ---- a tick
 
--- an entry is done at this tick
+-- whether an entry completes at this tick
 abbrev pub is_done : Overlap → Bool
 is_done m = (oldest_row m).c == m.now
 
--- its row
+-- the row of the entry that completes
 abbrev pub row_done : Overlap → Row
 row_done m = record {
   number = m.state.done + 1;
@@ -32,12 +32,12 @@ row_done m = record {
   c = m.now;
 }
 
--- the counter of the guess, where that was wrong
+-- the predicted counter of the oldest entry, if it is mispredicted
 abbrev pub mispredicted_counter : Overlap → Option ℕ
 mispredicted_counter m =
     if is_mispredicted (plan m.state m.taken) m.state then Some (plan m.state m.taken).following else None
 
--- the machine once it is done
+-- the machine after the completion of the oldest entry
 unfoldable pub machine_after_completion : Overlap → Overlap
 machine_after_completion m = record m {
   state = state_after_execution m.taken m.state;
@@ -48,29 +48,29 @@ machine_after_completion m = record m {
   closing = Some (banks_at_its_end m);
 }
 
--- the machine after a tick, which is not settled yet
+-- the machine after a tick, whose decision is owed
 unfoldable pub machine_after_tick : Overlap → Overlap
 machine_after_tick m = if is_done m then machine_after_completion m
     else record m { owed = true; closing = None }
 
--- what the tick answers
+-- the result of a tick
 abbrev pub IsEvent : Overlap → Event → Type 0
 IsEvent m Passed = is_done m ≡ false
 IsEvent m (Done row) = (is_done m ≡ true) × (row ≡ row_done m)
 
 -- ---- the end of a segment
 
--- how many levels are dropped
+-- the number of levels that are flushed
 unfoldable pub drop_count : Overlap → ℕ
 drop_count m = if m.ended then 0 else length (levels_of m)
 
--- the last answers of the banks that the next segment opens with; where no entry was done at this
--- tick, nothing is left of the reads
+-- the last answers of the banks at the opening of the next segment; if no entry completed at this
+-- tick, the reads are forgotten
 abbrev pub banks_left : Option LastAnswers → LastAnswers
 banks_left (Some banks) = banks
 banks_left None = idle_banks
 
--- the machine at the front of the next segment
+-- the machine at the opening of the next segment
 unfoldable pub machine_after_segment : Overlap → Overlap
 machine_after_segment m =
     if m.ended then m
@@ -83,9 +83,9 @@ machine_after_segment m =
 abbrev pub run_ended : Overlap → Overlap
 run_ended m = record (machine_after_segment m) { stopped = true }
 
--- ---- the decision about interrupts
+-- ---- the decision after a tick
 
--- the tick is settled
+-- the machine before the next tick, with no decision owed
 abbrev pub machine_after_pass : Overlap → Overlap
 machine_after_pass m = record m {
   owed = false;
@@ -95,8 +95,8 @@ machine_after_pass m = record m {
   now = m.now + 1;
 }
 
--- the machine once the tick is settled: an interrupt is taken, or the machine waits, or a branch
--- was missed, or it goes on
+-- the machine after a decision: an interrupt is taken, or the machine waits, or a branch was
+-- mispredicted, or the machine continues
 abbrev pub settled_by : Option ℕ → Bool → Option ℕ → Overlap → Overlap
 settled_by (Some i) at_rest mispredicted m = machine_after_pass
     (record (machine_after_segment m) { taken = Some i })
@@ -104,39 +104,39 @@ settled_by None true mispredicted m = machine_after_segment m
 settled_by None false (Some h) m = machine_after_pass (machine_after_segment m)
 settled_by None false None m = machine_after_pass m
 
--- what settling answers in each of these cases
+-- the result of a decision: an interrupt, a wait, a mispredicted branch, or continuation
 abbrev pub answer_by : Option ℕ → Bool → Option ℕ → Overlap → Settled
 answer_by (Some i) at_rest mispredicted m = Interrupt i m.state.done m.state.ic (drop_count m)
 answer_by None true mispredicted m = Waits
 answer_by None false (Some h) m = Mispredicted (drop_count m)
 answer_by None false None m = Goes
 
--- the machine once its tick is settled
+-- the machine after its tick is settled
 unfoldable pub machine_after_settling : Overlap → Overlap
 machine_after_settling m = settled_by (interrupt_due m) (rests m.state) m.mispredicted m
 
--- what settling it answers
+-- the result of settling a tick
 unfoldable pub answer : Overlap → Settled
 answer m = answer_by (interrupt_due m) (rests m.state) m.mispredicted m
 
--- ---- from outside
+-- ---- external events
 
--- a signal comes
+-- the machine after a signal
 abbrev pub signalled_by : ℕ → Overlap → Overlap
 signalled_by i m = record m { state = state_with_signal m.state i }
 
--- one may come: before the first tick, or where an entry was done at the tick that is not settled
--- yet, and the run has not ended
+-- a signal may come before the first tick, or after a tick that completed an entry, while its
+-- decision is owed and the run has not ended
 abbrev pub MaySignal : Overlap → Type 0
 MaySignal m = (((m.owed ≡ false) × (m.now ≡ 0)) ⊎ ((m.owed ≡ true) × IsSome m.closing))
     × (m.stopped ≡ false)
 
--- a device may be served: behind a tick at which an entry was done, while its settle is owed, in a
--- run that has not ended
+-- an order may take effect after a tick that completed an entry, while its decision is owed and the
+-- run has not ended
 abbrev pub MayServe : Overlap → Type 0
 MayServe m = (m.owed ≡ true) × IsSome m.closing × (m.stopped ≡ false)
 
--- the reader's order takes effect, for the area at word w: a card ends the segment first
+-- the machine after the reader's order for the area at the word w; a card first ends the segment
 abbrev pub read_in_by : ℕ → Option (List ℕ) → Overlap → Overlap
 read_in_by w None m = record m { state = read_in m.state w None }
 read_in_by w (Some card) m = record (machine_after_segment m) {
@@ -144,11 +144,11 @@ read_in_by w (Some card) m = record (machine_after_segment m) {
       (Some card);
 }
 
--- how many levels that drops
+-- the number of levels that the reader's order flushes
 abbrev pub dropped_by : Option (List ℕ) → Overlap → ℕ
 dropped_by None m = 0
 dropped_by (Some card) m = drop_count m
 
--- the printer's order takes effect
+-- the machine after the printer's order
 abbrev pub printed_by : Overlap → Overlap
 printed_by m = record m { state = printed_out m.state }

@@ -1,5 +1,5 @@
--- What a machine keeps of what runs ahead: its levels, the front behind them, the log of reads, and
--- the entry that is prepared next.
+-- The look-ahead of a machine: its levels, the issue state after them, the log of reads, and the
+-- fetch unit.
 use Rattle.std.specs.Prelude.{ℕ, ◌≡◌, ◌+◌, ◌*◌, ◌≤◌, ◌<◌, Bool, true, false, not, ◌||◌, ◌==◌, List, [], ◌++◌, length, All, flat_map, Option}
 use Rattle.st_bits.specs.Indicators.{IsIndicatorIfAny}
 use Rattle.st_bits.specs.declared.limits.TheConstants.{MOST_DELAY}
@@ -17,7 +17,7 @@ use Rattle.st_ring.specs.Levels.{LevelsView, AreAhead, AreFull, AreNotDone}
 use Rattle.st_next.specs.Progress.{IsUnread, IsNext, Rests, reads_so_far}
 use Rattle.st_next.specs.declared.fetch_unit.FetchUnit.{FetchUnit}
 
--- what is seen of it
+-- the view of the look-ahead
 pub record LookaheadView : Type 0 where
   pub levels : LevelsView
   pub issue : IssueState
@@ -29,30 +29,30 @@ abbrev pub asked_ahead : List ℕ → ℕ → ℕ → Option ℕ → Machine →
 asked_ahead ds n k t s f =
     flat_map (λ (a : Ahead). reads_of_entry ds n a.issue a.entry) (ahead ds n k t s f)
 
--- the entry that is prepared next can be known: the youngest level is not done alone
+-- whether the next entry can be known: there is no level, or the youngest is not serializing
 abbrev pub is_open : LookaheadView → Bool
 is_open v = (length v.levels.ring == 0) || not v.issue.serial
 
--- how many levels there are
+-- the number of levels
 abbrev pub count : LookaheadView → ℕ
 count v = length v.levels.ring
 
--- it is the next entry behind the levels; behind a level that is done alone nothing is known of it
+-- the fetch unit is at the entry after the levels; after a serializing level nothing is known of it
 abbrev pub IsNextIf : Bool → List ℕ → ℕ → ℕ → Option ℕ → Machine → LookaheadView → Type 0
 IsNextIf true ds n now t s v =
     IsNext ds n (table_behind (count v) t) (guesses (count v) t s) v.issue v.next
     × Rests now (table_behind (count v) t) (guesses (count v) t s) v.issue v.next
 IsNextIf false ds n now t s v = IsUnread v.issue.bus v.next
 
--- the reads that are made behind the front f: those of the levels, and those that are asked for the
--- next entry so far
+-- the reads from the issue state f on: those of the levels, and those requested so far for the next
+-- entry
 abbrev pub reads_ahead : List ℕ → ℕ → Option ℕ → Machine → IssueState → LookaheadView → List Read
 reads_ahead ds n t s f v = asked_ahead ds n (count v) t s f ++ reads_so_far ds v.issue v.next
 
--- What runs ahead of the state s, behind the front f of the oldest entry that is not done; t says
--- whether that is a table instruction. Levels are prepared before `now`, and not done at `tick` or
--- before it; no operand word stands in a slot that comes behind `tick`. The next entry is prepared
--- at `first` or later, and nothing more of it can be known before `rest`.
+-- v is the look-ahead of the state s, with the issue state f of the oldest uncompleted entry, and t
+-- is the indicator if this is a table instruction. Levels are prepared before `now` and complete
+-- after `tick`; their slots have no word that arrives after `tick`. The next entry is prepared at
+-- `first` or later, and nothing more of it can be known before `rest`.
 pub record IsForecast (ds : List ℕ) (n tick now first rest : ℕ) (t : Option ℕ) (s : Machine)
     (f : IssueState) (v : LookaheadView) : Type 0 where
   pub machine : IsMachine s
@@ -74,12 +74,12 @@ module _ (ds : List ℕ) (n tick now : ℕ) (t : Option ℕ) (s : Machine) (f : 
   abbrev pub IsOutlook : Type 0
   IsOutlook = IsForecast ds n tick now now now t s f v
 
-  -- the same with the slots of levels filled up to `tick`
+  -- `IsOutlook`, and the slots of the levels have all words that arrive by `tick`
   pub record IsLookahead : Type 0 where
     pub outlook : IsOutlook
     pub full : AreFull ds n tick t s f v.levels.ring
 
--- nothing runs ahead yet, at the opening of a segment
+-- the look-ahead at the opening of a segment, without levels
 pub record IsOpened (t : Option ℕ) (s : Machine) (f : IssueState) (v : LookaheadView) : Type 0 where
   pub ring : v.levels.ring ≡ []
   pub plans : v.levels.plans ≡ []

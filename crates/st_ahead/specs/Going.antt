@@ -1,4 +1,4 @@
--- What runs ahead while a machine goes on by one tick, between its steps.
+-- The look-ahead between the steps of an advance.
 use Rattle.std.specs.Prelude.{ℕ, ◌≡◌, ◌+◌, ◌-◌, ◌^◌, ◌≤◌, ◌<◌, true, List, Option, None, Some}
 use Rattle.st_bits.specs.Indicators.{IsIndicatorIfAny}
 use Rattle.st_state.specs.Machine.{Machine}
@@ -12,39 +12,38 @@ use Rattle.st_next.specs.Known.{IsStateBefore}
 use Rattle.st_next.specs.Progress.{IsNext}
 use Rattle.st_ahead.specs.Forecast.{LookaheadView, IsForecast, IsOutlook, count}
 
--- the next entry is not prepared before the tick `due` and up to the tick `last`, as far as it is
--- planned
+-- a planned entry has its P at the tick `due` or later, or after the tick `last`
 abbrev pub WaitsFor : ℕ → ℕ → LookaheadView → Type 0
 WaitsFor due last v = v.next.planned ≡ true → v.next.formed.p < due → v.next.formed.p ≤ last → ⊥
 
 module _ (ds : List ℕ) (n : ℕ) where
-  -- up to the tick `now` entries are prepared and done, and nothing more of the next one can be
-  -- known before the tick `rest`
+  -- entries are prepared and completed up to the tick `now`, and nothing more of the next one can
+  -- be known before the tick `rest`
   abbrev pub IsGoing : ℕ → ℕ → Option ℕ → Machine → IssueState → LookaheadView → Type 0
   IsGoing now rest t s f v = IsForecast ds n now (now + 1) now rest t s f v
 
-  -- there is such a front, and t
+  -- `IsGoing` holds for some indicator and issue state
   pub record Goes (now rest : ℕ) (s : Machine) (v : LookaheadView) : Type 0 where
     pub table : Option ℕ
     pub issue : IssueState
     pub going : IsGoing now rest table s issue v
 
-  -- it goes on so from some tick, `last` at the latest
+  -- the look-ahead has advanced to some tick, not after `last`
   pub record Reaches (last : ℕ) (s : Machine) (v : LookaheadView) : Type 0 where
     pub tick : ℕ
     pub goes : Goes tick tick s v
     pub soon : tick ≤ last
 
   module _ (since last : ℕ) (t : Option ℕ) (s : Machine) (f : IssueState) (v : LookaheadView) where
-    -- the same of this front and t, from the tick `since` at the earliest
+    -- the look-ahead with t and f has advanced to some tick from `since` to `last`
     pub record GoesUpTo : Type 0 where
       pub tick : ℕ
       pub going : IsGoing tick tick t s f v
       pub behind : since ≤ tick
       pub soon : tick ≤ last
 
-    -- the oldest entry is done at the tick `due`, behind the tick `since` and `last` at the latest,
-    -- and all ticks before it are made
+    -- the oldest entry completes at the tick `due`, after `since` and not after `last`, and the
+    -- look-ahead has advanced to the tick before
     pub record IsDueAt (due : ℕ) : Type 0 where
       pub later : since < due
       pub soon : due ≤ last
@@ -52,13 +51,13 @@ module _ (ds : List ℕ) (n : ℕ) where
       pub row_is : (row_of_entry ds n f (entry t s)).c ≡ due
       pub lookahead : IsOutlook ds n (due - 1) due t s f v
 
-    -- what runs ahead goes on up to the completion of the oldest entry, or up to the tick `last`
+    -- the look-ahead has advanced to the completion of the oldest entry, or over the tick `last`
     abbrev pub HasGone : Option ℕ → Type 0
     HasGone (Some due) = IsDueAt due
     HasGone None = IsOutlook ds n last (last + 1) t s f v
 
-  -- the next entry becomes a level at this tick, its P: no level is done alone, and there is room
-  -- for one more; where it is done alone, all entries before it are done
+  -- the next entry becomes a level at this tick, its P: no level is serializing, and there is room;
+  -- if the entry is serializing, all entries before it are completed
   pub record BecomesLevel (now : ℕ) (t : Option ℕ) (s : Machine) (f : IssueState)
       (v : LookaheadView) : Type 0 where
     pub run : RunAhead (count v) t s

@@ -1,4 +1,4 @@
--- What a machine keeps, so that it stands for what it does.
+-- The invariant of a machine, and its abstract state.
 use Rattle.std.specs.Prelude.{ℕ, ◌≡◌, ◌+◌, ◌<◌, ◌≤◌, ◌^◌, Bool, true, false, if◌then◌else◌, All, List, Option, None, Some}
 use Rattle.st_bits.specs.Indicators.{IsIndicatorIfAny}
 use Rattle.st_bits.specs.declared.limits.TheConstants.{MOST_DELAY}
@@ -11,11 +11,11 @@ use Rattle.st_ring.specs.Levels.{oldest_issue}
 use Rattle.st_ahead.specs.Overlap.{Overlap, state_ahead, interrupt_due, last_tick_made}
 use Rattle.st_ahead.specs.Forecast.{LookaheadView, IsLookahead, IsOpened}
 
--- the last answers of the banks by the reads that are accepted before the tick
+-- the last answers of the banks after the reads that are accepted before the tick
 abbrev pub answers_before : ℕ → LookaheadView → LastAnswers
 answers_before now v = record { ticks = answers_left now v.log v.next.words.bus.banks.ticks }
 
--- what it stands for, by what it keeps; `fresh` says whether an entry was done at this tick
+-- the abstract state, from the fields; `fresh` says whether an entry completed at this tick
 abbrev pub overlap_of : ℕ → List ℕ → Machine → Option ℕ → Option ℕ → ℕ → Bool → Bool → Bool → Bool →
     LookaheadView → Overlap
 overlap_of n delays state taken mispredicted now owed ended stopped fresh v = record {
@@ -32,7 +32,7 @@ overlap_of n delays state taken mispredicted now owed ended stopped fresh v = re
   closing = if fresh then Some (answers_before now v) else None;
 }
 
--- the segment has ended at the tick `now`, and v is what the next one opens with
+-- the segment has ended at the tick `now`, and v is the look-ahead that opens the next one
 pub record IsBetween (now : ℕ) (t : Option ℕ) (s : Machine) (v : LookaheadView) : Type 0 where
   pub machine : IsMachine s
   pub opened : IsOpened t s (opening_issue (answers_before now v) v.issue.c) v
@@ -40,18 +40,18 @@ pub record IsBetween (now : ℕ) (t : Option ℕ) (s : Machine) (v : LookaheadVi
   pub later : now + 1 ≤ v.issue.c
   pub soon : v.issue.c ≤ now + 9
 
--- what runs ahead, or the opening of the next segment where one has ended at this tick
+-- v is the look-ahead of the machine, or opens the next segment if one has ended at this tick
 abbrev pub IsLookaheadOf : Bool → Overlap → LookaheadView → Type 0
 IsLookaheadOf false m v = IsLookahead m.delays m.levels (last_tick_made m) m.now m.taken
     (state_ahead m) m.issue v
 IsLookaheadOf true m v = IsBetween m.now m.taken m.state v
 
--- the number of the tick is within its range
+-- the number of the tick is in its range
 abbrev pub IsInTime : Bool → ℕ → Type 0
 IsInTime true now = now < 2 ^ 63
 IsInTime false now = now ≤ 2 ^ 63
 
--- a machine and what runs ahead of it; before the first tick nothing is enabled, and nothing waits
+-- the invariant of a machine; before the first tick interrupts are disabled, and nothing waits
 pub record IsInside (m : Overlap) (fresh : Bool) (v : LookaheadView) : Type 0 where
   pub some : 1 ≤ m.levels
   pub few : m.levels ≤ 8

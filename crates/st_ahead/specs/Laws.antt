@@ -1,4 +1,4 @@
--- What the next entry is known by, while it is not there yet.
+-- Laws of the look-ahead.
 use Rattle.std.specs.Prelude.{◌≡◌, ℕ, ◌+◌, ◌<◌, ◌≤◌, ◌^◌, true, List, ◌++◌, map, Option, All, suc, None}
 use Rattle.st_bits.specs.Indicators.{IsIndicatorIfAny}
 use Rattle.st_bits.specs.declared.limits.TheConstants.{MOST_DELAY}
@@ -22,14 +22,14 @@ use Rattle.st_rows.specs.Rows.{opening_issue, row_of_entry, issue_after_entry, r
 use Rattle.st_segment.specs.Entries.{entry}
 use Rattle.st_segment.specs.Ahead.{ahead, prepared_before, reads_before}
 
--- None of the levels is done alone, where the next entry can be known.
+-- If the next entry can be known, no level is serializing.
 abbrev pub OpenLevelsRunAhead : Type 0
 OpenLevelsRunAhead = (ds : List ℕ) (n now : ℕ) (t : Option ℕ) (s : Machine) (f : IssueState)
     (v : LookaheadView) →
     AreAhead ds n now t s f v.issue v.levels → All (λ level. level.p < now + 1) v.levels.ring →
     AreNotDone now v.levels → is_open v ≡ true → RunAhead (count v) t s
 
--- So the state before the next entry agrees with the one that stands in all that it is known by.
+-- Without a serializing level, the state has the known part of the state before the next entry.
 abbrev pub NextEntriesAreKnown : Type 0
 NextEntriesAreKnown = (ds : List ℕ) (n tick now : ℕ) (t : Option ℕ) (s : Machine) (f : IssueState)
     (v : LookaheadView) →
@@ -37,7 +37,7 @@ NextEntriesAreKnown = (ds : List ℕ) (n tick now : ℕ) (t : Option ℕ) (s : M
     AreNotDone now v.levels → count v ≤ 8 → RunAhead (count v) t s →
     IsStateBefore now v.issue.past v.levels.x s (guesses (count v) t s)
 
--- An entry that is planned becomes a level at its tick.
+-- A planned entry becomes a level at its P.
 abbrev pub PlannedEntriesBecomeLevels : Type 0
 PlannedEntriesBecomeLevels = (ds : List ℕ) (n now : ℕ) (t : Option ℕ) (s : Machine) (f : IssueState)
     (v : LookaheadView) →
@@ -45,11 +45,11 @@ PlannedEntriesBecomeLevels = (ds : List ℕ) (n now : ℕ) (t : Option ℕ) (s :
     IsGoing ds n now (now + 1) t s f v → v.next.planned ≡ true → v.next.formed.p ≡ now →
     BecomesLevel ds n now t s f v
 
--- Instruction words, held or on their way, have when they are used the contents that the run of
--- guessed steps finds there. At a tick by which the entries that write a word are done, the state
--- before the next entry has in it what the state has (`held`); so it is with the words that are
--- asked for of the next entry, which its contents are taken from then (`words`); and what was
--- fetched of an entry that is planned is what stands in the run at its place (`fetched`).
+-- An instruction word, held or in flight, has at its use the content of the predicted run. At a
+-- tick by which the writers of a word have completed, the state and the predicted state before the
+-- next entry agree in it (`held`). So they agree in the requested words of the next entry, which is
+-- then decoded from them (`words`). A planned entry is fetched as in the predicted state
+-- (`fetched`).
 pub record InstructionWordsAreThoseOfTheRun : Type 0 where
   pub held : (ds : List ℕ) (n now w : ℕ) (t : Option ℕ) (s : Machine) (f : IssueState)
       (v : LookaheadView) →
@@ -68,7 +68,7 @@ pub record InstructionWordsAreThoseOfTheRun : Type 0 where
       let u = guesses (count v) t s in
       v.next.fetched.value ≡ fetched_at u (place_of u (table_behind (count v) t))
 
--- What is opened at the start of a segment runs ahead of nothing, at each tick up to the start.
+-- The opening of a segment is a look-ahead at each tick up to the start of the segment.
 abbrev pub OpeningsLookAhead : Type 0
 OpeningsLookAhead = (ds : List ℕ) (n tick now start : ℕ) (t : Option ℕ) (s : Machine)
     (banks : LastAnswers) (v : LookaheadView) →
@@ -76,8 +76,8 @@ OpeningsLookAhead = (ds : List ℕ) (n tick now start : ℕ) (t : Option ℕ) (s
     All (λ b. b ≤ start + MOST_DELAY) banks.ticks → now ≤ start → start ≤ now + 9 →
     IsLookahead ds n tick now t s (opening_issue banks start) v
 
--- A signal and an order without a card leave what runs ahead, once the entry before it is done; and
--- an opening.
+-- A signal, and an order without a card, preserve the look-ahead after a completion (`lookahead`),
+-- and an opening (`opening`).
 pub record SignalsLeaveLookaheads : Type 0 where
   pub lookahead : (ds : List ℕ) (n tick now : ℕ) (s u : Machine) (f : IssueState) (v : LookaheadView) →
       1 ≤ n → n ≤ 8 → AreDelaysUpTo MOST_DELAY ds → IsLookahead ds n tick now None s f v →
@@ -94,9 +94,9 @@ LookaheadsAreLevels = (ds : List ℕ) (n tick now : ℕ) (t : Option ℕ) (s : M
     IsLookahead ds n tick now t s f v →
     prepared_before now (ahead ds n n t s f) ≡ ahead ds n (count v) t s f
 
--- At the completion of the oldest entry the reads that are left, once those are taken back that are
--- accepted then or later, are those of that entry and of those behind it that are accepted before;
--- what they ask for is answered soon.
+-- At the completion of the oldest entry, undoing the reads that are accepted then or later gives
+-- the last answers of the banks after the other reads of this entry and of the entries after it.
+-- These answers are at most 255 ticks later.
 abbrev pub TheBanksAreLeft : Type 0
 TheBanksAreLeft = (ds : List ℕ) (n tick now : ℕ) (t : Option ℕ) (s : Machine) (f : IssueState)
     (v : LookaheadView) →

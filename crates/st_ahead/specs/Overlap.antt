@@ -1,4 +1,4 @@
--- What an overlapped machine stands for, and what is read off it.
+-- The abstract state of an overlapped machine, and values derived from it.
 use Rattle.std.specs.Prelude.{ℕ, ◌-◌, Bool, false, if◌then◌else◌, is_none, List, Option, None, Some}
 use Rattle.st_state.specs.Machine.{Machine}
 use Rattle.st_exec.specs.Step.{interrupt}
@@ -11,12 +11,12 @@ use Rattle.st_rows.specs.declared.issue.EntryTicks.{EntryTicks}
 use Rattle.st_segment.specs.Entries.{entry}
 use Rattle.st_segment.specs.Ahead.{Ahead, ahead, prepared_before, reads_to_end, banks_at_end}
 
--- the delays of reads and the number of levels; the committed state; the indicator whose interrupt
--- was taken and whose table instruction is not done; the counter behind a branch that was missed at
--- this tick; the front of the oldest entry that is not done; the tick that comes next, or that is
--- not settled yet; whether that is owed; whether the segment has ended at this tick; whether the
--- run has; and, where an entry was done at this tick, the last answers of the banks if the segment
--- ends here
+-- the delays of reads and the number of levels; the committed state; the indicator of an interrupt
+-- that was taken, until its table instruction completes; the predicted counter, if a branch was
+-- mispredicted at this tick; the issue state of the oldest uncompleted entry; the next tick, or the
+-- last one if its decision is owed; whether a decision is owed; whether the segment has ended at
+-- this tick; whether the run has ended; and, if an entry completed at this tick, the last answers
+-- of the banks if the segment ends here
 pub record Overlap : Type 0 where
   pub delays : List ℕ
   pub levels : ℕ
@@ -50,43 +50,43 @@ machine_between_ticks ds n s t f now = record {
 abbrev pub machine_at_start : List ℕ → ℕ → Machine → Overlap
 machine_at_start ds n s = machine_between_ticks ds n s None (opening_issue idle_banks 0) 0
 
--- a state with the counter behind a missed branch, if there is one
+-- a state with the predicted counter of a mispredicted branch, if there is one
 abbrev pub with_counter : Option ℕ → Machine → Machine
 with_counter None s = s
 with_counter (Some h) s = record s { ic = h }
 
--- the state that what runs ahead goes on from: behind a missed branch, with the counter of the
--- guess
+-- the state that the entries in flight follow: after a mispredicted branch, with the predicted
+-- counter
 unfoldable pub state_ahead : Overlap → Machine
 state_ahead m = if m.ended then m.state else with_counter m.mispredicted m.state
 
--- the entry that is done next
+-- the oldest uncompleted entry
 abbrev pub oldest_entry : Overlap → Entry
 oldest_entry m = entry m.taken (state_ahead m)
 
--- its row
+-- the row of the oldest uncompleted entry
 unfoldable pub oldest_row : Overlap → EntryTicks
 oldest_row m = row_of_entry m.delays m.levels m.issue (oldest_entry m)
 
--- the next k entries by guessed steps
+-- the next k entries along the predicted states
 abbrev pub entries_ahead : ℕ → Overlap → List Ahead
 entries_ahead k m = ahead m.delays m.levels k m.taken (state_ahead m) m.issue
 
--- the levels: the entries that are prepared before this tick and not done
+-- the levels: the uncompleted entries that are prepared before this tick
 unfoldable pub levels_of : Overlap → List Ahead
 levels_of m = prepared_before m.now (entries_ahead m.levels m)
 
--- the last answers of the banks if the segment ends at the completion of the oldest entry: the
--- reads of that entry and of those behind it that are accepted before that tick are made
+-- the last answers of the banks if the segment ends at the completion of the oldest entry: after
+-- the reads of this entry and of those after it that are accepted before that tick
 unfoldable pub banks_at_its_end : Overlap → LastAnswers
 banks_at_its_end m =
     banks_at_end m.delays m.now (reads_to_end m.delays m.levels m.now m.taken m.state m.issue
     (oldest_entry m)) m.issue.bus
 
--- the interrupt that is taken before the next entry
+-- the indicator whose interrupt is taken before the next entry
 abbrev pub interrupt_due : Overlap → Option ℕ
 interrupt_due m = if is_none m.taken then interrupt m.state else None
 
--- the tick that was made last, 0 before the first one
+-- the last tick made, 0 before the first one
 abbrev pub last_tick_made : Overlap → ℕ
 last_tick_made m = if m.owed then m.now else m.now - 1

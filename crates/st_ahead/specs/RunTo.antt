@@ -1,5 +1,4 @@
--- Ticks that are settled one after another, up to an entry that is done behind which something may
--- come.
+-- Settled ticks in sequence, up to a completion after which an event is possible.
 use Rattle.std.specs.Prelude.{ℕ, zero, suc, ◌≡◌, ◌+◌, ◌-◌, ◌<◌, ◌≤◌, ◌||◌, nat_le, Bool, true, false, Option, None, Some}
 use Rattle.st_state.specs.Machine.{Machine}
 use Rattle.st_state.specs.Orders.{is_due}
@@ -13,27 +12,26 @@ unfoldable pub after_ticks : ℕ → Overlap → Overlap
 after_ticks zero m = m
 after_ticks (suc k) m = after_ticks k (machine_after_settling (machine_after_tick m))
 
--- behind an entry that is done something may come from outside: so many instructions are done, or
+-- whether an external event is possible after a completion: `count` instructions are completed, or
 -- an order is due
 abbrev pub may_come_from_outside : ℕ → Machine → Bool
 may_come_from_outside count s = nat_le count s.done
     || (is_due s.done s.reader || is_due s.done s.printer)
 
--- behind the next tick it is decided that the machine goes on; and if an entry is done at it,
--- nothing may come from outside
+-- the decision after the next tick is to continue, and no external event is possible after an entry
+-- that completes at it
 pub record IsPassed (count : ℕ) (m : Overlap) : Type 0 where
   pub goes : answer (machine_after_tick m) ≡ Goes
   pub nothing : is_done m ≡ true →
       may_come_from_outside count (machine_after_tick m).state ≡ false
 
--- so are the next k ticks, and leave the machine `new`
+-- each of the next k ticks is passed, and the machine is then `new`
 pub record ArePassed (count k : ℕ) (old new : Overlap) : Type 0 where
   pub each : (i : ℕ) → i < k → IsPassed count (after_ticks i old)
   pub after : new ≡ after_ticks k old
 
--- so many ticks are passed, and at the one behind them, `last` at the latest, an entry is done,
--- behind which something may come from outside, or the decision, which is still owed, is another
--- one than that the machine goes on
+-- some ticks are passed, and at the next one, not after `last`, an entry completes. After it an
+-- external event is possible, or the decision, which is still owed, is not to continue
 pub record StopsAt (count last : ℕ) (row : Row) (old new : Overlap) : Type 0 where
   pub ticks : ℕ
   pub before : Overlap
@@ -44,8 +42,7 @@ pub record StopsAt (count last : ℕ) (row : Row) (old new : Overlap) : Type 0 w
   pub after : new ≡ machine_after_tick before
   pub stops : answer new ≡ Goes → may_come_from_outside count new.state ≡ true
 
--- by the row: ticks are made up to that at which it is complete; or without one up to the tick
--- `last`, all of which are passed
+-- with a row, ticks are made up to its completion; without one, all ticks up to `last` are passed
 abbrev pub RunsTo : ℕ → ℕ → Option Row → Overlap → Overlap → Type 0
 RunsTo count last (Some row) old new = StopsAt count last row old new
 RunsTo count last None old new = ArePassed count (last + 1 - old.now) old new

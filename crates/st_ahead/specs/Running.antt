@@ -1,4 +1,4 @@
--- What runs ahead of a machine that makes ticks and goes on behind each.
+-- The look-ahead of a machine that makes ticks, each with the decision to continue.
 use Rattle.std.specs.Prelude.{ℕ, ◌≡◌, ◌+◌, ◌-◌, ◌≤◌, true, false, All, List, Option, None, Some, is_none, if◌then◌else◌}
 use Rattle.st_bits.specs.Indicators.{IsIndicatorIfAny}
 use Rattle.st_bits.specs.declared.limits.TheConstants.{MOST_DELAY}
@@ -15,12 +15,12 @@ use Rattle.st_ahead.specs.Inside.{answers_before}
 use Rattle.st_ahead.specs.declared.lookahead_run.Stop.{Stop}
 use Rattle.st_ahead.specs.declared.events.Settled.TheVariants.{Goes}
 
--- no interrupt is due, and it is not at rest
+-- no interrupt is due, and the machine is not at rest
 pub record IsAwake (t : Option ℕ) (s : Machine) : Type 0 where
   pub due : (if is_none t then interrupt s else None) ≡ None
   pub goes : rests s ≡ false
 
--- it goes on from the tick `now`, `last` at the latest
+-- the machine continues from the tick `now`, which is not after `last`
 pub record GoesFrom (ds : List ℕ) (n last now : ℕ) (t : Option ℕ) (s : Machine) (f : IssueState)
     (v : LookaheadView) : Type 0 where
   pub lookahead : IsLookahead ds n (now - 1) now t s f v
@@ -37,8 +37,8 @@ module _ (ds : List ℕ) (n count last now : ℕ) (t : Option ℕ) (s : Machine)
     pub awake : IsAwake k u
     pub lookahead : IsLookahead ds n last (last + 1) k u issue v
 
-  -- the ticks before the tick `tick` are passed, and at that one an entry is done behind which
-  -- something may come
+  -- the ticks before the tick `tick` are passed, and at this one an entry completes after which an
+  -- event is possible
   pub record HasStopped (tick : ℕ) (done : Completed) : Type 0 where
     pub table : Option ℕ
     pub state : Machine
@@ -57,7 +57,7 @@ module _ (ds : List ℕ) (n count last now : ℕ) (t : Option ℕ) (s : Machine)
     pub stops : let m = machine_after_tick (machine_between_ticks ds n state table issue tick) in
         answer m ≡ Goes → may_come_from_outside count m.state ≡ true
 
-  -- by the entry that it stops behind
+  -- a run to `last`, or to a completion after which an event is possible
   abbrev pub HasRunTo : Option Stop → Type 0
   HasRunTo None = HasPassed
   HasRunTo (Some stop) = HasStopped stop.tick stop.done

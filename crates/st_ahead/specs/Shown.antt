@@ -1,4 +1,4 @@
--- What of a machine is shown and lent: its levels, and the index words that run ahead.
+-- The shown and lent parts of a machine: its levels, and the index words with early changes.
 use Rattle.std.specs.Prelude.{ℕ, ◌≡◌, ◌-◌, nat_le, List, ◌++◌, length, map, replicate, Option, None, Some, option_map}
 use Rattle.std.specs.List.{AllZip}
 use Rattle.st_prep.specs.declared.entries.IndexChange.{IndexChange}
@@ -11,27 +11,27 @@ use Rattle.st_ahead.specs.Overlap.{Overlap, state_ahead, levels_of, last_tick_ma
 use Rattle.st_ahead.specs.declared.events.LevelView.{LevelView}
 use Rattle.st_ahead.specs.declared.events.View.{View}
 
--- a level of the ring is an entry ahead: it is prepared as that, at its tick, and has the operand
--- words that are there
+-- a level of the ring is an entry in flight, prepared at its P, with the operand words that have
+-- arrived by the tick
 pub record IsLevelOf (ds : List ℕ) (n tick : ℕ) (level : Level) (a : Ahead) : Type 0 where
   pub prepared : level.prepared ≡ plan_of a
   pub p : level.p ≡ a.row.p
   pub have : level.have ≡ slots_of (fills ds n a.issue a.entry) (plan_of a) a.state tick
 
--- the ring that is lent is the levels, in their order
+-- the lent ring has the levels, in order
 abbrev pub AreLevelsOf : Overlap → List Level → Type 0
 AreLevelsOf m ring = AllZip (IsLevelOf m.delays m.levels (last_tick_made m)) ring (levels_of m)
 
--- the index words that are lent: those of the state after the early changes of all levels
+-- the lent index words: those with the early changes of all levels
 unfoldable pub lent_index_words : Overlap → List ℕ
 lent_index_words m = split_words (length (levels_of m)) m.taken (state_ahead m)
 
--- the word that an early change replaces
+-- the word that an early change replaces, 0 if there is no change
 abbrev pub word_before_change : Option IndexChange → ℕ
 word_before_change None = 0
 word_before_change (Some c) = c.kept
 
--- a level as it is shown at a tick
+-- the view of a level at a tick
 abbrev pub level_shown : ℕ → Ahead → LevelView
 level_shown tick a = record {
   address = (plan_of a).place.address;
@@ -41,7 +41,7 @@ level_shown tick a = record {
   ready = nat_le a.row.r tick;
 }
 
--- what is shown
+-- the view of a machine
 unfoldable pub view_at_tick : Overlap → View
 view_at_tick m = record {
   tick = last_tick_made m;

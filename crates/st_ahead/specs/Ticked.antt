@@ -1,4 +1,4 @@
--- What a tick makes of what runs ahead.
+-- The effect of a tick on the look-ahead.
 use Rattle.std.specs.Prelude.{ℕ, ◌≡◌, ◌≢◌, List, Option, None, Some}
 use Rattle.st_state.specs.Machine.{Machine}
 use Rattle.st_exec.specs.Completion.{state_after_execution, prediction}
@@ -11,8 +11,8 @@ use Rattle.st_ahead.specs.Forecast.{LookaheadView, IsLookahead}
 
 module _ (ds : List ℕ) (n now : ℕ) (t : Option ℕ) (s : Machine) (f : IssueState) (v : LookaheadView)
     (u : Machine) (w : LookaheadView) where
-  -- the oldest entry is done at it: u is the state after its step, and w runs ahead of the guess of
-  -- that
+  -- the oldest entry completes: u is the state after its step, and w is the look-ahead of the
+  -- predicted state
   pub record IsDoneAt (done : Completed) : Type 0 where
     pub due : (row_of_entry ds n f (entry t s)).c ≡ now
     pub told : IsCompleted ds n t s f done
@@ -22,8 +22,8 @@ module _ (ds : List ℕ) (n now : ℕ) (t : Option ℕ) (s : Machine) (f : Issue
     pub log : w.log ≡ v.log
     pub bus : w.next.words ≡ v.next.words
 
-  -- by what is told of it; where no entry is done at it, the state u behind it is the state s
-  -- before it, w runs ahead of that as v did, and operands may have come
+  -- a tick with a completion, or without one: in that case the state does not change, and w is its
+  -- look-ahead with the operands that have arrived
   abbrev pub IsTicked : Option Completed → Type 0
   IsTicked None =
       (u ≡ s) × ((row_of_entry ds n f (entry t s)).c ≢ now) × IsLookahead ds n now now t s f w

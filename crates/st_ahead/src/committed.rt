@@ -1,11 +1,11 @@
-//! What stands now, behind the last entry that is done and before those that run ahead.
+//! The committed state: every completed entry has changed it, and no entry in flight has.
 use st_state::State;
 
-/// What stands behind the last entry that is done, and before the next one.
+/// The state after the last completed entry and before the next one.
 #[derive(Drop)]
 pub struct CommittedState {
-    /// The state.
+    /// The architectural state.
     pub state: State,
-    /// The indicator whose interrupt was taken, if its table instruction comes next.
+    /// The indicator of an interrupt that was taken, until its table instruction completes.
     pub taken: Option<u8>,
 }

@@ -1,74 +1,74 @@
-//! What the calls of the machine answer, and what is shown of it.
+//! The results of the machine's calls, and the view of the machine.
 
-/// A row of the timetable: an entry that is done.
+/// A row of the timetable: a completed entry.
 #[derive(Clone, Copy, Debug, Default, PartialEq, Eq)]
 pub struct Row {
-    /// The number of instructions done with it.
+    /// The number of completed instructions, with this one.
     pub number: u64,
-    /// Its half-word address.
+    /// The half-word address of the entry.
     pub address: u32,
-    /// The tick at which it was prepared.
+    /// P, the tick at which the entry was prepared.
     pub p: u64,
-    /// The tick at which the operand words that it reads have come; P where there is none.
+    /// R, the tick at which the operand words that it reads had arrived; P if it reads none.
     pub r: u64,
-    /// The tick at which it is done.
+    /// C, the tick at which the entry completed.
     pub c: u64,
 }
 
-/// What a tick did.
+/// The result of a tick.
 #[derive(Clone, Copy, Debug, PartialEq, Eq)]
 pub enum Event {
-    /// No entry is done at it.
+    /// No entry completed.
     Passed,
-    /// The oldest entry is done.
+    /// The oldest entry completed.
     Done(Row),
 }
 
-/// What was decided behind a tick.
+/// The decision after a tick.
 #[derive(Clone, Copy, Debug, PartialEq, Eq)]
 pub enum Settled {
-    /// The machine goes on.
+    /// The machine continues.
     Goes,
-    /// An interrupt by this indicator is taken, with so many instructions done and this counter; so
-    /// many levels are dropped.
+    /// An interrupt by this indicator, 0 to 63, is taken after `done` instructions, at the counter
+    /// `ic`, a half-word address; `dropped` levels are flushed.
     Interrupt {
         indicator: u8,
         done: u64,
         ic: u32,
         dropped: u8,
     },
-    /// The guess of a branch was wrong; so many levels are dropped.
+    /// A branch was mispredicted; `dropped` levels are flushed.
     Mispredicted {
         dropped: u8,
     },
-    /// The machine waits, and nothing is pending. The decision is still owed.
+    /// The machine waits, and no indicator is pending. The decision is still owed.
     Waits,
 }
 
-/// A level as it is shown.
+/// The view of a level.
 #[derive(Clone, Copy, Debug, PartialEq, Eq)]
 pub struct LevelView {
     /// The half-word address of its entry.
     pub address: u32,
-    /// The tick at which it was prepared.
+    /// P, the tick at which the entry was prepared.
     pub p: u64,
-    /// The number of the index word that it changed early.
+    /// The number of the index word that the entry changed early, 0 to 15, if it changed one.
     pub index: Option<u8>,
-    /// That word before; 0 where it changed none.
+    /// The old content of the changed index word; 0 if none was changed.
     pub kept: u64,
-    /// Whether the operand words that it reads have come; forwarded ones do not count.
+    /// Whether the operand words that the entry reads have arrived; forwarded ones do not count.
     pub ready: bool,
 }
 
-/// What is shown of a machine.
+/// The view of a machine.
 #[derive(Clone, Copy, Debug, PartialEq, Eq)]
 pub struct View {
-    /// The tick that was made last, 0 before the first one.
+    /// The last tick made, 0 before the first one.
     pub tick: u64,
-    /// The number of instructions done.
+    /// The number of completed instructions.
     pub done: u64,
-    /// The index words as the levels have changed them.
+    /// The index words with the early changes of all levels.
     pub x: [u64; 16],
-    /// The levels, oldest first.
+    /// The levels, oldest first, and None after them.
     pub levels: [Option<LevelView>; 8],
 }

@@ -1,5 +1,5 @@
-//! The overlapped machine: entries run ahead of the state, tick by tick, and what is seen is as if
-//! they were done one at a time. `docs/timetable.md` has the rules.
+//! The overlapped machine: it prepares instructions ahead of the committed state, tick by tick,
+//! with the results of sequential execution. The rules are in `docs/timetable.md`.
 #![tactic(auto, using(st_bits::specs::Storage::words_of_storage_is))]
 
 mod events;

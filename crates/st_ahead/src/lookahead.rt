@@ -1,5 +1,5 @@
-//! What runs ahead of a state: levels, the front behind them, a log of reads, and the entry that is
-//! prepared next.
+//! The look-ahead of a machine: levels, the issue state after them, a log of reads, and the fetch
+//! unit.
 ghost use Rattle.std.specs.Prelude.{◌≡◌, ℕ, ◌+◌, ◌≤◌, ◌-◌, ◌^◌, Option, All, List};
 ghost use Rattle.st_bits.specs.Indicators.{IsIndicatorIfAny};
 ghost use Rattle.st_bits.specs.declared.limits.TheConstants.{MOST_DELAY};
@@ -17,16 +17,16 @@ use st_rows::{IssueState, Log};
 use st_state::State;
 use std::marker::Model;
 
-/// What runs ahead of a state.
+/// The look-ahead of a machine with N levels, 1 to 8.
 #[derive(Drop)]
 pub struct Lookahead<const N: usize> {
-    /// The entries that are prepared and not done, and the index words that they change.
+    /// The entries in flight, and the index words with their early changes.
     pub levels: Levels<N>,
-    /// The front behind them.
+    /// The issue state after the levels.
     pub issue: IssueState,
-    /// The reads of the segment that may be taken back.
+    /// The reads of the segment that can still be undone.
     pub log: Log,
-    /// The entry that is prepared next. All reads are made on its bus.
+    /// The next entry. All reads are made on its bus.
     pub next: FetchUnit,
 }
 
@@ -47,9 +47,9 @@ impl<const N: usize> Lookahead<N> {
     ghost use Rattle.st_ahead.specs.Forecast.{IsLookahead, IsOpened, count};
     ghost use Rattle.st_ahead.specs.Inside.{answers_before};
 
-    /// Nothing runs ahead yet in a segment that starts at the tick `start`, at most 2^64 - 1,024,
-    /// where the banks have these last answers; `table` is the indicator whose interrupt was taken,
-    /// if its table instruction comes first.
+    /// A look-ahead without levels. Its segment starts at the tick `start`, at most 2^64 - 1,024,
+    /// with these last answers of the banks, none later than `start` + 255. `table` is the
+    /// indicator of an interrupt, if its table instruction comes first.
     pub fn new(state: &State, table: Option<u8>, banks: LastAnswers, start: u64) -> Lookahead<N>
         requires some { 1 ≤ N }
         requires few { N ≤ 8 }
@@ -70,10 +70,10 @@ impl<const N: usize> Lookahead<N> {
         }
     }
 
-    /// The segment ends at the tick `now`: nothing runs ahead any more, and the index words are
-    /// those of the state. The next segment starts one tick later, and one more for each level that
-    /// is dropped; the banks keep their last answers by the reads that are accepted before `now`,
-    /// and the others are taken back. The result is the number of levels dropped.
+    /// Ends the segment at the tick `now`, at most 2^64 - 2,048: flushes the levels, restores their
+    /// index words, and opens the next segment one tick later, plus one for each flushed level. In
+    /// the banks the reads that are accepted at `now` or later are undone. Returns the number of
+    /// flushed levels.
     pub fn end(&mut self, state: &State, table: Option<u8>, now: u64) -> u8
         requires indicator { IsIndicatorIfAny table }
         requires early { now ≤ 2 ^ 64 - 2048 }
@@ -99,13 +99,13 @@ impl<const N: usize> Lookahead<N> {
         dropped
     }
 
-    /// The same at a tick `now`, at most 2^64 - 2,048, at which no entry is done: nothing is kept
-    /// of the reads, and the banks are idle. The result is the number of levels dropped.
+    /// Ends the segment at a tick `now`, at most 2^64 - 2,048, that completed no entry. All reads
+    /// are forgotten, and the banks are idle. Returns the number of flushed levels.
     pub fn give_up(&mut self, state: &State, table: Option<u8>, now: u64) -> u8
         requires indicator { IsIndicatorIfAny table }
         requires early { now ≤ 2 ^ 64 - 2048 }
 
-        // The levels are dropped, and the front starts anew.
+        // The levels are flushed, and the next segment is open.
         ensures dropped { result ≡ count self.old }
         ensures opened { (ds : List ℕ) (tick : ℕ) (t : Option ℕ) (s : Machine) (f : IssueStateOf) →
             IsLookahead ds N tick now t s f self.old → index_words_of s ≡ index_words_of state.now →

@@ -1,4 +1,4 @@
-//! What runs ahead goes on, from one entry that is prepared to the next one, up to a completion.
+//! Advances the look-ahead from one preparation to the next, up to a completion.
 ghost use Rattle.std.specs.Prelude.{◌≡◌, ℕ, ◌+◌, ◌<◌, ◌≤◌, ◌^◌, true, false, nat_le, if◌then◌else◌, Option, None, Some};
 ghost use Rattle.st_rows.specs.declared.issue.IssueState.{IssueState as IssueStateOf};
 ghost use Rattle.st_ring.specs.Levels.{due_of};
@@ -14,9 +14,9 @@ impl<const N: usize> Lookahead<N> {
     ghost use Rattle.st_ahead.specs.Forecast.{count};
     ghost use Rattle.st_ahead.specs.Going.{IsGoing, Goes, GoesUpTo, Reaches, HasGone, WaitsFor};
 
-    // All that is prepared before the oldest level is done, and up to the tick `last`, below 2^63,
-    // becomes levels, whose slots are empty. The result is the tick at which the oldest one is
-    // done, if that is `last` at the latest; else nothing more happens up to `last`.
+    // Entries that are prepared before the oldest level completes, and by the tick `last`, below
+    // 2^63, become levels with empty slots. Returns the tick of that completion, if it is not after
+    // `last`; otherwise nothing more happens by `last`.
     #[inline(always)]
     pub(crate) fn go_to(&mut self, last: u64, state: &State, delays: &Delays) -> Option<u64>
         requires some { 1 ≤ N }
@@ -24,7 +24,7 @@ impl<const N: usize> Lookahead<N> {
         requires early { last < 2 ^ 63 }
         requires going { Reaches delays.now.list N last state.now self.old }
 
-        // What becomes levels.
+        // The look-ahead before that completion, or after `last`.
         ensures goes { (t : Option ℕ) (f : IssueStateOf) (since : ℕ) →
             GoesUpTo delays.now.list N since last t state.now f self.old →
             HasGone delays.now.list N since last t state.now f self.new result }
@@ -42,7 +42,7 @@ impl<const N: usize> Lookahead<N> {
         }
     }
 
-    // The tick at which the oldest level is done, 2^64 - 1 where there is none.
+    // The tick at which the oldest level completes, 2^64 - 1 if there is none.
     #[inline(always)]
     fn due(&self) -> u64
         ensures tick { result ≡ due_of self.now.levels.plans }
@@ -51,7 +51,7 @@ impl<const N: usize> Lookahead<N> {
         self.levels.due()
     }
 
-    // Whether the next entry is planned, and prepared before the tick `due` and up to the tick
+    // Whether the next entry is planned, with P before the tick `due` and not after the tick
     // `last`.
     #[inline(always)]
     fn is_next_before(&self, due: u64, last: u64) -> bool
@@ -65,7 +65,7 @@ impl<const N: usize> Lookahead<N> {
         self.next.formed.p < due && self.next.formed.p <= last
     }
 
-    // When it is prepared, where it is planned.
+    // P of the next entry, if it is planned.
     #[inline(always)]
     fn next_prepared(&self) -> u64
         ensures { result ≡ self.now.next.formed.p }
@@ -73,8 +73,8 @@ impl<const N: usize> Lookahead<N> {
         self.next.formed.p
     }
 
-    // The next entry is planned, which it is as soon as its words are known; the oldest level is
-    // done at the tick `due`.
+    // Advances the fetch unit by the facts known before the tick `due`, at which the oldest level
+    // completes. The next entry is planned as soon as its words are known.
     #[inline(always)]
     fn plan_before<'a>(&mut self, due: u64, last: u64, state: &'a State, delays: &'a Delays)
         requires some { 1 ≤ N }
@@ -103,7 +103,7 @@ impl<const N: usize> Lookahead<N> {
             .plan_before(due, &context, &mut self.log, &mut Nobody);
     }
 
-    // The next entry becomes a level at the tick `now`, its P.
+    // Makes the next entry a level at the tick `now`, its P.
     #[inline(always)]
     fn push(&mut self, now: u64, state: &State, delays: &Delays)
         requires some { 1 ≤ N }
@@ -137,7 +137,7 @@ impl<const N: usize> Lookahead<N> {
     }
 }
 
-// The tick `due`, if it is `last` at the latest.
+// The tick `due`, if it is not after `last`.
 #[inline(always)]
 fn stop_at(due: u64, last: u64) -> Option<u64>
     ensures { result ≡ (if nat_le due last then Some due else None) }
@@ -145,7 +145,7 @@ fn stop_at(due: u64, last: u64) -> Option<u64>
     if due <= last { Some(due) } else { None }
 }
 
-// The place behind an entry, by the counter that it is guessed to leave.
+// The place after an entry, by its predicted counter.
 fn place_behind(prepared: &Prepared) -> Place
     ensures { result ≡ record {
       counter = prepared.now.following;

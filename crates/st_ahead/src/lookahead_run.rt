@@ -1,4 +1,4 @@
-//! What runs ahead makes ticks, up to an entry that is done behind which something may come.
+//! Runs until an entry completes after which an event is possible.
 ghost use Rattle.std.specs.Prelude.{◌≡◌, ℕ, ◌<◌, ◌≤◌, ◌^◌, true, false, None, option_map};
 ghost use Rattle.st_exec.specs.Step.{interrupt as interrupt_of, rests};
 ghost use Rattle.st_rows.specs.declared.issue.IssueState.{IssueState as IssueStateOf};
@@ -13,8 +13,8 @@ use st_exec::{interrupt, is_at_rest};
 use st_ring::Completed;
 use st_state::{State, is_due};
 
-/// How far a machine runs on by itself: until `count` instructions are done, 2^63 at most, and up
-/// to the tick `last`, below 2^63.
+/// The limits of a run: `count`, the number of completed instructions at which it ends, at most
+/// 2^63, and `last`, its last tick, below 2^63.
 #[derive(Clone, Copy)]
 pub struct Limits {
     pub count: u64,
@@ -23,12 +23,12 @@ pub struct Limits {
     pub ghost early: { last < 2 ^ 63 },
 }
 
-/// An entry that is done, behind which something may come.
+/// A completion after which an event is possible.
 #[derive(Clone, Copy, Debug, PartialEq, Eq)]
 pub struct Stop {
-    /// What is told of it.
+    /// The completed entry.
     pub done: Completed,
-    /// The tick at which it is done.
+    /// The tick at which the entry completed.
     pub tick: u64,
 }
 
@@ -37,11 +37,11 @@ impl<const N: usize> Lookahead<N> {
     ghost use Rattle.st_ahead.specs.Running.{GoesFrom, HasRunTo};
     ghost use Rattle.st_ahead.specs.RowsDone.{queue_with, rows_in_ticks, ticks_passed};
 
-    /// Makes ticks and goes on behind each, up to the last one of its limits, until an entry is
-    /// done behind which something may come: as many instructions are done by then as the limits
-    /// say, an order is due, or the next decision is not that it goes on. The result is what was
-    /// done, with its tick. The rows of those that are done before it wait, as far as there is
-    /// room. Fewer than 2^63 instructions are done.
+    /// Makes ticks, each with the decision to continue, up to the tick `limits.last`, or until an
+    /// entry completes after which an event is possible: `limits.count` instructions are completed,
+    /// an order is due, or the decision is not to continue. Returns this completion. The rows of
+    /// earlier completions are queued, if there is room. Fewer than 2^63 instructions are completed
+    /// before.
     #[inline(never)]
     pub fn run_to(
         &mut self,
@@ -81,7 +81,7 @@ impl<const N: usize> Lookahead<N> {
     }
 }
 
-// The row of an entry that is done at the tick.
+// The row of an entry that completed at the tick.
 #[inline(always)]
 fn row_of(done: &Completed, tick: u64, state: &State) -> Row
     ensures { result ≡ record {
@@ -101,8 +101,7 @@ fn row_of(done: &Completed, tick: u64, state: &State) -> Row
     }
 }
 
-// Whether something may come behind an entry that is done, or the next decision is not that the run
-// goes on.
+// Whether an external event is possible after a completion, or the decision is not to continue.
 #[inline(always)]
 fn is_stopped(done: &Completed, state: &State, count: u64) -> bool
     ensures goes { result ≡ false → (may_come_from_outside count state.now ≡ false)
@@ -123,8 +122,8 @@ fn is_stopped(done: &Completed, state: &State, count: u64) -> bool
     is_at_rest(state)
 }
 
-// Whether something may come from outside behind an entry that has just been done: so many
-// instructions are done, or an order is due.
+// Whether an external event is possible after a completion: `count` instructions are completed, or
+// an order is due.
 #[inline(always)]
 fn may_come(state: &State, count: u64) -> bool
     ensures { result ≡ may_come_from_outside count state.now }

@@ -1,4 +1,4 @@
-//! What is shown of what runs ahead, and where its next entry stands.
+//! The view of the look-ahead, and the place of its next entry.
 ghost use Rattle.std.specs.Prelude.{◌≡◌, ◌≤◌, ℕ, List, map, get_or, Option, None, Some, option_map};
 ghost use Rattle.st_state.specs.Machine.{Machine};
 ghost use Rattle.st_rows.specs.declared.issue.IssueState.{IssueState as IssueStateOf};
@@ -15,7 +15,7 @@ impl<const N: usize> Lookahead<N> {
     ghost use Rattle.st_ring.specs.Levels.{AreAhead};
     ghost use Rattle.st_segment.specs.Ahead.{ahead};
 
-    // The next entry stands at this place.
+    // Sets the place of the next entry.
     pub(crate) fn stand(&mut self, place: Place)
         ensures { self.new ≡ record self.old { next = record self.old.next { place = place } } }
     {
@@ -30,7 +30,7 @@ impl<const N: usize> Lookahead<N> {
         self.levels.ring()
     }
 
-    // The index words that run ahead.
+    // The index words with the early changes of all levels.
     pub(crate) fn index(&self) -> &[u64; 16]
         ensures words { result.now ≡ self.now.levels.x }
         ensures few { count self.now ≤ N }
@@ -38,7 +38,7 @@ impl<const N: usize> Lookahead<N> {
         self.levels.index()
     }
 
-    // Level k, counted from the oldest, as it is shown at a tick; none behind the last one.
+    // The view of level k at a tick, where level 0 is the oldest; None if there is no level k.
     pub(crate) fn level(&self, k: usize, tick: u64) -> Option<LevelView>
         ensures value { (ds : List ℕ) (n now : ℕ) (t : Option ℕ) (s : Machine) (f : IssueStateOf) →
             AreAhead ds n now t s f self.now.issue self.now.levels →
@@ -61,7 +61,7 @@ impl<const N: usize> Lookahead<N> {
     }
 }
 
-// The number of the index word that is changed early.
+// The number of the index word that is changed early, if there is one.
 fn number_of(change: Option<IndexChange>) -> Option<u8>
     ensures { result ≡ option_map (λ c. c.number) change }
 {
@@ -71,7 +71,7 @@ fn number_of(change: Option<IndexChange>) -> Option<u8>
     }
 }
 
-// That word before, 0 where none is changed.
+// The old content of the index word that is changed early; 0 if there is none.
 fn kept_of(change: Option<IndexChange>) -> u64
     ensures { result ≡ word_before_change change }
 {

@@ -1,4 +1,4 @@
-//! What runs ahead goes on to the next tick.
+//! Advances the look-ahead to the next tick.
 ghost use Rattle.std.specs.Prelude.{◌≡◌, ℕ, ◌+◌, ◌<◌, ◌≤◌, ◌^◌, true, Option};
 ghost use Rattle.st_rows.specs.declared.issue.IssueState.{IssueState as IssueStateOf};
 
@@ -10,8 +10,8 @@ impl<const N: usize> Lookahead<N> {
     ghost use Rattle.st_ahead.specs.Forecast.{IsLookahead};
     ghost use Rattle.st_ahead.specs.Going.{Reaches};
 
-    /// Goes on at the tick `now`, below 2^63, once the entry that is done at it, if there is one,
-    /// is executed: entries that are prepared by now become levels.
+    /// Advances from the tick `now`, below 2^63, to the next one, once an entry that completes at
+    /// `now` is executed: entries with P at `now` become levels.
     pub fn go_on(&mut self, now: u64, state: &State, delays: &Delays)
         requires some { 1 ≤ N }
         requires few { N ≤ 8 }
@@ -27,7 +27,7 @@ impl<const N: usize> Lookahead<N> {
         self.go_further(now, state, delays);
     }
 
-    // Whether the next entry is planned, and prepared behind the tick `now`.
+    // Whether the next entry is planned, with P after the tick `now`.
     #[inline(always)]
     fn is_prepared_behind(&self, now: u64) -> bool
         ensures { result ≡ true → (self.now.next.planned ≡ true) × (now < self.now.next.formed.p) }
@@ -35,7 +35,7 @@ impl<const N: usize> Lookahead<N> {
         self.next.planned && now < self.next.formed.p
     }
 
-    // The same, whatever is known of the next entry.
+    // The general case of `go_on`.
     #[inline(never)]
     fn go_further(&mut self, now: u64, state: &State, delays: &Delays)
         requires some { 1 ≤ N }

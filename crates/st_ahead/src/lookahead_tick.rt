@@ -1,4 +1,4 @@
-//! What a tick does to what runs ahead.
+//! The effect of a tick on the look-ahead.
 ghost use Rattle.std.specs.Prelude.{◌≡◌, ℕ, ◌+◌, ◌<◌, ◌≤◌, ◌^◌, List, Option, None};
 ghost use Rattle.st_bits.specs.declared.limits.TheConstants.{MOST_DELAY};
 ghost use Rattle.st_state.specs.Machine.{Machine, word};
@@ -17,9 +17,9 @@ use st_ring::Completed;
 use st_state::State;
 
 impl<const N: usize> Lookahead<N> {
-    /// Makes the tick `now`: the oldest entry is done if it is due, and executed on the state; and
-    /// operands that come at this tick are put into their levels. At a tick at which the state is
-    /// up to date, with nothing owed.
+    /// Makes the tick `now`: the oldest entry completes if it is due, and is executed on the state;
+    /// then operands that arrive at this tick are put into their levels. Before the call no
+    /// decision is owed, and fewer than 2^63 instructions are completed.
     pub fn tick(&mut self, state: &mut State, now: u64) -> Option<Completed>
         requires few { state.old.done < 2 ^ 63 }
         ensures ticked { (ds : List ℕ) (tick : ℕ) (t : Option ℕ) (f : IssueStateOf) → 1 ≤ N → N ≤ 8 →
@@ -40,8 +40,8 @@ impl<const N: usize> Lookahead<N> {
         None
     }
 
-    // The oldest entry is done. Behind one that is done alone the place of the next one is known
-    // only now.
+    // Completes the oldest entry. After a serializing entry the place of the next one is known only
+    // now.
     #[inline(always)]
     pub(crate) fn complete(&mut self, state: &mut State) -> Completed
         requires some { 0 < count self.old }
@@ -62,9 +62,9 @@ impl<const N: usize> Lookahead<N> {
         done
     }
 
-    // Operands that are there by the tick `now` are put into their levels, which are prepared by
-    // then and not done. They are the same in the state that the levels run ahead of, which may
-    // have another counter.
+    // Puts the operands that have arrived by the tick `now` into their levels, which are prepared
+    // and not completed by then. The state that the entries in flight follow has equal words, but
+    // may have another counter.
     pub(crate) fn fill(&mut self, state: &State, now: u64)
         ensures filled { (ds : List ℕ) (tick next : ℕ) (t : Option ℕ) (s : Machine) (f : IssueStateOf) →
             AreDelaysUpTo MOST_DELAY ds →

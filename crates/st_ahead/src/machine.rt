@@ -14,29 +14,29 @@ use st_ring::SpecRing;
 use st_state::{State, counter_in, done_in};
 use std::marker::Model;
 
-/// A machine with N levels, 1 to 8, over storage whose reads take the given delays. Its calls take
-/// turns: after each `tick` one `settle` or one `stop` is owed, and after `stop` none that changes
-/// it. None takes memory. `docs/timetable.md` has the rules.
+/// A machine with N levels, 1 to 8, over storage whose reads take the given delays. Each `tick`
+/// owes a decision: `settle`, `go_on` or `stop`. After `stop` no call that changes the machine is
+/// allowed. No call allocates. `docs/timetable.md` has the rules, `docs/inside.md` the calls.
 #[derive(Drop)]
 pub struct Machine<const N: usize> {
     delays: Delays,
     committed: CommittedState,
-    // The counter behind a branch that was missed at this tick.
+    // The predicted counter, if a branch was mispredicted at this tick.
     mispredicted: Option<u32>,
-    // The tick that comes next, or that is not settled yet.
+    // The next tick, or the last one if its decision is owed.
     now: u64,
-    // Whether that tick is not settled yet.
+    // Whether a decision is owed.
     owed: bool,
-    // Whether the segment has ended at it.
+    // Whether the segment has ended at this tick.
     ended: bool,
-    // Whether the run has ended at it.
+    // Whether the run has ended at this tick.
     stopped: bool,
-    // Whether an entry was done at it.
+    // Whether an entry completed at this tick.
     fresh: bool,
     lookahead: Lookahead<N>,
 }
 
-// Clauses see what it stands for.
+// The view is the abstract state of the machine.
 impl<const N: usize> Model for Machine<N> {
     ghost use Rattle.st_ahead.specs.Overlap.{Overlap};
     ghost use Rattle.st_ahead.specs.Inside.{overlap_of, IsInside};
@@ -61,14 +61,14 @@ impl<const N: usize> Machine<N> {
     ghost use Rattle.st_ahead.specs.RunTo.{RunsTo};
     ghost use Rattle.st_ahead.specs.RowsDone.{queue_with, rows_in_ticks, ticks_passed};
 
-    /// A machine before its first tick; the state is neither enabled nor waiting.
+    /// A machine before its first tick. Interrupts are disabled, and the state is not waiting.
     pub fn new(state: State, delays: Delays) -> Machine<N>
         requires some { 1 ≤ N }
         requires few { N ≤ 8 }
         requires enabled { state.enabled ≡ false }
         requires waiting { state.waiting ≡ false }
 
-        // The machine, whose words are those of storage.
+        // The machine at its start; the state is valid.
         ensures value { result ≡ machine_at_start delays.list N state }
         ensures machine { IsMachine state }
     {
@@ -86,9 +86,9 @@ impl<const N: usize> Machine<N> {
         }
     }
 
-    /// Makes one tick; the first one is tick 0: the oldest entry is done where that is its time,
-    /// and operands arrive. No settle is owed; the number of the tick and that of the instructions
-    /// done are below 2^63.
+    /// Makes one tick, the first of which is tick 0: the oldest entry completes if its C is this
+    /// tick, and operands arrive. Before the call no decision is owed, and the number of the tick
+    /// and that of the completed instructions are below 2^63.
     pub fn tick(&mut self) -> Event
         requires settled { self.old.owed ≡ false }
         requires tick { self.old.now < 2 ^ 63 }
@@ -115,20 +115,20 @@ impl<const N: usize> Machine<N> {
         })
     }
 
-    /// Makes ticks and goes on behind each, as so many calls of `tick` and `settle`, until an entry
-    /// is done behind which something may come: `count` instructions are done by then, an order is
-    /// due, or what `settle` would decide is not that the machine goes on. Its row is the result,
-    /// and that decision is owed. Where none is up to the tick `last`, that tick is made and
-    /// settled too. The rows of the entries that are done before wait behind those in `rows`, as
-    /// far as there is room. No settle is owed; `last` and the number of instructions done are
-    /// below 2^63, and `count` is 2^63 at most.
+    /// Makes ticks as repeated calls of `tick` and `settle` do, until an entry completes after
+    /// which an event is possible: `count` instructions are completed, an order is due, or `settle`
+    /// would not answer `Goes`. Returns the row of this entry, and leaves its decision owed. If
+    /// there is no such entry up to the tick `last`, that tick is settled too, and the result is
+    /// None. The rows of earlier completions are appended to `rows`, if there is room. Before the
+    /// call no decision is owed; `last` and the number of completed instructions are below 2^63,
+    /// and `count` is at most 2^63.
     pub fn run_to(&mut self, count: u64, last: u64, rows: &mut RowQueue) -> Option<Row>
         requires settled { self.old.owed ≡ false }
         requires count { count ≤ 2 ^ 63 }
         requires last { last < 2 ^ 63 }
         requires done { self.old.state.done < 2 ^ 63 }
 
-        // What is made, and the rows of it that wait.
+        // The ticks that are made, and the rows that are queued.
         ensures runs { RunsTo count last result self.old self.new }
         ensures rows { rows.new ≡ queue_with (rows_in_ticks (ticks_passed last self.old.now
             (option_map (λ row. row.c) result)) self.old) rows.old }
@@ -159,9 +159,9 @@ impl<const N: usize> Machine<N> {
         })
     }
 
-    /// Decides what comes behind the last tick: an interrupt is taken; or the machine waits, and
-    /// the decision is still owed; or a missed branch ends the segment; or it goes on. One is owed,
-    /// and the run has not ended.
+    /// Decides after the last tick: an interrupt is taken; or the machine waits, and the decision
+    /// is still owed; or a mispredicted branch ends the segment; or the machine continues. A
+    /// decision is owed, and the run has not ended.
     pub fn settle(&mut self) -> Settled
         requires owed { self.old.owed ≡ true }
         requires stands { self.old.stopped ≡ false }
@@ -184,9 +184,9 @@ impl<const N: usize> Machine<N> {
         Settled::Mispredicted { dropped }
     }
 
-    /// What runs ahead goes on behind the last tick, as `settle` decides where it answers `Goes`:
-    /// no interrupt is due, the machine is not at rest, and no branch was missed. One is owed, and
-    /// the run has not ended.
+    /// Continues after the last tick, as `settle` does if it answers `Goes`: no interrupt is due,
+    /// the machine is not at rest, and no branch was mispredicted. A decision is owed, and the run
+    /// has not ended.
     pub fn go_on(&mut self)
         requires owed { self.old.owed ≡ true }
         requires stands { self.old.stopped ≡ false }
@@ -207,7 +207,7 @@ impl<const N: usize> Machine<N> {
         self.now += 1;
     }
 
-    // Whether nothing else comes behind the last tick than that it goes on.
+    // Whether the decision after the last tick is to continue.
     fn goes_on(&self) -> bool
         ensures yes { result ≡ true → (interrupt_due_of self.entry.now ≡ None)
             × (rests self.entry.now.state ≡ false) × (self.entry.now.mispredicted ≡ None) }
@@ -225,8 +225,8 @@ impl<const N: usize> Machine<N> {
         !self.is_resting()
     }
 
-    // Whether an entry was done at this tick. Where none was, no interrupt is due, the machine is
-    // not at rest, and no branch was missed.
+    // Whether an entry completed at this tick. If none did, no interrupt is due, the machine is not
+    // at rest, and no branch was mispredicted.
     fn is_fresh(&self) -> bool
         ensures yes { result ≡ true → IsSome self.entry.now.closing }
         ensures no { result ≡ false → (interrupt_due_of self.entry.now ≡ None)
@@ -235,7 +235,7 @@ impl<const N: usize> Machine<N> {
         self.fresh
     }
 
-    // The interrupt that is taken before the next entry.
+    // The indicator whose interrupt is taken before the next entry, if there is one.
     fn interrupt_due(&self) -> Option<u8>
         ensures value { result ≡ interrupt_due_of self.entry.now }
         ensures bound { IsIndicatorIfAny result }
@@ -246,21 +246,21 @@ impl<const N: usize> Machine<N> {
         st_exec::interrupt(&self.committed.state)
     }
 
-    // Whether the machine waits, and nothing is pending.
+    // Whether the machine waits, and no indicator is pending.
     fn is_resting(&self) -> bool
         ensures { result ≡ rests self.entry.now.state }
     {
         is_at_rest(&self.committed.state)
     }
 
-    // Whether a branch was missed at this tick.
+    // Whether a branch was mispredicted at this tick.
     fn is_mispredicted(&self) -> bool
         ensures { result ≡ is_some self.entry.now.mispredicted }
     {
         self.mispredicted.is_some()
     }
 
-    /// Whether an interrupt is due or a branch was missed, so that the next decision ends the
+    /// Whether an interrupt is due or a branch was mispredicted: the next decision ends the
     /// segment.
     pub fn ends(&self) -> bool
         ensures { result ≡ (is_some self.entry.now.mispredicted
@@ -269,8 +269,8 @@ impl<const N: usize> Machine<N> {
         self.is_mispredicted() || self.interrupt_due().is_some()
     }
 
-    // The segment ends at this tick, at which an entry was done; where it has not ended already.
-    // The result is the number of levels dropped.
+    // Ends the segment at this tick, which completed an entry, unless it has already ended. Returns
+    // the number of flushed levels.
     fn end(&mut self) -> u8
         requires owed { self.old.owed ≡ true }
         requires done { IsSome self.old.closing }
@@ -286,7 +286,7 @@ impl<const N: usize> Machine<N> {
         dropped
     }
 
-    // The interrupt by this indicator, which is due, is taken.
+    // Takes the interrupt of this indicator, which is due.
     fn interrupt(&mut self, indicator: u8) -> Settled
         requires owed { self.old.owed ≡ true }
         requires stands { self.old.stopped ≡ false }
@@ -316,8 +316,8 @@ impl<const N: usize> Machine<N> {
         }
     }
 
-    // The tick passes, where the segment has ended at it, no interrupt is due and the machine is
-    // not at rest.
+    // Settles a tick at which the segment has ended, no interrupt is due, and the machine is not at
+    // rest.
     fn pass(&mut self)
         requires owed { self.old.owed ≡ true }
         requires stands { self.old.stopped ≡ false }
@@ -334,8 +334,8 @@ impl<const N: usize> Machine<N> {
         self.now += 1;
     }
 
-    /// Turns on the indicator i, 0 to 13, before the first tick, or while a settle is owed and an
-    /// entry was done at the last tick. The run has not ended.
+    /// Turns on the indicator `i`, 0 to 13: before the first tick, or after a tick that completed
+    /// an entry, while its decision is owed. The run has not ended.
     pub fn signal(&mut self, i: u8)
         requires known { i ≤ 13 }
         requires turn { MaySignal self.old }
@@ -344,8 +344,8 @@ impl<const N: usize> Machine<N> {
         self.committed.state.signal(i);
     }
 
-    /// Ends the segment at the end of a run, at the tick whose settle is owed. The result is the
-    /// number of levels dropped. After it no call that changes the machine may be made.
+    /// Ends the run, and with it the segment, at a tick whose decision is owed. Returns the number
+    /// of flushed levels. After `stop` no call that changes the machine is allowed.
     pub fn stop(&mut self) -> u8
         requires owed { self.old.owed ≡ true }
         requires stands { self.old.stopped ≡ false }
@@ -357,8 +357,7 @@ impl<const N: usize> Machine<N> {
         dropped
     }
 
-    // The segment ends at this tick, where it has not ended already. The result is the number of
-    // levels dropped.
+    // Ends the segment at this tick, unless it has ended. Returns the number of flushed levels.
     fn end_or_give_up(&mut self) -> u8
         requires { self.old.owed ≡ true }
         ensures dropped { result ≡ drop_count self.old }
@@ -371,7 +370,7 @@ impl<const N: usize> Machine<N> {
         }
     }
 
-    // The run ends.
+    // Ends the run.
     fn halt(&mut self)
         requires { self.old.owed ≡ true }
         ensures { self.new ≡ record self.old { stopped = true } }
@@ -379,8 +378,8 @@ impl<const N: usize> Machine<N> {
         self.stopped = true;
     }
 
-    // The segment ends at this tick, at which no entry was done; where it has not ended already.
-    // The result is the number of levels dropped.
+    // Ends the segment at this tick, which completed no entry, unless it has already ended. Returns
+    // the number of flushed levels.
     fn give_up(&mut self) -> u8
         requires owed { self.old.owed ≡ true }
         requires none { self.old.closing ≡ None }
@@ -398,8 +397,9 @@ impl<const N: usize> Machine<N> {
         dropped
     }
 
-    /// The order of the reader takes effect with its next card, which ends the segment, or without
-    /// one. The result is the number of levels dropped.
+    /// The reader's order, which must exist, takes effect: with the next card, which ends the
+    /// segment, or without one. An entry completed at the last tick, whose decision is owed.
+    /// Returns the number of flushed levels.
     pub fn read_in(&mut self, card: Option<[u64; 8]>) -> u8
         requires order { IsSome self.old.state.reader }
         requires turn { MayServe self.old }
@@ -416,7 +416,7 @@ impl<const N: usize> Machine<N> {
         dropped
     }
 
-    // The order of the reader takes effect without a card.
+    // The reader's order takes effect without a card.
     fn read_nothing(&mut self)
         requires order { IsSome self.old.state.reader }
         requires turn { MayServe self.old }
@@ -426,7 +426,7 @@ impl<const N: usize> Machine<N> {
         st_exec::read_in(&mut self.committed.state, None);
     }
 
-    // The order of the reader takes effect with a card, where the segment has ended.
+    // The reader's order takes effect with a card; the segment has ended.
     fn store_card(&mut self, card: [u64; 8])
         requires order { IsSome self.old.state.reader }
         requires turn { MayServe self.old }
@@ -440,7 +440,8 @@ impl<const N: usize> Machine<N> {
         st_exec::read_in(&mut self.committed.state, Some(card));
     }
 
-    /// The order of the printer takes effect; its eight words are the result.
+    /// The printer's order, which must exist, takes effect. An entry completed at the last tick,
+    /// whose decision is owed. Returns the eight words of the order.
     pub fn print_out(&mut self) -> [u64; 8]
         requires order { IsSome self.old.state.printer }
         requires turn { MayServe self.old }
@@ -459,14 +460,14 @@ impl<const N: usize> Machine<N> {
         self.lookahead.ring()
     }
 
-    /// The index words as the levels have changed them.
+    /// The index words with the early changes of all levels.
     pub fn index(&self) -> &[u64; 16]
         ensures { result.now ≡ lent_index_words self.entry.now }
     {
         self.lookahead.index()
     }
 
-    /// What is shown of the machine.
+    /// The view of the machine.
     pub fn view(&self) -> View
         ensures { result ≡ view_at_tick self.entry.now }
     {
@@ -487,7 +488,7 @@ impl<const N: usize> Machine<N> {
         }
     }
 
-    // The number of the tick that was made last, 0 before the first one.
+    // The last tick made, 0 before the first one.
     fn last_tick(&self) -> u64
         ensures { result ≡ last_tick_of self.entry.now }
     {
@@ -497,15 +498,14 @@ impl<const N: usize> Machine<N> {
         if self.now == 0 { 0 } else { self.now - 1 }
     }
 
-    // The number of instructions done.
+    // The number of completed instructions.
     fn done(&self) -> u64
         ensures { result ≡ self.entry.now.state.done }
     {
         done_in(&self.committed.state)
     }
 
-    // Level k, counted from the oldest, as it is shown; none behind the last one. There is room for
-    // eight.
+    // The view of level k, where level 0 is the oldest; None if there is no level k.
     fn level(&self, k: usize) -> Option<LevelView>
         ensures value { result ≡ get_or (view_at_tick self.entry.now).levels k None }
         ensures eight { length (view_at_tick self.entry.now).levels ≡ 8 }

@@ -1,24 +1,24 @@
-//! Rows that wait to be told.
+//! A queue of the rows of completed entries.
 ghost use Rattle.std.specs.Prelude.{◌≡◌, ◌==◌, [], ◌∷◌, length, MatchOption};
 ghost use Rattle.st_ahead.specs.RowsDone.{queue_with};
 
 use crate::events::Row;
 use std::marker::Model;
 
-// How many rows there is room for.
+// The capacity of the queue.
 const ROOM: usize = 64;
 
-/// Rows that wait to be told, the first one done first, and room for more; at most 64 in all.
+/// A queue of rows, in order of completion, with room for more; at most 64 in all.
 #[derive(Debug, Drop)]
 pub struct RowQueue {
-    // Those that wait stand from `first` up to `end`, and there is room up to `limit`.
+    // The rows are at `first` up to `end`, and there is room up to `limit`.
     rows: [Row; ROOM],
     first: usize,
     end: usize,
     limit: usize,
 }
 
-// Clauses see the rows that wait, and for how many more there is room.
+// The view has the rows, and how many more there is room for.
 impl Model for RowQueue {
     ghost use Rattle.std.specs.Prelude.{◌≡◌, ◌-◌, ◌≤◌, length, drop, take};
     ghost use Rattle.st_ahead.specs.RowsDone.{Queue};
@@ -35,7 +35,7 @@ impl Model for RowQueue {
 }
 
 impl RowQueue {
-    /// No rows, and room for none.
+    /// A queue without rows and without room.
     pub fn new() -> RowQueue
         ensures { result ≡ record { rows = []; room = 0 } }
     {
@@ -47,7 +47,7 @@ impl RowQueue {
         }
     }
 
-    /// Makes room for 64 rows, where none waits.
+    /// Makes room for 64 rows; the queue must be empty.
     pub fn open(&mut self)
         requires { self.old.rows ≡ [] }
         ensures { self.new ≡ record { rows = []; room = 64 } }
@@ -57,14 +57,14 @@ impl RowQueue {
         self.limit = ROOM;
     }
 
-    /// Leaves room for no more rows.
+    /// Removes the room for more rows.
     pub fn shut(&mut self)
         ensures { self.new ≡ record self.old { room = 0 } }
     {
         self.limit = self.end;
     }
 
-    /// Whether no row waits.
+    /// Whether the queue is empty.
     #[inline(always)]
     pub fn is_empty(&self) -> bool
         ensures { result ≡ (length self.now.rows == 0) }
@@ -72,7 +72,7 @@ impl RowQueue {
         self.first == self.end
     }
 
-    /// Lets a row wait behind the others, where there is room.
+    /// Appends a row, if there is room.
     #[inline(always)]
     pub fn put(&mut self, row: Row)
         ensures { self.new ≡ queue_with (row ∷ []) self.old }
@@ -84,7 +84,7 @@ impl RowQueue {
         self.end += 1;
     }
 
-    /// The row that waits first, which waits no longer.
+    /// Removes and returns the first row, if there is one.
     #[inline(always)]
     pub fn next(&mut self) -> Option<Row>
         ensures rows { MatchOption result (self.old.rows ≡ [])

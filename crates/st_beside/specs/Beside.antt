@@ -1,4 +1,4 @@
--- A second machine that makes the same run as the first by itself, and records its last steps.
+-- A second machine that repeats the run of the first by itself, and records its last steps.
 use Rattle.std.specs.Prelude.{◌≡◌, ◌≤◌, ℕ, Bool, List, [], ◌∷◌, ◌++◌, length, Option, None, Some, MatchOption}
 use Rattle.circular_buffer.specs.Buffer.{keep_last}
 use Rattle.st_state.specs.Machine.{Machine}
@@ -28,7 +28,7 @@ pub record IsOpen (n : Noted) : Type 0 where
   pub few : n.steps.depth ≤ 64
   pub room : HasRoomForCard n.state.reader n.steps.kept
 
--- after an external event, steps back restore the same states as before it
+-- an external event does not change the states that steps back restore
 abbrev pub IsKept : Bool → Noted → Noted → Type 0
 IsKept over m n =
     (n.steps.depth ≡ m.steps.depth) × (states_before n.steps.kept n.state
@@ -44,8 +44,8 @@ pub record IsBesideAtStart (b : Beside) : Type 0 where
   pub fresh : b.0.machine.done ≡ 0
   pub ready : IsBesideReady b
 
--- the second machine moves to a scene without a step, and steps back restore the same states as
--- before
+-- the second machine moves to a scene without a step, which does not change the states that steps
+-- back restore
 pub record IsMoved (old new : Beside) (c : Scene) : Type 0 where
   pub ready : IsBesideReady new
   pub scene : new.0 ≡ c

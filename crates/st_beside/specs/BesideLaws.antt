@@ -1,4 +1,4 @@
--- Successive external events do not change the recorded steps of a machine.
+-- Two successive external events do not change the states that steps back restore, if neither does.
 use Rattle.std.proofs.Common.{◌≡◌, ◌||◌, ◌∙◌, Bool}
 use Rattle.st_beside.specs.declared.second.Noted.{Noted}
 use Rattle.st_beside.specs.Beside.{IsKept}

@@ -1,4 +1,4 @@
-//! A second machine that makes the same run as the first by itself, and whose last steps can be
+//! A second machine that repeats the run of the first by itself, and whose last steps can be
 //! undone. `docs/report.md` has the rules.
 #![tactic(auto, using(st_bits::specs::Storage::words_of_storage_is))]
 

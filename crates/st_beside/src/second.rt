@@ -1,4 +1,4 @@
-//! A second machine that makes the same run as the first by itself, and whose last steps can be
+//! A second machine that repeats the run of the first by itself, and whose last steps can be
 //! undone.
 ghost use Rattle.std.specs.Prelude.{
   ◌≡◌,

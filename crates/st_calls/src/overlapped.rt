@@ -21,7 +21,7 @@ fn opened(alloc: Global) -> Result<State, Fail> {
 }
 
 // A machine of four levels before its first tick, whose reads take one tick each.
-fn open_line(rt: &impl Abort, alloc: Global, state: State) -> Result<Machine<4>, Fail>
+fn machine_at_start(rt: &impl Abort, alloc: Global, state: State) -> Result<Machine<4>, Fail>
     ensures settled { IfOk result (λ m. m.owed ≡ false) }
     ensures first { IfOk result (λ m. m.now ≡ 0) }
     ensures done { IfOk result (λ m. m.state.done ≡ 0) }
@@ -91,7 +91,7 @@ fn a_machine_that_is_stopped_between_two_entries_drops_its_levels(
 ) -> Result<(), Fail> {
     let alloc = rt.alloc();
     let state = opened(alloc)?;
-    let mut machine = open_line(&rt, alloc, state)?;
+    let mut machine = machine_at_start(&rt, alloc, state)?;
     make_ticks(&rt, &mut machine, 10);
     make_tick(&rt, &mut machine);
     assert_eq!(rt; machine.ring().len(), 2);

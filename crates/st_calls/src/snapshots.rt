@@ -74,7 +74,7 @@ fn signal() -> Signal
 }
 
 // A run on four levels from a state in which nothing has happened.
-fn begun<'a>(
+fn run_at_start<'a>(
     rt: &impl Abort,
     state: State,
     delays: Delays,
@@ -123,7 +123,7 @@ fn stepped(rt: &impl Abort, alloc: Global, done: u64) -> Result<State, Fail> {
     Ok(state)
 }
 
-// Makes the early change of an index word by the next entry.
+// Makes the speculative change of an index word by the next entry.
 fn begin(state: &mut State) {
     let mut entry = Prepared::default();
     plan_in(interrupt(state), state, &mut entry);
@@ -139,7 +139,7 @@ fn prediction(rt: &impl Abort, state: &mut State, counter: u32) {
     state.ic = counter;
 }
 
-// Makes the predicted steps of these levels; of the last one only the early change.
+// Makes the predicted steps of these levels; of the last one only the speculative change.
 fn go_ahead(rt: &impl Abort, state: &mut State, levels: &[Option<LevelView>]) {
     if let [Some(_), after @ ..] = levels {
         for level in after {
@@ -169,7 +169,7 @@ fn shown_states_are_split(rt: HostRuntime) -> Result<(), Fail> {
     let state = opened(&rt, rt.alloc())?;
     let signals = [signal()];
     let snaps = ticks();
-    let mut run = open_line(&rt, state, one_tick(rt.alloc())?, &signals, &snaps);
+    let mut run = run_at_start(&rt, state, one_tick(rt.alloc())?, &signals, &snaps);
     for _ in 0..20 {
         let Some(done) = next_shown(&mut run) else {
             return Err(Fail::new("a snapshot is missing"));

@@ -37,8 +37,8 @@ use Rattle.st_ledger.proofs.Runs.{ticks_for-append}
 use Rattle.st_reasons.proofs.ReasonLaws.{reasons_are_true}
 use Rattle.st_reasons.proofs.WaitLaws.{reads_told_are_those_of_the_bus, held_words_are_brought, forwarded_words_are_written, waits_are_true, waits_cover_their_charge, waits_end_before_their_row, waits_add_up_to_their_stage}
 
--- the front is the one after a segment's entries so far; the words of the last entry and of the
--- whole segment are given
+-- the issue state is the one after a segment's entries so far; the words of the last entry and of
+-- the whole segment are given
 pub record ComesOf (ds : List ℕ) (n : ℕ) (f : IssueState) (us segment : List Use) : Type 0 where
   pub banks : LastAnswers
   pub start : ℕ
@@ -53,7 +53,7 @@ module _ (ds : List ℕ) (n : ℕ) where
   unfolding issue_of last_uses all_uses
   opened banks start = record { banks = banks; start = start; older = []; issue = refl; last = refl; whole = refl; told = All-nil IsTold }
 
-  -- the front and the words between two rows
+  -- the issue state and the words between two rows
   standing-if : (ends : Bool) (m : Moment) (us segment : List Use) (banks : LastAnswers) (start : ℕ) → ComesOf ds n m.issue us segment
       → ComesOf ds n (if ends then opening_issue banks start else m.issue) (if ends then [] else us) (if ends then [] else segment)
   standing-if true m us segment banks start comes = opened banks start

@@ -87,7 +87,7 @@ next-at : (ds : List ℕ) (n : ℕ) (p : Standing) → (next_moment ds n p).issu
 unfolding next_moment next_row row_of_entry issue_after_entry
 next-at ds n p = refl
 
--- the front after a moment is that of the last entry, or opens a segment
+-- the issue state after a moment is that of the last entry, or opens a segment
 issue-late : (ds : List ℕ) (n : ℕ) (m : Moment) (e : Entry) → m.issue.c ≡ m.tick
     → (m.tick ≤ (standing_at m).issue.c) × (((standing_at m).issue.c ≤ m.tick) ⊎ ((standing_at m).issue.c ≤ (row_of_entry ds n (standing_at m).issue e).r))
 unfolding next_issue

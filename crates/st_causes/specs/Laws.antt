@@ -46,8 +46,8 @@ LedgersTellWhereTicksWent = (o : Machine → ℕ → Option Origin) (ds : List �
     ++ (ticks_line (all_ticks xs) ∷ (totals_lines xs
     ++ wait_totals_lines (λ r s. stalled_from r s ds n left [] (moment_at_start c))))
 
--- Of the n + 1 entries after a front, at most n are prepared by the completion of the front, if
--- each takes at least one tick; so one of them has begun and is not yet prepared.
+-- Of the n + 1 entries after an issue state, at most n are prepared by the completion of its last
+-- entry, if each takes at least one tick; so one of them has begun and is not yet prepared.
 abbrev pub OneEntryIsBegun : Type 0
 OneEntryIsBegun = (ds : List ℕ) (n : ℕ) (t : Option ℕ) (s : Machine) (f : IssueState) → 1 ≤ n → n ≤ 8 →
     All (λ (a : Ahead). 1 ≤ a.entry.cost) (ahead ds n (suc n) t s f) →

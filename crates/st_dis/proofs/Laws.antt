@@ -5,9 +5,9 @@ use Rattle.st_dis.proofs.ControlsRead.{controls-read}
 use Rattle.st_dis.proofs.Printable.{deck_plain, deck_pieces}
 use Rattle.st_dis.proofs.Cutting.{deck_texts, deck_good}
 use Rattle.st_dis.proofs.AssembledBack.{deck-assembled}
-use Rattle.st_dis.specs.Laws.{StatementsLayTheirWord, PlacesComeBack, ControlsComeBack, CardsAreLines, DecksAreCutIntoTheirCards, DecksAssembleToTheirProgram}
+use Rattle.st_dis.specs.Laws.{StatementsEmitTheirWord, PlacesComeBack, ControlsComeBack, CardsAreLines, DecksAreCutIntoTheirCards, DecksAssembleToTheirProgram}
 
-pub statements_emit_their_word : StatementsLayTheirWord
+pub statements_emit_their_word : StatementsEmitTheirWord
 statements_emit_their_word = statements-emit
 
 pub places_come_back : PlacesComeBack

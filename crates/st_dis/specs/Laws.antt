@@ -17,8 +17,8 @@ use Rattle.st_dis.specs.Read.{bits_of_length, emitted_together, CardsLead}
 
 -- The statements of a word have no fault, and the bits that they assemble to, concatenated, are the
 -- word's 64 bits.
-abbrev pub StatementsLayTheirWord : Type 0
-StatementsLayTheirWord = (word : ℕ) → word < 2 ^ 64 →
+abbrev pub StatementsEmitTheirWord : Type 0
+StatementsEmitTheirWord = (word : ℕ) → word < 2 ^ 64 →
     emitted_together (statements_of word) ≡ Some (bits_of_length 64 word)
 
 -- The card before a run of words sets the location counter to the first of them, and END gives the

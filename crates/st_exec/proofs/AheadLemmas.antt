@@ -26,7 +26,7 @@ use Rattle.st_exec.specs.Ahead.{IsNotAmong, IsPast, is_indicator_branch}
 use Rattle.st_exec.proofs.Unchanged.{stored-other, early-above, early-done, done-done}
 use Rattle.st_exec.proofs.SparedLemmas.{HasMarks, marks-same, marks-then, marks-words, marks-done, quiet-effect, spares-effect, IsKept, kept-below, kept-above, kept-mask, Stands, done-keeps}
 
--- ---- the early change
+-- ---- the speculative change
 
 pub change-marks : (c : Option IndexChange) (s : Machine) → HasMarks s (with_change c s)
 change-marks None s = marks-same s
@@ -105,7 +105,7 @@ index-below (Some c) s k m few h =
           (sym (get_or-set_other x c.number k c.word 0 q.1 ∙ index-at s k few)) (m.below (16 + k))
     ]
 
--- ---- the words of a state after the early change, by address
+-- ---- the words of a state after the speculative change, by address
 
 stands-low : (p : Prepared) (s : Machine) (i : ℕ) → IsMachine s → i < 16 → i ≢ 11 → Stands (state_with_early_changes p s) i (word s i)
 stands-low p s i m h other =
@@ -132,7 +132,7 @@ pub record Late (p : Prepared) (t u : Machine) : Type 0 where
   pub done : u.done ≡ t.done
   pub words : (i x : ℕ) → IsKept i → IsNotAmong i p.writes → Stands t i x → word u i ≡ x
 
--- the state between the early change and the update of the counter
+-- the state between the speculative change and the update of the counter
 abbrev pub late : Bool → Prepared → Machine → Machine
 late true p t = t
 late false p t = carried_out (effect p t) t

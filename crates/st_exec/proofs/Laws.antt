@@ -6,7 +6,7 @@ use Rattle.st_exec.proofs.MachineKept.{kept-completed}
 use Rattle.st_exec.proofs.UnwrittenLemmas.{early-index_words, completed-unwritten, predicted-unwritten, predicted-machine, predicted-following, predicted-alone, predicted-rest, predicted-done, predicted-past}
 use Rattle.st_exec.proofs.BesideEntries.{predicted-beside, beside-printed, beside-no_card, beside-signalled, beside-same, beside-then}
 use Rattle.std.proofs.Common.{rules}
-use Rattle.st_exec.specs.Laws.{EntriesAreBounded, EntriesCountAsOne, EntriesAheadLeaveTheRest, OnlyIndicatorBranchesAreMissed, IndicatorsArePassedOver, EntriesLeaveStates, EarlyChangesLeaveTheirIndexWords, EntriesLeaveWhatTheyDoNotWrite, GuessesLeaveStates, OrdersArePassedOver}
+use Rattle.st_exec.specs.Laws.{EntriesAreBounded, EntriesCountAsOne, EntriesAheadLeaveTheRest, OnlyIndicatorBranchesAreMispredicted, IndicatorsArePassedOver, EntriesLeaveStates, EarlyChangesLeaveTheirIndexWords, EntriesLeaveWhatTheyDoNotWrite, GuessesLeaveStates, OrdersArePassedOver}
 
 pub entries_are_bounded : EntriesAreBounded
 entries_are_bounded = record {
@@ -21,7 +21,7 @@ entries_count_as_one = completed-done
 pub entries_ahead_leave_the_rest : EntriesAheadLeaveTheRest
 entries_ahead_leave_the_rest = completed-past
 
-pub only_indicator_branches_are_mispredicted : OnlyIndicatorBranchesAreMissed
+pub only_indicator_branches_are_mispredicted : OnlyIndicatorBranchesAreMispredicted
 only_indicator_branches_are_mispredicted = record {
   right = predicted-right;
   mispredicted = mispredicted-branch;

@@ -15,7 +15,7 @@ use Rattle.st_exec.specs.Ahead.{is_indicator_branch}
 use Rattle.st_exec.specs.Completion.{with_change, state_with_early_changes, is_taken, is_mispredicted}
 use Rattle.st_exec.proofs.AheadLemmas.{change-low, change-marks}
 
--- the indicator register after the early change
+-- the indicator register after the speculative change
 early-indicators : (p : Prepared) (s : Machine) → IsMachine s → word (state_with_early_changes p s) 11 ≡ indicator_word 64 p.ind.on p.ind.off (word s 11)
 unfolding state_with_early_changes
 early-indicators p s m =

@@ -115,7 +115,7 @@ unfolding state_with_early_changes
 early-above p s i h above =
     get_or-set_other (with_change p.index s).words 11 i _ 0 (omega arith) ∙ with_change-above p.index s i h above
 
--- the operands are the words of the state after the early change, except registers
+-- the operands are the words of the state after the speculative change, except registers
 pub operands-read : (p : Prepared) (operands : List ℕ) (s : Machine) → IsPrepared p → AreFirstOperands p.reads operands s
     → AreRead p.reads operands (state_with_early_changes p (state_at_entry p.place.table s))
 operands-read p operands s h r =

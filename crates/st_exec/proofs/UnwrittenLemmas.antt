@@ -175,7 +175,7 @@ completed-unwritten p s w h m above k =
       fits = fixed-word s w m;
     })
 
--- ---- index words after the early change
+-- ---- index words after the speculative change
 
 opened-other : (table : Option ℕ) (s : Machine) (i : ℕ) → i ≢ 11 → word (state_at_entry table s) i ≡ word s i
 opened-other None s i other = refl

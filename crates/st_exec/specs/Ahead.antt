@@ -15,9 +15,9 @@ pub record IsNotAmong (i : ℕ) (w : Words) : Type 0 where
   pub first : (i < w.first) ⊎ (w.first + w.len ≤ i)
   pub second : (i < w.first2) ⊎ (w.first2 + w.len2 ≤ i)
 
--- state t after a non-serializing entry p in state s: the index words have the early change; each
--- word from 32 that p does not write, the boundary register, the mask, the marks and the orders are
--- unchanged; one more instruction is completed
+-- state t after a non-serializing entry p in state s: the index words have the speculative change;
+-- each word from 32 that p does not write, the boundary register, the mask, the marks and the
+-- orders are unchanged; one more instruction is completed
 pub record IsPast (p : Prepared) (s t : Machine) : Type 0 where
   pub size : length t.words ≡ length s.words
   pub index : index_words t ≡ words_after (index_words s) p.index

@@ -1,5 +1,5 @@
--- The completion of a prepared entry: its early change, its effect, and the program counter after
--- it.
+-- The completion of a prepared entry: its speculative change, its effect, and the program counter
+-- after it.
 use Rattle.std.specs.Prelude.{ℕ, ◌+◌, ◌%◌, Bool, false, not, ◌&&◌, ◌==◌, if◌then◌else◌, Option, None, Some}
 use Rattle.st_bits.specs.declared.register.TheConstants.{FIRST_INDEX_WORD, INDICATORS}
 use Rattle.st_bits.specs.Bits.{part}
@@ -21,8 +21,8 @@ abbrev pub with_change : Option IndexChange → Machine → Machine
 with_change None s = s
 with_change (Some c) s = state_with_store s (FIRST_INDEX_WORD + c.number) c.word
 
--- the state after the early changes of an entry: the index word, and then the indicators or the one
--- indicator of a fault
+-- the state after the speculative changes of an entry: the index word, and then the indicators or
+-- the one indicator of a fault
 unfoldable pub state_with_early_changes : Prepared → Machine → Machine
 state_with_early_changes p s = state_with_indicators p.ind (with_change p.index s)
 

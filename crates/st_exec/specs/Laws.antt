@@ -24,8 +24,8 @@ abbrev pub EntriesCountAsOne : Type 0
 EntriesCountAsOne = (p : Prepared) (s : Machine) → (state_after_completion p s).done ≡ s.done + 1
 
 -- A non-serializing entry leaves unchanged everything by which later entries were prepared: the
--- index words after its early change, each word above the registers that it does not write, and the
--- rest of `IsPast`.
+-- index words after its speculative change, each word above the registers that it does not write,
+-- and the rest of `IsPast`.
 abbrev pub EntriesAheadLeaveTheRest : Type 0
 EntriesAheadLeaveTheRest = (p : Prepared) (s : Machine) → IsPrepared p → IsMachine s → p.serial
     ≡ false
@@ -33,7 +33,7 @@ EntriesAheadLeaveTheRest = (p : Prepared) (s : Machine) → IsPrepared p → IsM
 
 -- The predicted state is the completed state unless the entry is mispredicted, and only a branch on
 -- an indicator can be mispredicted.
-pub record OnlyIndicatorBranchesAreMissed : Type 0 where
+pub record OnlyIndicatorBranchesAreMispredicted : Type 0 where
   pub right : (p : Prepared) (s : Machine) → IsPrepared p → is_mispredicted p s ≡ false
       → predicted_state p s ≡ state_after_completion p s
   pub mispredicted : (p : Prepared) (s : Machine) → IsPrepared p → is_mispredicted p s ≡ true
@@ -56,8 +56,8 @@ abbrev pub EntriesLeaveStates : Type 0
 EntriesLeaveStates = (p : Prepared) (s : Machine) → IsPrepared p → IsMachine s
     → IsMachine (state_after_completion p s)
 
--- The index words after the early change of an entry are the result of that change. This includes
--- serializing entries and table instructions, whose interrupt is taken first.
+-- The index words after the speculative change of an entry are the result of that change. This
+-- includes serializing entries and table instructions, whose interrupt is taken first.
 abbrev pub EarlyChangesLeaveTheirIndexWords : Type 0
 EarlyChangesLeaveTheirIndexWords = (p : Prepared) (s : Machine) (t : Option ℕ) → IsPrepared p →
     IsMachine s

@@ -88,8 +88,8 @@ fn finish(p: &Prepared, operands: &[u64; 2], state: &mut State)
     count(state, counter);
 }
 
-/// Completes a prepared entry, given its first two operands: applies its early change, then its
-/// effect, then updates the program counter.
+/// Completes a prepared entry, given its first two operands: applies its speculative change, then
+/// its effect, then updates the program counter.
 #[inline(never)]
 pub fn complete_with(p: &Prepared, operands: &[u64; 2], state: &mut State)
     requires prepared { IsPrepared p.now }
@@ -102,10 +102,10 @@ pub fn complete_with(p: &Prepared, operands: &[u64; 2], state: &mut State)
     finish(p, operands, state);
 }
 
-/// Completes a prepared entry: applies its early change, then its effect, then updates the program
-/// counter. The first `p.reads.len` operands, and the next `p.reads.len2`, are the words of the
-/// state that `p` reads. If the early change of the entry writes a register that is an operand, the
-/// new contents are used. Returns the words that are written.
+/// Completes a prepared entry: applies its speculative change, then its effect, then updates the
+/// program counter. The first `p.reads.len` operands, and the next `p.reads.len2`, are the words of
+/// the state that `p` reads. If the speculative change of the entry writes a register that is an
+/// operand, the new contents are used. Returns the words that are written.
 #[inline(always)]
 pub fn complete(p: &Prepared, operands: &[u64; 32], state: &mut State) -> Words
     requires prepared { IsPrepared p.now }

@@ -35,7 +35,7 @@ fn change_index(index: Option<IndexChange>, state: &mut State)
     }
 }
 
-/// Applies the early change of an entry.
+/// Applies the speculative change of an entry.
 pub fn change_early(p: &Prepared, state: &mut State)
     requires { IsPrepared p.now }
     ensures { state.new ≡ early_of p.now state.old }

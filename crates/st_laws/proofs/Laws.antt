@@ -4,7 +4,7 @@ use Rattle.st_expr.specs.System.{system_symbols}
 use Rattle.st_entries.specs.Caption.{indicator_text, indicator_names}
 use Rattle.st_strap.specs.Reading.{index_fields}
 use Rattle.std.proofs.Common.{refl, rules}
-use Rattle.st_laws.specs.Laws.{LimitsInFigures, ControlsInFigures, RegistersInFigures, IndicatorsInFigures, DigitsAgree, CountsAgree, SymbolsAgree, SizesOfStorageAgree, NumbersAgree, MadeDecksAreNotRefused, LaidNumbersAreRead, BanksInFigures, FormatsInFigures, ExpressionsInFigures, StatementsInFigures, DrawnWordsInFigures}
+use Rattle.st_laws.specs.Laws.{LimitsInFigures, ControlsInFigures, RegistersInFigures, IndicatorsInFigures, DigitsAgree, CountsAgree, SymbolsAgree, SizesOfStorageAgree, NumbersAgree, MadeDecksAreNotRefused, EmittedNumbersAreRead, BanksInFigures, FormatsInFigures, ExpressionsInFigures, StatementsInFigures, DrawnWordsInFigures}
 use Rattle.st_laws.proofs.AgreementLemmas.{value-bytes, digits-joined, zeros-counted, ones-counted, counts-kept, shown-in, emitted-in, spelled-agree}
 use Rattle.st_laws.proofs.MadeDecks.{made-assembled}
 use Rattle.st_laws.proofs.LaidFields.{binary-read, decimal-read, digits-read}
@@ -136,7 +136,7 @@ numbers_agree = record {
 pub made_decks_are_not_refused : MadeDecksAreNotRefused
 made_decks_are_not_refused = made-assembled
 
-pub emitted_numbers_are_read : LaidNumbersAreRead
+pub emitted_numbers_are_read : EmittedNumbersAreRead
 emitted_numbers_are_read = record { binary = binary-read; decimal = decimal-read; digits = digits-read }
 
 pub banks_in_figures : BanksInFigures

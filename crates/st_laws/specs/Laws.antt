@@ -179,7 +179,7 @@ MadeDecksAreNotRefused = (seed cards : ℕ) → cards ≤ 19980 →
 -- Every operation on a field of some form reads an assembled number of that form: the magnitude, or
 -- the value of its digits, is that number, with its sign, no flags and no zone. The bytes of a
 -- decimal field are the digits of the number, each below ten and without a zone.
-pub record LaidNumbersAreRead : Type 0 where
+pub record EmittedNumbersAreRead : Type 0 where
   pub binary : (form : Form) (minus negated : Bool) (number offset : ℕ)
       → IsHeld form minus number → form.decimal ≡ false
       → let f = field_of_number form minus number (emitted_shape form negated offset) in

@@ -33,7 +33,7 @@ ticks_for-append s (x ∷ xs) ys = omega (arith, ticks_for-append s xs ys)
 
 -- ---- moments
 
--- the front of a moment is that of the entry that has just completed
+-- the issue state of a moment is that of the entry that has just completed
 standing-late : (m : Moment) → m.issue.c ≡ m.tick → m.tick ≤ (next_issue m).c
 unfolding next_issue
 standing-late m at = of_choice (λ f. m.tick ≤ f.c) (ends_segment m) (next_segment m) m.issue (omega arith) (omega (arith, at))

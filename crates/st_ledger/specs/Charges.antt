@@ -48,9 +48,9 @@ abbrev pub part_charges : ℕ → StagePart → List Charge
 part_charges t x = if nat_lt t x.end then record { from = t; to = x.end; stage = x.stage } ∷ []
     else []
 
--- the charges of a row after a front, if the run's previous entry completed at tick t. For the
--- first entry of a segment, c of the front is the start of the segment. For any other entry it is
--- t, so that no tick is charged to the restart
+-- the charges of a row after an issue state, if the run's previous entry completed at tick t. For
+-- the first entry of a segment, c of the issue state is the start of the segment. For any other
+-- entry it is t, so that no tick is charged to the restart
 abbrev pub charges : ℕ → IssueState → EntryTicks → List Charge
 charges t f row = charges_behind t (parts_of_row f.c row)
 

@@ -16,7 +16,8 @@ use Rattle.st_ledger.specs.Ledger.{entries_of, all_charges, all_costs, row_at, r
 
 -- The charges of a row are consecutive, without a gap, from the completion of the previous entry to
 -- its own, so they add up to the ticks between; the charge of executing is its cost. The completion
--- of the previous entry is that of the front, or precedes the segment that the front opens.
+-- of the previous entry is that of the issue state, or precedes the segment that the issue state
+-- opens.
 pub record ChargesFollow : Type 0 where
   pub gapless : (ds : List ℕ) (n t : ℕ) (f : IssueState) (e : Entry) → t ≤ f.c →
       Follow t (row_of_entry ds n f e).c (charges t f (row_of_entry ds n f e))

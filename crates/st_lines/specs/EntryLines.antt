@@ -57,7 +57,7 @@ run_lines w n = if nat_eq n 0 then [] else writes_line w n ∷ []
 abbrev pub writes_lines : Words → List (List ℕ)
 writes_lines w = run_lines w.first w.len ++ run_lines w.first2 w.len2
 
--- the line of the index word that an entry changes early
+-- the line of the index word that an entry changes speculatively
 unfoldable pub index_lines : Option IndexChange → List (List ℕ)
 index_lines None = []
 index_lines (Some x) = index_line x ∷ []

@@ -87,7 +87,7 @@ emitted_line o = codes "LAID " ++ decimal o.card ++ codes " KEPT " ++ flag o.kep
 abbrev pub writes_line : ℕ → ℕ → List ℕ
 writes_line w n = codes "WRITES " ++ decimal w ++ codes " " ++ decimal n ++ lf
 
--- the line of an index word that an entry changes early
+-- the line of an index word that an entry changes speculatively
 abbrev pub index_line : IndexChange → List ℕ
 index_line x =
     codes "INDEX " ++ decimal x.number ++ codes " WAS " ++ hex_word x.kept ++ codes " IS "

@@ -66,8 +66,8 @@ pub fn fill_changed(line: &mut LineFromEnd, w: u32, was: u64, is: u64)
     line.put_word(*b"WORD ");
 }
 
-/// Fills a line with `INDEX k WAS h IS g`: an entry changes index word k early, from h to g. The
-/// previous contents are overwritten.
+/// Fills a line with `INDEX k WAS h IS g`: an entry changes index word k speculatively, from h to
+/// g. The previous contents are overwritten.
 pub fn fill_index(line: &mut LineFromEnd, change: &IndexChange)
     ensures { line.new ≡ index_line change.now }
 {

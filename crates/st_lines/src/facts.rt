@@ -137,7 +137,7 @@ fn write_writes<K: Sink>(out: &mut K, line: &mut LineFromEnd, words: Words) -> R
     write_run(out, line, words.first2, words.len2)
 }
 
-// Writes the index word that an entry changes early, if it does.
+// Writes the index word that an entry changes speculatively, if it does.
 #[tactic(auto, unfolding(crate::specs::EntryLines::index_lines), using(st_io::proofs::Progress::wrote_nothing))]
 fn write_index<K: Sink>(
     out: &mut K,
@@ -155,7 +155,7 @@ fn write_index<K: Sink>(
     }
 }
 
-// Writes the words that an entry writes, and the index word that it changes early.
+// Writes the words that an entry writes, and the index word that it changes speculatively.
 fn write_changes<K: Sink>(out: &mut K, line: &mut LineFromEnd, p: &Prepared) -> Result<(), Failed>
     ensures { WritesLines (K.output out.old) (K.output out.new)
         (writes_lines p.now.writes ++ index_lines p.now.index) result }
@@ -231,7 +231,7 @@ pub(crate) struct Facts<'a> {
     pub uses: &'a [Use],
 }
 
-// Writes the words that an entry uses and writes, and the index word that it changes early.
+// Writes the words that an entry uses and writes, and the index word that it changes speculatively.
 fn write_words<K: Sink>(out: &mut K, line: &mut FactLine, facts: &Facts<'_>) -> Result<(), Failed>
     ensures { WritesLines (K.output out.old) (K.output out.new)
         (use_lines facts.now.n facts.now.end facts.now.uses.now

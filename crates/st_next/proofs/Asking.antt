@@ -1,6 +1,6 @@
--- What one step asks for, and what it needs; there is a state before the entry by which it is known.
+-- The requests of one step and their premises, by a state before the entry that agrees with the known part.
 use Rattle.std.specs.Prelude.{All}
-use Rattle.std.proofs.Common.{◌≡◌, ℕ, ◌+◌, ◌*◌, ◌-◌, ◌^◌, ◌≤◌, max, Bool, true, false, if◌then◌else◌, List, [], ◌∷◌, ◌++◌, map, Option, None, Some, refl, sym, ◌∙◌, ap, arith, append_assoc}
+use Rattle.std.proofs.Common.{◌≡◌, ℕ, ◌+◌, ◌*◌, ◌-◌, ◌^◌, ◌≤◌, max, true, false, if◌then◌else◌, List, [], ◌∷◌, ◌++◌, map, Option, None, Some, refl, sym, ◌∙◌, ap, arith, append_assoc}
 use Rattle.std.proofs.lemmas.List.{append-nil}
 use Rattle.std.proofs.lemmas.List.Elements.{All-cons, All-nil}
 use Rattle.st_fetch.specs.Planned.{tick_of}
@@ -13,9 +13,12 @@ use Rattle.st_rows.specs.Asked.{side_asked, bus_after_reads}
 use Rattle.st_rows.specs.BusTimes.{bus_after_request, answer_tick_on}
 use Rattle.st_rows.specs.Notes.{log_after_reads}
 use Rattle.st_rows.specs.Ranges.{IsEntryInTime, AreDelaysUpTo}
-use Rattle.st_rows.specs.Rows.{words_tick, wanted_from, tick_a, bus_a}
-use Rattle.st_rows.specs.Words.{fetch_word, bus_after_index_read, fetch_words, is_forwarded}
+use Rattle.st_rows.specs.Rows.{words_tick, wanted_from, tick_a, bus_a, index_uses}
+use Rattle.st_rows.specs.Words.{fetch_word, bus_after_index_read, fetch_words}
+use Rattle.st_rows.specs.Supplies.{told}
 use Rattle.st_rows.specs.Uses.{behind_use, read_made, forwarded_at}
+use Rattle.st_rows.specs.declared.uses.Use.{Use}
+use Rattle.st_rows.specs.declared.entry.Entry.{Entry}
 use Rattle.st_rows.specs.declared.entry.WordRun.{WordRun}
 use Rattle.st_rows.specs.declared.past.Past.{Past}
 use Rattle.st_rows.specs.declared.fetching.Fetching.{Fetching}
@@ -31,14 +34,16 @@ use Rattle.st_segment.proofs.EntryRanges.{entry-ranges}
 use Rattle.st_next.specs.Words.{words_alone, words_so_far, asked_so_far}
 use Rattle.st_next.specs.Progress.{IsKnown, reads_so_far}
 use Rattle.st_next.specs.Going.{IsIssueInTime, IsEarly, IsReadFurther, prepared_as}
+use Rattle.st_next.specs.Told.{words_told, IsToldFurther}
 use Rattle.st_next.specs.declared.fetch_unit.FetchUnit.{FetchUnit}
 use Rattle.st_next.proofs.Starts.{IsNextOwn, IsNextTarget, word-behind}
 use Rattle.st_next.proofs.Contents.{words-entry}
 use Rattle.st_next.proofs.WordByWord.{want_of, read_of, own-asked, target-asked}
 use Rattle.st_next.proofs.Late.{IsLate}
+use Rattle.st_next.proofs.Telling.{next_use, own-told, target-told, told-fetches, told-planned}
 use Rattle.st_next.proofs.Steps.{IsPlannedAs, what, comes-own, comes-target, comes-all, with_own, with_target, decode_context-same, entry-same}
 
--- ---- when they are wanted
+-- ---- request ticks
 
 data-late : (o : Option ℕ) (m w tick : ℕ) → m ≤ tick → All (IsLate m) (read_made (record { w = w; want = tick; fetch = false }) o)
 data-late (Some there) m w tick h = All-nil (IsLate m)
@@ -49,7 +54,7 @@ unfolding side_asked
 side-late past None m a h = All-nil (IsLate m)
 side-late past (Some w) m a h = data-late (forwarded_at past w a) m w a h
 
--- one word of an instruction on the bus
+-- the bus after the read of one instruction word
 served-read : (ds : List ℕ) (past : List Past) (from : ℕ) (s : Fetching) (w : ℕ) → (fetch_word ds past s w from).bus ≡ bus_after_reads ds (read_of ds past from s w) s.bus
 unfolding fetch_word bus_after_request behind_use answer_tick_on
 served-read ds past from s w = sym (served-word ds (tick_of s.bus.held.words w) w (want_of ds past from s) s.bus)
@@ -66,7 +71,7 @@ pub reads-planned : (ds : List ℕ) (f : IssueState) (next : FetchUnit) → next
 reads-planned ds f next is =
     ap (λ b. asked_so_far ds f next.entry.own next.entry.target ++ (if b then side_asked f.past next.entry.side next.formed.a else [])) is
 
--- ---- the front is early enough
+-- ---- the issue state is early enough
 
 pub words-early : (ds : List ℕ) (f : IssueState) (own target : WordRun) (words : Fetching) → AreDelaysUpTo 255 ds → IsIssueInTime f
     → IsEntryInTime (words_alone own target) → words ≡ words_so_far ds f own target → IsEarly f words
@@ -93,11 +98,11 @@ module _ (ds : List ℕ) (n now : ℕ) (f : IssueState) (x : List ℕ) (s : Mach
   known-place = rw k.is_next.read_on.place (decode_context-fits k.state k.table k.before.machine k.indicator).place
 
   module _ (due : before.words.awaited ≤ now) (cs : List ℕ) (contents : cs ≡ map (word s) (words_of_run before.entry.own ++ words_of_run before.entry.target)) where
-    -- an own word
+    -- an own word is next
     pub known-own : (w : ℕ) → what ds n now f x s before un due cs contents ≡ GivenWord w false → IsNextOwn before.entry.own before.entry.target (entry k.table k.state) w
     known-own w e = comes-own ds n now f x s before un due cs contents k.table k.state k.indicator k.before k.is_next.read_on w e
 
-    -- it lies in storage
+    -- an own word lies in storage
     pub own-above : (w : ℕ) → what ds n now f x s before un due cs contents ≡ GivenWord w false → 32 ≤ w
     own-above w e = let it = known-own w e in omega (arith, it.place, known-entry.own.above (omega (arith, it.more)))
 
@@ -118,7 +123,23 @@ module _ (ds : List ℕ) (n now : ℕ) (f : IssueState) (x : List ℕ) (s : Mach
           kept = kept;
         })
 
-    -- a word of the target
+    pub own-tells : {A : Type 0} (noted : List Use → A → A) (w : ℕ) (after : FetchUnit) (m o : A) → what ds n now f x s before un due cs contents ≡ GivenWord w false
+        → after ≡ with_own ds n now f x s before un due cs contents w → o ≡ noted (told ds f.past (next_use ds f.past (wanted_from f) before.words w ∷ [])) m
+        → IsToldFurther noted ds f before after m o
+    own-tells noted w after m o e same one =
+        let it = known-own w e in
+        let place = word-behind before.entry.own (entry k.table k.state).own w k.is_next.read_on.first.own_start it.place in
+        let there = with_own ds n now f x s before un due cs contents w in
+        rw same (record {
+          used = told ds f.past (next_use ds f.past (wanted_from f) before.words w ∷ []);
+          so_far =
+              told-fetches ds f there un ∙ own-told ds f before.entry.own before.entry.target w it.none place
+              ∙ ap (λ s. words_told ds f before.entry.own before.entry.target ++ told ds f.past (next_use ds f.past (wanted_from f) s w ∷ [])) (sym (k.is_next.read_on.words un))
+              ∙ ap (λ us. us ++ told ds f.past (next_use ds f.past (wanted_from f) before.words w ∷ [])) (sym (told-fetches ds f before un));
+          told = one;
+        })
+
+    -- a word of the target is next
     pub known-target : (w : ℕ) → what ds n now f x s before un due cs contents ≡ GivenWord w true → IsNextTarget before.entry.own before.entry.target (entry k.table k.state) w
     known-target w e = comes-target ds n now f x s before un due cs contents k.table k.state k.indicator k.before k.is_next.read_on w e
 
@@ -143,7 +164,24 @@ module _ (ds : List ℕ) (n now : ℕ) (f : IssueState) (x : List ℕ) (s : Mach
           kept = kept;
         })
 
-    -- the plan
+    pub target-tells : {A : Type 0} (noted : List Use → A → A) (w : ℕ) (after : FetchUnit) (m o : A) → what ds n now f x s before un due cs contents ≡ GivenWord w true
+        → after ≡ with_target ds n now f x s before un due cs contents w
+        → o ≡ noted (told ds f.past (next_use ds f.past (max (wanted_from f) f.c) before.words w ∷ [])) m → IsToldFurther noted ds f before after m o
+    target-tells noted w after m o e same one =
+        let it = known-target w e in
+        let place = word-behind before.entry.target (entry k.table k.state).target w k.is_next.read_on.first.target_start it.place in
+        let there = with_target ds n now f x s before un due cs contents w in
+        let waits = max (wanted_from f) f.c in
+        rw same (record {
+          used = told ds f.past (next_use ds f.past waits before.words w ∷ []);
+          so_far =
+              told-fetches ds f there un ∙ target-told ds f before.entry.own before.entry.target w place
+              ∙ ap (λ s. words_told ds f before.entry.own before.entry.target ++ told ds f.past (next_use ds f.past waits s w ∷ [])) (sym (k.is_next.read_on.words un))
+              ∙ ap (λ us. us ++ told ds f.past (next_use ds f.past waits before.words w ∷ [])) (sym (told-fetches ds f before un));
+          told = one;
+        })
+
+    -- the entry is prepared
     module _ (e : what ds n now f x s before un due cs contents ≡ GivenAll before.fetched.value) (prepared : before ≡ prepared_as before.fetched.value x s before) where
       pub known-seen : IsEntryInTime before.entry
       known-seen =
@@ -176,7 +214,21 @@ module _ (ds : List ℕ) (n now : ℕ) (f : IssueState) (x : List ℕ) (s : Mach
             kept = kept;
           }
 
--- ---- steps after steps
+-- its index-side word is told
+pub plan-tells : {A : Type 0} (noted : List Use → A → A) (ds : List ℕ) (n : ℕ) (f : IssueState) (before after : FetchUnit) (m o : A) → before.planned ≡ false
+    → IsPlannedAs ds n f before after → o ≡ noted (told ds f.past (index_uses ds f before.entry)) m → IsToldFurther noted ds f before after m o
+plan-tells noted ds n f before after m o un made one =
+    let same : after.entry ≡ before.entry = ap (λ (m : FetchUnit). m.entry) made.rest in
+    record {
+      used = told ds f.past (index_uses ds f before.entry);
+      so_far =
+          told-planned ds f after (ap (λ (m : FetchUnit). m.planned) made.rest) (made.address ∙ ap (tick_a ds f) (sym same))
+          ∙ ap (λ (g : Entry). words_told ds f g.own g.target ++ told ds f.past (index_uses ds f g)) same
+          ∙ ap (λ us. us ++ told ds f.past (index_uses ds f before.entry)) (sym (told-fetches ds f before un));
+      told = one;
+    }
+
+-- ---- steps in sequence
 
 pub further-then : (ds : List ℕ) (f : IssueState) (a b c : FetchUnit) (log one two : List Made) → IsReadFurther ds f a b log one → IsReadFurther ds f b c one two
     → IsReadFurther ds f a c log two
@@ -191,7 +243,7 @@ pub further-nothing : (ds : List ℕ) (f : IssueState) (a : FetchUnit) (log : Li
 unfolding bus_after_reads log_after_reads
 further-nothing ds f a log = record { added = []; so_far = sym (append-nil (reads_so_far ds f a)); bus = refl; kept = refl }
 
--- ---- how many words there are
+-- ---- the number of words
 
 pub count-most : (own target : WordRun) → IsEntryInTime (words_alone own target) → own.len + target.len ≤ 4
 count-most own target is = omega (arith, is.own_few, is.target_few)

@@ -1,4 +1,4 @@
--- The contents of the words so far are those of the state before the entry, once their writers are done.
+-- The contents of the words so far are those of the state before the entry, once their writers have completed.
 use Rattle.std.proofs.Common.{◌≡◌, ℕ, zero, suc, ◌+◌, ◌≤◌, ◌<◌, List, ◌++◌, map, Option, refl, sym, ◌∙◌, ap, arith}
 use Rattle.std.proofs.Math.Nat.{add-zero}
 use Rattle.std.proofs.lemmas.List.{map-append}
@@ -68,7 +68,7 @@ contents-same ds now f x s u own target is words done =
     (map-same (word s) (word u) target.first target.len (λ i few. sym (is.storage (target.first + i) (omega (arith, words.target.above (omega arith))) (omega (arith, done, awaited-target ds f e i few)))))
     ∙ sym (map-append (word u) (words_of_run own) (words_of_run target))
 
--- ---- what is given
+-- ---- the next word, or the fetched instruction
 
 pub reading-same : (now : ℕ) (past : List Past) (x : List ℕ) (s u : Machine) (t : Option ℕ) (p : Place) → IsStateBefore now past x s u
     → p ≡ place_of u t → reading_at_place x (word s 3) s.enabled p ≡ reading_at t u

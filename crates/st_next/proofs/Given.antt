@@ -1,4 +1,4 @@
--- What is given after the contents of the words so far of the next entry of a state.
+-- The next word or the fetched instruction, by the contents of the words so far of the next entry of a state.
 use Rattle.std.proofs.Common.{◌≡◌, ℕ, ◌+◌, ◌≤◌, Bool, true, false, ◌||◌, List, ◌++◌, length, map, Option, inl, inr, refl, sym, ◌∙◌, ap, arith}
 use Rattle.std.specs.Prelude.{is_some}
 use Rattle.st_state.specs.Machine.{Machine, word}
@@ -18,7 +18,7 @@ use Rattle.st_next.proofs.Readings.{own-first, targets-execute}
 use Rattle.st_next.proofs.Starts.{left_of, first-left, length-first, run_of-none, IsNextOwn, next-own, IsNextTarget, next-target, IsAll, next-none}
 
 module _ (t : Option ℕ) (u : Machine) where
-  -- the words so far, with their contents
+  -- the words so far
   abbrev pub words_of : WordRun → WordRun → List ℕ
   words_of own target = words_of_run own ++ words_of_run target
 
@@ -76,7 +76,7 @@ module _ (t : Option ℕ) (u : Machine) where
         found.1 ∙ rest.found,
       )
 
-  -- ---- EX is done alone
+  -- ---- EX is serializing
 
   or-second : (a b : Bool) → b ≡ true → (a || b) ≡ true
   or-second true b h = refl

@@ -1,4 +1,4 @@
--- Steps after steps.
+-- Steps in sequence.
 use Rattle.std.specs.Prelude.{if◌then◌else◌}
 use Rattle.std.proofs.Common.{◌≡◌, ℕ, ◌≤◌, max, Bool, true, false, List, inl, arith}
 use Rattle.st_state.specs.Machine.{Machine}
@@ -7,7 +7,7 @@ use Rattle.st_next.specs.Progress.{wanted_next, IsKnown}
 use Rattle.st_next.specs.Going.{GoesOnTo}
 use Rattle.st_next.specs.declared.fetch_unit.FetchUnit.{FetchUnit}
 
--- what is done alone is awaited
+-- the request tick after a serializing entry is not before its completion
 alone-wanted : (b : Bool) (p c : ℕ) → (if b then c else 0) ≤ (if b then max p c else p)
 alone-wanted true p c = omega arith
 alone-wanted false p c = omega arith
@@ -19,11 +19,11 @@ module _ (ds : List ℕ) (n now : ℕ) (f : IssueState) (x : List ℕ) (s : Mach
   pub goes-then : (a b c : FetchUnit) (sooner later : ℕ) → GoesOnTo ds n now f x s a b sooner → GoesOnTo ds n now f x s b c later → GoesOnTo ds n now f x s a c later
   goes-then a b c sooner later one two = record { each = λ t u table is next. two.each t u table is (one.each t u table is next).0 }
 
-  -- it stops at a word that is wanted later
+  -- the fetch unit stops at a word that is requested later
   pub goes-stop : (a b : FetchUnit) (sooner later : ℕ) → GoesOnTo ds n now f x s a b sooner → b.planned ≡ false → later ≤ wanted_next f b → GoesOnTo ds n now f x s a b later
   goes-stop a b sooner later goes un late = record { each = λ t u table is next. ((goes.each t u table is next).0, λ none. inl late) }
 
-  -- or before an entry that it waits for
+  -- the fetch unit stops before an entry that it awaits
   pub goes-waits : (a : FetchUnit) (later : ℕ) → a.planned ≡ false → later ≤ max a.words.awaited (if f.serial then f.c else 0) → GoesOnTo ds n now f x s a a later
   goes-waits a later un late =
       goes-stop a a 0 later (goes-same a un) un (omega (arith, late, alone-wanted f.serial f.p f.c))

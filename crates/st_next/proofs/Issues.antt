@@ -1,23 +1,23 @@
--- What a reading gives after the contents of the first words that it reads.
+-- The next word or the fetched instruction of a reading, by the contents of its first words.
 use Rattle.std.proofs.Common.{◌≡◌, ℕ, ◌-◌, ◌≤◌, Bool, true, false, List, [], ◌∷◌, ◌++◌, length, map, refl, sym, ap, arith}
 use Rattle.st_prep.specs.declared.entries.Fetched.{Fetched}
 use Rattle.st_prep.specs.declared.entries.Fetching.TheVariants.{Next, Found}
 use Rattle.st_prep.specs.Reading.{Reading, Finds, Reads, outcome, words_read, own_words, left_after, fetching_of}
 
--- no word of the entry's own stands behind one of the target
+-- no own word follows a word of the target
 unfoldable pub OwnFirst : Reading → (ℕ → ℕ) → Type 0
 OwnFirst (Finds f) c = Unit {0}
 OwnFirst (Reads true w r) c = own_words (r (c w)) c ≡ 0
 OwnFirst (Reads false w r) c = OwnFirst (r (c w)) c
 
--- so where none is the entry's own
+-- a reading without own words has none after a word of the target
 pub none-first : (r : Reading) (c : ℕ → ℕ) → own_words r c ≡ 0 → OwnFirst r c
 unfolding OwnFirst own_words
 none-first (Finds f) c none = tt
 none-first (Reads true w r) c none = none
 none-first (Reads false w r) c none = absurd (omega arith)
 
--- what is left of a reading after the contents of its first words, of which the rest is left
+-- s remains of the reading r after the contents of its first words ws, with `rest` still to be read
 pub record IsRest (r s : Reading) (c : ℕ → ℕ) (ws rest : List ℕ) : Type 0 where
   pub words : words_read s c ≡ rest
   pub found : outcome s c ≡ outcome r c
@@ -42,7 +42,7 @@ rest-left (Reads false v r) c (w ∷ ws) rest e first =
     let it = rest-left (r (c v)) c ws rest tail first in
     rw same (record { words = it.words; found = it.found; own = omega (arith, it.own); first = it.first })
 
--- ---- what is given
+-- ---- the next word, or the fetched instruction
 
 pub given-word : (s : Reading) (c : ℕ → ℕ) (w : ℕ) (t : Bool) → fetching_of s ≡ Next w t
     → (rest : List ℕ) × (words_read s c ≡ w ∷ rest)

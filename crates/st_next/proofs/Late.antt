@@ -1,4 +1,4 @@
--- What is asked for later is wanted later.
+-- Each further word is requested no earlier than the words so far.
 use Rattle.std.specs.Prelude.{All}
 use Rattle.std.proofs.Common.{◌≡◌, ℕ, zero, suc, ◌+◌, ◌-◌, ◌≤◌, max, Bool, true, false, ◌==◌, if◌then◌else◌, List, [], ◌++◌, append_assoc, Option, None, Some, refl, sym, ◌∙◌, ap, arith}
 use Rattle.std.proofs.lemmas.List.{append-nil}
@@ -18,12 +18,12 @@ use Rattle.st_next.specs.Words.{IsStart, AreFirstWords, words_so_far, asked_so_f
 use Rattle.st_next.proofs.WordByWord.{want_of, fetch-more, asked-more, fetch-none, asked-none}
 use Rattle.st_rows.specs.Uses.{behind, behind_use, reads_of, uses, wishes}
 
--- a read is wanted at a tick or later
+-- a read is requested at a tick or later
 abbrev pub IsLate : ℕ → Read → Type 0
 IsLate m r = m ≤ r.want
 
 module _ (ds : List ℕ) (past : List Past) (from : ℕ) where
-  -- answers and what is awaited only come later
+  -- with more words, answers and awaited completions are no earlier
   pub answered-later : (s : Fetching) (w n : ℕ) → s.answered ≤ (fetch_words ds past s from w n).answered
   unfolding fetch_word fetch_words behind_use bus_after_request answer_tick_on behind uses wishes
   answered-later s w zero = omega arith
@@ -50,7 +50,7 @@ module _ (ds : List ℕ) (past : List Past) (from : ℕ) where
       (read-late (tick_of s.bus.held.words w) m w (want_of ds past from s) late)
       (words-late (fetch_word ds past s w from) m (w + 1) n (omega (arith, late, want-later s w)))
 
-  -- ---- behind the first words of a run
+  -- ---- after the first words of a run
 
   start-place : (part whole : WordRun) → IsStart part whole → (s : Fetching)
       → fetch_words ds past s from whole.first part.len ≡ fetch_words ds past s from part.first part.len
@@ -86,9 +86,9 @@ module _ (ds : List ℕ) (past : List Past) (from : ℕ) where
       ∙ ap (λ t. words_asked ds past s from whole.first part.len ++ words_asked ds past t from (whole.first + part.len) (whole.len - part.len)) (start-place part whole is s)
       ∙ ap (λ reads. reads ++ words_asked ds past (fetch_words ds past s from part.first part.len) from (whole.first + part.len) (whole.len - part.len)) (start-reads part whole is s)
 
--- ---- behind the first words of an entry
+-- ---- after the first words of an entry
 
--- the words of the target wait for the last entry
+-- the words of the target await the previous entry
 pub waits-most : (f : IssueState) (run : WordRun) → (if run.len == 0 then 0 else f.c) ≤ f.c
 waits-most f run = most_if (run.len == 0)
   where
@@ -143,14 +143,14 @@ module _ (ds : List ℕ) (f : IssueState) (own target : WordRun) (e : Entry) (ar
   pub words-later : ((words_so_far ds f own target).answered ≤ (words_tick ds f e).answered) × ((words_so_far ds f own target).awaited ≤ (words_tick ds f e).awaited)
   words-later = part_by target.len refl
 
-  -- ---- the reads that are left
+  -- ---- the remaining reads
 
   pub record AreLeft (m : ℕ) : Type 0 where
     pub rest : List Read
     pub reads : fetches_asked ds f e ≡ asked_so_far ds f own target ++ rest
     pub late : All (IsLate m) rest
 
-  -- what is said of the next word: it is wanted at m or later; or none of the target is there, and that is
+  -- no word of the target is requested, and the next word is requested at m or later
   pub left_none : (m : ℕ) → target.len ≡ 0 → (m ≤ want_of ds f.past (wanted_from f) own_part) → AreLeft m
   unfolding fetches_asked words_asked fetch_words
   left_none m none late =

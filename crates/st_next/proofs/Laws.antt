@@ -1,4 +1,4 @@
--- What holds of the reads that are asked for the entry that is prepared next, proved.
+-- Proofs of the laws of the reads of the fetch unit.
 use Rattle.st_next.proofs.Whole.{asked-planned, left-planned, left-resting, served-so-far}
 use Rattle.st_next.proofs.Resting.{address-late}
 use Rattle.st_next.proofs.Starting.{new-next, new-reads, new-rests}

@@ -1,4 +1,4 @@
--- The entry is prepared for good at its tick.
+-- The final preparation of the entry, at its P.
 use Rattle.std.specs.Prelude.{IfSome, option_map, is_some, not, nat_lt}
 use Rattle.std.proofs.Common.{◌≡◌, ℕ, ◌^◌, ◌≤◌, ◌<◌, max, Bool, true, false, if◌then◌else◌, List, Option, None, Some, refl, sym, subst, ◌∙◌, ap, arith}
 use Rattle.std.proofs.lemmas.Bool.{ltb-false, le-leb}
@@ -26,7 +26,7 @@ use Rattle.st_next.specs.Known.{IsStateBefore}
 use Rattle.st_next.specs.Progress.{IsPlanned, IsNext, IsNextReady}
 use Rattle.st_next.specs.declared.fetch_unit.FetchUnit.{FetchUnit}
 
--- ---- the writers of the index-side word are done
+-- ---- the writers of the index-side word have completed
 
 side_if : (ds : List ℕ) (b : Bus) (w : ℕ) (late : Bool) (a done n m : ℕ) (past : List Past) → nat_lt a done ≡ late
     → done ≤ max (max a (answer_if ds b w a (if late then Some done else None))) m
@@ -45,7 +45,7 @@ pub writers-done : (ds : List ℕ) (n : ℕ) (f : IssueState) (e : Entry) (w : �
 unfolding tick_p index_arrival side_there
 writers-done ds n f e w is = omega (arith, side_done ds n f.past (fetched_words ds f e).bus e.side w (tick_a ds f e) is)
 
--- ---- the index-side word as it is now
+-- ---- the present content of the index-side word
 
 table-none : (t : Option ℕ) (u : Machine) → (entry t u).serial ≡ false → t ≡ None
 unfolding entry plan decode_context place_of
@@ -73,12 +73,12 @@ place-table : (t : Option ℕ) (u : Machine) → (place_of u t).table ≡ t
 unfolding place_of
 place-table t u = refl
 
--- of needs in range
+-- the range of an index-side word, from that of the needs
 above-of : (o : Option ℕ) (w : ℕ) → o ≡ Some w → IfSome o (λ w. 32 ≤ w) → 32 ≤ w
 above-of None w e h = absurd (cc)
 above-of (Some v) w e h = let same : v ≡ w = cc in omega arith
 
--- a word of zeros
+-- the content of the index-side word is 0 until it is read
 zero-word : (o : Option ℕ) → IfSome (option_map (λ w. 0) o) (λ w. w < 2 ^ 64)
 zero-word None = tt
 zero-word (Some w) = omega arith
@@ -113,7 +113,7 @@ module _ (ds : List ℕ) (n now : ℕ) (f : IssueState) (x : List ℕ) (s : Mach
   pub plan-fits : IsPrepared (plan u t)
   plan-fits = plan-prepared u t before.machine table
 
-  -- ---- with one
+  -- ---- with an index-side word
 
   pub words-seen : v.x ≡ x
   unfolding decode_context
@@ -157,7 +157,7 @@ module _ (ds : List ℕ) (n now : ℕ) (f : IssueState) (x : List ℕ) (s : Mach
       (there ∙ side-by next.needs.index_read refl late alone ∙ ap (λ i. side_word i u next.needs.index_read) table-same
       ∙ ap (λ (k : Needs). side_word t u k.index_read) planned.needs)
 
--- ---- by what is ready
+-- ---- from the premise of the call
 
 pub none-of : (o : Option ℕ) (b : Bool) → is_some o ≡ not b → b ≡ true → o ≡ None
 none-of None b e is = refl

@@ -1,4 +1,4 @@
--- Of the words of an entry its own come first, and those of a target only behind EX.
+-- An entry reads its own words first, and words of a target only after EX.
 use Rattle.std.proofs.Common.{◌≡◌, ℕ, ◌+◌, ◌/◌, ◌≤◌, ◌⊎◌, inl, inr, Bool, true, false, ◌==◌, if◌then◌else◌, List, length, Option, None, Some, refl, ◌∙◌, ap, arith}
 use Rattle.st_format.specs.declared.instruction.Decoded.{Decoded}
 use Rattle.st_format.specs.Formats.{decoded_entry}
@@ -11,7 +11,7 @@ use Rattle.st_prep.specs.Reading.{Reading, Finds, Reads, outcome, words_read, ow
 use Rattle.st_prep.proofs.Choices.{of_choice}
 use Rattle.st_next.proofs.Issues.{OwnFirst, none-first}
 
--- ---- a property of readings that holds after words of one kind, where it holds of each use
+-- ---- a property that holds of each continuation, and of a reading after words of one kind
 
 module _ (P : Reading → Type 0) (t : Bool) (reads : (w : ℕ) (r : ℕ → Reading) → ((content : ℕ) → P (r content)) → P (Reads t w r)) (b : ℕ) (en : Bool) where
   abbrev Uses : Continuation → Type 0
@@ -35,7 +35,7 @@ module _ (P : Reading → Type 0) (t : Bool) (reads : (w : ℕ) (r : ℕ → Rea
   unfolding instruction_at
   of-at h k all = of-after (forbidden_by b en Fetch (h / 2)) h k all
 
--- ---- no own word behind one of the target
+-- ---- no own word follows a word of the target
 
 module _ (c : ℕ → ℕ) where
   abbrev NoOwn : Reading → Type 0
@@ -71,9 +71,9 @@ module _ (c : ℕ → ℕ) where
   own-first x b en p =
       of-at InOrder false in_order-reads b en p.address _ (λ f. none-first (own_use x b en f) c (no_own-use x b en f))
 
-  -- ---- behind EX alone
+  -- ---- only EX has a target
 
-  -- it has no word of a target, or it is EX
+  -- there is no word of a target, or the instruction is EX
   abbrev Executes : Reading → Type 0
   Executes r = (length (words_read r c) ≤ own_words r c) ⊎ (is_execute (outcome r c).instr.instr ≡ true)
 
@@ -81,7 +81,7 @@ module _ (c : ℕ → ℕ) where
   unfolding words_read own_words outcome
   executes-reads w r all = elim (all (c w)) [ inl few ↦ inl (omega arith) | inr ex ↦ inr ex ]
 
-  -- it is that instruction
+  -- the fetched instruction is `own`
   abbrev IsOf : Decoded → Reading → Type 0
   IsOf own r = (outcome r c).instr ≡ own
 

@@ -1,4 +1,4 @@
--- While the entry rests, what is left of it is wanted later.
+-- While the entry rests, its remaining reads are requested later.
 use Rattle.std.proofs.Common.{◌≡◌, ℕ, zero, suc, ◌≤◌, ◌<◌, ◌||◌, max, Bool, true, false, ◌==◌, if◌then◌else◌, List, inl, inr, Option, refl, ◌∙◌, ap, arith}
 use Rattle.st_state.specs.Machine.{Machine}
 use Rattle.st_rows.specs.Rows.{wanted_from, words_tick, address_tick, tick_a}
@@ -20,7 +20,7 @@ waits-none f run none = ap (λ n. if n == 0 then 0 else f.c) none
 
 -- ---- the address is formed later
 
--- an entry that is done alone, and the one behind it, await the last entry
+-- a serializing entry, and the entry after it, await the previous entry
 alone-first : (a b : Bool) (p c : ℕ) → (if b then max p c else p) ≤ max p (if a || b then c else 0)
 alone-first true true p c = omega arith
 alone-first true false p c = omega arith
@@ -59,7 +59,7 @@ module _ (ds : List ℕ) (m : ℕ) (t : Option ℕ) (u : Machine) (f : IssueStat
     | inr is ↦ after-words (omega (arith, is.3, alone-serial e.serial f.serial f.c (target-serial t u is.2)))
   ]
 
-  -- ---- and so are the words that are left
+  -- ---- the remaining words are requested later
 
   left-waits : (n : ℕ) → next.entry.target.len ≡ n → m ≤ wanted_next f next → AreLeft ds f next.entry.own next.entry.target e read.first m
   unfolding words_tick fetch_words

@@ -1,4 +1,4 @@
--- An instruction that is known whole.
+-- An instruction whose words are all known.
 use Rattle.std.proofs.Common.{◌≡◌, ℕ, false, List, Option, None, Some, sym, ◌∙◌, ap}
 use Rattle.std.specs.Option.{IfSome}
 use Rattle.st_format.specs.Formats.{decoded_entry, instruction_of}
@@ -9,7 +9,7 @@ use Rattle.st_prep.specs.Reading.{Continuation, Finds, left_after, fetching_of, 
 use Rattle.st_prep.proofs.GivenLemmas.{known-found}
 use Rattle.st_prep.specs.declared.entries.Place.{Place}
 
--- what is not EX and is known whole is all that is fetched
+-- if all words of an instruction other than EX are known, it is all that is fetched
 pub halves-found : (o : Option (ℕ × ℕ)) (s : Machine) (place : Place) (contents words : List ℕ) → contents ≡ words
     → IfSome o (λ r. (k : Continuation) (f : Fetched) → k (allowed_found r.0 r.1) ≡ Finds f
     → fetching_of (left_after (instruction_at false (word s 3) s.enabled place.address k) contents) ≡ Found f)

@@ -1,4 +1,4 @@
--- The entry of which no word is asked for.
+-- An entry with no word requested.
 use Rattle.std.proofs.Common.{◌≡◌, ℕ, ◌≤◌, false, List, [], inl, Option, refl, sym, ◌∙◌, ap, arith}
 use Rattle.st_state.specs.Machine.{Machine}
 use Rattle.st_prep.specs.Fetch.{place_of}
@@ -30,7 +30,7 @@ nothing-asked : (ds : List ℕ) (f : IssueState) → asked_so_far ds f nothing n
 unfolding fetches_asked words_asked fetch_words reads_of uses wishes fetch_word
 nothing-asked ds f = refl
 
--- an entry with no word is read on so far
+-- an entry with no word requested is the next entry of the state
 pub new-next : (ds : List ℕ) (n : ℕ) (t : Option ℕ) (u : Machine) (f : IssueState) (next : FetchUnit) → next.place ≡ place_of u t → next.entry.own ≡ nothing → next.entry.target ≡ nothing
     → next.words ≡ record { bus = f.bus; answered = 0; awaited = 0 } → next.planned ≡ false → IsNext ds n t u f next
 new-next ds n t u f next place own target words un = record {
@@ -53,7 +53,7 @@ new-next ds n t u f next place own target words un = record {
 pub new-reads : (ds : List ℕ) (f : IssueState) (next : FetchUnit) → next.entry.own ≡ nothing → next.entry.target ≡ nothing → next.planned ≡ false → reads_so_far ds f next ≡ []
 new-reads ds f next own target un = reads-none ds f next un ∙ rw (own, target) (nothing-asked ds f)
 
--- before its first word is wanted, nothing of it can be known
+-- before the first request tick nothing is known
 pub new-rests : (now : ℕ) (t : Option ℕ) (u : Machine) (f : IssueState) (next : FetchUnit) → next.planned ≡ false → now ≤ wanted_from f
     → Rests now t u f next
 new-rests now t u f next un early = λ none. inl (omega arith)

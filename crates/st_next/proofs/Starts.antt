@@ -1,4 +1,4 @@
--- Words so far, and those that are left.
+-- The words so far, and the remaining words.
 use Rattle.std.proofs.Common.{◌≡◌, ℕ, zero, suc, ◌+◌, ◌-◌, ◌≤◌, ◌<◌, List, [], ◌∷◌, ◌++◌, length, get_or, take, map, append_assoc, refl, sym, ◌∙◌, ap, arith, length-append}
 use Rattle.std.specs.Prelude.{◌==◌, if◌then◌else◌, Bool, true, false}
 use Rattle.std.proofs.Math.Nat.{add-zero, zero-add, suc-add}
@@ -27,11 +27,11 @@ unfolding word_list_from
 words-none w zero e = refl
 words-none w (suc n) e = absurd (omega arith)
 
--- the words of a run behind its first ones
+-- the words of a run after its first ones
 abbrev pub behind : WordRun → WordRun → List ℕ
 behind part whole = word_list_from (whole.first + part.len) (whole.len - part.len)
 
--- words from a place that does not matter where there are none
+-- the place of an empty list of words does not matter
 start_if : (v w n : ℕ) → (1 ≤ n → v ≡ w) → word_list_from v n ≡ word_list_from w n
 start_if v w zero e = words-none v 0 refl ∙ sym (words-none w 0 refl)
 start_if v w (suc n) e = ap (λ x. word_list_from x (suc n)) (e (omega arith))
@@ -49,14 +49,14 @@ same-first (suc n) v w some none other = some (omega arith)
 abbrev run_at : ℕ → ℕ → WordRun
 run_at first len = record { first = first; len = len }
 
--- a run that begins as another one, with as many words, is that run
+-- the first words of a run are the run, if they are as many
 pub start-whole : (part whole : WordRun) → IsStart part whole → (whole.len ≡ 0 → whole.first ≡ 0) → whole.len ≤ part.len → part ≡ whole
 start-whole part whole is none all =
     let len : part.len ≡ whole.len = omega (arith, is.few) in
     let first : part.first ≡ whole.first = same-first part.len part.first whole.first is.first is.none (λ e. none (sym len ∙ e)) in
     ap (λ v. run_at v part.len) first ∙ ap (run_at whole.first) len
 
--- what is left of the words of an entry
+-- the remaining words of an entry
 abbrev pub left_of : WordRun → WordRun → Entry → List ℕ
 left_of own target e = behind own e.own ++ behind target e.target
 
@@ -78,9 +78,9 @@ first-left own target e are =
 pub length-first : (own target : WordRun) → length (words_of_run own ++ words_of_run target) ≡ own.len + target.len
 length-first own target = length-append (words_of_run own) (words_of_run target) ∙ ap (λ n. n + length (words_of_run target)) (length-words own.first own.len) ∙ ap (λ n. own.len + n) (length-words target.first target.len)
 
--- ---- the first of what is left
+-- ---- the first remaining word
 
--- the first of some words
+-- the first of consecutive words
 words-first : (v n w : ℕ) (rest : List ℕ) → word_list_from v n ≡ w ∷ rest → (1 ≤ n) × (w ≡ v)
 unfolding word_list_from
 words-first v zero w rest e = absurd (cc)
@@ -96,7 +96,7 @@ unfolding word_list_from
 append-first zero v w x rest e some = absurd (omega arith)
 append-first (suc n) v w x rest e some = cc
 
--- an own word comes next
+-- an own word is next
 pub record IsNextOwn (own target : WordRun) (e : Entry) (w : ℕ) : Type 0 where
   pub none : target.len ≡ 0
   pub more : own.len < e.own.len
@@ -116,7 +116,7 @@ next-own own target e w rest are left more =
       place = append-first (e.own.len - own.len) (e.own.first + own.len) w (behind target e.target) rest left (omega arith);
     }
 
--- a word of the target comes next
+-- a word of the target is next
 pub record IsNextTarget (own target : WordRun) (e : Entry) (w : ℕ) : Type 0 where
   pub all : own ≡ e.own
   pub more : target.len < e.target.len
@@ -135,7 +135,7 @@ next-target own target e w rest are none left enough =
     let first = words-first (e.target.first + target.len) (e.target.len - target.len) w rest only in
     record { all = all; more = omega (arith, first.0); place = first.1 }
 
--- nothing comes next
+-- no word is next
 pub record IsAll (own target : WordRun) (e : Entry) : Type 0 where
   pub own_all : own ≡ e.own
   pub target_all : target ≡ e.target
@@ -155,7 +155,7 @@ next-none own target e are none_own none_target left =
       target_all = start-whole target e.target are.target_start none_target (omega (arith, b));
     }
 
--- ---- one word more
+-- ---- one more word
 
 first_by : (b : Bool) (n w v : ℕ) → (n == 0) ≡ b → (1 ≤ n → v ≡ w) → (if b then w + n else v) ≡ w
 first_by true n w v e some = omega (arith, is_none n e)
@@ -188,17 +188,17 @@ target-more own target e w are is = record {
   all_own = λ some. is.all;
 }
 
--- a word behind the first ones of a run
+-- the word after the first words of a run
 pub word-behind : (part whole : WordRun) (w : ℕ) → IsStart part whole → w ≡ whole.first + part.len → 1 ≤ part.len → w ≡ part.first + part.len
 word-behind part whole w is place some = place ∙ ap (λ v. v + part.len) (sym (is.first some))
 
--- a run of listed words begins at 0 where there are none
+-- the run of no words begins at 0
 pub run_of-none : (ws : List ℕ) → (run_of ws).len ≡ 0 → (run_of ws).first ≡ 0
 unfolding run_of
 run_of-none [] e = refl
 run_of-none (w ∷ ws) e = absurd (omega arith)
 
--- ---- the words one by one
+-- ---- the words by their places
 
 words-at : (w n k : ℕ) → k < n → get_or (word_list_from w n) k 0 ≡ w + k
 unfolding word_list_from

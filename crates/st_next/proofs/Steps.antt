@@ -1,4 +1,4 @@
--- One step of the entry that is prepared next, whatever the state before it is.
+-- One step of the fetch unit, for every state before the entry.
 use Rattle.std.proofs.Common.{◌≡◌, ℕ, zero, suc, ◌≤◌, ◌<◌, max, Bool, true, false, List, ◌++◌, map, inl, inr, Option, refl, sym, subst, ◌∙◌, ap, arith}
 use Rattle.std.specs.Prelude.{IfSome}
 use Rattle.st_state.specs.Machine.{Machine, word}
@@ -37,7 +37,7 @@ planned-none b ds n t u f next un is = absurd (cc)
 abbrev decode_context_with : Place → Fetched → List ℕ → ℕ → Bool → DecodeContext
 decode_context_with p fd x b on = record { place = p; fetched = fd; x = x; bounds = b; enabled = on }
 
--- what is seen of the state before the entry is seen of it
+-- the decode context from the known part is that of the state before the entry
 pub decode_context-same : (now : ℕ) (f : IssueState) (x : List ℕ) (s u : Machine) (t : Option ℕ) (p : Place) (fd : Fetched) → IsStateBefore now f.past x s u
     → p ≡ place_of u t → fd ≡ fetched_at u (place_of u t) → decode_context_of p fd x s ≡ decode_context u (place_of u t)
 unfolding decode_context
@@ -47,12 +47,12 @@ decode_context-same now f x s u t p fd is place found =
     ∙ ap (λ b. decode_context_with (place_of u t) (fetched_at u (place_of u t)) (index_words u) b s.enabled) (sym is.bounds)
     ∙ ap (λ on. decode_context_with (place_of u t) (fetched_at u (place_of u t)) (index_words u) (word u 3) on) (sym is.enabled)
 
--- so is the entry
+-- the entry from the known decode context is the next entry of the state
 pub entry-same : (t : Option ℕ) (u : Machine) (own target : WordRun) (v : DecodeContext) → own ≡ (entry t u).own → target ≡ (entry t u).target
     → v ≡ decode_context u (place_of u t) → entry_with own target (needs v) (preparation_without_side v) v.place.table v.fetched.fault ≡ entry t u
 entry-same t u own target v o g e = rw (o, g, e) (sym (entry-seen t u _))
 
--- what is fetched for an entry, what it needs and what it is prepared to, kept in it
+-- the fetch unit with a fetched instruction, its needs and its preparation
 abbrev pub shown : FetchUnit → Fetched → Needs → Prepared → FetchUnit
 shown next fd needed prepared =
     let m = record next { fetched = record { marker = record {}; value = fd }; needs = needed; prepared = prepared } in
@@ -63,7 +63,7 @@ pub shown-as : (next : FetchUnit) (x : List ℕ) (s : Machine) (fd given : Fetch
     → shown next given needed prepared ≡ prepared_as fd x s next
 shown-as next x s fd given needed prepared f n p = rw (f, n, p) refl
 
--- an entry that is prepared so far is planned
+-- the prepared entry is planned
 pub record IsPlannedAs (ds : List ℕ) (n : ℕ) (f : IssueState) (before after : FetchUnit) : Type 0 where
   pub rest : after ≡ record before { words = after.words; formed = after.formed; planned = true }
   pub awaited : after.words.awaited ≡ before.words.awaited
@@ -141,7 +141,7 @@ module _ (ds : List ℕ) (n now : ℕ) (f : IssueState) (x : List ℕ) (s : Mach
     );
   })
 
-  -- ---- the target waits for the last entry
+  -- ---- the target awaits the previous entry
 
   waits-rests : (k later : ℕ) (t : Option ℕ) (u : Machine) (w : ℕ) → before.entry.target.len ≡ k → later ≤ f.c → IsNextTarget before.entry.own before.entry.target (entry t u) w
       → Rests later t u f before
@@ -153,7 +153,7 @@ module _ (ds : List ℕ) (n now : ℕ) (f : IssueState) (x : List ℕ) (s : Mach
     each = λ t u table is next. let it = comes-target t u table is next.read_on w e in (next, waits-rests before.entry.target.len later t u w refl early it);
   }
 
-  -- ---- it is prepared
+  -- ---- the entry is prepared
 
   pub prepared-goes : (fd : Fetched) (after : FetchUnit) → after ≡ prepared_as fd x s before → GoesOnTo ds n now f x s before after 0
   prepared-goes fd after same = subst (λ a. GoesOnTo ds n now f x s before a 0) (sym same) (record {

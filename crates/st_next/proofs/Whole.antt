@@ -22,7 +22,7 @@ use Rattle.st_next.proofs.Resting.{address-late, rest-left}
 use Rattle.st_next.proofs.Asking.{reads-none, reads-planned, side-late}
 use Rattle.st_rows.specs.Words.{bus_after_index_read, fetch_words}
 
--- all of the data is wanted when the address is formed or later
+-- all data are requested when the address is formed or later
 data-late : (ds : List ℕ) (n m : ℕ) (f : IssueState) (e : Entry) → m ≤ tick_a ds f e → All (IsLate m) (data_of ds n f e)
 data-late ds n m f e late =
     let p : m ≤ tick_p ds n f e = omega (arith, late, a-p ds n f e) in
@@ -30,7 +30,7 @@ data-late ds n m f e late =
     (each-operand (IsLate m) f.past e.reads (tick_p ds n f e) (λ v least most. p) (λ v least most. p))
     (each-following (IsLate m) ds (operands ds n f e).bus e (tick_p ds n f e) (λ follows v least most. p))
 
--- the words of the entry, with whatever else
+-- the reads of the words so far, if they are all words of the entry
 fetches-same : (ds : List ℕ) (f : IssueState) (seen e : Entry) → seen ≡ e → asked_so_far ds f seen.own seen.target ≡ fetches_asked ds f e
 unfolding fetches_asked words_asked fetch_words
 fetches-same ds f seen e same = rw same refl
@@ -52,7 +52,7 @@ left-resting ds n now t u f next is un rests =
       late = All-append (IsLate now) left.rest (data_of ds n f e) left.late (data-late ds n now f e (omega arith));
     }
 
--- ---- of one that is
+-- ---- of a planned entry
 
 module _ (ds : List ℕ) (n : ℕ) (t : Option ℕ) (u : Machine) (f : IssueState) (next : FetchUnit) (is : IsNext ds n t u f next) (done : next.planned ≡ true) where
   abbrev e : Entry
@@ -61,7 +61,7 @@ module _ (ds : List ℕ) (n : ℕ) (t : Option ℕ) (u : Machine) (f : IssueStat
   planned : IsPlanned ds n t u f next
   planned = is.planned done
 
-  planned-reads : reads_so_far ds f next ≡ fetches_asked ds f e ++ side_asked f.past e.side (tick_a ds f e)
+  pub planned-reads : reads_so_far ds f next ≡ fetches_asked ds f e ++ side_asked f.past e.side (tick_a ds f e)
   planned-reads =
       reads-planned ds f next done
       ∙ ap (λ reads. reads ++ side_asked f.past next.entry.side next.formed.a) (fetches-same ds f next.entry e planned.entry)

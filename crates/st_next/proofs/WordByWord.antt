@@ -1,4 +1,4 @@
--- Instruction words are asked for one after another.
+-- Instruction words are requested in order.
 use Rattle.std.proofs.Common.{◌≡◌, ℕ, zero, suc, ◌+◌, ◌≤◌, max, Bool, true, false, ◌==◌, if◌then◌else◌, List, [], ◌++◌, append_assoc, refl, sym, ◌∙◌, ap, arith}
 use Rattle.std.proofs.Math.Nat.{add-zero, zero-add, suc-add}
 use Rattle.std.proofs.lemmas.List.{append-nil}
@@ -16,11 +16,11 @@ use Rattle.st_next.specs.Words.{run_with_word, words_so_far, asked_so_far}
 use Rattle.st_rows.specs.Uses.{behind, reads_of, uses, wishes}
 
 module _ (ds : List ℕ) (past : List Past) (from : ℕ) where
-  -- the want of the next word
+  -- the request tick of the next word
   abbrev pub want_of : Fetching → ℕ
   want_of s = max (max from s.answered) s.awaited
 
-  -- some words, and then more
+  -- m words, and then k more
   pub fetch-more : (s : Fetching) (w m k : ℕ)
       → fetch_words ds past s from w (m + k) ≡ fetch_words ds past (fetch_words ds past s from w m) from (w + m) k
   unfolding fetch_words behind uses wishes fetch_word
@@ -44,7 +44,7 @@ module _ (ds : List ℕ) (past : List Past) (from : ℕ) where
       (ap (λ reads. first ++ reads) (asked-more next (w + 1) m k ∙ ap (λ v. words_asked ds past next from (w + 1) m ++ later v k) place)
       ∙ sym (append_assoc first (words_asked ds past next from (w + 1) m) (later (w + suc m) k)))
 
-  -- ---- one word more behind those of a run
+  -- ---- one more word after those of a run
 
   pub fetch-none : (s : Fetching) (w n : ℕ) → n ≡ 0 → fetch_words ds past s from w n ≡ s
   unfolding fetch_words behind uses wishes fetch_word

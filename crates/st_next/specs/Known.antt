@@ -1,5 +1,4 @@
--- What the entry that is prepared next is known by: the state before it, which is not there yet,
--- and the state that is.
+-- The known part of the state before the next entry, while older entries are not completed.
 use Rattle.std.specs.Prelude.{ℕ, ◌≡◌, ◌≤◌, List}
 use Rattle.st_bits.specs.declared.register.TheConstants.{INTERRUPT_ADDRESS, BOUNDS, FIRST_STORAGE_WORD}
 use Rattle.st_state.specs.Machine.{Machine, IsMachine, word}
@@ -7,9 +6,9 @@ use Rattle.st_prep.specs.Fetch.{index_words}
 use Rattle.st_rows.specs.Entries.{latest_done}
 use Rattle.st_rows.specs.declared.past.Past.{Past}
 
--- u is the state before the next entry, s the state that stands now, and x are the index words that
--- run ahead: both agree where nothing between them can have written, and on each word from 32 up
--- whose writers are done at the tick
+-- u is a possible state before the next entry: its index words are x, and it agrees with the
+-- committed state s in the interrupt address, the bounds, the flag for interrupts, and each word
+-- from 32 up whose writers complete by the tick `now`
 pub record IsStateBefore (now : ℕ) (past : List Past) (x : List ℕ) (s u : Machine) : Type 0 where
   pub machine : IsMachine u
   pub index : index_words u ≡ x

@@ -1,4 +1,4 @@
--- What holds of the reads that are asked for the entry that is prepared next.
+-- Laws of the reads of the fetch unit.
 use Rattle.std.specs.Prelude.{◌≡◌, ℕ, List, [], ◌++◌, ◌≤◌, Option, true, false, ◌<◌}
 use Rattle.st_state.specs.Machine.{Machine}
 use Rattle.st_rows.specs.Asked.{bus_after_reads, prepared_asked}
@@ -10,10 +10,10 @@ use Rattle.st_next.specs.Progress.{IsNext, Rests, reads_so_far}
 use Rattle.st_next.specs.Going.{AreLeft}
 use Rattle.st_next.specs.declared.fetch_unit.FetchUnit.{FetchUnit}
 
--- The reads that are asked for the entry so far are the first ones of those that are made for it.
--- Of an entry that is planned the operands and the following words are left, which are wanted when
--- it is prepared; of another one that rests before a tick each read that is left is wanted at that
--- tick or later.
+-- The reads requested so far are the first reads of the entry. Of a planned entry the operands and
+-- the following words remain, which are requested at P (`planned`, `behind`). If the entry is not
+-- planned and rests before a tick, each remaining read is requested at that tick or later
+-- (`resting`).
 pub record ReadsSoFarComeFirst : Type 0 where
   pub planned : (ds : List ℕ) (n : ℕ) (t : Option ℕ) (u : Machine) (f : IssueState) (next : FetchUnit) →
       IsNext ds n t u f next → next.planned ≡ true →
@@ -26,24 +26,23 @@ pub record ReadsSoFarComeFirst : Type 0 where
       IsNext ds n t u f next → next.planned ≡ false → Rests now t u f next →
       AreLeft ds n now t u f next
 
--- Made one after the other, the reads so far give the bus behind the words so far, or behind the
--- index-side word of an entry that is planned.
+-- In sequence, the reads so far give the bus of the fetch unit: the one after the words so far, or,
+-- of a planned entry, after the index-side word.
 abbrev pub ReadsSoFarGiveTheBus : Type 0
 ReadsSoFarGiveTheBus = (ds : List ℕ) (n : ℕ) (t : Option ℕ) (u : Machine) (f : IssueState)
     (next : FetchUnit) →
     IsNext ds n t u f next → bus_after_reads ds (reads_so_far ds f next) f.bus ≡ next.words.bus
 
--- The address of an entry that rests before a tick and is not planned yet is formed later than
--- that, so that no entry is planned too late.
+-- If an entry is not planned and rests before a tick, its address is formed after that tick. So no
+-- entry is planned too late.
 abbrev pub EntriesArePlannedInTime : Type 0
 EntriesArePlannedInTime = (ds : List ℕ) (n now : ℕ) (t : Option ℕ) (u : Machine) (f : IssueState)
     (next : FetchUnit) →
     IsNext ds n t u f next → next.planned ≡ false → Rests now t u f next →
     now < tick_a ds f (entry t u)
 
--- An entry of which no word is asked for is read on so far, whichever state it is the next entry
--- of; where it becomes known late, behind an entry that is done alone, it is enough to say where it
--- stands.
+-- An entry with no word requested is the next entry of every state with its place (`next`). It
+-- rests before its first request tick (`rests`), and has no reads so far (`reads`).
 pub record EntriesBeginAnywhere : Type 0 where
   pub next : (ds : List ℕ) (n : ℕ) (t : Option ℕ) (u : Machine) (f : IssueState) (next : FetchUnit) →
       next.place ≡ place_of u t → next.entry.own ≡ record { first = 0; len = 0 } →

@@ -1,4 +1,4 @@
--- How far the entry that is prepared next is known.
+-- How much of the next entry is known.
 use Rattle.std.specs.Prelude.{ℕ, ◌≡◌, ◌≤◌, ◌==◌, max, true, false, if◌then◌else◌, List, [], ◌++◌, ◌⊎◌, Option, option_map}
 use Rattle.st_bits.specs.Indicators.{IsIndicatorIfAny}
 use Rattle.st_state.specs.Machine.{Machine}
@@ -17,15 +17,15 @@ use Rattle.st_next.specs.Known.{IsStateBefore}
 use Rattle.st_next.specs.Words.{AreFirstWords, words_so_far, asked_so_far}
 use Rattle.st_next.specs.declared.fetch_unit.FetchUnit.{FetchUnit}
 
--- ---- the entry that is prepared next: t says whether it is a table instruction, u is the state
--- before it, and f the front
+-- ---- t is the indicator of a table instruction, u the state before the entry, f the issue state
 
--- no word of it is asked for yet, on this bus
+-- no word of the entry is requested yet, on the given bus
 abbrev pub IsUnread : Bus → FetchUnit → Type 0
 IsUnread bus next = (next.planned ≡ false) × (next.entry.own ≡ no_run) × (next.entry.target ≡ no_run)
     × (next.words ≡ nothing_fetched bus)
 
--- so many of its words are asked for, and the bus is behind them until the entry is planned
+-- the first words of the entry are requested, and until it is planned, the bus is the one after
+-- them
 pub record IsReadOn (ds : List ℕ) (t : Option ℕ) (u : Machine) (f : IssueState)
     (next : FetchUnit) : Type 0 where
   pub place : next.place ≡ place_of u t
@@ -33,12 +33,12 @@ pub record IsReadOn (ds : List ℕ) (t : Option ℕ) (u : Machine) (f : IssueSta
   pub words : next.planned ≡ false → next.words ≡ words_so_far ds f next.entry.own next.entry.target
   pub awaited : next.words.awaited ≡ (words_so_far ds f next.entry.own next.entry.target).awaited
 
--- how an entry of which so much is seen is prepared, with 0 in place of its index-side word
+-- the preparation from a decode context, with 0 as the content of the index-side word
 abbrev pub preparation_without_side : DecodeContext → Prepared
 preparation_without_side v = prepared_of v (option_map (λ w. 0) (needs_of v).index_read)
 
 module _ (ds : List ℕ) (n : ℕ) (t : Option ℕ) (u : Machine) (f : IssueState) (next : FetchUnit) where
-  -- its words are all asked for, and all of it is known but its index-side word
+  -- all words are requested, and all of the entry is known but its index-side word
   pub record IsPlanned : Type 0 where
     pub found : next.fetched.value ≡ fetched_at u (place_of u t)
     pub needs : next.needs ≡ needs_of (decode_context u (place_of u t))
@@ -48,34 +48,33 @@ module _ (ds : List ℕ) (n : ℕ) (t : Option ℕ) (u : Machine) (f : IssueStat
     pub bus : next.words.bus ≡ bus_a ds f (entry_of t u)
     pub tick : next.formed.p ≡ tick_p ds n f (entry_of t u)
 
-  -- it is read as far as its words tell, and planned where its mark says so
+  -- the first words of the entry are requested, and it is planned if it is marked so
   pub record IsNext : Type 0 where
     pub read_on : IsReadOn ds t u f next
     pub planned : next.planned ≡ true → IsPlanned
 
--- the reads that are asked for it so far
+-- the reads that are requested so far
 abbrev pub reads_so_far : List ℕ → IssueState → FetchUnit → List Read
 reads_so_far ds f next =
     asked_so_far ds f next.entry.own next.entry.target
     ++ (if next.planned then side_asked f.past next.entry.side next.formed.a else [])
 
--- the tick from which on the next word is wanted, as far as the words so far tell: those of the
--- target wait for the last entry, once one of them is asked for
+-- the request tick of the next word, to the extent that the words so far show it: after a word of
+-- the target of EX it is not before C of the previous entry
 abbrev pub wanted_next : IssueState → FetchUnit → ℕ
 wanted_next f next =
     max (max (max (wanted_from f)
     (if next.entry.target.len == 0 then 0 else f.c)) next.words.answered) next.words.awaited
 
--- nothing more of it can be known before the tick `now`: it is planned; or the words so far are not
--- answered before, or an entry that writes one of them is not done; or it is EX, whose target waits
--- for the entry before
+-- nothing more can be known before the tick `now`: the entry is planned; or its next word is
+-- requested at `now` or later; or it is EX with all its own words, and the previous entry, which
+-- its target awaits, completes at `now` or later
 abbrev pub Rests : ℕ → Option ℕ → Machine → IssueState → FetchUnit → Type 0
 Rests now t u f next = next.planned ≡ false → (now ≤ wanted_next f next)
     ⊎ ((next.entry.own ≡ (entry_of t u).own) × (next.entry.target.len ≡ 0)
     × (1 ≤ (entry_of t u).target.len) × (now ≤ f.c))
 
--- what the calls take for granted: there is such a state u, by the entries that are done at this
--- tick
+-- the premise of the calls: a state before the entry agrees with the known part at the tick `now`
 pub record IsKnown (ds : List ℕ) (n now : ℕ) (f : IssueState) (x : List ℕ) (s : Machine)
     (next : FetchUnit) : Type 0 where
   pub table : Option ℕ
@@ -84,7 +83,7 @@ pub record IsKnown (ds : List ℕ) (n now : ℕ) (f : IssueState) (x : List ℕ)
   pub before : IsStateBefore now f.past x s state
   pub is_next : IsNext ds n table state f next
 
--- it is known by some state before it, whatever the tick, the delays, the levels and the front are
+-- `IsKnown` holds for some tick, delays, number of levels and issue state
 pub record IsNextReady (x : List ℕ) (s : Machine) (next : FetchUnit) : Type 0 where
   pub delays : List ℕ
   pub levels : ℕ

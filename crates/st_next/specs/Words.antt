@@ -1,4 +1,4 @@
--- The instruction words of an entry that are asked for so far.
+-- The instruction words of an entry that are requested so far.
 use Rattle.std.specs.Prelude.{ℕ, ◌≡◌, ◌+◌, ◌≤◌, ◌==◌, false, if◌then◌else◌, List, None}
 use Rattle.st_rows.specs.Entries.{no_runs}
 use Rattle.st_rows.specs.Rows.{words_tick}
@@ -9,9 +9,9 @@ use Rattle.st_rows.specs.declared.entry.Entry.{Entry}
 use Rattle.st_rows.specs.declared.fetching.Fetching.{Fetching}
 use Rattle.st_rows.specs.declared.issue.IssueState.{IssueState}
 
--- ---- the words so far: the first of the entry's own words, and then of those of its target
+-- ---- the words so far: own words of the entry, and after all of these, words of its target
 
--- an entry that has these instruction words, and no other words
+-- an entry with these instruction words and no other words
 abbrev pub words_alone : WordRun → WordRun → Entry
 words_alone own target = record {
   own = own;
@@ -24,11 +24,11 @@ words_alone own target = record {
   follows = false;
 }
 
--- what is fetched where these are its words so far
+-- the bus, the answers and the awaited completions after the words so far
 abbrev pub words_so_far : List ℕ → IssueState → WordRun → WordRun → Fetching
 words_so_far ds f own target = words_tick ds f (words_alone own target)
 
--- the reads that are asked for then
+-- the reads of the words so far
 abbrev pub asked_so_far : List ℕ → IssueState → WordRun → WordRun → List Read
 asked_so_far ds f own target = fetches_asked ds f (words_alone own target)
 
@@ -38,12 +38,12 @@ pub record IsStart (part whole : WordRun) : Type 0 where
   pub first : 1 ≤ part.len → part.first ≡ whole.first
   pub none : part.len ≡ 0 → part.first ≡ 0
 
--- the first words of an entry; those of the target come once its own are there
+-- the first words of an entry; words of the target follow all its own words
 pub record AreFirstWords (own target : WordRun) (e : Entry) : Type 0 where
   pub own_start : IsStart own e.own
   pub target_start : IsStart target e.target
   pub all_own : 1 ≤ target.len → own ≡ e.own
 
--- one word more
+-- a run with one more word
 abbrev pub run_with_word : WordRun → ℕ → WordRun
 run_with_word run w = record { first = if run.len == 0 then w else run.first; len = run.len + 1 }

@@ -1,33 +1,30 @@
-//! The entry that is prepared next, as far as it is known.
+//! The fetch unit: the entry that is prepared next, to the extent that it is known.
 ghost use Rattle.std.specs.Prelude.{◌≡◌, ℕ, ◌+◌, ◌-◌, ◌<◌, ◌≤◌, true, false, max, take, map, List, [], ◌∷◌, ◌++◌, Option, IfSome, is_none, is_some, get_or, if◌then◌else◌};
+ghost use Rattle.st_bits.specs.Indicators.{IsIndicatorIfAny};
 ghost use Rattle.st_bits.specs.Storage.{words_of_storage};
 ghost use Rattle.st_fetch.specs.Planned.{tick_of};
-ghost use Rattle.st_state.specs.Machine.{word};
+ghost use Rattle.st_state.specs.Machine.{IsMachine, word};
+ghost use Rattle.st_prep.specs.Fetch.{index_words as index_words_of, place_of as place_by, words_fetched};
+ghost use Rattle.st_prep.specs.Plan.{plan as plan_of, needs as needs_of, decode_context};
 ghost use Rattle.st_prep.specs.Ranges.{HasFields, IsPlace, IsFetched, IsFetching, IsPrepared};
 ghost use Rattle.st_prep.specs.Reading.{fetched_plain, is_execute};
 ghost use Rattle.st_prep.specs.declared.entries.Fetching.TheVariants.{Found};
 ghost use Rattle.st_format.specs.Formats.{decoded_entry, instruction_of, spelled_as};
-ghost use Rattle.st_rows.specs.Asked.{word_asked};
+ghost use Rattle.st_rows.specs.Asked.{word_asked, formed_asked};
 ghost use Rattle.st_rows.specs.Notes.{log_after_reads};
 ghost use Rattle.st_rows.specs.Ranges.{IsEntryInTime};
-ghost use Rattle.st_rows.specs.Rows.{wanted_from};
-ghost use Rattle.st_rows.specs.Words.{fetch_word};
+ghost use Rattle.st_rows.specs.Rows.{wanted_from, tick_a, bus_a, tick_p};
 ghost use Rattle.st_rows.specs.Supplies.{told};
 ghost use Rattle.st_rows.specs.Uses.{use_of};
+ghost use Rattle.st_rows.specs.Words.{fetch_word};
 ghost use Rattle.st_rows.specs.declared.uses.Role.TheVariants.{Instruction};
-ghost use Rattle.st_rows.specs.Asked.{formed_asked};
-ghost use Rattle.st_rows.specs.Rows.{tick_a, tick_p, bus_a};
-ghost use Rattle.st_bits.specs.Indicators.{IsIndicatorIfAny};
-ghost use Rattle.st_state.specs.Machine.{IsMachine};
-ghost use Rattle.st_prep.specs.Fetch.{index_words as index_words_of, place_of as place_by, words_fetched};
-ghost use Rattle.st_prep.specs.Plan.{plan as plan_of, needs as needs_of, decode_context};
-ghost use Rattle.st_segment.specs.Entries.{entry as entry_of, side_to_read as side_to_read_of};
-ghost use Rattle.st_next.specs.Told.{formed_told, IsToldFurther};
-ghost use Rattle.st_next.specs.Spelled.{fetched_by, IsSpelling};
 ghost use Rattle.st_segment.specs.Alone.{words_of_run};
+ghost use Rattle.st_segment.specs.Entries.{entry as entry_of, side_to_read as side_to_read_of};
 ghost use Rattle.st_next.specs.Words.{words_alone, run_with_word as with_word_of};
 ghost use Rattle.st_next.specs.Progress.{IsUnread, IsKnown, IsNextReady};
 ghost use Rattle.st_next.specs.Going.{given_so_far, IsIssueInTime, IsEarly, GoesOnTo, IsReadFurther, IsPreparedBy, IsPlanAtItsTick, as_entry, prepared_as};
+ghost use Rattle.st_next.specs.Told.{formed_told, IsToldFurther};
+ghost use Rattle.st_next.specs.Spelled.{fetched_by, IsSpelling};
 
 use st_banks::Delays;
 use st_format::{Decoded, Format, FullOp, decode_as, format_of};
@@ -42,32 +39,32 @@ use st_segment::{side_to_read, words_to_read, words_to_write};
 use st_state::State;
 use std::snapshot::Snapshot;
 
-/// The entry that is prepared next, as far as it is known.
+/// The entry that is prepared next, to the extent that it is known.
 #[derive(Drop)]
 pub struct FetchUnit {
-    /// Where it stands.
+    /// The place of the entry.
     pub place: Place,
-    /// The bus behind its instruction words that are asked for, their answers, and which writers of
-    /// them are awaited. The bus of an entry that is planned is behind its index-side word.
+    /// The bus after the instruction words requested so far, their latest answer, and the latest
+    /// completion of their writers; for a planned entry, the bus after its index-side word.
     pub words: Fetching,
-    /// Whether all of it is known but its index-side word; what follows is said of such an entry
-    /// alone, but for the instruction words in `entry`.
+    /// Whether all of the entry is known but its index-side word. The fields below are valid only
+    /// for a planned entry, except for the instruction words in `entry`.
     pub planned: bool,
-    /// What is fetched, which clauses alone read.
+    /// The fetched instruction, which only clauses read.
     pub fetched: Snapshot<Fetched>,
-    /// What it needs.
+    /// The index-side word that is to be read, and whether the entry is serializing.
     pub needs: Needs,
-    /// What it is, with 0 in place of its index-side word.
+    /// The prepared entry; before `prepare`, with 0 as the content of its index-side word.
     pub prepared: Prepared,
-    /// The same as the timetable sees it. Its own instruction words and those of the target of EX
-    /// stand there as soon as they are asked for.
+    /// The entry as the timetable sees it. Its own instruction words and those of the target of EX
+    /// are the ones requested so far.
     pub entry: Entry,
-    /// When its address is formed and when it is prepared.
+    /// A and P: the ticks at which the address is formed and the entry is prepared.
     pub formed: Formed,
 }
 
-/// What the next entry is planned by: the delays and levels of the machine, the state that stands
-/// now, and what runs ahead of that, the front before the entry and the index words.
+/// The input to the planning of the next entry: the delays and the number of levels, the committed
+/// state, the issue state before the entry, and the index words with all early changes.
 #[derive(Clone, Copy)]
 pub struct PlanContext<'a, 'b> {
     pub timing: Timing<'a>,
@@ -76,17 +73,17 @@ pub struct PlanContext<'a, 'b> {
     pub index: &'b [u64; 16],
 }
 
-/// How the instruction of an entry is spelled.
+/// What is fetched of an entry.
 #[derive(Clone, Copy, Debug, PartialEq, Eq)]
 pub enum Spelling {
-    /// By these half-words: its words may be fetched, and it is not EX. A half-word instruction has
-    /// no second one, in whose place any stands.
+    /// An instruction other than EX whose words may all be fetched, by its half-words. The second one
+    /// of a half-word instruction is arbitrary.
     Halves { first: u32, second: u32 },
-    /// In another way: this is fetched.
+    /// Everything else.
     Other(Fetched),
 }
 
-// An instruction of which the half-words and the format are known.
+// An instruction whose half-words and format are known.
 #[derive(Clone, Copy)]
 struct Spelled {
     format: Format,
@@ -95,7 +92,7 @@ struct Spelled {
 }
 
 impl FetchUnit {
-    /// The entry at a place, of which no word is asked for, on this bus.
+    /// The entry at a place, with no word requested, on this bus.
     pub fn new(place: Place, bus: Bus) -> FetchUnit
         ensures place { result.place ≡ place }
         ensures unread { IsUnread bus result }
@@ -112,7 +109,7 @@ impl FetchUnit {
         }
     }
 
-    /// The entry at another place, of which no word is asked for, on the bus behind the last one.
+    /// Moves to the entry at another place, with no word requested. The bus stays as it is.
     pub fn restart(&mut self, place: Place)
         ensures place { self.new.place ≡ place }
         ensures unread { IsUnread self.old.words.bus self.new }
@@ -124,7 +121,7 @@ impl FetchUnit {
         self.planned = false;
     }
 
-    // The address of one of the words so far, 0 behind them.
+    // The word address of word `k` of those requested so far; 0 if there is no word `k`.
     fn word_at(&self, k: u8) -> u32
         requires words { IsEntryInTime (words_alone self.now.entry.own self.now.entry.target) }
         ensures value { k < self.now.entry.own.len + self.now.entry.target.len → result
@@ -141,7 +138,7 @@ impl FetchUnit {
         0
     }
 
-    // The contents of the words so far.
+    // The contents of the words requested so far.
     fn contents(&self, state: &State) -> [u64; 4]
         requires words { IsEntryInTime (words_alone self.now.entry.own self.now.entry.target) }
         ensures { take (self.now.entry.own.len + self.now.entry.target.len) result
@@ -155,7 +152,7 @@ impl FetchUnit {
         ]
     }
 
-    // How far it is fetched by the words so far.
+    // The next word to read, or the fetched instruction, by the words requested so far.
     #[inline(always)]
     fn given(&self, x: &[u64; 16], state: &State) -> Given
         requires place { IsPlace self.now.place }
@@ -173,7 +170,7 @@ impl FetchUnit {
         self.given_more(x, state)
     }
 
-    // The same of any number of words.
+    // Like `given`, for any number of words.
     #[inline(never)]
     fn given_more(&self, x: &[u64; 16], state: &State) -> Given
         requires place { IsPlace self.now.place }
@@ -186,7 +183,7 @@ impl FetchUnit {
         fetch_on(&self.place, x, &contents[..so_far], state)
     }
 
-    // Asks for a word of its own.
+    // Requests one of the entry's own words.
     #[inline(always)]
     fn ask_own<W: Watch>(
         &mut self,
@@ -224,7 +221,7 @@ impl FetchUnit {
         self.entry.own = with_word(self.entry.own, w);
     }
 
-    // Asks for a word of the target of EX, which waits for the entry before.
+    // Requests a word of the target of EX, which awaits the completion of the previous entry.
     #[inline(never)]
     fn ask_target<W: Watch>(
         &mut self,
@@ -262,8 +259,8 @@ impl FetchUnit {
         self.entry.target = with_word(self.entry.target, w);
     }
 
-    // The last completion that it waits for, as far as its words so far tell: that of an entry that
-    // writes one of them, or of the one before it that is done alone.
+    // The latest completion that the entry awaits, to the extent that the words so far show it:
+    // that of a writer of one of them, or of a serializing previous entry.
     #[inline(always)]
     fn waits_for(&self, issue: &IssueState) -> u64
         ensures { result ≡ max self.now.words.awaited (if issue.now.serial then issue.now.c
@@ -273,12 +270,12 @@ impl FetchUnit {
         self.words.awaited.max(alone)
     }
 
-    /// Plans it: its words are asked for, one after another, and with them it is prepared as far as
-    /// it goes without its index-side word. It stops at a word that an entry writes which is done
-    /// at the tick `due` or later, and at one that waits for the entry before until then, and goes
-    /// on behind that word when it is called again. The result says whether it is planned. Whatever
-    /// the state before it is, what is known of it stays so; where it is not planned, nothing more
-    /// of it can be known before that tick.
+    /// Requests the words of the entry in order, and plans the entry after the last one, by the
+    /// facts that are known before the completion at the tick `due`. It stops after a word whose
+    /// writer completes at `due` or later. It also stops if the previous entry completes at `due`
+    /// or later, and is serializing or is awaited by the target of EX. A later call continues
+    /// there. Returns whether the entry is planned. For every state before the entry, known facts
+    /// stay true; if the entry is not planned, nothing more can be known before `due`.
     #[inline(always)]
     pub fn plan_before<W: Watch>(
         &mut self,
@@ -300,6 +297,8 @@ impl FetchUnit {
         ensures told { let b = context.now in IsToldFurther W.noted
             b.timing.delays.now.list b.issue.now self.old self.new watch.old watch.new }
         ensures planned { result ≡ self.new.planned }
+        ensures found { result ≡ true → given_so_far context.now.index.now context.now.state.now
+            self.new ≡ Found self.new.fetched.value }
         ensures still { let f = context.now.issue.now in
             due ≤ max self.old.words.awaited (if f.serial then f.c else 0) →
             (self.new ≡ self.old) × (log.new ≡ log.old) }
@@ -320,9 +319,9 @@ impl FetchUnit {
         true
     }
 
-    /// Plans the next entry of a state behind a front, or the table instruction of an interrupt by
-    /// the indicator in `table`, and prepares it for good, whatever was known here before. The index
-    /// words of `context` are those of its state. The result says how its instruction is spelled.
+    /// Plans the next entry of a state after an issue state, or the table instruction of an interrupt
+    /// by the indicator in `table`, whatever entry was known before, and completes its preparation.
+    /// The index words of `context` are those of its state. Returns what is fetched of the entry.
     pub fn plan<W: Watch>(
         &mut self,
         table: Option<u8>,
@@ -334,7 +333,7 @@ impl FetchUnit {
         requires index { context.now.index.now ≡ index_words_of context.now.state.now }
         requires issue { IsIssueInTime context.now.issue.now }
 
-        // What the entry is.
+        // The entry, prepared.
         ensures machine { IsMachine context.now.state.now }
         ensures prepared { self.new.prepared ≡ plan_of context.now.state.now table }
         ensures ranges { IsPrepared self.new.prepared }
@@ -347,7 +346,7 @@ impl FetchUnit {
             fetched_by result ≡ words_fetched s (place_by s table) }
         ensures spelling { IsSpelling result }
 
-        // When its address is formed and when it is prepared, and its reads until then.
+        // Its A and P, and its reads until A.
         ensures address { let b = context.now in self.new.formed.a
             ≡ tick_a b.timing.delays.now.list b.issue.now (entry_of table b.state.now) }
         ensures tick { let b = context.now in self.new.formed.p ≡ tick_p
@@ -360,18 +359,16 @@ impl FetchUnit {
         ensures told { let b = context.now in let ds = b.timing.delays.now.list in watch.new
             ≡ W.noted (formed_told ds b.issue.now (entry_of table b.state.now)) watch.old }
     {
-        self.place = place_of(context.state, table);
-        self.entry.own = WordRun::default();
-        self.entry.target = WordRun::default();
-        self.words = Fetching::new(context.issue.bus);
-        self.planned = false;
+        self.words.bus = context.issue.bus;
+        self.restart(place_of(context.state, table));
         self.plan_before(u64::MAX, context, log, watch);
         let spelling = self.spelling(context.index, context.state);
         self.prepare(context.index, context.state);
         spelling
     }
 
-    // How its instruction is spelled.
+    // What is fetched of the entry, whose words are all requested. So `given` does not return another
+    // word to request.
     #[inline(always)]
     fn spelling(&self, x: &[u64; 16], state: &State) -> Spelling
         requires place { IsPlace self.now.place }
@@ -392,8 +389,8 @@ impl FetchUnit {
         }
     }
 
-    // Prepares it as far as it goes without its index-side word. Mostly nothing is asked for yet:
-    // asking for the first word is straight code.
+    // Prepares the entry without its index-side word, and returns whether its words are known.
+    // Usually no word is requested yet, so the first request is inlined.
     #[inline(always)]
     fn prepare_own_before<W: Watch>(
         &mut self,
@@ -423,7 +420,7 @@ impl FetchUnit {
         self.prepare_before(due, context, log, watch)
     }
 
-    // Asks for its first word, where none is asked for yet and it is one of its own.
+    // Requests the first word, if none is requested yet and it is one of the entry's own.
     #[inline(always)]
     fn begin<W: Watch>(
         &mut self,
@@ -461,8 +458,8 @@ impl FetchUnit {
         }
     }
 
-    // Prepares it as far as it goes without its index-side word, however far its words are asked
-    // for, and whatever they are. It stands once, and what it calls alone is inlined here.
+    // Prepares the entry without its index-side word, from any number of words requested so far. It
+    // is not inlined, and functions with no other caller are inlined in it.
     #[inline(never)]
     fn prepare_before<W: Watch>(
         &mut self,
@@ -521,7 +518,7 @@ impl FetchUnit {
         }
     }
 
-    /// Prepares it for good, at its tick, where it is planned.
+    /// Prepares a planned entry finally, at its P: with the content of its index-side word.
     #[inline(always)]
     pub fn prepare(&mut self, x: &[u64; 16], state: &State)
         requires planned { self.old.planned ≡ true }
@@ -536,7 +533,7 @@ impl FetchUnit {
         self.prepare_with_side(x, state);
     }
 
-    // The same, by what stands in its index-side word now. There is one.
+    // Like `prepare`, for an entry with an index-side word.
     #[inline(never)]
     fn prepare_with_side(&mut self, x: &[u64; 16], state: &State)
         requires asked { is_some self.old.needs.index_read ≡ true }
@@ -550,9 +547,9 @@ impl FetchUnit {
         change_by_side(&mut self.prepared, x, read);
     }
 
-    // The instruction with its format, where its words tell all of it and it is not EX. Its words
-    // are its own. It is the quick way of `given` on the path of each entry: without it one
-    // instruction takes 400 more in tight, 280 in mixed and 250 in various.
+    // The instruction with its format, if its own words so far contain all of it and it is not EX.
+    // This is a shortcut for `given` that each entry takes: without it a simulated instruction
+    // costs 400 more in tight, 280 in mixed and 250 in various.
     fn spelled(&self, state: &State) -> Option<Spelled>
         requires place { IsPlace self.now.place }
         requires words { IsEntryInTime (words_alone self.now.entry.own self.now.entry.target) }
@@ -566,7 +563,7 @@ impl FetchUnit {
         spelled_unless_execute(halves.0, halves.1)
     }
 
-    // The half-words of the instruction, where its words tell all of it. They are its own.
+    // The half-words of the instruction, if its own words so far contain all of it.
     #[inline(always)]
     fn halves(&self, state: &State) -> Option<(u32, u32)>
         requires place { IsPlace self.now.place }
@@ -589,7 +586,7 @@ impl FetchUnit {
         None
     }
 
-    // Prepares the entry, of which this is fetched, as far as it goes without its index-side word.
+    // Prepares the entry with this fetched instruction, without its index-side word.
     #[inline(never)]
     fn prepare_found(&mut self, fetched: Fetched, x: &[u64; 16], state: &State)
         requires place { IsPlace self.old.place }
@@ -602,9 +599,9 @@ impl FetchUnit {
         self.show(fetched.fault.is_none());
     }
 
-    // Prepares the entry, which is this instruction, as far as it goes without its index-side word.
-    // What follows knows the format of a frequent instruction, so that it is told apart once: of
-    // what `spelled` gains, 300 in tight, 180 in mixed and 150 in various.
+    // Prepares the entry with this instruction, without its index-side word. In the branches of
+    // frequent instructions the format is known, and is not tested again: 300 of the gain of
+    // `spelled` in tight, 180 in mixed and 150 in various.
     fn prepare_spelled(&mut self, spelled: Spelled, x: &[u64; 16], state: &State)
         requires place { IsPlace self.old.place }
         requires format { spelled_as spelled.format spelled.first spelled.second
@@ -633,7 +630,7 @@ impl FetchUnit {
         }
     }
 
-    // The same of an instruction that is not frequent.
+    // Like `prepare_own`, for an instruction that is not frequent.
     #[inline(never)]
     fn prepare_cold(&mut self, own: Decoded, x: &[u64; 16], state: &State)
         requires place { IsPlace self.old.place }
@@ -643,7 +640,7 @@ impl FetchUnit {
         self.prepare_own(own, x, state);
     }
 
-    // The same of any instruction.
+    // Prepares the entry with this instruction and no target, without its index-side word.
     #[inline(always)]
     fn prepare_own(&mut self, own: Decoded, x: &[u64; 16], state: &State)
         requires place { IsPlace self.old.place }
@@ -661,8 +658,8 @@ impl FetchUnit {
         self.show(true);
     }
 
-    // The entry becomes what it is prepared to, as the timetable sees it; `allowed` says whether its
-    // words could be fetched.
+    // Sets the entry of the timetable to the prepared one; `allowed` says whether its words may be
+    // fetched.
     #[inline(always)]
     fn show(&mut self, allowed: bool)
         requires { allowed ≡ is_none self.old.fetched.value.fault }
@@ -679,7 +676,7 @@ impl FetchUnit {
     }
 }
 
-// The instruction that two half-words spell, with its format, unless it is EX.
+// The instruction of two half-words, with its format; None if it is EX.
 #[inline(always)]
 fn spelled_unless_execute(first: u32, second: u32) -> Option<Spelled>
     ensures same { IfSome result (λ r. (r.first ≡ first) × (r.second ≡ second)) }
@@ -698,7 +695,7 @@ fn spelled_unless_execute(first: u32, second: u32) -> Option<Spelled>
     })
 }
 
-// A run with one word more.
+// A run with one more word.
 fn with_word(run: WordRun, w: u32) -> WordRun
     requires { run.len ≤ 16 }
     ensures { result ≡ with_word_of run w }

@@ -1,4 +1,4 @@
--- The reads of an entry come in turn.
+-- The reads of an entry are in order.
 use Rattle.std.specs.Prelude.{Bool, if◌then◌else◌, nat_lt, nat_le}
 use Rattle.std.proofs.Common.{◌≡◌, ℕ, zero, suc, ◌+◌, ◌-◌, ◌≤◌, max, true, false, List, [], ◌∷◌, ◌++◌, Option, None, Some, inl, inr, refl, sym, subst, append_assoc, arith}
 use Rattle.std.proofs.lemmas.Bool.{cases_Bool}
@@ -28,12 +28,12 @@ use Rattle.st_rows.specs.declared.uses.Use.{Use}
 use Rattle.st_rows.proofs.UseLemmas.{side_if}
 use Rattle.st_plain.proofs.UseLemmas.{inside-told, following-told}
 
--- no word is left
+-- no word remains
 none-left : (v t : ℕ) → AreInTurn v t []
 unfolding AreInTurn
 none-left v t = tt
 
--- smaller bounds serve as well
+-- smaller bounds hold too
 sooner-one : (w v t s : ℕ) (p : Supply) (us : List Use) → v ≤ w → s ≤ t → (AreInTurn w t us → AreInTurn v s us)
     → IsInTurn w t p × AreInTurn (want_behind w p) (turn_behind t p) us → IsInTurn v s p × AreInTurn (want_behind v p) (turn_behind s p) us
 sooner-one w v t s (Read r) us low less rest are =
@@ -48,14 +48,14 @@ sooner w v t s [] low less are = tt
 sooner w v t s (u ∷ us) low less are = sooner-one w v t s u.supply us low less (sooner w v t s us low less) are
 
 module _ (ds : List ℕ) where
-  -- a read by itself
+  -- one read
   one-read : (b : Bus) (w want v s : ℕ) → v ≤ want → s ≤ b.free → IsReadFrom v s (read_ticks ds b w want)
   one-read b w want v s low less = record { wanted = low; turned = less; accepted = omega arith }
 
   answered-late : (b : Bus) (w want : ℕ) → want ≤ answer_at ds b w want
   answered-late b w want = omega arith
 
-  -- an instruction word or a following one, and what comes behind it
+  -- an instruction word or a following word, and the words after it
   fetched : (o : Option ℕ) (b : Bus) (w want v s : ℕ) (us : List Use) → v ≤ want → s ≤ b.free
       → ((x y : ℕ) → x ≤ want → x ≤ max v (answer_if ds b w want o) → y ≤ (requested_if ds b w want o).free → AreInTurn x y us)
       → IsInTurn v s (fetch_supply o ds b w want)
@@ -161,7 +161,7 @@ module _ (ds : List ℕ) where
   following-in-turn b e p v t low less =
       rw (following-told ds b e p) (following-if e.follows b (e.own.first + e.own.len) p v t low less)
 
--- ---- all of them
+-- ---- all words
 
 parts : (a b c d e f g h : List Use)
     → ((a ++ b) ++ c) ++ (((d ++ e) ++ (f ++ g)) ++ h) ≡ a ++ (b ++ (c ++ (d ++ (e ++ (f ++ (g ++ h))))))

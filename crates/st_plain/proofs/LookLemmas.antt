@@ -1,4 +1,4 @@
--- Entries that are looked at one after another.
+-- The search for predicted entries, step by step.
 use Rattle.std.specs.Prelude.{Bool, if◌then◌else◌, map}
 use Rattle.std.proofs.Common.{◌≡◌, ℕ, zero, suc, ◌+◌, ◌-◌, ◌≤◌, ◌<◌, true, false, List, [], ◌∷◌, ◌++◌, None, get_or, take, refl, sym, subst, ap, ◌∙◌, append_assoc, arith}
 use Rattle.std.proofs.lemmas.List.{append-nil}
@@ -25,7 +25,7 @@ use Rattle.st_exec.proofs.Unchanged.{completed-done}
 use Rattle.st_plain.specs.declared.looking.Ahead.{Ahead as Seen}
 use Rattle.st_plain.specs.Looking.{seen_ahead, first_late, reads_up_to}
 
--- a guessed step is completed, and its counter set
+-- a predicted step is a completion with a new counter
 pub record IsCounted (p : Prepared) (s : Machine) : Type 0 where
   pub ic : ℕ
   pub is : predicted_state p s ≡ record (state_after_completion p s) { ic = ic }
@@ -45,7 +45,7 @@ pub prediction-done : (p : Prepared) (s : Machine) → (predicted_state p s).don
 prediction-done p s = let c = prediction-counted p s in ap (λ (u : Machine). u.done) c.is ∙ completed-done p s
 
 module _ (ds : List ℕ) (n t : ℕ) (s : Machine) (f : IssueState) where
-  -- the entries that are found
+  -- the found entries
   pub found-late : (k : ℕ) → t ≤ (row_of_entry ds n f (entry None s)).p → prepared_before t (ahead ds n k None s f) ≡ []
   unfolding ahead prepared_before
   found-late zero late = refl
@@ -61,7 +61,7 @@ module _ (ds : List ℕ) (n t : ℕ) (s : Machine) (f : IssueState) where
       rw (lt-ltb _ t early)
       (ap (λ j. next_ahead ds n None s f ∷ prepared_before t (ahead ds n j None (prediction None s) (issue_after_entry ds n f (entry None s)))) one)
 
-  -- the first one that comes too late
+  -- the first entry that is too late
   late-here : (k : ℕ) → t ≤ (row_of_entry ds n f (entry None s)).p → first_late t (ahead ds n (suc k) None s f) ≡ next_ahead ds n None s f ∷ []
   unfolding ahead first_late
   late-here k late = rw (le-ltb _ t late) refl
@@ -89,7 +89,7 @@ module _ (ds : List ℕ) (n t : ℕ) (s : Machine) (f : IssueState) where
       ∙ ap (λ h. map (seen_ahead ds n) (first_late t (ahead ds n (suc (k - 1)) None (prediction None s) h))) behind
       ∙ ap (map (seen_ahead ds n)) (sym (late-next k some early))
 
-  -- the reads that are made
+  -- the reads
   pub looked-late : (k : ℕ) → t ≤ (row_of_entry ds n f (entry None s)).p → reads_up_to ds n t (ahead ds n (suc k) None s f) ≡ formed_asked ds f (entry None s)
   unfolding ahead reads_up_to
   looked-late k late = rw (le-ltb _ t late) refl
@@ -104,7 +104,7 @@ module _ (ds : List ℕ) (n t : ℕ) (s : Machine) (f : IssueState) where
       rw (lt-ltb _ t early)
       (ap (λ j. reads_of_entry ds n f (entry None s) ++ reads_up_to ds n t (ahead ds n j None (prediction None s) (issue_after_entry ds n f (entry None s)))) one)
 
--- what is found, and what is made
+-- the results of a search
 pub found-same : (ds : List ℕ) (n : ℕ) (xs : List Seen) (ys : List Ahead) → ys ≡ [] → xs ≡ xs ++ map (seen_ahead ds n) ys
 found-same ds n xs ys none = rw none (sym (append-nil xs))
 
@@ -123,7 +123,7 @@ module _ (ds : List ℕ) (n t : ℕ) (s : Machine) (f : IssueState) where
       ∙ ap (λ y. xs ++ y ∷ later) is
       ∙ ap (λ l. xs ++ map (seen_ahead ds n) l) (sym (found-next ds n t s f k some early))
 
-  -- nothing is read behind the entry that comes too late
+  -- nothing is read after the entry that is too late
   pub bus-late : (k : ℕ) (b : Bus) → t ≤ (row_of_entry ds n f (entry None s)).p → b ≡ bus_a ds f (entry None s)
       → b ≡ bus_after_reads ds (reads_up_to ds n t (ahead ds n (suc k) None s f)) f.bus
   bus-late k b late is =
@@ -168,7 +168,7 @@ module _ (ds : List ℕ) (n t : ℕ) (s : Machine) (f : IssueState) where
     log-look log one two made rest =
         rest ∙ noted-two ds here later f.bus g.bus log one bus made ∙ ap (λ reads. log_after_reads ds reads f.bus log) (sym all)
 
--- ---- no more entries are prepared in time than there are levels
+-- ---- at most as many entries are prepared in time as there are levels
 
 get-take : (n j : ℕ) (d : Past) (xs : List Past) → j < n → get_or (take n xs) j d ≡ get_or xs j d
 get-take zero j d xs few = let no : ⊥ = omega (arith, few) in absurd no
@@ -198,7 +198,7 @@ first-next ds n levels more t f g e eight some few early rises first behind less
         let at : t ≤ done_before (suc (suc j)) (issue_after_entry ds n f e).past = subst (λ v. t ≤ v) (sym (done-at (suc j) (issue_after_entry ds n f e).past)) kept in
         subst (λ i. t ≤ done_before i g.past) (sym two) (subst (λ (h : IssueState). t ≤ done_before (suc (suc j)) h.past) (sym behind) at)
 
--- the one behind the last level is too late
+-- the entry after the last level is too late
 pub last-late : (ds : List ℕ) (n more t : ℕ) (f : IssueState) (e : Entry) → more ≡ 0 → 1 ≤ n → (more < n → t ≤ done_before (n - more) f.past) → t ≤ tick_p ds n f e
 unfolding tick_p preparation_tick
 last-late ds n more t f e none some first =

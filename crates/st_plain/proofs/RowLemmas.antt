@@ -1,4 +1,4 @@
--- The reads of an entry, part by part, in the log.
+-- The reads of an entry in the log, part by part.
 use Rattle.std.specs.Prelude.{slice_set, slice_index_or}
 use Rattle.std.proofs.Common.{◌≡◌, ℕ, zero, suc, ◌+◌, ◌-◌, ◌≤◌, max, List, [], ◌∷◌, length, take, refl, sym, ap, ◌∙◌, arith}
 use Rattle.st_fetch.specs.Planned.{tick_of}
@@ -19,7 +19,7 @@ use Rattle.st_rows.proofs.Served.{served-word, served-words, served-runs, served
 use Rattle.st_rows.specs.Uses.{behind, behind_use, reads_of, uses, wishes}
 
 module _ (ds : List ℕ) (f : IssueState) (e : Entry) where
-  -- the following words behind the operands
+  -- the following words after the operands
   pub noted-prepared : (n : ℕ) (b d : Bus) (p : ℕ) (log one two : List Made) → b ≡ bus_a ds f e → d ≡ (operands ds n f e).bus → p ≡ tick_p ds n f e
       → one ≡ log_after_reads ds (runs_asked f.past e.reads p) b log → two ≡ log_after_reads ds (following_asked ds d e p) d one
       → two ≡ log_after_reads ds (prepared_asked ds n f e) b log
@@ -30,7 +30,7 @@ module _ (ds : List ℕ) (f : IssueState) (e : Entry) where
       ∙ rw (then_bus, tick) (noted-two ds (runs_asked f.past e.reads (tick_p ds n f e)) (following_asked ds (operands ds n f e).bus e (tick_p ds n f e)) (bus_a ds f e)
       (operands ds n f e).bus log one (sym (served-runs ds n f e)) noted_one))
 
-  -- and what is wanted at preparation behind these
+  -- the reads from preparation on, after the reads before it
   pub noted-asked : (n : ℕ) (b : Bus) (log one two : List Made) → b ≡ bus_a ds f e → one ≡ log_after_reads ds (formed_asked ds f e) f.bus log
       → two ≡ log_after_reads ds (prepared_asked ds n f e) b one → two ≡ log_after_reads ds (reads_of_entry ds n f e) f.bus log
   noted-asked n b log one two is made next =
@@ -40,7 +40,7 @@ module _ (ds : List ℕ) (f : IssueState) (e : Entry) where
 
 -- ---- the last eight entries
 
--- each entry is put one place on, the last one first
+-- each entry moves one place on, the last one first
 abbrev moved : Past → ℕ → List Past → List Past
 moved d i xs = slice_set xs (i + 1) (slice_index_or xs i d)
 

@@ -1,4 +1,4 @@
--- When the index-side word of an entry is there, by the last answers of the banks.
+-- The arrival tick of the index-side word, by the last answers of the banks.
 use Rattle.std.specs.Prelude.{nat_lt}
 use Rattle.std.proofs.Common.{◌≡◌, ℕ, ◌<◌, ◌≤◌, false, List, length, length-set, Option, Some, refl, sym, ap, ◌∙◌, arith}
 use Rattle.std.proofs.lemmas.Bool.{le-ltb}
@@ -13,7 +13,7 @@ use Rattle.st_rows.specs.declared.bus.Bus.{Bus}
 use Rattle.st_rows.specs.declared.past.Past.{Past}
 use Rattle.st_rows.specs.Uses.{behind, behind_use, uses}
 
--- its answer is the last one of its bank
+-- the answer of the read is the last one of its bank
 last-answer : (ds : List ℕ) (b : Bus) (w a : ℕ) → length (bus_after_read ds b w a).banks.ticks ≡ BANKS
     → last_of (bus_after_read ds b w a).banks.ticks w ≡ answer_at ds b w a
 unfolding bus_after_read

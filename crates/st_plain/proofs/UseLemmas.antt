@@ -1,4 +1,4 @@
--- Words that are noted one after another.
+-- Words are noted in sequence.
 use Rattle.std.specs.Prelude.{Bool, None, Some, map, if◌then◌else◌, nat_lt, nat_le, false, length}
 use Rattle.std.proofs.Common.{◌≡◌, ℕ, zero, suc, true, ◌+◌, ◌-◌, ◌≤◌, max, List, [], ◌∷◌, ◌++◌, Option, inl, inr, refl, sym, ◌∙◌, ap, append_assoc, length-append, arith}
 use Rattle.std.proofs.lemmas.Bool.{cases_Bool}
@@ -32,11 +32,11 @@ use Rattle.st_rows.specs.BusTimes.{bus_after_request}
 use Rattle.st_rows.proofs.Served.{wishes-length, followings-length}
 use Rattle.st_segment.specs.Entries.{side_to_read}
 
--- the next word is noted, and the others are left
+-- one word is noted, and the others remain
 turned : (us vs rest all : List Use) (u : Use) → vs ≡ us ++ u ∷ [] → all ≡ u ∷ rest → vs ++ rest ≡ us ++ all
 turned us vs rest all u one is = rw (one, is) (append_assoc us (u ∷ []) rest)
 
--- none is left
+-- no word remains
 ended : (us rest all : List Use) → rest ≡ [] → us ++ rest ≡ all → us ≡ all
 ended us rest all none h = sym (append-nil us) ∙ ap (λ r. us ++ r) (sym none) ∙ h
 
@@ -58,7 +58,7 @@ register-end w (suc n) us all none h = let no : ⊥ = omega arith in absurd no
 pub two-noted : (us vs ws a b : List Use) → vs ≡ us ++ a → ws ≡ vs ++ b → ws ≡ us ++ (a ++ b)
 two-noted us vs ws a b one two = two ∙ ap (λ xs. xs ++ b) one ∙ append_assoc us a b
 
--- ---- words that a list is told of, where it has room for them
+-- ---- words that are added to a list with room for them
 
 abbrev Items : Type 0
 Items = ArrayVec Use
@@ -140,7 +140,7 @@ side-parts ds past b (Some w) a = elim (cases_Bool (nat_lt w FIRST_STORAGE_WORD)
     le-of : (v first : ℕ) → nat_lt v first ≡ false → nat_le first v ≡ true
     le-of v first high = grind (arith, nat_tests)
 
--- a following word, and both of them
+-- one following word, and both of them
 inside_if : (inside : Bool) (ds : List ℕ) (b : Bus) (w p : ℕ)
     → map (use_told ds []) (uses ds [] (unused b p) (if inside then record { role = Following; w = w; from = p } ∷ [] else []))
     ≡ (if inside then record { role = Following; word = w; supply = fetch_supply (tick_of b.held.words w) ds b w p } ∷ [] else [])
@@ -179,7 +179,7 @@ module _ (ds : List ℕ) (b : Bus) where
       both_if e.follows (nat_lt w words_of_storage) (nat_lt (w + 1) words_of_storage) w p
 
 module _ (ds : List ℕ) (f : IssueState) (e : Entry) where
-  -- the index-side word, where it is read, is told, and a register is noted behind it
+  -- the index-side word is noted: first if it is read, and then if it is a register
   pub formed-used : (side : Option ℕ) (us vs xs : List Use) → e.side ≡ side_to_read side → vs ≡ us ++ formed_told ds f e
       → xs ≡ vs ++ side_register side → xs ≡ us ++ formed_uses ds f e side
   unfolding fetch_uses
@@ -192,7 +192,7 @@ module _ (ds : List ℕ) (f : IssueState) (e : Entry) where
       ∙ sym (side-parts ds f.past (words_tick ds f e).bus side (tick_a ds f e))))
 
   module _ (n : ℕ) where
-    -- what is read behind the index-side word from preparation on are the operands
+    -- the operands are read after the index-side word, from preparation on
     pub operands-read : (s : Fetching) (b : Bus) (p : ℕ) → s ≡ operands_read ds f.past (record { bus = b; answered = p; awaited = 0 }) e.reads p → b ≡ bus_a ds f e → p ≡ tick_p ds n f e
         → s ≡ operands ds n f e
     unfolding operands operands_read read_words
@@ -206,7 +206,7 @@ module _ (ds : List ℕ) (f : IssueState) (e : Entry) where
         let two_is : ws ≡ vs ++ following_uses ds (operands ds n f e).bus e (tick_p ds n f e) = two ∙ rw (behind, tick) refl in
         two-noted us vs ws _ _ one_is two_is
 
--- all words of an entry, noted from nothing on
+-- all words of an entry, noted in an empty list
 pub all-used : (ds : List ℕ) (n : ℕ) (f : IssueState) (e d : Entry) (side index : Option ℕ) (reads words : Words) (us vs ws : List Use)
     → e ≡ d → side ≡ index → reads ≡ words → us ≡ [] → vs ≡ us ++ formed_uses ds f e side → ws ≡ vs ++ prepared_uses ds n f e reads
     → ws ≡ uses_of_entry ds n f d index words

@@ -1,4 +1,4 @@
--- What holds of the words that entries use.
+-- Laws of the words that entries use.
 use Rattle.std.specs.Prelude.{◌≡◌, ℕ, ◌+◌, ◌≤◌, max, List, [], ◌∷◌, Option}
 use Rattle.st_prep.specs.declared.entries.Words.{Words}
 use Rattle.st_rows.specs.declared.entry.Entry.{Entry}
@@ -10,21 +10,21 @@ use Rattle.st_rows.specs.declared.uses.Supply.{Supply}
 use Rattle.st_rows.specs.declared.uses.Supply.TheVariants.{Read, Held, Forwarded, Register}
 use Rattle.st_rows.specs.declared.uses.Use.{Use}
 
--- the next read is wanted from the tick w on at the earliest, and made from the tick t on: when it
--- is wanted, and the bus and its bank are free
+-- the read r is requested at the tick w or later, its turn is at t or later, and it is accepted at
+-- the latest of its request, its turn, and the tick at which its bank is free
 pub record IsReadFrom (w t : ℕ) (r : ReadTicks) : Type 0 where
   pub wanted : w ≤ r.want
   pub turned : t ≤ r.turn
   pub accepted : r.accept ≡ max (max r.want r.turn) r.free
 
--- where a word is read, that read; the others ask nothing of the bus
+-- the bounds of a word that is read; other words do not use the bus
 abbrev pub IsInTurn : ℕ → ℕ → Supply → Type 0
 IsInTurn w t (Read r) = IsReadFrom w t r
 IsInTurn w t (Held answer) = Unit {0}
 IsInTurn w t (Forwarded writer) = Unit {0}
 IsInTurn w t Register = Unit {0}
 
--- from when on the next read is wanted and made behind a word
+-- the bounds w and t for the next read after a word
 abbrev pub want_behind : ℕ → Supply → ℕ
 want_behind w (Read r) = r.want
 want_behind w (Held answer) = w
@@ -37,14 +37,14 @@ turn_behind t (Held answer) = t
 turn_behind t (Forwarded writer) = t
 turn_behind t Register = t
 
--- the reads among some words come one after another
+-- the reads among some words are in order
 unfoldable pub AreInTurn : ℕ → ℕ → List Use → Type 0
 AreInTurn w t [] = Unit {0}
 AreInTurn w t (u ∷ more) = IsInTurn w t u.supply
     × AreInTurn (want_behind w u.supply) (turn_behind t u.supply) more
 
--- Each read of an entry is accepted at the greatest of its three ticks; along its reads wants never
--- fall, and each has its turn behind the acceptance of the one before it.
+-- Each read of an entry is accepted at the greatest of its three ticks. From read to read the
+-- request ticks never fall, and each turn comes after the acceptance before it.
 abbrev pub ReadsOfAnEntryComeInTurn : Type 0
 ReadsOfAnEntryComeInTurn = (ds : List ℕ) (n : ℕ) (f : IssueState) (e : Entry) (side : Option ℕ)
     (reads : Words) → e.side ≡ side_to_read side →

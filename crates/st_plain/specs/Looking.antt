@@ -1,4 +1,4 @@
--- What is noted of the entries that run ahead, and which of their reads are made.
+-- The facts of predicted entries, and the reads that are made for them.
 use Rattle.std.specs.Prelude.{ℕ, ◌-◌, max, Bool, nat_lt, if◌then◌else◌, List, [], ◌∷◌, ◌++◌, Option, None, Some, is_some}
 use Rattle.st_format.specs.Formats.{first_half, second_half}
 use Rattle.st_format.specs.declared.instruction.Instr.{Instr}
@@ -23,23 +23,23 @@ use Rattle.st_plain.specs.Uses.{uses_of_entry}
 unfoldable pub side_at : Option ℕ → Machine → Option ℕ
 side_at table s = (needs (decode_context s (place_of s table))).index_read
 
--- it is EX
+-- whether the next entry is EX
 unfoldable pub executes_at : Option ℕ → Machine → Bool
 executes_at table s = is_execute (words_fetched s (place_of s table)).instr.instr
 
--- the half-words that spell an instruction
+-- the half-words of an instruction
 abbrev pub code_of : Instr → Code
 code_of instr = record { first = first_half instr; second = second_half instr }
 
--- those of the instruction that is executed, of EX its target; none where a word may not be fetched
+-- the half-words of the executed instruction, for EX its target; None if a word may not be fetched
 abbrev pub code_found : Fetched → Option Code
 code_found f = if is_some f.fault then None else Some (code_of (effective_instr f))
 
--- those that the next entry executes
+-- the half-words that the next entry executes
 unfoldable pub executed_code : Option ℕ → Machine → Option Code
 executed_code table s = code_found (words_fetched s (place_of s table))
 
--- what is known of it besides how it is prepared
+-- the facts of the next entry that its plan does not have
 abbrev pub known_at : Option ℕ → Machine → Known
 known_at table s = record {
   side = side_at table s;
@@ -47,8 +47,8 @@ known_at table s = record {
   code = executed_code table s;
 }
 
--- an entry ahead: how it is prepared, its row, what else is known of it, and the words that it
--- uses, on a machine with the delays ds and with n levels
+-- a predicted entry: its plan, its row, its other facts, and the words that it uses, on a machine
+-- with the delays ds and n levels
 abbrev pub seen_ahead : List ℕ → ℕ → Ahead → Seen
 seen_ahead ds n a = record {
   plan = plan_of a;
@@ -64,15 +64,15 @@ unfoldable pub first_late : ℕ → List Ahead → List Ahead
 first_late t [] = []
 first_late t (a ∷ rest) = if nat_lt a.row.p t then first_late t rest else a ∷ []
 
--- the reads of the entries that are prepared before the tick t, and of the first one that is not
--- those up to its address: all that may be accepted before that tick
+-- the reads of the entries that are prepared before the tick t, and those of the next one up to its
+-- address: all that may be accepted before that tick
 unfoldable pub reads_up_to : List ℕ → ℕ → ℕ → List Ahead → List Read
 reads_up_to ds n t [] = []
 reads_up_to ds n t (a ∷ rest) =
     if nat_lt a.row.p t then reads_of_entry ds n a.issue a.entry ++ reads_up_to ds n t rest
     else formed_asked ds a.issue a.entry
 
--- for how many ticks the entry e behind the front f waits for a level, once its address is formed
--- and its index-side word is there: until the entry n before is done, whose level it takes over
+-- for how many ticks the entry e, issued from f, waits for a level after its address is formed and
+-- its index-side word has arrived: until the entry n before completes, whose level it takes
 unfoldable pub level_wait : List ℕ → ℕ → IssueState → Entry → ℕ
 level_wait ds n f e = done_before n f.past - max (tick_a ds f e) (index_arrival ds f e)

@@ -1,5 +1,5 @@
--- The words that an entry uses, registers among them, in the order of their reads, and where each of
--- them comes from.
+-- The words that an entry uses, registers included, in the order of their reads, and the source of
+-- each word.
 use Rattle.std.specs.Prelude.{ℕ, zero, suc, ◌+◌, ◌-◌, nat_lt, if◌then◌else◌, List, [], ◌∷◌, ◌++◌, map, Option, None, Some}
 use Rattle.st_bits.specs.declared.register.TheConstants.{FIRST_STORAGE_WORD}
 use Rattle.st_prep.specs.declared.entries.Words.{Words}
@@ -19,21 +19,21 @@ use Rattle.st_rows.specs.declared.uses.Supply.{Supply}
 use Rattle.st_rows.specs.declared.uses.Supply.TheVariants.{Register}
 use Rattle.st_rows.specs.declared.uses.Use.{Use}
 
--- ---- its instruction words
+-- ---- instruction words
 
--- n of them from the word w on
+-- n instruction words from the word w on
 unfoldable pub instruction_uses : List ℕ → List Past → Fetching → ℕ → ℕ → ℕ → List Use
 instruction_uses ds past s from w n =
     map (use_told ds past) (uses ds past s (wishes Instruction from w n))
 
--- its own, and behind them those of the target of EX
+-- the entry's own words, and after them those of the target of EX
 unfoldable pub fetch_uses : List ℕ → IssueState → Entry → List Use
 fetch_uses ds f e =
     map (use_told ds f.past) (own_uses ds f e) ++ map (use_told ds f.past) (target_uses ds f e)
 
--- ---- its index-side word
+-- ---- the index-side word
 
--- it is a register, or a word of storage
+-- the source of the index-side word, which may be a register
 abbrev pub side_supply : List ℕ → List Past → Bus → ℕ → ℕ → Supply
 side_supply ds past b w a = if nat_lt w FIRST_STORAGE_WORD then Register
     else storage_supply ds past b w a
@@ -45,18 +45,18 @@ side_told ds past u = record {
   supply = side_supply ds past u.bus u.read.w u.read.want;
 }
 
--- the word, wanted at the address's tick, if there is one
+-- the index-side word, requested when the address is formed, if there is one
 unfoldable pub side_uses : List ℕ → List Past → Bus → Option ℕ → ℕ → List Use
 side_uses ds past b side a =
     map (side_told ds past) (uses ds past (unused b 0) (wish_of side a))
 
--- the word, if it is a register
+-- the index-side word, if it is a register
 abbrev pub side_register : Option ℕ → List Use
 side_register None = []
 side_register (Some w) = if nat_lt w FIRST_STORAGE_WORD
     then record { role = Index; word = w; supply = Register } ∷ [] else []
 
--- ---- its operand words
+-- ---- operand words
 
 -- n registers from the word w on
 unfoldable pub register_uses : ℕ → ℕ → List Use
@@ -64,17 +64,17 @@ register_uses w zero = []
 register_uses w (suc n) = record { role = Operand; word = w; supply = Register }
     ∷ register_uses (w + 1) n
 
--- n words of storage from the word w on, wanted at preparation
+-- n words of storage from the word w on, requested at preparation
 unfoldable pub operand_uses : List ℕ → List Past → Fetching → ℕ → ℕ → ℕ → List Use
 operand_uses ds past s p w n =
     map (use_told ds past) (uses ds past s (wishes Operand p w n))
 
--- n words from the word w on: registers come first, and the run has the words of storage
+-- n words from the word w on: the registers come first, and `run` has the words of storage
 abbrev pub run_uses : List ℕ → List Past → Fetching → ℕ → ℕ → ℕ → WordRun → List Use
 run_uses ds past s p w n run =
     register_uses w (n - run.len) ++ operand_uses ds past s p run.first run.len
 
--- those of both runs, where the bus is b when it is prepared at p; `runs` has the words of storage
+-- the operand words of an entry that is prepared at p on the bus b; `runs` has those of storage
 unfoldable pub data_uses : List ℕ → List Past → Bus → ℕ → Words → WordRuns → List Use
 data_uses ds past b p reads runs =
     run_uses ds past (record { bus = b; answered = p; awaited = 0 }) p reads.first reads.len runs.one
@@ -82,27 +82,26 @@ data_uses ds past b p reads runs =
     (read_words ds past (record { bus = b; answered = p; awaited = 0 }) p runs.one.first runs.one.len)
     p reads.first2 reads.len2 runs.two
 
--- ---- the words that follow it
+-- ---- following words
 
--- one of the two, if it lies in storage
+-- one following word, if it lies in storage
 unfoldable pub inside_uses : List ℕ → Bus → ℕ → ℕ → List Use
 inside_uses ds b w p =
     map (use_told ds []) (uses ds [] (unused b p) (inside_wish w p))
 
--- both of them, where the entry has following words
+-- both following words, if the entry has them
 unfoldable pub following_uses : List ℕ → Bus → Entry → ℕ → List Use
 following_uses ds b e p =
     map (use_told ds []) (uses ds [] (unused b p) (followings e p))
 
--- ---- all words of the entry e behind the front f, whose index-side word and operand words are
--- given with the registers among them
+-- ---- all words of the entry e, issued from f; `side` and `reads` include registers
 
--- those that are wanted until its address is formed
+-- the words that are used until the address is formed
 abbrev pub formed_uses : List ℕ → IssueState → Entry → Option ℕ → List Use
 formed_uses ds f e side =
     fetch_uses ds f e ++ side_uses ds f.past (words_tick ds f e).bus side (tick_a ds f e)
 
--- and those from its preparation on
+-- the words that are used from preparation on
 abbrev pub prepared_uses : List ℕ → ℕ → IssueState → Entry → Words → List Use
 prepared_uses ds n f e reads =
     data_uses ds f.past (bus_a ds f e) (tick_p ds n f e) reads e.reads

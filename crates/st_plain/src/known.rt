@@ -1,4 +1,4 @@
-//! What is known of an entry besides how it is prepared.
+//! The facts of an entry that its plan does not have.
 ghost use Rattle.std.specs.Prelude.{◌≡◌, None, Some, if◌then◌else◌};
 ghost use Rattle.st_bits.specs.Indicators.{IsIndicatorIfAny};
 ghost use Rattle.st_prep.specs.Fetch.{index_words as index_words_of, place_of as place_by, words_fetched};
@@ -13,24 +13,24 @@ use st_next::FetchUnit;
 use st_prep::{Fetched, fetch_all, is_execute, place_of};
 use st_state::State;
 
-/// The half-words that spell an instruction.
+/// The half-words of an instruction.
 #[derive(Clone, Copy, Debug, Default, PartialEq, Eq)]
 pub struct Code {
     /// The first half-word.
     pub first: u32,
-    /// The second one, where the instruction is a full word.
+    /// The second half-word, if the instruction is a full word.
     pub second: Option<u32>,
 }
 
-/// What is known of an entry besides how it is prepared.
+/// The facts of an entry that its plan does not have.
 #[derive(Clone, Copy, Debug, Default, PartialEq, Eq)]
 pub struct Known {
-    /// Its index-side word, a register or a word that is read from storage.
+    /// The index-side word: a register, or a word that is read from storage.
     pub side: Option<u32>,
-    /// Whether it is EX.
+    /// Whether the instruction is EX.
     pub execute: bool,
-    /// The half-words that it executes, of EX those of its target; none where a word of it may not
-    /// be fetched.
+    /// The half-words of the executed instruction, for EX those of its target; None if a word of
+    /// the entry may not be fetched.
     pub code: Option<Code>,
 }
 
@@ -41,7 +41,7 @@ fn second_where(full: bool, second: u32) -> Option<u32>
     if full { Some(second) } else { None }
 }
 
-// The half-words that spell an instruction.
+// The half-words of an instruction.
 fn code_of(instr: &Instr) -> Code
     requires { HasFields instr.now }
     ensures { result ≡ code_by instr.now }
@@ -71,7 +71,7 @@ fn code_of(instr: &Instr) -> Code
     }
 }
 
-// The half-words that an entry executes, which is fetched so.
+// The half-words that a fetched entry executes; None if one of its words may not be fetched.
 fn code_found(fetched: &Fetched) -> Option<Code>
     requires { IsFetched fetched.now }
     ensures { result ≡ code_found_of fetched.now }
@@ -85,7 +85,7 @@ fn code_found(fetched: &Fetched) -> Option<Code>
     }
 }
 
-// What is known of the next entry of a state, all of which is fetched once more.
+// The facts of the next entry of a state, whose words are read again.
 #[inline(never)]
 fn known_anew(table: Option<u8>, side: Option<u32>, x: &[u64; 16], state: &State) -> Known
     requires indicator { IsIndicatorIfAny table }
@@ -105,8 +105,8 @@ fn known_anew(table: Option<u8>, side: Option<u32>, x: &[u64; 16], state: &State
     }
 }
 
-/// What is known of the next entry of a state, which is planned and prepared. Each word of an entry
-/// that asks for following words may be fetched, and what has a target is EX.
+/// The facts of the next entry of a state, which is planned and prepared. If it asks for following
+/// words, each of its words may be fetched, and it is EX if it has a target.
 #[inline(always)]
 pub(crate) fn known_of(
     unit: &FetchUnit,

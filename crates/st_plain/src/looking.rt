@@ -1,4 +1,4 @@
-//! The entries that run ahead of a state by guessed steps.
+//! The predicted entries after a state.
 ghost use Rattle.std.specs.Prelude.{◌≡◌, suc, ◌+◌, ◌-◌, ◌*◌, ◌≤◌, ◌<◌, ◌^◌, ◌∷◌, ◌++◌, [], map, length, None};
 ghost use Rattle.st_bits.specs.declared.limits.TheConstants.{MOST_DELAY};
 ghost use Rattle.st_state.specs.Machine.{IsMachine};
@@ -21,23 +21,24 @@ use st_prep::{Prepared, place_of};
 use st_rows::{EntryTicks, IssueState, Log, Timing, Uses};
 use st_state::State;
 
-/// An entry that runs ahead.
+/// A predicted entry.
 #[derive(Debug, Default, Drop)]
 pub struct Ahead {
-    /// The entry as it is prepared.
+    /// The prepared entry.
     pub plan: Prepared,
-    /// Its ticks.
+    /// The ticks of its row.
     pub row: EntryTicks,
-    /// What else is known of it.
+    /// The other facts of the entry.
     pub known: Known,
-    /// The words that it uses.
+    /// The words that the entry uses.
     pub uses: Uses,
 }
 
-/// Entries that run ahead, the oldest first. There are as many as levels at most.
+/// Predicted entries, oldest first, at most as many as there are levels.
 pub type Aheads = ArrayVec<Ahead, 8>;
 
-/// Makes the guessed step of an entry that is prepared: a branch on an indicator is not taken.
+/// Makes the predicted step of a prepared entry: a branch on an indicator is not taken. Fewer than
+/// 2^63 instructions are completed before.
 pub fn prediction(p: &Prepared, state: &mut State)
     requires prepared { IsPrepared p.now }
     requires few { state.old.done < 2 ^ 63 }
@@ -49,33 +50,32 @@ pub fn prediction(p: &Prepared, state: &mut State)
     }
 }
 
-/// Up to where one looks at the entries that run ahead of a state behind a front.
+/// How far to look for predicted entries.
 #[derive(Clone, Copy)]
 pub struct Reach<'a> {
-    /// The delays and levels of the machine.
+    /// The delays and the number of levels of the machine.
     pub timing: &'a Timing<'a>,
-    /// How many entries are looked for, at most as many as there are levels.
+    /// The largest number of entries to find, at most the number of levels.
     pub more: usize,
     /// The tick before which they are prepared.
     pub tick: u64,
     pub ghost left: { more ≤ timing.now.levels },
 }
 
-/// What is found of the entries that run ahead.
+/// The predicted entries that are found.
 #[derive(Debug, Default, Drop)]
 pub struct FoundAhead {
-    /// Those that are prepared in time, the oldest first.
+    /// The entries that are prepared in time, oldest first.
     pub found: Aheads,
-    /// The one behind them, with the ticks that it would have.
+    /// The entry after them, with the ticks that it would have.
     pub late: Ahead,
 }
 
-/// Looks at the entries that run ahead of a state behind a front, by guessed steps: the first
-/// `reach.more` of them that are prepared before the tick are added to those that are found. Their
-/// reads are made on the front's bus and noted, and those of the one behind them up to its address.
-/// The last entry before them is done at that tick or later, and where some were found already, so
-/// is the first of those, which is the last one that may be as many before as there are levels. The
-/// state is then as it was; of the front the bus alone is of use.
+/// Adds to `ahead.found` the predicted entries after a state that are prepared before `reach.tick`,
+/// at most `reach.more`. Their reads, and those of the entry after them up to its address, are made
+/// on the bus of `issue` and noted in `log`. The entry before the state completes at that tick or
+/// later. If `reach.more` is less than the number n of levels, the entry n - `reach.more` before
+/// the next one does so too. The state is unchanged afterwards; of `issue` only the bus is valid.
 pub fn look(
     state: &mut State,
     issue: &mut IssueState,

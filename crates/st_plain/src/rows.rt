@@ -29,7 +29,7 @@ use st_rows::{
 };
 use st_state::State;
 
-/// One more entry is kept, and the oldest one given up.
+/// Puts the newest entry first, and drops the oldest one.
 pub fn put_past(past: &mut [Past; 8], newest: Past)
     ensures { past.new ≡ newest ∷ take 7 past.old }
 {
@@ -43,7 +43,7 @@ pub fn put_past(past: &mut [Past; 8], newest: Past)
     past[0] = newest;
 }
 
-// The last answer of the bank that the word `w` is in, by those of all banks.
+// The last answer of the bank of the word `w`, given those of all banks.
 fn last_answer(ticks: &[u64; BANKS], w: u32) -> u64
     ensures value { result ≡ last_of ticks.now w }
     ensures all { length ticks.now ≡ banks_there }
@@ -51,8 +51,8 @@ fn last_answer(ticks: &[u64; BANKS], w: u32) -> u64
     LastAnswers { ticks: *ticks }.of(w)
 }
 
-// When the index-side word is there of an entry whose address is formed at `a`, 0 where it has
-// none. The bus is that behind its read.
+// The arrival tick of the index-side word of an entry whose address is formed at `a`; 0 if there is
+// none. The bus is the one after its read.
 fn side_there(past: &LastEntries, side: Option<u32>, a: u64, bus: &Bus) -> u64
     requires storage { IfSome side (λ w. 32 ≤ w) }
     ensures { (ds : List ℕ) (before : BusOf) → bus.now ≡ bus_after_index_read ds past.now before side a →
@@ -68,8 +68,8 @@ fn side_there(past: &LastEntries, side: Option<u32>, a: u64, bus: &Bus) -> u64
     last_answer(&bus.banks.ticks, w)
 }
 
-// For how many ticks an entry waits for a level, whose address is formed at `a`. The bus is that
-// behind its index-side word.
+// For how many ticks an entry whose address is formed at `a` waits for a level. The bus is the one
+// after its index-side word.
 fn level_wait(issue: &IssueState, timing: &Timing<'_>, entry: &Entry, a: u64, bus: &Bus) -> u64
     requires entry { IsEntryInTime entry.now }
     ensures { (ds : List ℕ) → a ≡ tick_a ds issue.now entry.now →
@@ -84,31 +84,32 @@ fn level_wait(issue: &IssueState, timing: &Timing<'_>, entry: &Entry, a: u64, bu
     done.saturating_sub(a.max(there))
 }
 
-/// A state, the front before its next entry, and what else decides when that is prepared and done.
+/// The input of a row: the state and the issue state before its entry, and the timing of the
+/// machine.
 #[derive(Clone, Copy)]
 pub struct Before<'a> {
-    /// The state.
+    /// The state before the entry.
     pub state: &'a State,
-    /// The front.
+    /// The issue state before the entry.
     pub issue: &'a IssueState,
-    /// The delays and levels of the machine.
+    /// The delays and the number of levels of the machine.
     pub timing: &'a Timing<'a>,
 }
 
-/// What is known of an entry whose address is formed, besides how it is prepared.
+/// A planned entry: its facts, its P, and its wait for a level.
 #[derive(Clone, Copy, Debug, Default, PartialEq, Eq)]
 pub struct Begun {
-    /// What else it is.
+    /// The facts of the entry that its plan does not have.
     pub known: Known,
-    /// When its address is formed, and when it is prepared.
+    /// A and P: the ticks at which the address is formed and the entry is prepared.
     pub formed: Formed,
-    /// For how many ticks it waits for a level before it is prepared.
+    /// For how many ticks the entry waits for a level before it is prepared.
     pub level_wait: u64,
 }
 
-/// Plans and prepares the next entry of a state behind a front, or the table instruction of an
-/// interrupt by the indicator in `table`, and notes the words that it uses until its address is
-/// formed. Whatever the unit was before, it is that entry.
+/// Plans and prepares the next entry of a state, or the table instruction of an interrupt by the
+/// indicator in `table`, and notes the words that it uses until its address is formed. The old
+/// value of `unit` is ignored.
 pub fn begin(
     unit: &mut FetchUnit,
     table: Option<u8>,
@@ -175,8 +176,8 @@ pub fn begin(
     }
 }
 
-/// Goes on behind the next entry, which is planned as `begin` says, gives its row, and notes the
-/// words that it uses from its preparation on.
+/// Completes the row of an entry that `begin` has planned: advances the issue state over it, and
+/// notes the words that it uses from its preparation on.
 pub fn finish(
     issue: &mut IssueState,
     unit: &mut FetchUnit,
@@ -238,8 +239,8 @@ pub fn finish(
 /// The row of an entry, with its wait for a level.
 #[derive(Clone, Copy, Debug, Default, PartialEq, Eq)]
 pub struct WaitedRow {
-    /// Its ticks.
+    /// The ticks of the row.
     pub ticks: EntryTicks,
-    /// For how many ticks it waited for a level before it was prepared.
+    /// For how many ticks the entry waited for a level before it was prepared.
     pub level_wait: u64,
 }

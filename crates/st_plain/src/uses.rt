@@ -1,4 +1,4 @@
-//! The registers that an entry uses, among the words that are told to its list as they are read.
+//! Notes the registers that an entry uses, in the list of the words that are read for it.
 ghost use Rattle.std.specs.Prelude.{◌≡◌, ◌+◌, ◌-◌, ◌<◌, ◌≤◌, ◌^◌, ◌∷◌, ◌++◌, [], length};
 ghost use Rattle.st_prep.specs.Ranges.{IsRuns};
 ghost use Rattle.st_rows.specs.Ranges.{IsBusWithin, IsReadingWithin, ArePastWithin, IsReadable};
@@ -41,7 +41,7 @@ pub(crate) fn use_side_register(uses: &mut Uses, side: Option<u32>)
     }
 }
 
-// Notes operand words that are registers, as many as `count`.
+// Notes `count` operand words that are registers, from the word `first` on.
 fn use_registers(uses: &mut Uses, first: u32, count: u8)
     requires space { length uses.old.items + count ≤ 48 }
     requires start { first < 2 ^ 18 }
@@ -57,7 +57,7 @@ fn use_registers(uses: &mut Uses, first: u32, count: u8)
     }
 }
 
-// A run of operand words, and those of them that are no registers, which are read.
+// A run of operand words, and those of them that are read from storage.
 #[derive(Clone, Copy, Debug, PartialEq, Eq)]
 struct OperandRun {
     all: WordRun,
@@ -105,7 +105,7 @@ pub(crate) struct DataWords {
 }
 
 /// Notes the operand words of the next entry, which is prepared at the tick, and reads those that
-/// are no registers.
+/// are not registers.
 #[inline(always)]
 pub(crate) fn use_data(
     uses: &mut Uses,

@@ -1,4 +1,4 @@
--- What is prepared depends on what is read alone; so not on the indicators, unless they are the index-side word.
+-- A prepared entry depends only on the words read for it: on the indicators only as its index-side word.
 use Rattle.std.proofs.Common.{◌≡◌, ◌≢◌, ℕ, ◌+◌, ◌*◌, ◌%◌, ◌^◌, ◌<◌, ◌≤◌, Bool, true, false, ◌==◌, List, length, take, drop, get_or, set, Option, None, Some, refl, sym, subst, ◌∙◌, ap, arith, get_or-set_other}
 use Rattle.std.proofs.lemmas.Grind.{get_or-set_at}
 use Rattle.std.proofs.lemmas.Bool.{eqb-true}
@@ -60,7 +60,7 @@ unfolding decode_context
 same_decode_context s t p index bounds enabled words =
     same_seen p p _ _ _ _ _ _ _ _ refl (same_fetched s t p index bounds enabled words) index bounds enabled
 
--- states that look the same at the place of the next entry, with the same index-side word, have the same entry
+-- states with equal decode contexts at the place of the next entry, and equal index-side words, have equal next entries
 same_plan : (s t : Machine) (i : Option ℕ) → place_of t i ≡ place_of s i → decode_context t (place_of s i) ≡ decode_context s (place_of s i)
     → side_word i t (needs (decode_context s (place_of s i))).index_read ≡ side_word i s (needs (decode_context s (place_of s i))).index_read
     → plan t i ≡ plan s i
@@ -69,9 +69,9 @@ same_plan s t i place seen side =
     let v = decode_context s (place_of s i) in
     ap (λ u. prepared_entry u (side_word i t (needs u).index_read)) (ap (decode_context t) place ∙ seen) ∙ ap (prepared_entry v) side
 
--- ---- the same contents of what is read
+-- ---- equal contents of the words that are read
 
--- a word that is set in both
+-- a word that is set in two lists
 set_same : (b : Bool) (xs ys : List ℕ) (w x y : ℕ) → (w == 11) ≡ b → 11 < length xs → 11 < length ys
     → get_or ys w 0 ≡ get_or xs w 0 → (w ≡ 11 → y ≡ x) → get_or (set ys 11 y) w 0 ≡ get_or (set xs 11 x) w 0
 set_same true xs ys w x y e few many h same =
@@ -101,7 +101,7 @@ plan-read s t i m n h =
 
 -- ---- the indicators
 
--- they are no instruction word
+-- the word of the indicators is no instruction word
 other_words : (s t : Machine) (p : Place) → AreAlike s t
     → All (λ w. word t w ≡ word s w) (words_read (reading_of s p) (word s))
 other_words s t p h k d few =
@@ -118,7 +118,7 @@ same_side : (s t : Machine) (i w : Option ℕ) → AreAlike s t → w ≢ Some 1
 same_side s t i None h other = refl
 same_side s t i (Some w) h other = ap Some (same_opened s t i w h (λ e. other (ap Some e)))
 
--- two states that are alike have the same next entry, unless the indicators are its index-side word
+-- states that differ only in their indicators have equal next entries, unless the indicators are the index-side word
 pub plan-alike : (s t : Machine) (i : Option ℕ) → AreAlike s t → (needs (decode_context s (place_of s i))).index_read ≢ Some 11
     → plan t i ≡ plan s i
 plan-alike s t i h other =
@@ -136,7 +136,7 @@ unfolding plan
 serial-needs s i free =
     let v = decode_context s (place_of s i) in sym (same_serial v (side_word i s (needs v).index_read)) ∙ free
 
--- and where it is not done alone they are none
+-- the indicators are not the index-side word of an entry that is not serializing
 pub plan-alike_ahead : (s t : Machine) (i : Option ℕ) → AreAlike s t → (plan s i).serial ≡ false → plan t i ≡ plan s i
 plan-alike_ahead s t i h free =
     let v = decode_context s (place_of s i) in

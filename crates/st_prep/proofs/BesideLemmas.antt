@@ -1,4 +1,4 @@
--- What is prepared does not depend on the orders of the devices.
+-- A prepared entry does not depend on the orders of the devices.
 use Rattle.std.proofs.Common.{◌≡◌, ◌≢◌, ℕ, false, Option, None, Some, refl, sym, ◌∙◌, ap}
 use Rattle.st_state.specs.Machine.{Machine}
 use Rattle.st_state.specs.declared.devices.Order.{Order}
@@ -44,7 +44,7 @@ plan-orders r q s t =
 
 -- ---- states that differ in orders and indicators
 
--- with the orders of the other one they differ in indicators alone
+-- with the orders of the other state, a state differs from it only in indicators
 pub alike-orders : (s t : Machine) → AreAlikeBesideOrders s t → AreAlike s (with_orders s.reader s.printer t)
 alike-orders s t h = record {
   size = h.size;

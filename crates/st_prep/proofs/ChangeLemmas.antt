@@ -1,4 +1,4 @@
--- Changed index words are words.
+-- Changed index words have 64 bits.
 use Rattle.std.proofs.Common.{ℕ, zero, suc, ◌/◌, ◌%◌, ◌^◌, ◌<◌, ℤ, pos, negsuc, ◌+ℤ◌, neg_ℤ, List, get_or, Option, None, Some, arith}
 use Rattle.std.specs.Prelude.{IfSome, nat_lt, unwrap_or, unsigned_abs, slice_index}
 use Rattle.st_bits.specs.Bits.{bits, with_part}
@@ -13,7 +13,7 @@ use Rattle.st_prep.specs.SpeculativeChanges.{without_change, change_of_compariso
 use Rattle.st_prep.specs.Ranges.{HasFields, IsChange}
 use Rattle.st_prep.proofs.Choices.{of_choice}
 
--- ---- parts put into a word
+-- ---- parts of a word that are replaced
 
 front-below : (x v : ℕ) → x < 2 ^ 64 → v < 2 ^ 25 → with_part x 0 25 v < 2 ^ 64
 front-below x v word fits = omega arith
@@ -55,7 +55,7 @@ progressed-below p x a word =
 
 -- ---- changes
 
--- an index word that is changed, if one is, has a number, and is a word before and after
+-- the number of a changed index word is in range, and both contents have 64 bits
 abbrev pub Fits : SpeculativeChange → Type 0
 Fits speculative = IfSome speculative.index IsChange
 

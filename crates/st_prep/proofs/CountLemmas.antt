@@ -1,4 +1,4 @@
--- How many words an entry reads.
+-- The number of words that an entry reads.
 use Rattle.std.proofs.Common.{ℕ, ◌+◌, ◌/◌, ◌%◌, ◌<◌, ◌≤◌, Bool, true, false, ◌==◌, if◌then◌else◌, List, length, Option, None, Some, arith}
 use Rattle.std.specs.Prelude.{IfSome, nat_le}
 use Rattle.st_format.specs.declared.instruction.Instr.{Instr}
@@ -17,7 +17,7 @@ use Rattle.st_prep.proofs.PlanLemmas.{decode_context-fits}
 use Rattle.st_prep.proofs.PreparedLemmas.{IsSight, executed-shape}
 use Rattle.st_prep.proofs.ReadingLemmas.{reading-few}
 
--- so many operand words
+-- at most this number of operand words
 abbrev pub IsFew : ℕ → Words → Type 0
 IsFew n w = w.len + w.len2 ≤ n
 
@@ -37,7 +37,7 @@ few-move : (swap : Bool) (from to n : ℕ) → n ≤ 16 → IsFew 32 (words_move
 few-move false from to n few = omega arith
 few-move true from to n few = omega arith
 
--- operands with the index-side word
+-- the operand words with the index-side word
 few-read : (x : List ℕ) (instr : Instr) (e : ℕ) → HasFields instr
     → (reads instr e).len + (reads instr e).len2 + index_side_words (side x instr e) ≤ 32
 unfolding reads side
@@ -74,7 +74,7 @@ few-prepared : (s : DecodeContext) (r : Option ℕ) → IsSight s
 unfolding prepared_entry needs resolved
 few-prepared s r k = few-by_fault (resolved s).fault s r k
 
--- an entry of a state reads 36 words at most
+-- an entry of a state reads at most 36 words
 pub few-plan : (s : Machine) (t : Option ℕ) → IsMachine s → IfSome t (λ i. i < 64)
     → length (instruction_words (reading_at_place (index_words s) (word s 3) s.enabled (place_of s t)) (word s))
     + index_side_words (needs (decode_context s (place_of s t))).index_read + ((plan s t).reads.len + (plan s t).reads.len2) ≤ 36

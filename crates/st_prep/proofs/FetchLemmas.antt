@@ -1,4 +1,4 @@
--- What is fetched is in its ranges.
+-- A fetched entry is in its ranges.
 use Rattle.std.proofs.Common.{ℕ, ◌+◌, ◌/◌, ◌^◌, ◌<◌, Bool, true, false, ◌==◌, if◌then◌else◌, List, Option, None, Some, is_none, arith}
 use Rattle.std.specs.Prelude.{IfSome}
 use Rattle.st_format.specs.declared.instruction.Instr.{Instr}
@@ -17,7 +17,7 @@ use Rattle.st_prep.specs.Fetch.{words_fetched}
 use Rattle.st_prep.specs.Ranges.{HasFields, IsFoundInRange, IsFetched}
 use Rattle.st_prep.proofs.Choices.{of_choice}
 
--- what bits spell has its fields
+-- a decoded instruction has valid fields
 pub fields-shape : (instr : Instr) → IsShape instr → HasFields instr
 fields-shape (Half op a j i) s = s
 fields-shape (Branch op a i) s = s
@@ -44,11 +44,11 @@ fetch_fault b en w =
     of_choice P (is_invalid_word Fetch w) (Some 16) (if is_protected b en w then Some 21 else None) (omega arith)
     (of_choice P (is_protected b en w) (Some 21) None (omega arith) tt)
 
--- whatever it finds is in its ranges
+-- all results of a reading are in their ranges
 abbrev pub Fits : Reading → Type 0
 Fits r = (c : ℕ → ℕ) → IsFetched (outcome r c)
 
--- a use to which all that is found is of use
+-- a continuation whose results are in their ranges
 abbrev pub UseFits : Continuation → Type 0
 UseFits k = (f : FoundInstruction) → IsFoundInRange f → Fits (k f)
 
@@ -108,7 +108,7 @@ pub reading-fits : (x : List ℕ) (b : ℕ) (en : Bool) (place : Place) → Fits
 unfolding reading_at_place
 reading-fits x b en place = instruction-fits false b en place.address _ (own_use-fits x b en)
 
--- whatever is fetched at a place
+-- the result of fetching at any place is in its ranges
 pub fetched-fits : (s : Machine) (place : Place) → IsFetched (words_fetched s place)
 unfolding words_fetched
 fetched-fits s place = reading-fits _ _ _ place (word s)

@@ -1,4 +1,4 @@
--- All entries but transmissions read and write two words at most, in one run.
+-- All entries except transmissions read and write at most two words each, in one run.
 use Rattle.std.proofs.Common.{◌≡◌, ℕ, ◌+◌, ◌/◌, ◌%◌, ◌≤◌, Bool, true, false, ◌==◌, if◌then◌else◌, refl, sym, subst, arith}
 use Rattle.std.specs.Prelude.{nat_le}
 use Rattle.st_format.specs.declared.operations.FullOp.TheVariants.{Variable, Connective}

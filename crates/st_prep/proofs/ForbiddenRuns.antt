@@ -1,10 +1,10 @@
--- A run of words is looked at one word after the other.
+-- The words of a run are checked in order.
 use Rattle.std.proofs.Common.{◌≡◌, ℕ, zero, suc, ◌+◌, ◌≤◌, Bool, true, false, Option, None, Some, is_some, refl, ap, arith}
 use Rattle.st_state.specs.declared.protection.Access.{Access}
 use Rattle.st_state.specs.Boundary.{forbidden_by}
 use Rattle.st_prep.specs.Checks.{forbidden_run}
 
--- nothing forbids no words
+-- an empty run is not forbidden
 pub run-none : (b : ℕ) (en : Bool) (a : Access) (w n : ℕ) → n ≡ 0 → forbidden_run b en a w n ≡ None
 unfolding forbidden_run
 run-none b en a w zero e = refl

@@ -1,4 +1,4 @@
--- What is given by the contents so far, one instruction after the other.
+-- The progress of a reading given the contents so far, one instruction at a time.
 use Rattle.std.proofs.Common.{◌≡◌, ◌≢◌, ℕ, zero, suc, ◌/◌, ◌≤◌, Bool, true, false, ◌==◌, if◌then◌else◌, List, [], ◌∷◌, length, get_or, drop, Option, None, Some, refl, sym, ◌∙◌, ap, arith}
 use Rattle.std.proofs.lemmas.Bool.{eqb-true}
 use Rattle.std.proofs.lemmas.Bool.Decides.{nat_tests}
@@ -15,12 +15,12 @@ use Rattle.st_prep.specs.Reading.{Reading, Finds, Reads, left_after, fetching_of
 abbrev pub of : Reading → List ℕ → Fetching
 of r contents = fetching_of (left_after r contents)
 
--- contents that there are begin with one
+-- a nonempty list of contents starts with one
 one_more : (cs : List ℕ) → 1 ≤ length cs → cs ≡ get_or cs 0 0 ∷ drop 1 cs
 one_more [] some = absurd (omega arith)
 one_more (c ∷ cs) some = refl
 
--- a word that is read, and the rest of the contents
+-- a word that is read, followed by the rest of the contents
 reads_next : (t : Bool) (w : ℕ) (r : ℕ → Reading) (cs : List ℕ) → 1 ≤ length cs
     → of (Reads t w r) cs ≡ of (r (get_or cs 0 0)) (drop 1 cs)
 unfolding left_after
@@ -44,7 +44,7 @@ at-first (Some j) t b en h k cs e some = cc
 
 -- ---- a second half-word
 
--- by the test whether it stands in the word of the first one
+-- the cases of whether it is in the word of the first one
 second-here : (same : Bool) (t : Bool) (w : ℕ) (here : Reading) (r : ℕ → Reading) (cs : List ℕ) → same ≡ true
     → of (if same then here else Reads t w r) cs ≡ of here cs
 second-here true t w here r cs e = refl
@@ -69,7 +69,7 @@ second-wants None t first h v content k cs e other none =
     second-there (h / 2 == v) t (h / 2) _ _ (drop 1 cs) other ∙ reads_none t (h / 2) _ (drop 1 cs) none
 second-wants (Some j) t first h v content k cs e other none = cc
 
--- the second of the contents is the first of the rest
+-- the second content is the first of the rest
 second_content : (cs : List ℕ) → get_or (drop 1 cs) 0 0 ≡ get_or cs 1 0
 second_content [] = refl
 second_content (c ∷ cs) = refl
@@ -90,12 +90,12 @@ second-has None t first h v content k cs e other some =
     ∙ ap (of (k (record { decoded = decoded_entry first (half_of (get_or cs 1 0) h); fault = None }))) (rest-rest cs)
 second-has (Some j) t first h v content k cs e other some = cc
 
--- what is found by the contents does not look at the rest of them
+-- a result that is found already ignores the rest of the contents
 pub found-of : (r : Reading) (f : Fetched) (cs : List ℕ) → r ≡ Finds f → of r cs ≡ Found f
 unfolding left_after fetching_of
 found-of r f cs e = ap (λ r. fetching_of (left_after r cs)) e
 
--- the same, where the second half-word is the one that is used
+-- a result that is found with the second half-word ignores the rest of the contents
 pub found-second : (r : Fetching) (first made second : ℕ) (k : Continuation) (f : Fetched) (cs : List ℕ)
     → r ≡ of (k (record { decoded = decoded_entry first made; fault = None })) cs → second ≡ made
     → k (record { decoded = decoded_entry first second; fault = None }) ≡ Finds f → r ≡ Found f
@@ -130,7 +130,7 @@ chosen-found : (e : Bool) (r : Reading) (f : Fetched) → e ≡ false → (if e 
 chosen-found true r f h = cc
 chosen-found false r f h = refl
 
--- what is not EX and may be fetched is all that is fetched, where the contents tell all of it
+-- an instruction other than EX that may be fetched is the whole result, if the contents have all of it
 pub known-found : (x : List ℕ) (b : ℕ) (en : Bool) (place : Place) (cs : List ℕ) (first second : ℕ)
     → ((k : Continuation) (f : Fetched) → k (allowed_found first second) ≡ Finds f → of (instruction_at false b en place.address k) cs ≡ Found f)
     → is_execute (instruction_of first second) ≡ false

@@ -1,4 +1,4 @@
--- What holds of preparation itself, and not of one call, proved.
+-- Proofs of the laws of preparation.
 use Rattle.st_prep.proofs.PlanLemmas.{plan-prepared, target-serial}
 use Rattle.st_prep.proofs.PreparedLemmas.{same_serial, prepared-read}
 use Rattle.st_prep.proofs.ReadingLemmas.{fetched-outcome, reading-few, reading-own, next-same, outcome-same}

@@ -1,4 +1,4 @@
--- The counter after an entry, what it stores, and its cost.
+-- The counter after an entry, the value that it stores, and its cost.
 use Rattle.std.proofs.Common.{ℕ, ◌/◌, ◌^◌, ◌<◌, ◌≤◌, ◌==◌, List, get_or, if◌then◌else◌, Option, None, Some, refl, arith}
 use Rattle.std.specs.Prelude.{slice_index}
 use Rattle.st_bits.specs.IndexWord.{count_of}
@@ -58,7 +58,7 @@ after-below (IndBranch sense off a i second) x e c f s address h = h
 after-below (Transfer w a i n) x e c f s address h = h
 after-below (Invalid first second full) x e c f s address h = h
 
--- ---- what is stored
+-- ---- the stored value
 
 stored_part-fits : (op : HalfOp) (x : ℕ) → x < 2 ^ 64 → FitsPart op (stored_part op x)
 stored_part-fits Sx x h = h
@@ -83,7 +83,7 @@ value-fits (IndBranch sense off a i second) x f words h = refl
 value-fits (Transfer w a i n) x f words h = refl
 value-fits (Invalid first second full) x f words h = refl
 
--- nothing is stored by a suppressed entry
+-- a suppressed entry stores nothing
 zero_part-fits : (op : HalfOp) → FitsPart op 0
 zero_part-fits Sx = omega arith
 zero_part-fits Sv = omega arith

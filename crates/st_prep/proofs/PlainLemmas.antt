@@ -1,4 +1,4 @@
--- An entry of a state, all its words being read from the state.
+-- An entry of a state whose words are all read from this state.
 use Rattle.std.proofs.Common.{◌≡◌, ℕ, false, List, Option, refl, ◌∙◌, ap}
 use Rattle.st_state.specs.Machine.{Machine, word}
 use Rattle.st_format.specs.declared.operations.FullOp.{FullOp}
@@ -11,7 +11,7 @@ use Rattle.st_prep.specs.Fetch.{index_words, place_of, words_fetched}
 use Rattle.st_prep.specs.Plan.{DecodeContext, decode_context, decode_context_of, needs, plan, entry_by}
 use Rattle.st_prep.specs.Reading.{outcome, is_execute, reading_at_place}
 
--- what is seen of the state then
+-- the decode context of the state
 seen : (s : Machine) (t : Option ℕ) (place : Place) (x : List ℕ) (f : Fetched) → place ≡ place_of s t → x ≡ index_words s
     → f ≡ outcome (reading_at_place x (word s 3) s.enabled place) (word s) → decode_context_of place f x s ≡ decode_context s (place_of s t)
 unfolding decode_context words_fetched place_of
@@ -20,7 +20,7 @@ seen s t place x f hp hx hf =
     ∙ ap (λ (y : List ℕ). decode_context_of place (outcome (reading_at_place y (word s 3) s.enabled place) (word s)) y s) hx
     ∙ ap (λ (p : Place). decode_context_of p (outcome (reading_at_place (index_words s) (word s 3) s.enabled p) (word s)) (index_words s) s) hp
 
--- what is filled in at the place of the next entry is the plan of it
+-- the entry filled in at the place of the next entry is its plan
 pub filled-plan : (s : Machine) (t : Option ℕ) (q : Prepared) (place : Place) (x : List ℕ) (f : Fetched) → place ≡ place_of s t
     → x ≡ index_words s → f ≡ outcome (reading_at_place x (word s 3) s.enabled place) (word s) → q ≡ entry_by s place f x → q ≡ plan s t
 unfolding plan decode_context words_fetched place_of
@@ -30,7 +30,7 @@ filled-plan s t q place x f hp hx hf h =
     ∙ ap (λ y. entry_by s place (outcome (reading_at_place y (word s 3) s.enabled place) (word s)) y) hx
     ∙ ap (λ (p : Place). entry_by s p (outcome (reading_at_place (index_words s) (word s 3) s.enabled p) (word s)) (index_words s)) hp
 
--- and its index-side word that of the next entry
+-- its index-side word is that of the next entry
 pub filled-side : (s : Machine) (t side : Option ℕ) (place : Place) (x : List ℕ) (f : Fetched) → place ≡ place_of s t
     → x ≡ index_words s → f ≡ outcome (reading_at_place x (word s 3) s.enabled place) (word s)
     → side ≡ (needs (decode_context_of place f x s)).index_read → side ≡ (needs (decode_context s (place_of s t))).index_read

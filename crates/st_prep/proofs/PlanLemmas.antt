@@ -27,7 +27,7 @@ use Rattle.st_prep.proofs.PreparedLemmas.{IsSight, is_prepared, alone-serial}
 
 -- ---- indicators
 
--- an indicator that is taken goes off
+-- the indicator of an interrupt that is taken turns off
 pub without-turned : (x off : ℕ) → x < 2 ^ 64 → off < 2 ^ 64 → bit_and x (2 ^ 64 - 1 - off) ≡ indicator_word 64 0 off x
 without-turned x off word fits =
     sym (or_zero_r (bit_and x (2 ^ 64 - 1 - off))) ∙ turned-masks 0 off x (omega arith) fits word
@@ -38,7 +38,7 @@ pub fixed-indicators : (x : ℕ) → register_word 11 x ≡ x
 unfolding register_word
 fixed-indicators x = refl
 
--- an interrupt that is taken leaves a state
+-- the state after an interrupt is taken is valid
 pub is_machine-opened : (t : Option ℕ) (s : Machine) → IsMachine s → IsMachine (state_at_entry t s)
 is_machine-opened None s m = m
 is_machine-opened (Some i) s m =
@@ -94,7 +94,7 @@ unfolding plan
 plan-prepared s t m some =
     is_prepared _ _ (decode_context-fits s t m some) (side_word-below t s (needs (decode_context s (place_of s t))).index_read m)
 
--- ---- states that look the same
+-- ---- states with a given decode context
 
 pub same_seen : (p q : Place) (f g : Fetched) (x y : List ℕ) (b c : ℕ) (m n : Bool) → p ≡ q → f ≡ g → x ≡ y → b ≡ c → m ≡ n
     → ◌≡◌ {A = DecodeContext} (record { place = p; fetched = f; x = x; bounds = b; enabled = m })
@@ -107,7 +107,7 @@ decode_context-seen s v h =
     same_seen _ v.place _ v.fetched _ v.x _ v.bounds _ v.enabled h.place
     (ap (words_fetched s) h.place ∙ h.fetched) h.words h.bounds h.enabled
 
--- an entry that is prepared by what a state looks like is the state's next one
+-- an entry that is prepared from the decode context of a state is the next entry of this state
 pub prepared-plan : (s : Machine) (v : DecodeContext) (r : Option ℕ) → IsSeen s v → r ≡ side_of s v
     → prepared_entry v r ≡ plan s v.place.table
 unfolding plan
@@ -117,7 +117,7 @@ prepared-plan s v r h e =
 
 -- ---- EX
 
--- a reading whose finds with a target are EX
+-- in each result of the reading that has a target, the instruction is EX
 abbrev pub TargetsExecute : Reading → (ℕ → ℕ) → Type 0
 TargetsExecute r c = is_some (outcome r c).target ≡ true → is_execute (outcome r c).instr.instr ≡ true
 
@@ -141,7 +141,7 @@ at-executes : (t : Bool) (b : ℕ) (en : Bool) (h : ℕ) (k : Continuation) (c :
 unfolding instruction_at
 at-executes t b en h k c each = read_after-executes _ t b en h k c each
 
--- EX with whatever target
+-- EX with any target
 with_target-executes : (ex : Decoded) (c : ℕ → ℕ) (target : FoundInstruction) → is_execute ex.instr ≡ true
     → TargetsExecute (Finds (with_target ex target)) c
 unfolding outcome
@@ -163,7 +163,7 @@ own_use-executes : (x : List ℕ) (b : ℕ) (en : Bool) (c : ℕ → ℕ) (own :
 unfolding own_use
 own_use-executes x b en c own = own-executes (is_execute own.decoded.instr) own x b en c refl
 
--- what has a target is EX
+-- a fetched entry with a target is EX
 fetched-target : (s : Machine) (p : Place) → is_some (words_fetched s p).target ≡ true → is_execute (words_fetched s p).instr.instr ≡ true
 unfolding words_fetched reading_at_place
 fetched-target s p h =
@@ -173,7 +173,7 @@ pub or-second : (a b : Bool) → b ≡ true → (a || b) ≡ true
 or-second true b h = refl
 or-second false b h = h
 
--- and is done alone
+-- a fetched entry with a target is serializing
 pub target-serial : (s : Machine) (i : Option ℕ) → is_some (words_fetched s (place_of s i)).target ≡ true → (plan s i).serial ≡ true
 unfolding plan decode_context
 target-serial s i h =

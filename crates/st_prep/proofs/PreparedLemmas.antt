@@ -1,4 +1,4 @@
--- What holds of each prepared entry, of whatever is seen.
+-- Properties of each entry prepared from a decode context.
 use Rattle.std.proofs.Common.{◌≡◌, ℕ, ◌^◌, ◌<◌, ◌≤◌, Bool, true, false, ◌||◌, List, get_or, if◌then◌else◌, Option, None, Some, is_some, refl, sym, subst, ◌∙◌, ap, arith}
 use Rattle.std.specs.Prelude.{IfSome, unwrap_or}
 use Rattle.std.proofs.lemmas.Bool.{ltb-false}
@@ -25,7 +25,7 @@ use Rattle.st_prep.proofs.RunLemmas.{is_runs-none, is_runs-reads, is_runs-writes
 use Rattle.st_prep.proofs.ChangeLemmas.{change-fits}
 use Rattle.st_prep.proofs.OutcomeLemmas.{next-below, after-below, value-fits, zero-fits, cost-fits}
 
--- what is seen of a state is in its ranges
+-- a decode context in its ranges
 pub record IsSight (s : DecodeContext) : Type 0 where
   pub place : IsPlace s.place
   pub fetched : IsFetched s.fetched
@@ -72,7 +72,7 @@ valid : (instr : Instr) → operation_invalid instr ≡ None → is_valid instr 
 unfolding operation_invalid
 valid instr h = of_test (is_valid instr) _ h
 
--- ---- entries that are not done alone
+-- ---- entries that are not serializing
 
 no_table : (t : Option ℕ) → is_some t ≡ false → t ≡ None
 no_table None h = refl
@@ -181,7 +181,7 @@ by_fault : (f : Option ℕ) (s : DecodeContext) (r : Option ℕ) → (resolved s
 by_fault None s r e k some = entry-prepared s r k some (passes_by s e)
 by_fault (Some i) s r e k some = suppressed-prepared s i k
 
--- whatever is prepared is in its ranges
+-- each prepared entry is in its ranges
 pub is_prepared : (s : DecodeContext) (r : Option ℕ) → IsSight s → IfSome r (λ w. w < 2 ^ 64) → IsPrepared (prepared_entry s r)
 unfolding prepared_entry resolved
 is_prepared s r k some = by_fault (resolved s).fault s r refl k some
@@ -201,7 +201,7 @@ needs_by_fault None s e = record {
 }
 needs_by_fault (Some i) s e = record { inside = tt; above = λ _. tt }
 
--- whatever is needed is a word of storage
+-- the word that an entry needs is a word of storage
 pub is_needs : (s : DecodeContext) → IsNeeds (needs s)
 unfolding needs resolved
 is_needs s = needs_by_fault (resolved s).fault s refl
@@ -212,7 +212,7 @@ unfolding entry_at suppressed_entry
 same_by_fault None p a x r = refl
 same_by_fault (Some i) p a x r = refl
 
--- what is looked up and what is prepared agree on what is done alone
+-- an entry is prepared as serializing if and only if its needs say that it is
 pub same_serial : (s : DecodeContext) (r : Option ℕ) → (prepared_entry s r).serial ≡ (needs s).serial
 unfolding prepared_entry needs
 same_serial s r = same_by_fault _ s.place (resolved s) s.x r
@@ -226,7 +226,7 @@ unfolding entry_at
 read-by_fault None p a x r q = refl
 read-by_fault (Some i) p a x r q = refl
 
--- what is read there shows in the index change and its indicators alone
+-- the index-side word affects only the index change and its indicators
 pub prepared-read : (s : DecodeContext) (r q : Option ℕ)
     → prepared_entry s r ≡ record (prepared_entry s q) { index = (prepared_entry s r).index; ind = (prepared_entry s r).ind }
 unfolding prepared_entry
@@ -238,7 +238,7 @@ unfolding entry_at
 changed_by_fault None p a x r q some = refl
 changed_by_fault (Some i) p a x r q some = absurd (cc)
 
--- where one is read, an entry becomes what another word makes of it by its early change alone
+-- an entry with one index-side word becomes the entry with another one by a repeated speculative change
 pub changed-read : (s : DecodeContext) (r q : Option ℕ) (p : Prepared) → asks s ≡ true → p ≡ prepared_entry s q
     → record p { index = (change s.x p.instr p.e r).index; ind = (change s.x p.instr p.e r).ind } ≡ prepared_entry s r
 unfolding needs prepared_entry
@@ -254,7 +254,7 @@ pub asks-entered : (s : DecodeContext) (q : Option ℕ) (p : Prepared) → asks 
 unfolding needs prepared_entry
 asks-entered s q p some is = rw is (entered_by_fault _ s.place (resolved s) s.x q some)
 
--- it stays in its ranges
+-- the repeated change keeps the entry in its ranges
 pub changed-fits : (p : Prepared) (x : List ℕ) (r : Option ℕ) → IsPrepared p → p.suppressed ≡ false
     → ((j : ℕ) → get_or x j 0 < 2 ^ 64) → IfSome r (λ w. w < 2 ^ 64)
     → IsPrepared (record p { index = (change x p.instr p.e r).index; ind = (change x p.instr p.e r).ind })
@@ -287,12 +287,12 @@ unfolding is_serial
 alone-by_fault None a h = alone-left a.alone _ _ _ _ h
 alone-by_fault (Some i) a h = h
 
--- what is alone even where it is suppressed is done alone
+-- an entry that is serializing even if suppressed is serializing
 pub alone-serial : (s : DecodeContext) (r : Option ℕ) → is_alone s.place s.fetched ≡ true → (prepared_entry s r).serial ≡ true
 unfolding needs resolved resolved_at
 alone-serial s r h = same_serial s r ∙ alone-by_fault _ (resolved s) h
 
--- ---- by what an entry is aimed at
+-- ---- resolved entries
 
 pub look-needs : (a : ResolvedEntry) (v : DecodeContext) (n : Needs) → n ≡ needs_by a.fault a → a ≡ resolved v → n ≡ needs v
 unfolding needs
@@ -311,7 +311,7 @@ pub filled-fits : (v : DecodeContext) (p : Prepared) (r : Option ℕ) → p ≡ 
     → IsPrepared p
 filled-fits v p r e k some = subst IsPrepared (sym e) (is_prepared v r k some)
 
--- an entry stands where it stood before it was filled in
+-- filling in an entry keeps its place
 pub filled-place : (f : Option ℕ) (place : Place) (a : ResolvedEntry) (x : List ℕ) (r : Option ℕ)
     → (prepared_by f place a x r).place ≡ place
 unfolding entry_at suppressed_entry

@@ -1,4 +1,4 @@
--- What an entry's reading finds, which words it reads, and how many.
+-- The result of an entry's reading, the words that it reads, and their number.
 use Rattle.std.proofs.Common.{◌≡◌, ℕ, zero, suc, ◌+◌, ◌-◌, ◌/◌, ◌<◌, ◌≤◌, Bool, true, false, ◌==◌, List, [], ◌∷◌, ◌++◌, length, take, Option, None, Some, refl, sym, subst, ◌∙◌, ap, arith}
 use Rattle.std.specs.Prelude.{All, nat_le}
 use Rattle.std.proofs.lemmas.Bool.{ltb-false}
@@ -19,16 +19,16 @@ use Rattle.st_format.proofs.Spelled.{or-right}
 use Rattle.st_prep.proofs.Choices.{of_choice, test-none}
 use Rattle.st_prep.proofs.RunLemmas.{allowed-inside}
 
--- ---- what is found
+-- ---- the result
 
--- what is fetched is what the reading finds
+-- the fetched entry is the result of the reading
 pub fetched-outcome : (s : Machine) (p : Place) → words_fetched s p ≡ outcome (reading_at_place (index_words s) (word s 3) s.enabled p) (word s)
 unfolding words_fetched
 fetched-outcome s p = refl
 
 -- ---- the words that are read
 
--- so many words at most, each of them in storage above the registers
+-- a list of at most n words, each of them in storage above the registers
 pub record AreFew (n : ℕ) (ws : List ℕ) : Type 0 where
   pub few : length ws ≤ n
   pub above : All (λ w. 32 ≤ w) ws
@@ -52,7 +52,7 @@ one_more n w ws above inside h = record {
 not_fewer : (n : ℕ) (ws : List ℕ) → AreFew n ws → AreFew (n + 1) ws
 not_fewer n ws h = record { few = omega (arith, h.few); above = h.above; inside = h.inside }
 
--- a use that reads so many words
+-- a continuation that reads at most n words
 abbrev pub ReadsFew : ℕ → (ℕ → ℕ) → Continuation → Type 0
 ReadsFew n c k = (f : FoundInstruction) → AreFew n (words_read (k f) c)
 
@@ -105,7 +105,7 @@ reading-few x b en p c = few-at false b en p.address 2 c (own_use x b en) (few-o
 
 -- ---- the entry's own words
 
--- a word that is read counts as one of them unless it is read for the target
+-- each word that is read is one of them unless it is read for the target
 abbrev pub own_one : Bool → ℕ
 own_one true = 0
 own_one false = 1
@@ -165,7 +165,7 @@ pub reading-own : (x : List ℕ) (b : ℕ) (en : Bool) (p : Place) (c : ℕ → 
 unfolding reading_at_place
 reading-own x b en p c = own-at false b en p.address 0 c (own_use x b en) (own-use x b en c)
 
--- ---- the contents so far decide
+-- ---- the contents so far determine the rest
 
 all-head : (P : ℕ → Type 0) (w : ℕ) (ws : List ℕ) → All P (w ∷ ws) → P w
 all-head P w ws h = h 0 0 (omega arith)
@@ -173,7 +173,7 @@ all-head P w ws h = h 0 0 (omega arith)
 all-tail : (P : ℕ → Type 0) (w : ℕ) (ws : List ℕ) → All P (w ∷ ws) → All P ws
 all-tail P w ws h k d few = h (suc k) d (omega arith)
 
--- where the words that are read have the same contents, the same is found
+-- equal contents of all words that are read give equal results
 pub outcome-same : (r : Reading) (c d : ℕ → ℕ) → All (λ w. d w ≡ c w) (words_read r c) → outcome r d ≡ outcome r c
 unfolding outcome words_read
 outcome-same (Finds f) c d h = refl
@@ -182,7 +182,7 @@ outcome-same (Reads t w r) c d h =
     ap (λ x. outcome (r x) d) (all-head P w (words_read (r (c w)) c) h)
     ∙ outcome-same (r (c w)) c d (all-tail P w (words_read (r (c w)) c) h)
 
--- where the first n words have the same contents, the next one is the same
+-- equal contents of the first n words give the next word to read
 pub next-same : (n : ℕ) (r : Reading) (c d : ℕ → ℕ) → All (λ w. d w ≡ c w) (take n (words_read r c))
     → take (suc n) (words_read r d) ≡ take (suc n) (words_read r c)
 unfolding words_read
@@ -193,7 +193,7 @@ next-same (suc n) (Reads t w r) c d h =
     ap (λ x. w ∷ take (suc n) (words_read (r x) d)) (all-head P w (take n (words_read (r (c w)) c)) h)
     ∙ ap (λ ws. w ∷ ws) (next-same n (r (c w)) c d (all-tail P w (take n (words_read (r (c w)) c)) h))
 
--- ---- contents one after another
+-- ---- successive contents
 
 pub left_after-none : (r : Reading) → left_after r [] ≡ r
 unfolding left_after
@@ -206,7 +206,7 @@ left_after-more (Finds f) cs c = refl
 left_after-more (Reads t w r) [] c = refl
 left_after-more (Reads t w r) (d ∷ cs) c = left_after-more (r d) cs c
 
--- a reading that is left finds the same, and reads so many words at most
+-- the rest of a reading has the result of the whole, and reads at most n words
 pub record IsLeft (r s : Reading) (c : ℕ → ℕ) (n : ℕ) : Type 0 where
   pub same : outcome r c ≡ outcome s c
   pub few : length (words_read r c) ≤ n
@@ -237,7 +237,7 @@ unfolding fetching_of outcome
 found-left (Finds g) s c n f e h = sym (same_found g f e) ∙ h.same
 found-left (Reads u v r) s c n f e h = cc
 
--- of the whole reading all is left
+-- before the first content, the rest is the whole reading
 pub whole-left : (x : List ℕ) (b : ℕ) (en : Bool) (p : Place) (c : ℕ → ℕ)
     → IsLeft (left_after (reading_at_place x b en p) []) (reading_at_place x b en p) c 4
 whole-left x b en p c =

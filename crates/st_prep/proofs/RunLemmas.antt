@@ -1,4 +1,4 @@
--- The words that an entry reads and writes: how many, where, and which may be accessed.
+-- The words that an entry reads and writes: their number, their places, and which may be accessed.
 use Rattle.std.proofs.Common.{◌≡◌, ℕ, zero, suc, ◌+◌, ◌/◌, ◌%◌, ◌^◌, ◌<◌, ◌≤◌, Bool, true, false, not, ◌==◌, ◌&&◌, if◌then◌else◌, None, arith}
 use Rattle.std.specs.Prelude.{nat_lt, nat_le}
 use Rattle.std.proofs.lemmas.Bool.{ltb-false, leb-false}
@@ -123,7 +123,7 @@ words-inside b en a w h = record {
 pub none-inside : AreInside no_words
 none-inside = record { inside = λ h. absurd (omega arith); inside2 = λ h. absurd (omega arith) }
 
--- an order whose area may be accessed has room
+-- an order whose area may be accessed has its area in storage
 pub area-inside : (b : ℕ) (en : Bool) (instr : Instr) (e : ℕ) → forbidden_area b en instr e ≡ None → HasRoomInStorage instr e
 unfolding forbidden_area
 area-inside b en (Transfer write a i n) e h = (

@@ -1,4 +1,4 @@
--- States that have the same next entry.
+-- States with equal next entries.
 use Rattle.std.specs.Prelude.{ℕ, ◌≡◌, ◌≢◌, All, IfSome, Option, length}
 use Rattle.st_bits.specs.declared.register.TheConstants.{INTERRUPT_ADDRESS, BOUNDS, INDICATORS}
 use Rattle.st_state.specs.Machine.{Machine, word}
@@ -6,9 +6,9 @@ use Rattle.st_prep.specs.Fetch.{index_words, place_of, reading_of}
 use Rattle.st_prep.specs.Plan.{needs, decode_context}
 use Rattle.st_prep.specs.Reading.{words_read}
 
--- two states in which the next entry, or the table instruction of an interrupt, reads the same: the
--- counter, the index words, the interruption address, the bounds and the mark, its instruction
--- words, and its index-side word
+-- two states in which preparation of the next entry, or of the table instruction of an interrupt,
+-- has equal inputs: the counter, the index words, the interruption address, the bounds, the
+-- interrupt flag, the instruction words, and the index-side word
 pub record ReadTheSame (table : Option ℕ) (s t : Machine) : Type 0 where
   pub ic : t.ic ≡ s.ic
   pub index : index_words t ≡ index_words s
@@ -19,7 +19,7 @@ pub record ReadTheSame (table : Option ℕ) (s t : Machine) : Type 0 where
       (words_read (reading_of s (place_of s table)) (word s))
   pub side : IfSome (needs (decode_context s (place_of s table))).index_read (λ w. word t w ≡ word s w)
 
--- two states that differ in their indicators alone: all but these is the same
+-- two states that differ only in their indicators
 pub record AreAlike (s t : Machine) : Type 0 where
   pub size : length t.words ≡ length s.words
   pub words : (w : ℕ) → w ≢ INDICATORS → word t w ≡ word s w

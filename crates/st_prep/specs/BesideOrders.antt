@@ -1,9 +1,9 @@
--- States that differ in their indicators and in the orders of the devices alone.
+-- States that differ only in their indicators and in the orders of the devices.
 use Rattle.std.specs.Prelude.{ℕ, ◌≡◌, ◌≢◌, length}
 use Rattle.st_bits.specs.declared.register.TheConstants.{INDICATORS}
 use Rattle.st_state.specs.Machine.{Machine, word}
 
--- all but the indicators and the orders is the same
+-- two states that differ only in their indicators and orders
 pub record AreAlikeBesideOrders (s t : Machine) : Type 0 where
   pub size : length t.words ≡ length s.words
   pub words : (w : ℕ) → w ≢ INDICATORS → word t w ≡ word s w

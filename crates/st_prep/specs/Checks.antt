@@ -1,4 +1,4 @@
--- The checks before an instruction is executed: the first that fails suppresses it.
+-- The checks before an instruction is executed. The first check that fails suppresses it.
 use Rattle.std.specs.Prelude.{ℕ, zero, suc, ◌+◌, ◌/◌, Bool, true, false, nat_lt, if◌then◌else◌, List, [], ◌∷◌, Option, None, Some, unwrap_or}
 use Rattle.std.specs.Option.{option_or}
 use Rattle.st_bits.specs.declared.register.TheConstants.{FIRST_STORAGE_WORD}
@@ -14,13 +14,13 @@ use Rattle.st_prep.specs.declared.entries.Words.{Words}
 use Rattle.st_prep.specs.declared.entries.ResolvedEntry.{ResolvedEntry}
 use Rattle.st_prep.specs.Reading.{is_execute}
 
--- the instruction that is executed: the target of EX, or else the instruction itself
+-- the instruction that is executed: the target of EX, or the instruction itself
 unfoldable pub effective_instr : Fetched → Instr
 effective_instr f = (unwrap_or f.target f.instr).instr
 
 -- ---- forbidden words
 
--- what forbids the access to the first of n words that may not be accessed
+-- the indicator that forbids the access to the first of n words that may not be accessed
 unfoldable pub forbidden_run : ℕ → Bool → Access → ℕ → ℕ → Option ℕ
 forbidden_run bounds enabled access w zero = None
 forbidden_run bounds enabled access w (suc n) =
@@ -35,8 +35,8 @@ unfoldable pub forbidden_side : ℕ → Bool → Option ℕ → Option ℕ
 forbidden_side bounds enabled None = None
 forbidden_side bounds enabled (Some w) = forbidden_by bounds enabled Read w
 
--- the area of an order is eight words, none of them a register; the printer reads it and the reader
--- writes it
+-- the access to the area of an order, which is eight words above the registers: the printer reads
+-- it, the reader writes it
 abbrev pub area_access : Bool → Access
 area_access false = Write
 area_access true = Read
@@ -49,23 +49,23 @@ forbidden_area bounds enabled _ e = None
 
 -- ---- the checks
 
--- the machine does not have the instruction
+-- the fault of an instruction that the machine does not have
 unfoldable pub operation_invalid : Instr → Option ℕ
 operation_invalid instr = if is_valid instr then None else Some OPERATION_INVALID
 
--- EX points to EX
+-- the fault of EX if its target is EX
 unfoldable pub execute_exception : Instr → Option ℕ
 execute_exception instr = if is_execute instr then Some EXECUTE_EXCEPTION else None
 
--- what the first check finds that finds something
+-- the fault of the first check that fails
 abbrev pub first_found : List (Option ℕ) → Option ℕ
 first_found [] = None
 first_found (check ∷ []) = check
 first_found (check ∷ next ∷ checks) = option_or check (first_found (next ∷ checks))
 
--- the indicator of the first check that fails: the instruction's words and those of the target of
--- EX, the operation, EX of EX, the index-side word, each word read, each word written, the area of
--- an order (which reads and writes no other words)
+-- the indicator of the first check that fails, in this order: the instruction's words and those of
+-- the target of EX, the operation, EX of EX, the index-side word, each word read, each word
+-- written, the area of an order (which reads and writes no other words)
 unfoldable pub fault : ResolvedEntry → ℕ → Bool → Option ℕ
 fault a bounds enabled = first_found
     (a.fault

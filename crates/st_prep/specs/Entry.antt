@@ -1,5 +1,5 @@
--- What an instruction is as an entry of the machine's order: the words that it reads and writes,
--- the counter after it, what it stores of an index word, its cost, and whether it is done alone.
+-- The parts of an entry that follow from its instruction: the words that it reads and writes, the
+-- counter after it, the value that it stores, its cost, and whether it is serializing.
 use Rattle.std.specs.Prelude.{ℕ, ◌+◌, ◌/◌, ◌%◌, ◌^◌, Bool, true, false, not, ◌==◌, ◌&&◌, ◌||◌, nat_lt, nat_le, if◌then◌else◌, List, slice_index, Option, None, Some}
 use Rattle.st_bits.specs.declared.register.TheConstants.{FIRST_STORAGE_WORD}
 use Rattle.st_bits.specs.Bits.{part}
@@ -20,7 +20,7 @@ use Rattle.st_prep.specs.declared.entries.Words.{Words}
 
 -- ---- the words that are read and written
 
--- no words; the n words from word w on; the same and then the n words from word v on
+-- no words; n words from the word w; n words from the word w, followed by n words from the word v
 abbrev pub no_words : Words
 no_words = record { first = 0; len = 0; first2 = 0; len2 = 0 }
 
@@ -30,15 +30,15 @@ one_run w n = record { first = w; len = n; first2 = 0; len2 = 0 }
 abbrev pub two_runs : ℕ → ℕ → ℕ → Words
 two_runs w v n = record { first = w; len = n; first2 = v; len2 = n }
 
--- the one or two words that the n bits from bit e on touch
+-- the one or two words that contain the n bits from bit e
 unfoldable pub field_words : ℕ → ℕ → Words
 field_words e n = one_run (e / 64) (if nat_le (e % 64 + n) 64 then 1 else 2)
 
--- an operand in the address is no word
+-- the words of an operand; an operand in the address part (form 1) has none
 abbrev pub operand_words : ℕ → ℕ → ℕ → Words
 operand_words p e n = if p == 1 then no_words else field_words e n
 
--- the words of a transmission
+-- the words that a transmission reads and writes
 abbrev pub words_moved_from : Bool → ℕ → ℕ → ℕ → Words
 words_moved_from false from to n = one_run from n
 words_moved_from true from to n = two_runs from to n
@@ -47,7 +47,7 @@ abbrev pub words_moved_to : Bool → ℕ → ℕ → ℕ → Words
 words_moved_to false from to n = one_run to n
 words_moved_to true from to n = two_runs from to n
 
--- the operations that store index word J or parts of it
+-- whether an operation stores index word J or a part of it
 abbrev pub is_index_store : HalfOp → Bool
 is_index_store Sx = true
 is_index_store Sv = true
@@ -56,7 +56,7 @@ is_index_store Sr = true
 is_index_store Sva = true
 is_index_store _ = false
 
--- ST does not read its field
+-- whether an operation reads its field: all but ST
 abbrev pub reads_field : VflOp → Bool
 reads_field St = false
 reads_field _ = true
@@ -70,7 +70,7 @@ reads (Move swap address i second count) e = words_moved_from swap (e / 64) (sec
 reads (BitBranch sense change address i second) e = one_run (e / 64) 1
 reads _ e = no_words
 
--- the words that it writes, in order
+-- the words that an instruction with the effective address e writes, in order
 unfoldable pub words_written : Instr → ℕ → Words
 words_written (Half op address j i) e = if is_index_store op then one_run (e / 64) 1 else no_words
 words_written (Vfl op d u n p length byte offset address i) e =
@@ -85,7 +85,7 @@ words_written _ e = no_words
 
 -- ---- the counter
 
--- the following instruction: n half-words on, or the counter as it stands after a table instruction
+-- the counter of the following instruction, n half-words on; a table instruction does not change the counter
 abbrev pub next_by : Option ℕ → ℕ → ℕ → ℕ
 next_by None counter n = (counter + n) % 2 ^ 19
 next_by (Some _) counter n = counter
@@ -93,7 +93,7 @@ next_by (Some _) counter n = counter
 unfoldable pub counter_behind : Place → ℕ → ℕ
 counter_behind place n = next_by place.table place.counter n
 
--- a count branches until it falls to zero; x is index word J before
+-- the counter after a branch on a count, which is taken until the count is zero; x is index word J before
 abbrev pub after_count : ℕ → ℕ → ℕ → ℕ
 after_count x e following = if one_less (count_of x) == 0 then following else e / 32
 
@@ -102,7 +102,7 @@ after_half Cb x e following = after_count x e following
 after_half Cbr x e following = after_count x e following
 after_half _ x e following = following
 
--- BR adds to the counter before the instruction
+-- the counter after a branch; BR adds to the counter before it
 abbrev pub after_branch : BranchOp → ℕ → ℕ → ℕ → ℕ
 after_branch B counter e following = e / 32
 after_branch Br counter e following = (counter + e / 32) % 2 ^ 19
@@ -111,8 +111,8 @@ after_branch Bd counter e following = e / 32
 after_branch Bew counter e following = following
 after_branch Nop counter e following = following
 
--- the counter after an instruction, given the counter before it and the following instruction; the
--- branches on a bit and on an indicator are decided only when the instruction is completed
+-- the counter after an instruction, given the counter before it and that of the following
+-- instruction; branches on a bit and on an indicator are decided only at completion
 unfoldable pub counter_after : Instr → List ℕ → ℕ → ℕ → ℕ → ℕ
 counter_after (Half op address j i) x e counter following =
     after_half op (slice_index x j) e following
@@ -122,7 +122,7 @@ counter_after _ x e counter following = following
 
 -- ---- what is stored
 
--- the word, or the part of index word J, that an index store writes
+-- the part of index word J that an index store writes
 abbrev pub stored_part : HalfOp → ℕ → ℕ
 stored_part Sx x = x
 stored_part Sv x = part x 0 25
@@ -131,7 +131,7 @@ stored_part Sr x = refill_of x
 stored_part Sva x = part x 0 19
 stored_part _ x = 0
 
--- the same of any instruction; SIC stores the address of the following one
+-- the value that an instruction stores; SIC stores the address of the following instruction
 unfoldable pub value_stored : Instr → List ℕ → ℕ → ℕ
 value_stored (Half op address j i) x following = stored_part op (slice_index x j)
 value_stored (StoreCounter address i second) x following = following
@@ -156,9 +156,9 @@ cost (Connect kind table p length byte offset address i) = 2
 cost (Move swap address i second count) = count
 cost _ = 1
 
--- ---- entries that are done alone
+-- ---- serializing entries
 
--- the operations of which each is
+-- whether a branch is serializing by its operation
 abbrev pub is_serial_branch : BranchOp → Bool
 is_serial_branch Be = true
 is_serial_branch Bd = true
@@ -173,7 +173,7 @@ is_serial_operation (StoreCounter address i second) = true
 is_serial_operation (Transfer write address i count) = true
 is_serial_operation _ = false
 
--- a register is among the words
+-- whether a register is among the words
 unfoldable pub has_register : Words → Bool
 has_register w = (not (w.len == 0) && nat_lt w.first FIRST_STORAGE_WORD)
     || (not (w.len2 == 0) && nat_lt w.first2 FIRST_STORAGE_WORD)

@@ -1,4 +1,4 @@
--- Where the next entry of a state is, and what is fetched there.
+-- The place of the next entry of a state, and the instruction that is fetched there.
 use Rattle.std.specs.Prelude.{ℕ, ◌+◌, ◌*◌, ◌%◌, ◌^◌, List, take, drop, Option, None, Some}
 use Rattle.st_bits.specs.Bits.{part}
 use Rattle.st_bits.specs.declared.register.TheConstants.{INTERRUPT_ADDRESS, FIRST_INDEX_WORD, BOUNDS}
@@ -27,15 +27,15 @@ place_of s table = record { counter = s.ic; address = address_by table s; table 
 
 -- ---- fetching
 
--- how the entry at a place is read by these index words, in a state of which only the boundary
--- register and the mark for interrupts count
+-- the reading of the entry at a place with these index words, in a state of which only the boundary
+-- register and the interrupt flag matter
 abbrev pub reading_by : List ℕ → Machine → Place → Reading
 reading_by x s place = reading_at_place x (word s BOUNDS) s.enabled place
 
--- how it is read in a state
+-- the reading of the entry at a place in a state
 abbrev pub reading_of : Machine → Place → Reading
 reading_of s place = reading_by (index_words s) s place
 
--- what is fetched there
+-- the result of fetching at a place in a state
 unfoldable pub words_fetched : Machine → Place → Fetched
 words_fetched s place = outcome (reading_of s place) (word s)

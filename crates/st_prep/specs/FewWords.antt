@@ -1,10 +1,10 @@
--- Words in one short run, and the instructions that name more.
+-- Words in one short run, and the instructions that may use more.
 use Rattle.std.specs.Prelude.{◌≡◌, ◌≤◌, Bool, true, false}
 use Rattle.st_format.specs.declared.instruction.Instr.{Instr}
 use Rattle.st_format.specs.declared.instruction.Instr.TheVariants.{Move}
 use Rattle.st_prep.specs.declared.entries.Words.{Words}
 
--- T and SWAP
+-- whether an instruction is T or SWAP
 abbrev pub is_transmission : Instr → Bool
 is_transmission (Move swap address i second count) = true
 is_transmission _ = false

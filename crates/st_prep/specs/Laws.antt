@@ -1,4 +1,4 @@
--- What holds of preparation itself, and not of one call.
+-- Laws of preparation that do not belong to one call.
 use Rattle.std.specs.Prelude.{◌≡◌, ◌≢◌, ℕ, suc, ◌+◌, ◌<◌, ◌≤◌, Bool, true, false, List, length, take, All, Option, Some, is_some}
 use Rattle.st_bits.specs.Indicators.{IsIndicatorIfAny}
 use Rattle.st_bits.specs.declared.register.TheConstants.{INDICATORS}
@@ -14,17 +14,17 @@ use Rattle.st_prep.specs.declared.entries.Prepared.{Prepared}
 use Rattle.st_prep.specs.BesideOrders.{AreAlikeBesideOrders}
 use Rattle.st_prep.specs.FewWords.{is_transmission, AreFew}
 
--- Each entry of each state is in its ranges once it is prepared.
+-- Each prepared entry of each state is in its ranges.
 abbrev pub PlansAreInRange : Type 0
 PlansAreInRange = (s : Machine) (t : Option ℕ) → IsMachine s → IsIndicatorIfAny t
     → IsPrepared (plan_of s t)
 
--- An entry is prepared as one that is done alone exactly where it was looked at as one.
+-- An entry is prepared as serializing if and only if its needs say that it is.
 abbrev pub LooksAgree : Type 0
 LooksAgree = (v : DecodeContext) (read : Option ℕ) → (prepared_entry v read).serial ≡ (needs v).serial
 
--- The index-side word shows in the change of an index word and its indicators alone: all else of an
--- entry is the same whatever stands there.
+-- The index-side word affects only the change of an index word and its indicators. It does not
+-- affect the rest of an entry.
 abbrev pub IndexSideWordsChangeIndexWordsAlone : Type 0
 IndexSideWordsChangeIndexWordsAlone = (v : DecodeContext) (r q : Option ℕ)
     → prepared_entry v r
@@ -33,14 +33,14 @@ IndexSideWordsChangeIndexWordsAlone = (v : DecodeContext) (r q : Option ℕ)
       ind = (prepared_entry v r).ind;
     }
 
--- EX with a target that could be fetched is done alone.
+-- EX with a target that could be fetched is serializing.
 abbrev pub EntriesWithATargetAreAlone : Type 0
 EntriesWithATargetAreAlone = (s : Machine) (t : Option ℕ)
     → is_some (words_fetched s (place_of s t)).target ≡ true → (plan_of s t).serial ≡ true
 
--- What is fetched is found by a reading of words one after another, in which the contents so far
--- decide which word comes next; at most four are read, all of them in storage above the registers,
--- and at most two of them are the entry's own.
+-- Instruction words are read in sequence: the contents so far determine the next word to read. At
+-- most four words are read, all of them in storage above the registers, and at most two of them are
+-- the entry's own.
 pub record InstructionWordsComeOneByOne : Type 0 where
   pub found : (s : Machine) (p : Place)
       → words_fetched s p ≡ outcome (reading_of s p) (word s)
@@ -58,23 +58,23 @@ pub record InstructionWordsComeOneByOne : Type 0 where
   pub same : (r : Reading) (c d : ℕ → ℕ) → All (λ w. d w ≡ c w) (words_read r c)
       → outcome r d ≡ outcome r c
 
--- What is read for it alone decides the next entry of a state: two states with the same counter,
--- index words, words 2 and 3 and mark, and the same contents of its instruction words and of its
--- index-side word, have the same plan.
+-- The next entry of a state depends only on the counter, the index words, words 2 and 3, the
+-- interrupt flag, and the contents of its instruction words and of its index-side word. States that
+-- agree in these have equal plans.
 abbrev pub PlansDependOnWhatIsRead : Type 0
 PlansDependOnWhatIsRead = (s u : Machine) (t : Option ℕ) → IsMachine s → IsMachine u →
     ReadTheSame t s u
     → plan_of u t ≡ plan_of s t
 
--- Two states that differ in their indicators alone have the same next entry, unless the word of the
--- indicators is its index-side word; such an entry is done alone.
+-- States that differ only in their indicators have equal next entries, unless the word of the
+-- indicators is the index-side word. An entry with that index-side word is serializing.
 pub record IndicatorsAreNotSeen : Type 0 where
   pub plan : (s u : Machine) (t : Option ℕ) → AreAlike s u
       → (needs (decode_context s (place_of s t))).index_read ≢ Some INDICATORS → plan_of u t ≡ plan_of s t
   pub ahead : (s u : Machine) (t : Option ℕ) → AreAlike s u → (plan_of s t).serial ≡ false
       → plan_of u t ≡ plan_of s t
 
--- An entry of a state reads 36 words at most: instruction words, the index-side word and operands.
+-- An entry of a state reads at most 36 words: instruction words, the index-side word and operands.
 abbrev pub EntriesRead36WordsAtMost : Type 0
 EntriesRead36WordsAtMost = (s : Machine) (t : Option ℕ) → IsMachine s → IsIndicatorIfAny t
     → let p = place_of s t in
@@ -82,8 +82,8 @@ EntriesRead36WordsAtMost = (s : Machine) (t : Option ℕ) → IsMachine s → Is
     + index_side_words (needs (decode_context s p)).index_read
     + ((plan_of s t).reads.len + (plan_of s t).reads.len2) ≤ 36
 
--- An entry that is neither T nor SWAP reads two operand words at most, in one run, and writes two
--- at most, in one run; those two read 32 at most, and write 32 at most.
+-- An entry other than T or SWAP reads at most two operand words, in one run, and writes at most
+-- two, in one run. T and SWAP read at most 32 words and write at most 32.
 pub record OperandsAreFew : Type 0 where
   pub read : (p : Prepared) → IsPrepared p → is_transmission p.instr ≡ false
       → AreFew p.reads
@@ -92,9 +92,9 @@ pub record OperandsAreFew : Type 0 where
   pub most_read : (p : Prepared) → IsPrepared p → p.reads.len + p.reads.len2 ≤ 32
   pub most_written : (p : Prepared) → IsPrepared p → p.writes.len + p.writes.len2 ≤ 32
 
--- Two states that differ in their indicators and in the orders of the devices alone have the same
--- next entry, unless the word of the indicators is its index-side word; such an entry is done
--- alone.
+-- States that differ only in their indicators and in the orders of the devices have equal next
+-- entries, unless the word of the indicators is the index-side word. An entry with that index-side
+-- word is serializing.
 pub record OrdersAreNotSeen : Type 0 where
   pub plan : (s u : Machine) (t : Option ℕ) → AreAlikeBesideOrders s u
       → (needs (decode_context s (place_of s t))).index_read ≢ Some INDICATORS → plan_of u t ≡ plan_of s t

@@ -1,4 +1,4 @@
--- An entry as it is prepared, from what is seen of a state, and from the state.
+-- The preparation of an entry, from a decode context and from a state.
 use Rattle.std.specs.Prelude.{ℕ, ◌≡◌, Bool, true, false, ◌||◌, List, Option, None, Some, is_some, option_map}
 use Rattle.st_state.specs.Machine.{Machine, word}
 use Rattle.st_bits.specs.Indicators.{indicator}
@@ -15,8 +15,8 @@ use Rattle.st_prep.specs.Reading.{is_execute}
 use Rattle.st_prep.specs.Fetch.{index_words, place_of, words_fetched}
 use Rattle.st_prep.specs.Checks.{effective_instr, fault}
 
--- what preparation sees of a state: the place of the entry, what is fetched there, the sixteen
--- index words, the register of the bounds, and whether interrupts are enabled
+-- the inputs to preparation: the place of the entry, the result of fetching there, the sixteen
+-- index words, the boundary register, and whether interrupts are enabled
 pub record DecodeContext : Type 0 where
   pub place : Place
   pub fetched : Fetched
@@ -33,14 +33,14 @@ decode_context_of place fetched x s = record {
   enabled = s.enabled;
 }
 
--- ---- from what is seen
+-- ---- from a decode context
 
--- a table instruction and EX are done alone, also where they are suppressed
+-- a table instruction and EX are serializing, even if they are suppressed
 abbrev pub is_alone : Place → Fetched → Bool
 is_alone place f = is_some place.table || is_execute f.instr.instr
 
--- what an entry is aimed at, before it is checked: its fault is that of its words. EX has the
--- length of one half-word, whatever its target
+-- an entry before its checks, with the fault of its words; the length of EX is one half-word,
+-- regardless of its target
 unfoldable pub resolved_at : Place → Fetched → List ℕ → ResolvedEntry
 resolved_at place f x =
     let instr = effective_instr f in
@@ -56,18 +56,18 @@ resolved_at place f x =
       alone = is_alone place f;
     }
 
--- what it is aimed at, and the first check that it fails
+-- the entry of a decode context, with the fault of the first check that it fails
 unfoldable pub resolved : DecodeContext → ResolvedEntry
 resolved s =
     let a = resolved_at s.place s.fetched s.x in record a { fault = fault a s.bounds s.enabled }
 
--- an entry is done alone where its operation says so, and where a register is among its words
+-- an entry is serializing by its operation, or because a register is among its words
 unfoldable pub is_serial : ResolvedEntry → Bool
 is_serial a =
     a.alone || is_serial_operation a.instr || is_register a.side || has_register a.reads
     || has_register a.writes
 
--- the index-side word that is to be read, and whether the entry is done alone
+-- the needs of an entry with this fault: the index-side word, and whether the entry is serializing
 abbrev pub needs_by : Option ℕ → ResolvedEntry → Needs
 needs_by (Some i) a = record { index_read = None; serial = a.alone }
 needs_by None a = record { index_read = a.side; serial = is_serial a }
@@ -75,11 +75,11 @@ needs_by None a = record { index_read = a.side; serial = is_serial a }
 unfoldable pub needs : DecodeContext → Needs
 needs s = let a = resolved s in needs_by a.fault a
 
--- whether an index-side word is to be read
+-- whether an index-side word is needed
 abbrev pub asks : DecodeContext → Bool
 asks s = is_some (needs s).index_read
 
--- an entry with a fault: its indicator comes on, and nothing else but the counter changes
+-- a suppressed entry: the indicator of its fault comes on, and only the counter changes otherwise
 unfoldable pub suppressed_entry : Place → ResolvedEntry → ℕ → Prepared
 suppressed_entry place a i = record {
   place = place;
@@ -96,7 +96,7 @@ suppressed_entry place a i = record {
   serial = a.alone;
 }
 
--- an entry without one, its index-side word being read
+-- an entry that is not suppressed, given its index-side word
 unfoldable pub entry_at : Place → ResolvedEntry → List ℕ → Option ℕ → Prepared
 entry_at place a x read =
     let following = counter_behind place a.halves in
@@ -125,17 +125,17 @@ prepared_entry s read = let a = resolved s in prepared_by a.fault s.place a s.x 
 
 -- ---- from a state
 
--- what is seen of a state at a place
+-- the decode context of a state at a place
 unfoldable pub decode_context : Machine → Place → DecodeContext
 decode_context s place = decode_context_of place (words_fetched s place) (index_words s) s
 
--- an interrupt turns off the indicator that it takes, and ends a wait
+-- the state in which an interrupt starts: its indicator is off, and a wait has ended
 abbrev pub state_at_entry : Option ℕ → Machine → Machine
 state_at_entry None s = s
 state_at_entry (Some i) s = record (state_with_indicators
     (record { on = 0; off = indicator i }) s) { waiting = false }
 
--- the index-side word, as the table instruction finds it
+-- the index-side word, in the state in which the table instruction starts
 abbrev pub side_word : Option ℕ → Machine → Option ℕ → Option ℕ
 side_word table s w = option_map (word (state_at_entry table s)) w
 
@@ -144,7 +144,7 @@ unfoldable pub plan : Machine → Option ℕ → Prepared
 plan s table =
     let v = decode_context s (place_of s table) in prepared_entry v (side_word table s (needs v).index_read)
 
--- a state looks so, at the place of its next entry or of its table instruction
+-- v is the decode context of the state s at the place of its next entry or table instruction
 pub record IsSeen (s : Machine) (v : DecodeContext) : Type 0 where
   pub place : place_of s v.place.table ≡ v.place
   pub fetched : words_fetched s v.place ≡ v.fetched
@@ -152,10 +152,10 @@ pub record IsSeen (s : Machine) (v : DecodeContext) : Type 0 where
   pub bounds : word s BOUNDS ≡ v.bounds
   pub enabled : s.enabled ≡ v.enabled
 
--- the index-side word of an entry of the state, where one is read
+-- the index-side word of an entry of the state, if one is needed
 abbrev pub side_of : Machine → DecodeContext → Option ℕ
 side_of s v = side_word v.place.table s (needs v).index_read
 
--- the entry of a state at a place, by what is fetched there and the index words
+-- the entry of a state at a place, given the result of fetching there and the index words
 abbrev pub entry_by : Machine → Place → Fetched → List ℕ → Prepared
 entry_by s place f x = let v = decode_context_of place f x s in prepared_entry v (side_of s v)

@@ -1,4 +1,4 @@
--- What holds of places, of what is fetched, and of each prepared entry.
+-- Ranges of places, of fetched instructions, and of prepared entries.
 use Rattle.std.specs.Prelude.{ℕ, ◌≡◌, ◌+◌, ◌/◌, ◌<◌, ◌≤◌, ◌^◌, true, false, None, IfSome}
 use Rattle.st_bits.specs.Indicators.{IsIndicatorIfAny}
 use Rattle.st_bits.specs.Storage.{words_of_storage}
@@ -21,46 +21,46 @@ use Rattle.st_prep.specs.declared.entries.IndexChange.{IndexChange}
 use Rattle.st_prep.specs.declared.entries.Prepared.{Prepared}
 use Rattle.st_prep.specs.Entry.{no_words, reads, words_written, is_serial_operation}
 
--- the counter and the address are half-word addresses, and the indicator is one
+-- the counter and the address are half-word addresses, and the indicator is in range
 pub record IsPlace (p : Place) : Type 0 where
   pub counter : p.counter < 2 ^ 19
   pub address : p.address < 2 ^ 19
   pub table : IsIndicatorIfAny p.table
 
--- the fields of an instruction are those that bits spell; of bits that spell none nothing is said
+-- the fields of a valid instruction fit their bits; an invalid instruction may have any fields
 abbrev pub HasFields : Instr → Type 0
 HasFields (Invalid first second full) = Unit {0}
 HasFields instr = IsShape instr
 
--- an instruction, and an indicator
+-- the fields of an instruction and its fault are in range
 pub record IsFoundInRange (f : FoundInstruction) : Type 0 where
   pub shape : HasFields f.decoded.instr
   pub fault : IsIndicatorIfAny f.fault
 
--- so much is known of an instruction by n words at most
+-- the known part of an instruction uses at most n words
 abbrev pub IsPart : ℕ → Part → Type 0
 IsPart n (Wants w) = w < words_of_storage
 IsPart n (Has found used) = (used ≤ n) × IsFoundInRange found
 
--- the instructions have their fields, and the indicator is one
+-- the fields of both instructions and the fault are in range
 pub record IsFetched (f : Fetched) : Type 0 where
   pub own : HasFields f.instr.instr
   pub target : IfSome f.target (λ d. HasFields d.instr)
   pub fault : IsIndicatorIfAny f.fault
 
--- the next word lies in storage, or what is fetched is in its ranges
+-- the next word lies in storage, or the result of fetching is in range
 abbrev pub IsFetching : Fetching → Type 0
 IsFetching (Next w target) = w < words_of_storage
 IsFetching (Found f) = IsFetched f
 
--- two runs of at most sixteen words, which start at word addresses
+-- two runs of at most sixteen words, each of which starts at a word address
 pub record IsRuns (w : Words) : Type 0 where
   pub start : w.first < 2 ^ 18
   pub few : w.len ≤ 16
   pub start2 : w.first2 < 2 ^ 18
   pub few2 : w.len2 ≤ 16
 
--- an instruction with its fields, addresses, runs of words, and an indicator
+-- the fields, addresses, runs and fault of an entry are in range
 pub record IsAim (a : ResolvedEntry) : Type 0 where
   pub shape : HasFields a.instr
   pub address : a.e < 2 ^ 24
@@ -68,23 +68,23 @@ pub record IsAim (a : ResolvedEntry) : Type 0 where
   pub writes : IsRuns a.writes
   pub fault : IsIndicatorIfAny a.fault
 
--- they lie in storage
+-- two runs of words that lie in storage
 pub record AreInside (w : Words) : Type 0 where
   pub inside : 1 ≤ w.len → w.first + w.len ≤ words_of_storage
   pub inside2 : 1 ≤ w.len2 → w.first2 + w.len2 ≤ words_of_storage
 
--- no register is among them
+-- two runs of words without registers
 pub record AreAbove (w : Words) : Type 0 where
   pub above : 1 ≤ w.len → 32 ≤ w.first
   pub above2 : 1 ≤ w.len2 → 32 ≤ w.first2
 
--- the index word has a number, and the words before and after are words
+-- the number of the index word is in range, and both contents have 64 bits
 pub record IsChange (c : IndexChange) : Type 0 where
   pub number : c.number < 16
   pub kept : c.kept < 2 ^ 64
   pub word : c.word < 2 ^ 64
 
--- what an index store writes fits its part
+-- the value that an index store writes fits its part
 abbrev pub FitsPart : HalfOp → ℕ → Type 0
 FitsPart Sx v = v < 2 ^ 64
 FitsPart Sv v = v < 2 ^ 25
@@ -93,7 +93,7 @@ FitsPart Sr v = v < 2 ^ 18
 FitsPart Sva v = v < 2 ^ 19
 FitsPart _ v = v ≡ 0
 
--- only index stores and SIC store what is prepared
+-- only index stores and SIC store a prepared value, and it is in range
 abbrev pub IsStored : Instr → ℕ → Type 0
 IsStored (Half op address j i) v = FitsPart op v
 IsStored (StoreCounter address i second) v = v < 2 ^ 19
@@ -105,14 +105,14 @@ HasRoomInStorage (Transfer write address i count) e = (32 ≤ e / 64)
     × (e / 64 + 8 ≤ words_of_storage)
 HasRoomInStorage _ e = Unit {0}
 
--- an entry that is not suppressed
+-- an entry that is not suppressed: valid, with the words of its instruction, and its area in storage
 pub record IsEntryInRange (p : Prepared) : Type 0 where
   pub valid : is_valid p.instr ≡ true
   pub reads : p.reads ≡ reads p.instr p.e
   pub writes : p.writes ≡ words_written p.instr p.e
   pub area : HasRoomInStorage p.instr p.e
 
--- a suppressed entry
+-- a suppressed entry reads and writes nothing, changes no index word, turns off no indicator, and costs one tick
 pub record IsSuppressed (p : Prepared) : Type 0 where
   pub index : p.index ≡ None
   pub indicator : p.ind.off ≡ 0
@@ -120,15 +120,15 @@ pub record IsSuppressed (p : Prepared) : Type 0 where
   pub writes : p.writes ≡ no_words
   pub cost : p.cost ≡ 1
 
--- an entry that is not done alone: no table instruction, none of the operations that are, no
--- register among its words
+-- an entry that is not serializing is no table instruction, has no serializing operation, and has
+-- no register among its words
 pub record IsAhead (p : Prepared) : Type 0 where
   pub table : p.place.table ≡ None
   pub operation : p.suppressed ≡ false → is_serial_operation p.instr ≡ false
   pub reads : AreAbove p.reads
   pub writes : AreAbove p.writes
 
--- each entry that is prepared
+-- the ranges of a prepared entry
 pub record IsPrepared (p : Prepared) : Type 0 where
   pub place : IsPlace p.place
   pub shape : HasFields p.instr
@@ -146,7 +146,7 @@ pub record IsPrepared (p : Prepared) : Type 0 where
   pub suppressed : p.suppressed ≡ true → IsSuppressed p
   pub ahead : p.serial ≡ false → IsAhead p
 
--- the index-side word lies in storage, and is no register where the entry is not done alone
+-- the index-side word lies in storage, and is no register unless the entry is serializing
 pub record IsNeeds (n : Needs) : Type 0 where
   pub inside : IfSome n.index_read (λ w. w < words_of_storage)
   pub above : n.serial ≡ false → IfSome n.index_read (λ w. 32 ≤ w)

@@ -1,5 +1,5 @@
--- How an entry is fetched: its instruction words are read one after another, and the contents so
--- far decide which comes next.
+-- The reading of an entry: its instruction words are read in sequence, and the contents so far
+-- determine the next word.
 use Rattle.std.specs.Prelude.{ℕ, suc, ◌+◌, ◌*◌, ◌/◌, ◌%◌, Bool, true, false, ◌==◌, if◌then◌else◌, List, [], ◌∷◌, drop, Option, None, Some, is_none}
 use Rattle.st_bits.specs.Bits.{part}
 use Rattle.st_bits.specs.declared.operations.HalfOp.{HalfOp}
@@ -21,64 +21,64 @@ use Rattle.st_prep.specs.SpeculativeChanges.{effective}
 
 -- ---- readings
 
--- something is found, or a word is read and its content decides how it goes on; it is marked where
--- it is read for the target of EX
+-- a reading finds something, or reads a word whose content determines the rest; the flag says
+-- whether the word belongs to the target of EX
 pub data Reading : Type 0 where
   Finds : Fetched → Reading
   Reads : Bool → ℕ → (ℕ → Reading) → Reading
 
--- what a reading finds where word w has the content c w
+-- the result of a reading if each word w has the content c w
 unfoldable pub outcome : Reading → (ℕ → ℕ) → Fetched
 outcome (Finds f) c = f
 outcome (Reads target w r) c = outcome (r (c w)) c
 
--- the words that it reads there, in order
+-- the words that a reading reads, in order, if each word w has the content c w
 unfoldable pub words_read : Reading → (ℕ → ℕ) → List ℕ
 words_read (Finds f) c = []
 words_read (Reads target w r) c = w ∷ words_read (r (c w)) c
 
--- how many of them are the entry's own, and not those of the target of EX
+-- the number of these words that are the entry's own, and not those of the target of EX
 unfoldable pub own_words : Reading → (ℕ → ℕ) → ℕ
 own_words (Finds f) c = 0
 own_words (Reads true w r) c = own_words (r (c w)) c
 own_words (Reads false w r) c = suc (own_words (r (c w)) c)
 
--- what is left of it after these contents
+-- the rest of a reading after these contents
 unfoldable pub left_after : Reading → List ℕ → Reading
 left_after (Finds f) contents = Finds f
 left_after (Reads target w r) [] = Reads target w r
 left_after (Reads target w r) (c ∷ contents) = left_after (r c) contents
 
--- what it gives: the next word, or what is found
+-- the progress of a reading: the next word, or the result
 unfoldable pub fetching_of : Reading → Fetching
 fetching_of (Finds f) = Found f
 fetching_of (Reads target w r) = Next w target
 
--- how many words an index-side word is
+-- the number of index-side words
 abbrev pub index_side_words : Option ℕ → ℕ
 index_side_words None = 0
 index_side_words (Some w) = 1
 
 -- ---- one instruction
 
--- the half at the half-word address h of a word with this content
+-- the half-word at the half-word address h, given the content of its word
 abbrev pub half_of : ℕ → ℕ → ℕ
 half_of content h = part content (32 * (h % 2)) 32
 
--- a half-word that may not be fetched spells nothing
+-- the result of decoding a half-word that may not be fetched
 abbrev pub no_instr : Decoded
 no_instr = record { instr = Invalid 0 0 false; halves = 1 }
 
--- the instruction that two half-words spell which may be fetched
+-- the instruction in two half-words that may be fetched
 abbrev pub allowed_found : ℕ → ℕ → FoundInstruction
 allowed_found first second = record { decoded = decoded_entry first second; fault = None }
 
--- what an instruction is read for
+-- the rest of a reading after an instruction is found
 abbrev pub Continuation : Type 0
 Continuation = FoundInstruction → Reading
 
--- the second half-word of an instruction, at h; it may stand in the word v of the first one, which
--- was read
+-- the reading of the second half-word of an instruction, at h; it may be in the word v of the first
+-- one, whose content is known
 abbrev pub with_second : Option ℕ → Bool → ℕ → ℕ → ℕ → ℕ → Continuation → Reading
 with_second (Some i) target first h v content use_it =
     use_it (record { decoded = decoded_entry first 0; fault = Some i })
@@ -92,7 +92,7 @@ with_second None target first h v content use_it =
       fault = None;
     }))
 
--- the instruction at h, the content of its first word being read
+-- the reading of the instruction at h, given the content of its first word
 unfoldable pub with_first : Bool → ℕ → Bool → ℕ → ℕ → Continuation → Reading
 with_first target bounds enabled h content use_it =
     let first = half_of content h in
@@ -108,7 +108,7 @@ read_after (Some i) target bounds enabled h use_it = use_it
 read_after None target bounds enabled h use_it =
     Reads target (h / 2) (λ c. with_first target bounds enabled h c use_it)
 
--- the instruction at the half-word address h
+-- the reading of the instruction at the half-word address h
 unfoldable pub instruction_at : Bool → ℕ → Bool → ℕ → Continuation → Reading
 instruction_at target bounds enabled h use_it =
     read_after (forbidden_by bounds enabled Fetch (h / 2)) target bounds enabled h use_it
@@ -132,15 +132,15 @@ with_target ex target = record {
   fault = target.fault;
 }
 
--- another instruction
+-- an instruction other than EX
 abbrev pub fetched_alone : FoundInstruction → Fetched
 fetched_alone own = record { instr = own.decoded; target = None; fault = own.fault }
 
--- another instruction whose words may be fetched
+-- an instruction other than EX whose words may be fetched
 abbrev pub fetched_plain : Decoded → Fetched
 fetched_plain own = record { instr = own; target = None; fault = None }
 
--- what the own instruction is read for: of EX its target is read then
+-- the rest of a reading after the entry's own instruction: for EX, its target is read
 unfoldable pub own_use : List ℕ → ℕ → Bool → Continuation
 own_use x bounds enabled own =
     if is_execute own.decoded.instr
@@ -148,12 +148,12 @@ own_use x bounds enabled own =
     (λ target. Finds (with_target own.decoded target))
     else Finds (fetched_alone own)
 
--- the reading of an entry at a place, by the index words, word 3 and the mark for interrupts
+-- the reading of an entry at a place, with the index words, word 3 and the interrupt flag
 unfoldable pub reading_at_place : List ℕ → ℕ → Bool → Place → Reading
 reading_at_place x bounds enabled place = instruction_at false bounds enabled place.address
     (own_use x bounds enabled)
 
--- what is given once so much of an instruction is known, by the contents
+-- the progress of a reading with this known part of an instruction, given the contents
 abbrev pub given_by : Bool → Part → List ℕ → Continuation → Fetching
 given_by target (Wants w) contents use_it = Next w target
 given_by target (Has found n) contents use_it = fetching_of

@@ -1,4 +1,4 @@
--- Effective addresses, and what an instruction makes of an index word before its operands are read.
+-- Effective addresses, and changes of index words before the operands of an instruction are read.
 use Rattle.std.specs.Prelude.{ℕ, ◌*◌, ◌/◌, ℤ, pos, neg_ℤ, ◌==◌, nat_lt, if◌then◌else◌, List, slice_index, slice_set, Option, None, Some, unwrap_or}
 use Rattle.st_bits.specs.Bits.{bits, part, with_part}
 use Rattle.st_bits.specs.IndexWord.{index_value, count_of, refill_of, index_word_with_value, with_count, with_refill}
@@ -12,7 +12,7 @@ use Rattle.st_prep.specs.declared.speculative.SpeculativeChange.{SpeculativeChan
 
 -- ---- effective addresses
 
--- index word I, and zero where I is 0
+-- index word I, or zero if I is 0
 unfoldable pub index_operand : List ℕ → ℕ → ℕ
 index_operand x i = if i == 0 then 0 else slice_index x i
 
@@ -24,12 +24,12 @@ half_word_address x address i = effective_address (32 * address) (index_operand 
 unfoldable pub full_word_address : List ℕ → ℕ → ℕ → ℕ
 full_word_address x address i = effective_address address (index_operand x i)
 
--- the field of a progressive form starts at the old value of its index word
+-- the effective address of a field; in a progressive form, the old value of its index word
 unfoldable pub field_address : List ℕ → ℕ → ℕ → ℕ → ℕ
 field_address x p address i =
     if nat_lt p 2 then full_word_address x address i else effective_address 0 (slice_index x i)
 
--- the bit address that an instruction points to; bits that spell none point to 0
+-- the effective address of an instruction, a bit address; 0 for an invalid instruction
 unfoldable pub effective : List ℕ → Instr → ℕ
 effective x (Half op address j i) = half_word_address x address i
 effective x (Branch op address i) = half_word_address x address i
@@ -45,7 +45,7 @@ effective x (Invalid first second full) = 0
 
 -- ---- the index-side word
 
--- the refill address, where the count became zero
+-- the refill address of an index word, if its count has become zero
 unfoldable pub refill_word : ℕ → Option ℕ
 refill_word y = if count_of y == 0 then Some (refill_of y) else None
 
@@ -81,26 +81,26 @@ side x _ e = None
 
 -- ---- the change
 
--- nothing is changed
+-- no change
 abbrev pub without_change : SpeculativeChange
 without_change = record { index = None; ind = record { on = 0; off = 0 } }
 
--- two numbers are compared: no index word is changed, but indicators are
+-- the change by a comparison of two numbers: only indicators change
 unfoldable pub change_of_comparison : ℤ → ℤ → SpeculativeChange
 change_of_comparison a b = record { index = None; ind = comparison a b }
 
--- index word j, which was x, becomes y, and then the word of a refill where there is one
+-- index word j, which was x, becomes y, then the word of a refill if there is one
 unfoldable pub change_of_index : ℕ → ℕ → ℕ → Option ℕ → SpeculativeChange
 change_of_index j x y refill = record {
   index = Some (record { number = j; kept = x; word = unwrap_or refill y });
   ind = index_result y;
 }
 
--- the index-side word that was read
+-- the index-side word, or 0 if there is none
 abbrev pub index_side_word : Option ℕ → ℕ
 index_side_word read = unwrap_or read 0
 
--- what a half-word instruction makes of index word j, whose content is x
+-- the change of index word j, whose content is x, by a half-word instruction
 unfoldable pub half_change : HalfOp → List ℕ → ℕ → ℕ → ℕ → ℕ → Option ℕ → SpeculativeChange
 half_change Lx xs address j x e read = change_of_index j x (index_side_word read) None
 half_change Lv xs address j x e read = change_of_index j x
@@ -135,13 +135,13 @@ half_change Cbr xs address j x e read = change_of_index j x (with_lower_count x)
 half_change R xs address j x e read = change_of_index j x (index_side_word read) None
 half_change _ xs address j x e read = without_change
 
--- what a progressive form makes of index word i, whose content is x
+-- the change of index word i, whose content is x, by a progressive form
 unfoldable pub progressive_change : ℕ → ℕ → ℕ → ℕ → Option ℕ → SpeculativeChange
 progressive_change p i x address read =
     if nat_lt p 2 then without_change else change_of_index i x (progressive_word p x address) read
 
--- the early change by an instruction with the effective address e, its index-side word read from
--- storage
+-- the speculative change by an instruction with the effective address e, given the content of its
+-- index-side word
 unfoldable pub change : List ℕ → Instr → ℕ → Option ℕ → SpeculativeChange
 change x (Half op address j i) e read = half_change op x address j (slice_index x j) e read
 change x (Vfl op d u n p length byte offset address i) e read =
@@ -150,7 +150,7 @@ change x (Connect kind table p length byte offset address i) e read =
     progressive_change p i (slice_index x i) address read
 change x _ e read = without_change
 
--- the index words after it
+-- the index words after a change
 abbrev pub words_after : List ℕ → Option IndexChange → List ℕ
 words_after x None = x
 words_after x (Some c) = slice_set x c.number c.word

@@ -6,7 +6,7 @@ ghost use Rattle.st_prep.specs.Ranges.{HasFields};
 use st_format::Instr;
 use st_index::effective;
 
-// Index word `i`, and zero where `i` is 0.
+// Index word `i`, or zero if `i` is 0.
 #[inline(always)]
 fn index_part(x: &[u64; 16], i: u8) -> u64
     requires { i < 16 }
@@ -15,7 +15,7 @@ fn index_part(x: &[u64; 16], i: u8) -> u64
     if i == 0 { 0 } else { x[i as usize] }
 }
 
-// Where a half-word instruction points.
+// The effective address of a half-word instruction.
 #[inline(always)]
 fn half_address(x: &[u64; 16], address: u32, i: u8) -> u32
     requires address { address < 2 ^ 19 }
@@ -26,7 +26,7 @@ fn half_address(x: &[u64; 16], address: u32, i: u8) -> u32
     effective(32 * address, index_part(x, i))
 }
 
-// Where a full-word instruction points.
+// The effective address of a full-word instruction.
 #[inline(always)]
 fn bit_address(x: &[u64; 16], address: u32, i: u8) -> u32
     requires address { address < 2 ^ 24 }
@@ -37,7 +37,7 @@ fn bit_address(x: &[u64; 16], address: u32, i: u8) -> u32
     effective(address, index_part(x, i))
 }
 
-// Where the field of an operation with the progressive form `p` begins.
+// The bit address of the field of an operation with the progressive form `p`.
 #[inline(always)]
 fn field_address(x: &[u64; 16], p: u8, address: u32, i: u8) -> u32
     requires address { address < 2 ^ 24 }

@@ -1,52 +1,52 @@
-//! Entries: where they stand, what they need, and how they are prepared.
+//! Entries: their places, needs, and prepared form.
 use st_bits::Ind;
 use st_format::{Decoded, Instr};
 
-/// Where an entry stands.
+/// The place of an entry.
 #[derive(Clone, Copy, Debug, Default, PartialEq, Eq)]
 pub struct Place {
     /// The counter before it, a half-word address below 2^19.
     pub counter: u32,
     /// The half-word address of its instruction: the counter, or the left half of the table word.
     pub address: u32,
-    /// Of a table instruction the indicator, 0 to 63, whose interrupt executes it.
+    /// For a table instruction, the indicator, 0 to 63, whose interrupt executes it.
     pub table: Option<u8>,
 }
 
-/// What is fetched at a place.
+/// The result of fetching at a place.
 #[derive(Clone, Copy, Debug, Default, PartialEq, Eq)]
 pub struct Fetched {
-    /// The instruction. Where its first word may not be fetched, it is one half-word that spells
-    /// none; where its second word may not be fetched, it is decoded with zeros in its place.
+    /// The instruction. If its first word may not be fetched, it is one half-word without a valid
+    /// operation; if its second word may not be fetched, it is decoded with zeros there.
     pub instr: Decoded,
-    /// The instruction that EX executes, where its words may be fetched.
+    /// The instruction that EX executes, if its words may be fetched.
     pub target: Option<Decoded>,
-    /// The indicator that forbids the first word, of the instruction or of the target of EX, that
-    /// may not be fetched.
+    /// The indicator that forbids the first word of the instruction or of the target of EX that may
+    /// not be fetched.
     pub fault: Option<u8>,
 }
 
-/// How far the fetching of an entry has come.
+/// The progress of fetching an entry.
 #[derive(Clone, Copy, Debug, PartialEq, Eq)]
 pub enum Fetching {
-    /// The word at this word address is read next. It is the entry's own, or one of the target of
-    /// EX.
+    /// The word at this word address is read next. It belongs to the target of EX if `target` is
+    /// true, otherwise to the entry's own instruction.
     Next { word: u32, target: bool },
-    /// This is what is fetched.
+    /// Fetching is complete.
     Found(Fetched),
 }
 
-/// What an entry needs before it can be prepared.
+/// The needs of an entry that must be met before it can be prepared.
 #[derive(Clone, Copy, Debug, Default, PartialEq, Eq)]
 pub struct Needs {
-    /// The word address of its index-side word: the one that changes, or is compared with, an index
-    /// word.
+    /// The word address of its index-side word, which changes an index word or is compared with
+    /// one. None if it needs no such word.
     pub index_read: Option<u32>,
-    /// Whether it is done alone, after all entries before it and before all behind it.
+    /// Whether it is serializing: it waits for all earlier entries, and all later ones wait for it.
     pub serial: bool,
 }
 
-/// Two runs of words in storage, one after the other. A run of no words begins at 0.
+/// Two runs of words in storage, in this order. An empty run begins at 0.
 #[derive(Clone, Copy, Debug, Default, PartialEq, Eq)]
 pub struct Words {
     /// The word address of the first run.
@@ -59,10 +59,10 @@ pub struct Words {
     pub len2: u8,
 }
 
-/// What an entry is aimed at, found once and then passed on.
+/// An entry whose addresses are resolved, before it is prepared.
 #[derive(Clone, Copy, Debug, PartialEq, Eq)]
 pub struct ResolvedEntry {
-    /// The instruction that is executed: of EX the target, where it could be fetched.
+    /// The instruction that is executed: the target of EX if it could be fetched.
     pub instr: Instr,
     /// The effective address, a bit address below 2^24.
     pub e: u32,
@@ -74,32 +74,32 @@ pub struct ResolvedEntry {
     pub side: Option<u32>,
     /// The indicator of the first check that it fails.
     pub fault: Option<u8>,
-    /// The number of half-words that the entry takes: of EX its own, whatever its target.
+    /// The length of the entry in half-words; for EX its own length, not that of its target.
     pub halves: u8,
-    /// Whether it is done alone even where it is suppressed.
+    /// Whether it is serializing even if it is suppressed.
     pub alone: bool,
 }
 
 /// A change of an index word.
 #[derive(Clone, Copy, Debug, Default, PartialEq, Eq)]
 pub struct IndexChange {
-    /// The word before it.
+    /// The word before the change.
     pub kept: u64,
-    /// The word after it.
+    /// The word after the change.
     pub word: u64,
     /// The number of the index word, 0 to 15.
     pub number: u8,
 }
 
-/// An entry that is prepared. The default one only fills a place.
+/// A prepared entry. The default value is only a placeholder.
 #[derive(Clone, Copy, Debug, Default, PartialEq, Eq)]
 pub struct Prepared {
-    /// Where it stands.
+    /// The place of the entry.
     pub place: Place,
-    /// The instruction that is executed: of EX the target, where it could be fetched.
+    /// The instruction that is executed: the target of EX if it could be fetched.
     pub instr: Instr,
-    /// The effective address, a bit address below 2^24. Of a progressive form it is where the field
-    /// begins, and of a suppressed entry it is 0.
+    /// The effective address, a bit address below 2^24. For a progressive form it is the start of
+    /// the field; for a suppressed entry it is 0.
     pub e: u32,
     /// The counter after it, a half-word address. For a branch on a bit or on an indicator it is
     /// that of the following instruction, as if no branch were taken.
@@ -110,15 +110,15 @@ pub struct Prepared {
     pub writes: Words,
     /// The index word that it changes before its operands are read.
     pub index: Option<IndexChange>,
-    /// The indicators that are turned on and off with the index word, or the one of a fault.
+    /// The indicators that are turned on and off with the index word, or the indicator of a fault.
     pub ind: Ind,
-    /// What an index store writes: the whole index word, or the number of the part that is stored.
-    /// What SIC stores: the half-word address of the following instruction. Else 0.
+    /// The value that is stored: for an index store, the whole index word or the number in the
+    /// stored part; for SIC, the half-word address of the following instruction; otherwise 0.
     pub value: u64,
-    /// Whether a check failed, so that nothing but the indicator in `ind` and the counter changes.
+    /// Whether a check failed, so that only the indicator in `ind` and the counter change.
     pub suppressed: bool,
     /// The ticks from the arrival of its operands to its completion, 1 to 24.
     pub cost: u8,
-    /// Whether it is done alone.
+    /// Whether it is serializing.
     pub serial: bool,
 }

@@ -18,7 +18,7 @@ use st_state::{Access, State};
 // The number of words in the area of an order.
 const AREA: u8 = 8;
 
-/// The instruction that is executed: the target of EX, or else the instruction itself.
+/// The instruction that is executed: the target of EX, or the instruction itself.
 #[inline(always)]
 pub fn effective_instr(fetched: &Fetched) -> &Instr
     requires { IsFetched fetched.now }
@@ -31,7 +31,7 @@ pub fn effective_instr(fetched: &Fetched) -> &Instr
     }
 }
 
-// The indicator that forbids the access to a word.
+// The indicator that forbids an access to a word.
 #[inline(always)]
 fn forbidden(state: &State, access: Access, w: u32) -> Option<u8>
     ensures value { result ≡ indicator_of_access state.now access w }
@@ -40,7 +40,7 @@ fn forbidden(state: &State, access: Access, w: u32) -> Option<u8>
     state.may(access, w)
 }
 
-// The indicator of the first of `len` words that may not be accessed.
+// The indicator that forbids the first of `len` words that may not be accessed.
 #[inline(always)]
 fn forbidden_run(state: &State, access: Access, first: u32, len: u8) -> Option<u8>
     requires { first < 2 ^ 18 }
@@ -57,7 +57,7 @@ fn forbidden_run(state: &State, access: Access, first: u32, len: u8) -> Option<u
     None
 }
 
-// The same of two runs of words.
+// The indicator that forbids the first word of two runs that may not be accessed.
 #[inline(always)]
 fn forbidden_words(state: &State, access: Access, words: Words) -> Option<u8>
     requires { IsRuns words }
@@ -73,7 +73,7 @@ fn forbidden_words(state: &State, access: Access, words: Words) -> Option<u8>
     ))
 }
 
-// The indicator that forbids the index-side word to be read.
+// The indicator that forbids a read of the index-side word.
 #[inline(always)]
 fn forbidden_side(state: &State, word: Option<u32>) -> Option<u8>
     ensures value { result ≡ forbidden_side_of (word_of state.now 3) state.now.enabled word }
@@ -102,7 +102,7 @@ fn forbidden_area(state: &State, instr: &Instr, e: u32) -> Option<u8>
     forbidden_run(state, area_access(write), e / 64, AREA)
 }
 
-// What an order does with its area: the printer reads it, the reader writes it.
+// The access of an order to its area: the printer reads it, the reader writes it.
 #[inline(always)]
 fn area_access(write: bool) -> Access
     ensures { result ≡ area_access_of write }
@@ -126,7 +126,7 @@ fn operation_fault(instr: &Instr) -> Option<u8>
     }
 }
 
-/// The indicator of the first check that an entry fails, `aim.fault` being that of its words.
+/// The indicator of the first check that an entry fails. The fault of its words comes first.
 #[inline(always)]
 pub fn fault(resolved: &ResolvedEntry, state: &State) -> Option<u8>
     requires { IsAim resolved.now }

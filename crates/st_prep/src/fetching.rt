@@ -1,4 +1,4 @@
-//! How an entry is fetched, one instruction word after another.
+//! Fetching of an entry, one instruction word at a time.
 ghost use Rattle.std.specs.Prelude.{◌≡◌, ℕ, ◌+◌, ◌/◌, ◌<◌, ◌≤◌, ◌^◌, Bool, true, false, None, IfSome, length, drop, slice_index};
 ghost use Rattle.st_bits.specs.Indicators.{IsIndicatorIfAny};
 ghost use Rattle.st_state.specs.Machine.{IsMachine, word};
@@ -18,23 +18,23 @@ use st_bits::{HalfOp, part};
 use st_format::{Decoded, Instr, decode, length_in_halves};
 use st_state::{Access, State};
 
-/// What is found at a half-word address.
+/// The instruction at a half-word address.
 #[derive(Clone, Copy, Debug, PartialEq, Eq)]
 pub struct FoundInstruction {
-    /// The instruction, with zeros for what may not be fetched.
+    /// The instruction, with zeros in place of words that may not be fetched.
     pub decoded: Decoded,
     /// The indicator that forbids one of its words.
     pub fault: Option<u8>,
 }
 
-/// What is known of an instruction by the contents so far.
+/// The known part of an instruction, given the contents of the words that were read so far.
 #[derive(Clone, Copy, Debug, PartialEq, Eq)]
 pub enum Part {
-    /// This word has to be read.
+    /// This word must be read next.
     Wants {
         word: u32,
     },
-    /// All of it, by so many of the contents.
+    /// The whole instruction, and how many of these contents belong to it.
     Has {
         found: FoundInstruction,
         used: usize,
@@ -81,14 +81,14 @@ fn address(state: &State, table: Option<u8>) -> u32
     }
 }
 
-// The half at the half-word address `h` of a word with this content.
+// The half-word at the half-word address `h`, given the content of its word.
 fn half_of(content: u64, h: u32) -> u32
     ensures { result ≡ half_by content h }
 {
     part(content, 32 * (h % 2), 32) as u32
 }
 
-// A half-word that may not be fetched.
+// The result of decoding a half-word that may not be fetched.
 fn no_instr() -> Decoded
     ensures { result ≡ no_instr_of }
 {
@@ -102,7 +102,7 @@ fn no_instr() -> Decoded
     }
 }
 
-// The instruction at the half-word address `h`, whose first half is `first`, of two half-words.
+// The two half-word instruction at the half-word address `h`, given its first half-word `first`.
 fn with_second(first: u32, h: u32, contents: &[u64], state: &State) -> Part
     requires address { h < 2 ^ 19 }
     requires some { 1 ≤ length contents.now }
@@ -125,7 +125,7 @@ fn with_second(first: u32, h: u32, contents: &[u64], state: &State) -> Part
     has(decode(first, half_of(contents[1], h + 1)), None, 2)
 }
 
-// An instruction that is known by `used` of the contents.
+// A complete instruction that uses `used` of the contents.
 #[inline(always)]
 fn has(decoded: Decoded, fault: Option<u8>, used: usize) -> Part
     ensures { result ≡ Part.Has (record { decoded = decoded; fault = fault }) used }
@@ -136,7 +136,7 @@ fn has(decoded: Decoded, fault: Option<u8>, used: usize) -> Part
     }
 }
 
-// The instruction at the half-word address `h`, whose first word is read.
+// The instruction at the half-word address `h`, given the content of its first word.
 fn with_first(h: u32, contents: &[u64], state: &State) -> Part
     requires address { h < 2 ^ 19 }
     requires some { 1 ≤ length contents.now }
@@ -154,7 +154,7 @@ fn with_first(h: u32, contents: &[u64], state: &State) -> Part
     }
 }
 
-// The instruction at the half-word address `h`, as far as the contents tell.
+// The known part of the instruction at the half-word address `h`, given these contents.
 #[inline(always)]
 fn part_at(h: u32, contents: &[u64], state: &State) -> Part
     requires { h < 2 ^ 19 }
@@ -180,7 +180,7 @@ pub fn is_execute(instr: &Instr) -> bool
     matches!(*instr, Instr::Half { op: HalfOp::Ex, .. })
 }
 
-// EX with the target that it points to.
+// EX with its target.
 fn with_target(ex: Decoded, target: FoundInstruction) -> Fetched
     requires ex { HasFields ex.instr }
     requires target { IsFoundInRange target }
@@ -198,7 +198,7 @@ fn with_target(ex: Decoded, target: FoundInstruction) -> Fetched
     }
 }
 
-// EX, whose target is read, as far as the contents behind its own tell.
+// The progress of fetching the target of EX, given the contents after those of EX itself.
 #[inline(never)]
 fn fetch_target(own: FoundInstruction, x: &[u64; 16], contents: &[u64], state: &State) -> Fetching
     requires own { IsFoundInRange own }
@@ -215,7 +215,7 @@ fn fetch_target(own: FoundInstruction, x: &[u64; 16], contents: &[u64], state: &
     }
 }
 
-// The entry with this own instruction, as far as the contents behind it tell.
+// The progress of fetching an entry, given its own instruction and the contents after it.
 #[inline(always)]
 fn own_or_target(own: FoundInstruction, x: &[u64; 16], contents: &[u64], state: &State) -> Fetching
     requires { IsFoundInRange own }
@@ -234,8 +234,8 @@ fn own_or_target(own: FoundInstruction, x: &[u64; 16], contents: &[u64], state: 
     })
 }
 
-// The second half-word of the instruction at the half-word address `h`, where the contents have it
-// and it may be fetched.
+// The second half-word of the instruction at the half-word address `h`, if it may be fetched and
+// the contents have it.
 #[inline(always)]
 fn second_known(h: u32, contents: &[u64], state: &State) -> Option<u32>
     requires address { h < 2 ^ 19 }
@@ -260,7 +260,7 @@ fn second_known(h: u32, contents: &[u64], state: &State) -> Option<u32>
 }
 
 // The half-words of the instruction at the half-word address `h`, whose first word may be fetched,
-// as `halves_known` gives them.
+// as in `halves_known`.
 #[inline(always)]
 fn halves_of(h: u32, contents: &[u64], state: &State) -> Option<(u32, u32)>
     requires address { h < 2 ^ 19 }
@@ -283,9 +283,9 @@ fn halves_of(h: u32, contents: &[u64], state: &State) -> Option<(u32, u32)>
     }
 }
 
-/// The half-words of the instruction at the half-word address `h`, below 2^19, where the contents
-/// of its words, of which there is one at least, tell all of it, and the words may be fetched.
-/// Where there is only one, 0 stands for the second.
+/// The half-words of the instruction at the half-word address `h`, below 2^19, if its words may be
+/// fetched and the contents, at least one, have all of it. The second half-word is 0 if there is
+/// only one.
 #[inline(always)]
 pub fn halves_known(h: u32, contents: &[u64], state: &State) -> Option<(u32, u32)>
     requires address { h < 2 ^ 19 }
@@ -304,9 +304,9 @@ pub fn halves_known(h: u32, contents: &[u64], state: &State) -> Option<(u32, u32
     }
 }
 
-/// How far an entry at a place is fetched once words with these contents were read for it, one
-/// after another: the word that is read next, or what is fetched. `x` are the index words, and of
-/// `state` only the boundary register and the mark for interrupts count.
+/// The progress of fetching an entry at a place, after words with these contents were read for it
+/// in order: the next word to read, or the fetched entry. `x` are the index words, and of `state`
+/// only the boundary register and the interrupt flag matter.
 #[inline(always)]
 pub fn fetch_on(place: &Place, x: &[u64; 16], contents: &[u64], state: &State) -> Fetching
     requires { IsPlace place.now }
@@ -323,9 +323,8 @@ pub fn fetch_on(place: &Place, x: &[u64; 16], contents: &[u64], state: &State) -
     }
 }
 
-/// What is fetched at a place, its instruction and, of EX, the target, and the indicator that
-/// forbids one of their words: all these words are read from the state, and `x` are the index
-/// words.
+/// The entry that is fetched at a place: its instruction, the target of EX, and the indicator that
+/// forbids one of their words. All words are read from the state, and `x` are the index words.
 #[inline(always)]
 pub fn fetch_all(place: &Place, x: &[u64; 16], state: &State) -> Fetched
     requires { IsPlace place.now }

@@ -1,4 +1,4 @@
-//! The counter behind an entry, what it stores, its cost, and whether it is done alone.
+//! The counter after an entry, the value that it stores, its cost, and whether it is serializing.
 ghost use Rattle.std.specs.Prelude.{◌≡◌, ◌<◌, ◌^◌};
 ghost use Rattle.st_prep.specs.Entry.{counter_behind as next_of, after_count as after_count_of, after_half as after_half_of, after_branch as after_branch_of, counter_after as after_of};
 ghost use Rattle.st_prep.specs.Entry.{stored_part as stored_part_of, value_stored as value_of, binary_cost as binary_cost_of, decimal_cost as decimal_cost_of, cost as cost_of, is_serial_operation as acts_alone_of};
@@ -9,8 +9,8 @@ use st_bits::{BranchOp, HalfOp, VflOp, count_of, part, refill_of};
 use st_format::Instr;
 use st_index::count_down;
 
-/// The following instruction: `halves` half-words on, or the counter as it stands after a table
-/// instruction.
+/// The counter of the following instruction, `halves` half-words on. A table instruction does not
+/// change the counter.
 #[inline(always)]
 pub fn next(place: &Place, halves: u8) -> u32
     requires { place.now.counter < 2 ^ 19 }
@@ -23,7 +23,7 @@ pub fn next(place: &Place, halves: u8) -> u32
     }
 }
 
-// The counter after a count that branches, `x` being index word J before it.
+// The counter after a branch on a count; `x` is index word J before it.
 fn after_count(x: u64, e: u32, following: u32) -> u32
     ensures { result ≡ after_count_of x e following }
 {
@@ -73,7 +73,7 @@ pub fn after(instr: &Instr, x: &[u64; 16], e: u32, counter: u32, following: u32)
     }
 }
 
-// What an index store writes of the index word `x`.
+// The part of the index word `x` that an index store writes.
 #[inline(always)]
 fn stored_part(op: HalfOp, x: u64) -> u64
     ensures { result ≡ stored_part_of op x }
@@ -88,7 +88,7 @@ fn stored_part(op: HalfOp, x: u64) -> u64
     }
 }
 
-/// What an instruction stores of an index word or of the counter.
+/// The value that an instruction stores of an index word or of the counter, 0 if it stores none.
 #[inline(always)]
 pub fn value(instr: &Instr, x: &[u64; 16], following: u32) -> u64
     requires { HasFields instr.now }
@@ -122,7 +122,7 @@ fn decimal_cost(op: VflOp) -> u8
     }
 }
 
-/// The ticks that an instruction takes once its operands are there.
+/// The number of ticks that an instruction takes once its operands have arrived, 1 to 24.
 #[inline(always)]
 pub fn cost(instr: &Instr) -> u8
     ensures { result ≡ cost_of instr.now }
@@ -141,7 +141,7 @@ pub fn cost(instr: &Instr) -> u8
     }
 }
 
-/// Whether an instruction is one of those that are done alone.
+/// Whether an instruction is serializing by its operation.
 #[inline(always)]
 pub fn is_serial_operation(instr: &Instr) -> bool
     ensures { result ≡ acts_alone_of instr.now }

@@ -1,4 +1,4 @@
-//! What an entry is aimed at, and the entry prepared.
+//! Resolved and prepared entries.
 ghost use Rattle.std.specs.Prelude.{◌≡◌, ℕ, ◌<◌, ◌^◌, true, Option, IfSome, is_some, option_map};
 ghost use Rattle.st_bits.specs.Indicators.{indicator as indicator_of, IsIndicatorIfAny};
 ghost use Rattle.st_bits.specs.Storage.{words_of_storage};
@@ -23,7 +23,7 @@ use st_bits::{HalfOp, Ind, indicator};
 use st_format::Format;
 use st_state::State;
 
-// Whether an entry is done alone even where it is suppressed.
+// Whether an entry is serializing even if it is suppressed.
 #[inline(always)]
 fn is_alone(place: &Place, fetched: &Fetched) -> bool
     ensures { result ≡ is_alone_of place.now fetched.now }
@@ -31,7 +31,7 @@ fn is_alone(place: &Place, fetched: &Fetched) -> bool
     place.table.is_some() || is_execute(&fetched.instr.instr)
 }
 
-// What an entry is aimed at, before it is checked.
+// The resolved entry before its checks.
 #[inline(always)]
 fn aimed(place: &Place, fetched: &Fetched, x: &[u64; 16]) -> ResolvedEntry
     requires { IsFetched fetched.now }
@@ -52,7 +52,7 @@ fn aimed(place: &Place, fetched: &Fetched, x: &[u64; 16]) -> ResolvedEntry
     }
 }
 
-// What an entry is aimed at, and the first check that it fails.
+// The resolved entry, with the first check that it fails.
 #[inline(always)]
 fn resolved(place: &Place, fetched: &Fetched, x: &[u64; 16], state: &State) -> ResolvedEntry
     requires { IsFetched fetched.now }
@@ -64,7 +64,7 @@ fn resolved(place: &Place, fetched: &Fetched, x: &[u64; 16], state: &State) -> R
     resolved
 }
 
-// Whether an entry that is not suppressed is done alone.
+// Whether an entry that is not suppressed is serializing.
 #[inline(always)]
 fn is_serial(resolved: &ResolvedEntry) -> bool
     ensures { result ≡ is_serial_of resolved.now }
@@ -76,7 +76,7 @@ fn is_serial(resolved: &ResolvedEntry) -> bool
         || has_register(resolved.writes)
 }
 
-// What an entry needs.
+// The needs of a resolved entry.
 #[inline(always)]
 fn needs(resolved: &ResolvedEntry) -> Needs
     ensures { result ≡ needs_by resolved.now.fault resolved.now }
@@ -93,14 +93,14 @@ fn needs(resolved: &ResolvedEntry) -> Needs
     }
 }
 
-/// What an entry needs before it can be prepared. `fetched` is what stands at `place`, `x` are the
-/// index words, and of `state` only the boundary register and the mark for interrupts count.
+/// The needs of an entry. `fetched` was fetched at `place`, `x` are the index words, and of `state`
+/// only the boundary register and the interrupt flag matter.
 pub fn look(place: &Place, fetched: &Fetched, x: &[u64; 16], state: &State) -> Needs
     requires { IsFetched fetched.now }
     ensures value { result ≡ needs_of (decode_context_of place.now fetched.now x.now state.now) }
     ensures ranges { IsNeeds result }
 
-    // It is what the next entry of each state needs that looks so.
+    // They are the needs of the next entry of each state with this decode context.
     ensures states { let v = decode_context_of place.now fetched.now x.now state.now in
         (s : Machine) → IsSeen s v → result ≡ needs_of (decode_context s (place_by s place.now.table)) }
 {
@@ -153,7 +153,7 @@ fn enter(resolved: &ResolvedEntry, x: &[u64; 16], read: Option<u64>, serial: boo
     p.serial = serial;
 }
 
-// Fills in the entry that stands at `p.place`, before the index words are changed by it.
+// Fills in the entry at `p.place`, before it changes the index words.
 #[inline(always)]
 fn fill(resolved: &ResolvedEntry, x: &[u64; 16], read: Option<u64>, serial: bool, p: &mut Prepared)
     requires serial { serial ≡ (needs_by resolved.now.fault resolved.now).serial }
@@ -163,7 +163,7 @@ fn fill(resolved: &ResolvedEntry, x: &[u64; 16], read: Option<u64>, serial: bool
 {
     match resolved.fault {
         Some(i) => {
-            // A copy, so that `aim` need not stand in memory for it.
+            // A copy, so that the caller need not keep `resolved` in memory for it.
             let resolved = *resolved;
             suppress(&resolved, i, p)
         }
@@ -171,7 +171,7 @@ fn fill(resolved: &ResolvedEntry, x: &[u64; 16], read: Option<u64>, serial: bool
     }
 }
 
-// What holds of a word that was read.
+// Provides the fact that a word has 64 bits to the caller's proof.
 fn read_shape(read: Option<u64>)
     ensures { IfSome read (λ w. w < 2 ^ 64) }
 {
@@ -180,7 +180,7 @@ fn read_shape(read: Option<u64>)
     }
 }
 
-/// Prepares the entry that stands at `p.place`, in place, as `prepare` does.
+/// Prepares the entry at `p.place`, in place, as `prepare` does.
 pub fn prepare_in(
     p: &mut Prepared,
     fetched: &Fetched,
@@ -196,7 +196,7 @@ pub fn prepare_in(
     ensures ranges { IsPrepared p.new }
     ensures words { x.new ≡ words_after x.old p.new.index }
 
-    // It is the next entry of each state that looks so.
+    // It is the next entry of each state with this decode context.
     ensures states { let v = decode_context_of p.old.place fetched.now x.old state.now in
         (s : Machine) → IsSeen s v → read ≡ side_of s v → p.new ≡ plan_of s p.old.place.table }
 {
@@ -207,9 +207,9 @@ pub fn prepare_in(
     change_index(p.index, x);
 }
 
-/// Prepares an entry as far as it goes without its index-side word, in whose place 0 stands: all
-/// but `index` and `ind` is final, and these too where no such word is asked for. The result says
-/// what is needed. `x` stays.
+/// Prepares an entry with 0 in place of its index-side word: all but `index` and `ind` is final,
+/// and these are too if the entry needs no such word. Returns the needs of the entry. Does not
+/// change `x`.
 #[inline(always)]
 pub fn prepare_without_side(
     p: &mut Prepared,
@@ -233,8 +233,8 @@ pub fn prepare_without_side(
     needs
 }
 
-/// Makes the early change of an entry once more, by its index-side word, once that is read. It was
-/// prepared by whatever stood in its place.
+/// Repeats the speculative change of an entry once its index-side word is read. The entry was
+/// prepared with some other word in its place.
 pub fn change_by_side(p: &mut Prepared, x: &[u64; 16], read: Option<u64>)
     requires { IsPrepared p.old }
     ensures value { (v : DecodeContext) (other : Option ℕ) → v.x ≡ x.now → asks v ≡ true →
@@ -248,7 +248,7 @@ pub fn change_by_side(p: &mut Prepared, x: &[u64; 16], read: Option<u64>)
     p.ind = speculative.ind;
 }
 
-// A word of zeros in the place of an index-side word, where one is asked for.
+// Zero in place of an index-side word, if the entry needs one.
 fn zero_for(word: Option<u32>) -> Option<u64>
     ensures value { result ≡ option_map (λ w. 0) word }
     ensures shape { IfSome result (λ w. w < 2 ^ 64) }
@@ -259,7 +259,7 @@ fn zero_for(word: Option<u32>) -> Option<u64>
     }
 }
 
-/// Makes the change of an index word, if there is one.
+/// Changes the index word, if there is a change.
 pub fn change_index(index: Option<IndexChange>, x: &mut [u64; 16])
     requires { IfSome index IsChange }
     ensures { x.new ≡ words_after x.old index }
@@ -269,9 +269,9 @@ pub fn change_index(index: Option<IndexChange>, x: &mut [u64; 16])
     }
 }
 
-/// Prepares an entry: `fetched` is what stands at `place`, `x` are the index words, `read` is the
-/// word that `look` asks for, and of `state` only the boundary register and the mark for interrupts
-/// count. The index word that the entry changes is changed in `x`.
+/// Prepares an entry, and changes its index word in `x`. `fetched` was fetched at `place`, `x` are
+/// the index words, `read` is the word that `look` says is needed, and of `state` only the boundary
+/// register and the interrupt flag matter.
 pub fn prepare(
     place: &Place,
     fetched: &Fetched,
@@ -287,7 +287,7 @@ pub fn prepare(
     ensures ranges { IsPrepared result }
     ensures words { x.new ≡ words_after x.old result.index }
 
-    // It is the next entry of each state that looks so.
+    // It is the next entry of each state with this decode context.
     ensures states { let v = decode_context_of place.now fetched.now x.old state.now in
         (s : Machine) → IsSeen s v → read ≡ side_of s v → result ≡ plan_of s place.now.table }
 {
@@ -297,7 +297,7 @@ pub fn prepare(
     p
 }
 
-// The word that a table instruction, or another one, finds at the word address `w`.
+// The word at the word address `w`, with the indicator in `table` off.
 fn found_word(state: &State, table: Option<u8>, w: u32) -> u64
     requires inside { w < words_of_storage }
     requires indicator { IsIndicatorIfAny table }
@@ -343,8 +343,8 @@ pub fn is_execute_format(format: Format) -> bool
     }
 }
 
-// Fills in the entry of a state that stands at `p.place`, by what is fetched there. The result is
-// the word address of its index-side word, if there is one.
+// Fills in the entry of a state at `p.place`, given what is fetched there. Returns the word address
+// of its index-side word, if there is one.
 fn fill_fetched(fetched: &Fetched, x: &[u64; 16], state: &State, p: &mut Prepared) -> Option<u32>
     requires place { IsPlace p.old.place }
     requires fetched { IsFetched fetched.now }
@@ -360,7 +360,7 @@ fn fill_fetched(fetched: &Fetched, x: &[u64; 16], state: &State, p: &mut Prepare
 }
 
 /// Prepares the next entry of a state, or the table instruction of an interrupt by the indicator in
-/// `table`, in place. The result is the word address of its index-side word, if there is one.
+/// `table`, in place. Returns the word address of its index-side word, if there is one.
 pub fn plan_in(table: Option<u8>, state: &State, p: &mut Prepared) -> Option<u32>
     requires { IsIndicatorIfAny table }
     ensures value { p.new ≡ plan_of state.now table }

@@ -41,7 +41,7 @@ fn two_runs(first: u32, first2: u32, len: u8) -> Words
     }
 }
 
-// The one or two words that the `length` bits from bit `e` on touch.
+// The one or two words that contain the `length` bits from bit `e`.
 #[inline(always)]
 fn field_words(e: u32, length: u8) -> Words
     requires { e < 2 ^ 24 }
@@ -81,7 +81,7 @@ fn words_moved_from(swap: bool, from: u32, to: u32, count: u8) -> Words
     }
 }
 
-// The words that it writes.
+// The words that a transmission writes.
 #[inline(always)]
 fn words_moved_to(swap: bool, from: u32, to: u32, count: u8) -> Words
     ensures { result ≡ words_moved_to_of swap from to count }
@@ -170,7 +170,7 @@ pub fn has_register(words: Words) -> bool
         || (words.len2 != 0 && words.first2 < FIRST_STORAGE_WORD)
 }
 
-/// Whether there is a word, and it is a register.
+/// Whether there is a word and it is a register.
 #[inline(always)]
 pub fn is_register(word: Option<u32>) -> bool
     ensures { result ≡ is_register_of word }

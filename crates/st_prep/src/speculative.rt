@@ -1,4 +1,4 @@
-//! What an instruction changes before its operands are read.
+//! Speculative changes: the changes by an instruction before its operands are read.
 ghost use Rattle.std.specs.Prelude.{◌≡◌, ◌<◌, ◌^◌, slice_index};
 ghost use Rattle.st_prep.specs.SpeculativeChanges.{refill_word as refill_word_of, half_side as half_side_of, progressive_side as progressive_side_of, side as side_of};
 ghost use Rattle.st_prep.specs.SpeculativeChanges.{without_change, change_of_comparison as compared_of, change_of_index as changed_of, half_change as half_change_of, progressive_change as progressive_change_of, change as change_of};
@@ -12,16 +12,16 @@ use st_bits::{
 use st_format::Instr;
 use st_index::{add_value, compare, count_down, index_result, progress, sum_values};
 
-/// What is changed before the operands are read.
+/// The changes before the operands are read.
 #[derive(Clone, Copy, Debug, PartialEq, Eq)]
 pub struct SpeculativeChange {
-    /// The index word that is changed, if one is.
+    /// The index word that changes, if there is one.
     pub index: Option<IndexChange>,
     /// The indicators that are turned on and off.
     pub ind: Ind,
 }
 
-/// The fields of a half-word instruction that say what becomes of index word `j`.
+/// The fields of a half-word instruction that determine its change of index word `j`.
 #[derive(Clone, Copy, Debug, PartialEq, Eq)]
 pub struct Half {
     pub op: HalfOp,
@@ -29,7 +29,7 @@ pub struct Half {
     pub j: u8,
 }
 
-// The refill address of an index word, where its count became zero.
+// The refill address of an index word, if its count has become zero.
 #[inline(always)]
 fn refill_word(y: u64) -> Option<u32>
     ensures { result ≡ refill_word_of y }
@@ -41,8 +41,8 @@ fn refill_word(y: u64) -> Option<u32>
     }
 }
 
-// The index-side word of a half-word instruction with the effective address `e`, `x` being index
-// word J.
+// The index-side word of a half-word instruction with the effective address `e`; `x` is index word
+// J.
 #[inline(always)]
 fn half_side(op: HalfOp, x: u64, e: u32) -> Option<u32>
     requires { e < 2 ^ 24 }
@@ -64,7 +64,7 @@ fn half_side(op: HalfOp, x: u64, e: u32) -> Option<u32>
     }
 }
 
-// The index-side word of a progressive form, `x` being its index word.
+// The index-side word of a progressive form; `x` is its index word.
 #[inline(always)]
 fn progressive_side(p: u8, x: u64, address: u32) -> Option<u32>
     requires form { p < 8 }
@@ -108,7 +108,7 @@ fn no_change() -> SpeculativeChange
     }
 }
 
-// Two numbers are compared.
+// The indicators of a comparison of two numbers.
 #[inline(always)]
 fn compared(a: i32, b: i32) -> SpeculativeChange
     ensures { result ≡ compared_of a b }
@@ -119,8 +119,8 @@ fn compared(a: i32, b: i32) -> SpeculativeChange
     }
 }
 
-// Index word `number`, which was `kept`, becomes `y`, and then the word of a refill where there is
-// one.
+// Index word `number`, which was `kept`, becomes `y`, then the word of a refill if there is one.
+// The indicators are those of `y`.
 #[inline(always)]
 fn changed(number: u8, kept: u64, y: u64, refill: Option<u64>) -> SpeculativeChange
     ensures { result ≡ changed_of number kept y refill }
@@ -135,8 +135,8 @@ fn changed(number: u8, kept: u64, y: u64, refill: Option<u64>) -> SpeculativeCha
     }
 }
 
-// What a half-word instruction makes of index word J; `e` is its effective address and `read` its
-// index-side word.
+// The change of index word J by a half-word instruction with the effective address `e` and the
+// index-side word `read`.
 #[inline(always)]
 #[tactic(auto, unfolding(crate::specs::SpeculativeChanges::half_change))]
 fn half_change(half: Half, words: &[u64; 16], e: u32, read: Option<u64>) -> SpeculativeChange
@@ -179,7 +179,7 @@ fn half_change(half: Half, words: &[u64; 16], e: u32, read: Option<u64>) -> Spec
     }
 }
 
-// What a progressive form makes of index word `i`, which is `x`; `read` is its index-side word.
+// The change of index word `i`, which is `x`, by a progressive form with index-side word `read`.
 #[inline(always)]
 fn progressive_change(p: u8, i: u8, x: u64, address: u32, read: Option<u64>) -> SpeculativeChange
     requires form { p < 8 }
@@ -193,8 +193,8 @@ fn progressive_change(p: u8, i: u8, x: u64, address: u32, read: Option<u64>) -> 
     }
 }
 
-/// The early change by an instruction with the effective address `e`; `read` is its index-side
-/// word.
+/// The speculative change by an instruction with the effective address `e` and the index-side word
+/// `read`.
 #[inline(always)]
 pub fn change(instr: &Instr, x: &[u64; 16], e: u32, read: Option<u64>) -> SpeculativeChange
     requires shape { HasFields instr.now }

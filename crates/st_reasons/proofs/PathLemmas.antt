@@ -86,8 +86,8 @@ back-found past t j low is =
     let place : j + 1 - 1 ≡ j = omega arith in
     eqb-true _ _ (found-one p (1 ∷ 2 ∷ 3 ∷ 4 ∷ 5 ∷ 6 ∷ 7 ∷ 8 ∷ []) (eight-have p j low (eq-eqb _ _ (ap (completion_of past) place ∙ is))))
 
--- the requirements on a front: its past has eight entries, only the first entry of a segment is
--- prepared at tick 0, and nothing completes before that entry
+-- the requirements on an issue state: its past has eight entries, only the first entry of a segment
+-- is prepared at tick 0, and nothing completes before that entry
 pub record IsRowIssue (f : IssueState) : Type 0 where
   pub eight : length f.past ≡ 8
   pub later : is_first f ≡ false → 1 ≤ f.p

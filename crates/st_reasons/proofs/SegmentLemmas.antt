@@ -177,7 +177,7 @@ module _ (ds : List ℕ) (n : ℕ) (banks : LastAnswers) (start : ℕ) where
       entry-behind start ds n (issue_of ds n banks start older) x.entry x.side x.reads (all_uses ds n banks start older)
       (All-head IsTold x older all).side (segment-behind older (All-tail IsTold x older all))
 
-  -- the ticks of the front are in their order
+  -- the ticks of the issue state are in their order
   pub issue-order : (older : List Told) → (start ≤ (issue_of ds n banks start older).p) × ((issue_of ds n banks start older).p ≤ (issue_of ds n banks start older).c)
   unfolding issue_of issue_after_entry tick_c tick_p preparation_tick tick_a address_tick
   issue-order [] = (omega arith, omega arith)

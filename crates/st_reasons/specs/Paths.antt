@@ -17,7 +17,7 @@ use Rattle.st_reasons.specs.declared.because.Cause.{Cause}
 use Rattle.st_reasons.specs.declared.because.Reason.{Reason}
 use Rattle.st_reasons.specs.declared.because.Reason.TheVariants.{Serial, Store, Level, Forwarding, Bus, Order}
 
--- ---- the possible events at tick t for a row after the front f, in the order of the page
+-- ---- the possible events at tick t for a row after the issue state f, in the order of the page
 
 -- the row before completed at t, and it is serialized, or the awaited words must come after it
 -- (`alone`)
@@ -98,8 +98,9 @@ pub data IsPath : IssueState → ℕ → List Use → Bool → List Use → ℕ 
       → IsPath f own before (nat_le own (length is.earlier)) is.earlier (read_of u.supply).want b
       → IsPath f own before alone words t b
 
--- ---- the cause that delayed the entry e after the front f; `words` are the words that it uses
--- until its address is formed, and `before` those of the row before, in the order of their reads
+-- ---- the cause that delayed the entry e after the issue state f; `words` are the words that it
+-- uses until its address is formed, and `before` those of the row before, in the order of their
+-- reads
 
 -- The cause is a level: the entry is prepared directly after the completion of the row whose level
 -- it takes over, x.late ticks later than its address and its index-side word would allow.

@@ -30,7 +30,7 @@ abbrev pub back_to : ℕ → List Past → ℕ
 back_to t past = unwrap_or (find (λ k. nat_eq (done_before k past) t)
     (1 ∷ 2 ∷ 3 ∷ 4 ∷ 5 ∷ 6 ∷ 7 ∷ 8 ∷ [])) 0
 
--- whether no entry of the segment precedes the one after this front
+-- whether no entry of the segment precedes the one after this issue state
 abbrev pub is_first : IssueState → Bool
 is_first f = nat_eq (done_before 1 f.past) 0
 
@@ -115,11 +115,11 @@ abbrev pub reason_of_side : Option Writer → ℕ → StallCause → StallCause
 reason_of_side (Some w) a other = row_reason Forwarding w.back w.done (w.done - a)
 reason_of_side None a other = other
 
--- the cause that delayed the entry e after the front f, whose address is formed at tick a and which
--- is prepared at p, `wait` ticks later because no level was free: the level, the index-side word,
--- or else the cause of the address. `words` are the words that it uses until its address is formed,
--- and `before` those of the row before, none for the first row of a segment; both are in the order
--- of their reads
+-- the cause that delayed the entry e after the issue state f, whose address is formed at tick a and
+-- which is prepared at p, `wait` ticks later because no level was free: the level, the index-side
+-- word, or else the cause of the address. `words` are the words that it uses until its address is
+-- formed, and `before` those of the row before, none for the first row of a segment; both are in
+-- the order of their reads
 unfoldable pub because : IssueState → Entry → ℕ → ℕ → ℕ → List Use → List Use → StallCause
 because f e a p wait words before =
     if nat_lt 0 wait then row_reason Level (back_to (p - 1) f.past) (p - 1) wait

@@ -28,7 +28,7 @@ pub record IsTold (x : Told) : Type 0 where
 -- definitions on a machine with the delays ds and n levels, in a segment that starts at a tick with
 -- these banks; the entries are listed youngest first
 module _ (ds : List ℕ) (n : ℕ) (banks : LastAnswers) (start : ℕ) where
-  -- the front after these entries
+  -- the issue state after these entries
   unfoldable pub issue_of : List Told → IssueState
   issue_of [] = opening_issue banks start
   issue_of (x ∷ older) = issue_after_entry ds n (issue_of older) x.entry

@@ -97,7 +97,7 @@ fn back_to(t: u64, past: &LastEntries) -> u8
     first_done(t, past, &[1, 2, 3, 4, 5, 6, 7, 8])
 }
 
-// Whether the entry after this front is the first of its segment.
+// Whether the entry after this issue state is the first of its segment.
 #[inline(always)]
 fn is_first(issue: &IssueState) -> bool
     ensures { result ≡ is_first_of issue.now }
@@ -252,9 +252,9 @@ fn side_writer(uses: &[Use]) -> Option<Writer>
     side_writer(more)
 }
 
-/// The cause for which the entry after a front was not prepared earlier. `words` are the words that
-/// the entry uses until its address is formed, and `before` those of the row before it in its
-/// segment; the first row of a segment has none before it.
+/// The cause for which the entry after an issue state was not prepared earlier. `words` are the
+/// words that the entry uses until its address is formed, and `before` those of the row before it
+/// in its segment; the first row of a segment has none before it.
 pub fn find_reason(
     issue: &IssueState,
     entry: &Entry,

@@ -34,7 +34,7 @@ use Rattle.st_refine.specs.Reached.{IsReached, Starts, Ticks, Settles, Signals, 
 use Rattle.st_refine.proofs.LevelLists.{few-before}
 use Rattle.st_refine.proofs.Kept.{ticks_made, IsIdle, IsPhase, IsKept, idle-of, fresh-of, kept, seen-idle, after-oldest, made-settled, made-owed, ended-rest, settled-idle_is, closing-cases}
 
--- ---- fronts
+-- ---- issue states
 
 pub opening-tight : (most start : ℕ) (banks : LastAnswers) → All (λ t. t ≤ start + most) banks.ticks → IsTight most (opening_issue banks start)
 opening-tight most start banks soon = record {

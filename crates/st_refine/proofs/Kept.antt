@@ -293,7 +293,7 @@ kept-passed m some few delays machine table awake late =
       };
     }
 
--- after a completion, the C of the front, or a later opening, is not before the tick
+-- after a completion, the C of the issue state, or a later opening, is not before the tick
 pub late-fresh : (m : Overlap) → IsFresh m → (b : Bool) → m.ended ≡ b → m.now ≤ m.issue.c
 late-fresh m fresh true over = omega (arith, (fresh.start over).1)
 late-fresh m fresh false going = omega (arith, fresh.last going)

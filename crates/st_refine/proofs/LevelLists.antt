@@ -107,7 +107,7 @@ unfolding entry
 entry-free t s is = is
 
 module _ (ds : List ℕ) (n : ℕ) where
-  -- no entry is prepared up to the tick after the front's P
+  -- no entry is prepared up to the tick after the P of the issue state
   pub none-before : (now k : ℕ) (t : Option ℕ) (s : Machine) (f : IssueState) → now ≤ f.p + 2 → prepared_before now (ahead ds n k t s f) ≡ []
   unfolding ahead prepared_before
   none-before now zero t s f early = refl
@@ -199,7 +199,7 @@ module _ (ds : List ℕ) (n : ℕ) where
       let fewer : j ≡ suc j - 1 = omega arith in
       subst (λ i. RunAhead i t s) fewer (run-ahead j now k t s f m some late many)
 
-  -- the past entries of the front after k entries include those of an older front
+  -- the past entries of the issue state after k entries include those of an older issue state
   past-behind : (k j : ℕ) (d : Past) (t : Option ℕ) (s : Machine) (f : IssueState) → k + j < 8
       → get_or (issue_behind ds n k t s f).past (k + j) d ≡ get_or f.past j d
   unfolding issue_behind issue_after_entry

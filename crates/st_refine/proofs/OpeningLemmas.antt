@@ -116,7 +116,7 @@ module _ (ds : List ℕ) (n : ℕ) (o : Opening) (xs : List ExternalEvents) wher
       ap (λ (b : Bus). b.banks) (made-behind ds c (reads_after ds n o xs j) rest o.issue.bus early)
       ∙ ap (λ (b : Bus). (made_before ds c rest b).banks) served_is
 
--- ---- states and fronts after j steps
+-- ---- states and issue states after j steps
 
 module _ (o : Opening) (xs : List ExternalEvents) where
   state-done : (j : ℕ) → (state_after o xs j).done ≡ o.state.done + j

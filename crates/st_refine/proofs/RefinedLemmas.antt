@@ -175,7 +175,7 @@ goes-more m is =
 
 -- ---- the segment ends
 
--- there are no levels if the front's P is not before the tick
+-- there are no levels if the P of the issue state is not before the tick
 pub empty-levels : (m : Overlap) → m.now ≤ m.issue.p + 2 → levels_of m ≡ []
 unfolding levels_of
 empty-levels m early = none-before m.delays m.levels m.now m.levels m.taken (state_ahead m) m.issue early

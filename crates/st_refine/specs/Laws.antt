@@ -157,7 +157,7 @@ pub record OpeningsAreKept : Type 0 where
 -- this tick, this opening does not change (`again`), nor does it at the end of a run (`stop`),
 -- after which no tick may be made (`last`). After the end of a segment an interrupt makes the first
 -- entry a table instruction (`interrupt`), a mispredicted branch and a wait leave the opening
--- unchanged (`missed`, `waits`), and a card is a change of its first state (`card`).
+-- unchanged (`mispredicted`, `waits`), and a card is a change of its first state (`card`).
 pub record OpeningsFollow : Type 0 where
   pub end : (m : Overlap) (made since j : ℕ) (o : Opening) (changes : List ExternalEvents) →
       IsReached m made since → MayServe m →
@@ -209,7 +209,8 @@ pub record RowsTellTheLevels : Type 0 where
 -- taken (`table`). It removes the oldest level, which exists (`oldest`). The row has the new count
 -- of completed instructions, the address of the entry and the tick (`row`), and the P, R and C of
 -- the oldest entry (`times`). The mark of a mispredicted branch is set if and only if the entry is
--- mispredicted (`missed`). Any other tick leaves the state and the levels unchanged (`passed`).
+-- mispredicted (`mispredicted`). Any other tick leaves the state and the levels unchanged
+-- (`passed`).
 pub record CompletionsAreSteps : Type 0 where
   pub table : (m : Overlap) (made since : ℕ) → IsReached m made since → m.owed ≡ false →
       m.taken ≡ interrupt m.state
@@ -235,8 +236,8 @@ pub record CompletionsAreSteps : Type 0 where
 -- A settle and the end of a run do not change the state (`settle`, `stop`). If the machine
 -- continues, at most one level is added (`goes`). An interrupt, a mispredicted branch, a card and
 -- the end of a run flush all levels and report their number; the index words are then those of the
--- state (`interrupt`, `missed`, `card`, `stop`). There are no levels before the first tick and in a
--- wait (`start`, `waits`).
+-- state (`interrupt`, `mispredicted`, `card`, `stop`). There are no levels before the first tick
+-- and in a wait (`start`, `waits`).
 pub record LevelsAreUnwound : Type 0 where
   pub settle : (m : Overlap) → (machine_after_settling m).state ≡ m.state
   pub goes : (m : Overlap) → answer m ≡ Goes → AddsOneAtMost (levels_of m)
@@ -267,7 +268,7 @@ pub record LevelsAreUnwound : Type 0 where
 -- step, along predicted states (`level`). The tick is that of the last tick made, where the first
 -- is number 0 (`tick`). The sequence of predicted states starts from the state (`state`, `ended`),
 -- or, at a tick with a mispredicted branch, from the state with the predicted program counter
--- (`missed`).
+-- (`mispredicted`).
 pub record TheStateIsSplit : Type 0 where
   pub done : (m : Overlap) → (view_at_tick m).done ≡ m.state.done
   pub tick : (m : Overlap) (made since : ℕ) → IsReached m made since → (view_at_tick m).tick ≡ made

@@ -46,7 +46,7 @@ with_changes (x ∷ xs) s = with_changes xs (if x.done == s.done then state_afte
 -- ---- an opening
 
 -- the opening of a segment: its first state, the interrupt of a leading table instruction, if there
--- is one, and the front at the start
+-- is one, and the issue state at the start
 pub record Opening : Type 0 where
   pub state : Machine
   pub table : Option ℕ
@@ -62,7 +62,7 @@ state_after o changes zero = with_changes changes o.state
 state_after o changes (suc j) = with_changes changes (step (state_after o changes j))
 
 module _ (ds : List ℕ) (n : ℕ) (o : Opening) (changes : List ExternalEvents) where
-  -- the front after the first j entries of the segment, with the delays ds and n levels
+  -- the issue state after the first j entries of the segment, with the delays ds and n levels
   unfoldable pub issue_at : ℕ → IssueState
   issue_at zero = o.issue
   issue_at (suc j) =
@@ -108,7 +108,7 @@ opening_behind ds n dropped o changes j = record {
 -- ---- machines at an opening
 
 -- the machine m is at the opening o with j completed entries: the state is that after j steps with
--- the changes so far, and the front is that after j entries; the first entry is the table
+-- the changes so far, and the issue state is that after j entries; the first entry is the table
 -- instruction until it completes; all j entries have completed by the last tick made; if the
 -- segment may end at this tick, the banks are as after the reads that are accepted before it
 pub record StandsAt (o : Opening) (changes : List ExternalEvents) (j : ℕ) (m : Overlap) : Type 0 where

@@ -26,7 +26,7 @@ module _ (k : ℕ) (m : Overlap) where
   abbrev pub table_before : Option ℕ
   table_before = table_behind k m.taken
 
-  -- the front from which the row of entry k in flight is computed
+  -- the issue state from which the row of entry k in flight is computed
   abbrev pub issue_before : IssueState
   issue_before = issue_behind m.delays m.levels k m.taken (state_ahead m) m.issue
 

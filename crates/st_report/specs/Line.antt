@@ -84,13 +84,14 @@ abbrev pub snap_line : ℕ → ℕ → ℕ → List ℕ
 snap_line t q k =
     codes "SNAP " ++ decimal t ++ codes " DONE " ++ decimal q ++ codes " AHEAD " ++ decimal k ++ lf
 
--- the text of the index word that a level changed early, with its previous contents; a dash if
--- there is none
+-- the text of the index word that a level changed speculatively, with its previous contents; a dash
+-- if there is none
 abbrev pub change_text : Option (ℕ × ℕ) → List ℕ
 change_text None = codes "-"
 change_text (Some change) = decimal change.0 ++ codes " OLD " ++ hex_word change.1
 
--- the line of a level: its instruction's address, its early change, and whether its result is ready
+-- the line of a level: its instruction's address, its speculative change, and whether its result is
+-- ready
 abbrev pub lev_line : ℕ → Option (ℕ × ℕ) → Bool → List ℕ
 lev_line address index ready =
     codes "LEV " ++ half_address address ++ codes " X " ++ change_text index

@@ -85,8 +85,8 @@ pub fn line_snap(t: u64, q: u64, k: u8) -> Line
     close_line(line)
 }
 
-// Appends the number and the previous contents of the index word that was changed early, or a dash
-// if there is none.
+// Appends the number and the previous contents of the index word that was changed speculatively, or
+// a dash if there is none.
 fn push_change(line: &mut Line, index: Option<(u8, u64)>)
     requires { array_string_len line.old + 31 ≤ 128 }
     ensures bytes { line.new.bytes ≡ line.old.bytes ++ change_text index }
@@ -104,7 +104,8 @@ fn push_change(line: &mut Line, index: Option<(u8, u64)>)
 
 /// `LEV a X x OLD hhhhhhhhhhhhhhhh READY r`, or `LEV a X - READY r`: an entry in flight. The
 /// address is a half-word address; the index is the number, below 16, of the index word that the
-/// entry changed early, and the word before that change. `ready` is true if its result is ready.
+/// entry changed speculatively, and the word before that change. `ready` is true if its result is
+/// ready.
 pub fn line_lev(address: u32, index: Option<(u8, u64)>, ready: bool) -> Line
     ensures { result.bytes ≡ lev_line address index ready }
 {

@@ -1,4 +1,4 @@
--- Two levels that are prepared and not done: none of the levels is done alone.
+-- Of two levels that are prepared and not completed, none is serializing.
 use Rattle.std.proofs.Common.{◌≡◌, ℕ, ◌<◌, ◌≤◌, ◌||◌, Bool, true, false, List, [], ◌∷◌, length, All, Option, None, refl, sym, ◌∙◌, arith}
 use Rattle.std.proofs.lemmas.List.Elements.{All-head, All-tail}
 use Rattle.st_state.specs.Machine.{Machine}
@@ -13,7 +13,7 @@ use Rattle.st_segment.specs.Alone.{RunAhead}
 use Rattle.st_ring.specs.Levels.{IsLevel, AreLevels}
 use Rattle.st_ring.specs.declared.plans.PlannedRow.{PlannedRow}
 
--- an entry is prepared behind the completion of the last one where one of the two is done alone
+-- if an entry or the previous one is serializing, the entry is prepared after the previous one completes
 abbrev pub AwaitsLast : List ℕ → ℕ → IssueState → Entry → Type 0
 AwaitsLast ds n f e = (e.serial || f.serial) ≡ true → f.c < (row_of_entry ds n f e).p
 
@@ -34,7 +34,7 @@ after-done : (ds : List ℕ) (n : ℕ) (f : IssueState) (e : Entry) → (issue_a
 unfolding issue_after_entry row_of_entry
 after-done ds n f e = refl
 
--- behind a level that is not done, none is done alone, nor is that one
+-- if a level is prepared before the previous entry completes, neither of the two is serializing
 module _ (ds : List ℕ) (n tick now : ℕ) (awaits : (f : IssueState) (e : Entry) → AwaitsLast ds n f e) where
   neither_of : (t : Option ℕ) (s : Machine) (f : IssueState) (level : Level) (q : PlannedRow) → IsLevel ds n tick t s f level q
       → level.p < now → now ≤ f.c → ((plan s t).serial ≡ false) × (f.serial ≡ false)

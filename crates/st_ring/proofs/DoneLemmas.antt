@@ -1,4 +1,4 @@
--- The oldest level is done: the others are the entries ahead of the state behind it.
+-- After the oldest level completes, the others are the entries in flight of the new state.
 use Rattle.std.proofs.Common.{◌≡◌, ℕ, suc, ◌-◌, ◌<◌, Bool, true, false, List, [], ◌∷◌, length, drop, Option, None, Some, refl, sym, subst, ◌∙◌, ap, arith}
 use Rattle.std.specs.Prelude.{IfSome, slice_get}
 use Rattle.st_state.specs.Machine.{Machine, IsMachine}
@@ -66,7 +66,7 @@ first-is ds n tick t s f last level ring [] q h first = absurd h
 first-is ds n tick t s f last level ring (r ∷ rs) q h first =
     let same : r ≡ q = cc first in subst (λ (p : PlannedRow). IsLevel ds n tick t s f level p) same h.0
 
--- they have all words that are there
+-- the others have all words that have arrived
 pub full-behind : (ds : List ℕ) (n tick : ℕ) (t : Option ℕ) (s : Machine) (f : IssueState) (level : Level) (ring : List Level)
     → AreFull ds n tick t s f (level ∷ ring) → AreFull ds n tick None (prediction t s) (issue_after_entry ds n f (entry t s)) ring
 unfolding AreFull

@@ -1,4 +1,4 @@
--- Levels in a list, read and written by their places.
+-- Reads and writes of levels in a list, by their places.
 use Rattle.std.proofs.Common.{◌≡◌, ◌≢◌, ℕ, zero, suc, List, [], ◌∷◌, set, Option, None, Some, refl, sym, ap}
 use Rattle.std.specs.Prelude.{slice_get}
 use Rattle.st_ring.specs.declared.level.Level.{Level}

@@ -1,4 +1,4 @@
--- Operand words that are there by a tick: they stand in the state as before the step of their entry.
+-- Operand words that have arrived by a tick: the state has their contents from before the step of their entry.
 use Rattle.std.proofs.Common.{◌≡◌, ℕ, zero, suc, ◌+◌, ◌-◌, ◌<◌, ◌≤◌, Bool, true, false, not, ◌&&◌, ◌||◌, List, [], ◌∷◌, length, get_or, take, All, Option, None, Some, ◌⊎◌, inl, inr, refl, sym, subst, ◌∙◌, ap, ap₂, arith}
 use Rattle.std.specs.Prelude.{IfSome, nat_lt, nat_le, if◌then◌else◌, slice_get, slice_set, slice_index_or}
 use Rattle.std.proofs.lemmas.Bool.{ltb-true, ltb-false, leb-true, leb-false, lt-ltb, le-ltb, le-leb, and_parts}
@@ -31,7 +31,7 @@ use Rattle.st_ring.specs.Slots.{fill_tick, is_there, slot_of, IsKeptSlot, put_of
 use Rattle.st_ring.specs.declared.plans.PlannedRow.{PlannedRow}
 use Rattle.st_ring.proofs.WriterLemmas.{take-latest, not-latest}
 
--- ---- a word comes no earlier than its latest writer is done
+-- ---- no word arrives before its latest writer completes
 
 module _ (most : ℕ) (ds : List ℕ) (are : AreDelaysUpTo most ds) (past : List Past) where
   behind_if : (late : Bool) (b : Bus) (w p : ℕ) → (late ≡ false → latest_done past w ≤ p)
@@ -52,7 +52,7 @@ module _ (most : ℕ) (ds : List ℕ) (are : AreDelaysUpTo most ds) (past : List
       rw (lt-ltb 1 r.len inside) (behind-writer (read_word ds past (record { bus = b; answered = p; awaited = 0 }) r.first p).bus (r.first + 1) p)
   fills-behind b r p (suc (suc i)) few inside = absurd (omega arith)
 
--- the first run of words to read of an entry
+-- the first run of operand words of an entry
 run-is : (t : Option ℕ) (s : Machine) → (entry t s).reads.one ≡ above_registers (plan s t).reads.first (plan s t).reads.len
 unfolding entry words_to_read
 run-is t s = refl
@@ -94,7 +94,7 @@ later-by false true true d e x w more is = is
 later-by false true false true e x w more is = rw (more refl) is
 later-by false true false false e x w more is = absurd (cc is)
 
--- a word that is there stays there
+-- a word that has arrived in a slot stays in it
 pub slot-later : (ticks : List ℕ) (p : Prepared) (s : Machine) (tick later k w : ℕ) → tick ≤ later → slot_of ticks p s tick k ≡ Some w
     → slot_of ticks p s later k ≡ Some w
 unfolding slot_of
@@ -119,7 +119,7 @@ same-by false false c x y same = refl
 same-by false true false x y same = refl
 same-by false true true x y same = ap Some (same refl)
 
--- two states have the same word in it, where they have the same one once it is there
+-- a slot is equal in two states that agree in its word once the word has arrived
 slot-same : (ticks : List ℕ) (p : Prepared) (m u : Machine) (tick k : ℕ)
     → ((not (is_transmission p.instr) && nat_lt k p.reads.len && is_there ticks p tick (p.reads.first + k)) ≡ true
     → word m (p.reads.first + k) ≡ word u (p.reads.first + k))
@@ -128,12 +128,12 @@ unfolding slot_of
 slot-same ticks p m u tick k same =
     same-by (is_transmission p.instr) (nat_lt k p.reads.len) (is_there ticks p tick (p.reads.first + k)) (word m (p.reads.first + k)) (word u (p.reads.first + k)) same
 
--- what a slot has, or else the word that is put into it
+-- the content of a slot after a word, if there is one, is put into it
 abbrev or_put : Option ℕ → Option ℕ → Option ℕ
 or_put x None = x
 or_put x (Some w) = Some w
 
--- a slot is filled
+-- a filled slot has the word that has arrived
 slot-filled : (ticks : List ℕ) (p : Prepared) (m u : Machine) (tick now k : ℕ) (x : Option ℕ) → tick ≤ now → IsKeptSlot x (slot_of ticks p u tick k)
     → slot_of ticks p m now k ≡ slot_of ticks p u now k → or_put x (put_of x (slot_of ticks p m now k)) ≡ slot_of ticks p u now k
 slot-filled ticks p m u tick now k (Some w) behind is same = sym (slot-later ticks p u tick now k w behind is)
@@ -162,7 +162,7 @@ p-with level (Some v) None i j = refl
 p-with level None (Some w) i j = refl
 p-with level (Some v) (Some w) i j = refl
 
--- where an entry has no such operand word nothing is put
+-- an entry without such an operand word gets no word
 none-by : (a b c : Bool) (x : ℕ) → b ≡ false → (if not a && b && c then Some x else None) ≡ None
 none-by true b c x e = refl
 none-by false true c x e = absurd (cc e)
@@ -176,11 +176,11 @@ nothing-put None ticks p m now k behind =
 
 -- ---- levels by a tick
 
--- a state has the words of another one where their latest writer among these is done
+-- two states agree in each word whose latest writer in `past` has completed
 abbrev pub Agrees : ℕ → Machine → List Past → Machine → Type 0
 Agrees now m past u = (w : ℕ) → 32 ≤ w → latest_done past w ≤ now → word m w ≡ word u w
 
--- it has the registers of each of the states before the next k entries where that entry is done alone
+-- the state m has the registers of the predicted state before each serializing entry of the next k
 unfoldable pub HasLow : ℕ → Machine → Option ℕ → Machine → Type 0
 HasLow zero m t u = Unit {0}
 HasLow (suc k) m t u = ((plan u t).serial ≡ true → (w : ℕ) → w < 32 → word m w ≡ word u w) × HasLow k m None (prediction t u)
@@ -199,7 +199,7 @@ prediction-leaves : (t : Option ℕ) (s : Machine) (w : ℕ) → IsMachine s →
 unfolding guesses is_word_written
 prediction-leaves t s w m some above h = storage-kept 1 t s w m some above (ap (λ b. b || false) h)
 
--- a register that is read, of an entry that is done alone
+-- a register that a serializing entry reads
 register-there : (b : Bool) (p : Prepared) (m u : Machine) (w k : ℕ) → p.serial ≡ b → IsPrepared p → (p.serial ≡ true → (w : ℕ) → w < 32 → word m w ≡ word u w)
     → k < p.reads.len → w ≡ p.reads.first + k → w < 32 → word m w ≡ word u w
 register-there true p m u w k e h same inside place low = same e w low
@@ -300,13 +300,13 @@ low-none : (m : Machine) (t : Option ℕ) (u : Machine) → HasLow 0 m t u
 unfolding HasLow
 low-none m t u = tt
 
--- where all are prepared by the tick and none is done, the registers are those of the only level, or none is read
+-- only a single level may be serializing and read registers, which are those of the state
 pub low-by : (k : ℕ) (m : Machine) (t : Option ℕ) (u : Machine) → ((w : ℕ) → word m w ≡ word u w) → (2 ≤ k → RunAhead k t u) → HasLow k m t u
 low-by zero m t u same ahead = low-none m t u
 low-by (suc zero) m t u same ahead = low-first m t u same
 low-by (suc (suc k)) m t u same ahead = low-free (suc (suc k)) m t u (ahead (omega arith))
 
--- ---- what is always kept
+-- ---- the invariant
 
 abbrev pub IsReady : Level → Type 0
 IsReady level = IsPrepared level.prepared

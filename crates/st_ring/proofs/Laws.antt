@@ -1,4 +1,4 @@
--- What holds of all levels that are the entries ahead of a state, proved.
+-- Proofs of the laws of levels that are the entries in flight after a state.
 use Rattle.st_ring.specs.Levels.{LevelsView, AreAhead, AreNotDone}
 use Rattle.st_segment.specs.Alone.{is_word_written}
 use Rattle.st_state.specs.Machine.{Machine}

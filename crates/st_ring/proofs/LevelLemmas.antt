@@ -1,4 +1,4 @@
--- Levels one behind the other: the front behind them, one more of them, and which of them may be done alone.
+-- Lists of levels: the issue state after them, one more level, and which of them may be serializing.
 
 use Rattle.std.proofs.Common.{◌≡◌, ℕ, zero, suc, ◌<◌, ◌≤◌, List, [], ◌∷◌, ◌++◌, length, All, Option, None, refl, sym, subst, ◌∙◌, ap, ap₂, arith}
 use Rattle.std.proofs.lemmas.Bool.{lt-ltb, le-ltb}
@@ -26,7 +26,7 @@ levels-beside ds n tick t s f last (level ∷ levels) [] h = absurd h
 levels-beside ds n tick t s f last (level ∷ levels) (q ∷ qs) h =
     ap suc (levels-beside ds n tick None (prediction t s) (issue_after_entry ds n f (entry t s)) last levels qs h.1)
 
--- ---- the front behind them
+-- ---- the issue state after the levels
 
 pub levels-issue : (ds : List ℕ) (n tick : ℕ) (t : Option ℕ) (s : Machine) (f last : IssueState) (ring : List Level) (plans : List PlannedRow)
     → AreLevels ds n tick t s f last ring plans → last ≡ issue_behind ds n (length ring) t s f
@@ -37,7 +37,7 @@ levels-issue ds n tick t s f last (level ∷ levels) [] h = absurd h
 levels-issue ds n tick t s f last (level ∷ levels) (q ∷ qs) h =
     levels-issue ds n tick None (prediction t s) (issue_after_entry ds n f (entry t s)) last levels qs h.1
 
--- ---- one more of them
+-- ---- one more level
 
 first-level : (ds : List ℕ) (n tick : ℕ) (t k : Option ℕ) (s u : Machine) (f last : IssueState) (level : Level) (q : PlannedRow)
     → k ≡ t → u ≡ s → last ≡ f → IsLevel ds n tick k u last level q → IsLevel ds n tick t s f level q
@@ -65,7 +65,7 @@ levels-append ds n tick t k s u f last (first ∷ levels) (r ∷ rs) level q tab
       (table ∙ sym (behind-none (length levels))) state h.1 new,
 )
 
--- ---- those that are prepared before a tick
+-- ---- levels that are prepared before a tick
 
 pub levels-prepared : (ds : List ℕ) (n tick now m : ℕ) (t k : Option ℕ) (s u : Machine) (f last : IssueState) (ring : List Level)
     (plans : List PlannedRow) → AreLevels ds n tick t s f last ring plans → All (λ level. level.p < now) ring
@@ -95,7 +95,7 @@ unfolding ahead
 length-ahead ds n zero t s f = refl
 length-ahead ds n (suc k) t s f = ap suc (length-ahead ds n k None (prediction t s) (issue_after_entry ds n f (entry t s)))
 
--- ---- the front before them
+-- ---- the issue state of the oldest level
 
 pub levels-oldest : (ds : List ℕ) (n tick : ℕ) (t : Option ℕ) (s : Machine) (f last : IssueState) (ring : List Level) (plans : List PlannedRow)
     → AreLevels ds n tick t s f last ring plans → oldest_issue plans last ≡ f

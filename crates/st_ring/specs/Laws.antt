@@ -1,4 +1,4 @@
--- What holds of all levels that are the entries ahead of a state.
+-- Laws of levels that are the entries in flight after a state.
 use Rattle.std.specs.Prelude.{◌≡◌, ℕ, ◌+◌, ◌<◌, ◌≤◌, true, false, List, [], length, All, Option, None}
 use Rattle.st_bits.specs.Indicators.{IsIndicatorIfAny}
 use Rattle.st_state.specs.Machine.{Machine, IsMachine, word}
@@ -13,9 +13,9 @@ use Rattle.st_segment.specs.Ahead.{ahead, issue_behind, prepared_before}
 use Rattle.st_segment.specs.Alone.{RunAhead, is_word_written}
 use Rattle.st_ring.specs.Levels.{LevelsView, AreAhead, AreNotDone, is_oldest_due, oldest_issue}
 
--- The last front is the one behind the levels, and the oldest of them stands behind the first one.
--- Where all of them are prepared before a tick, and the entry behind them is not, they are the
--- entries ahead that are.
+-- The last issue state is the one after all levels (`issue`), and the oldest level is issued from
+-- the first one (`oldest`). If all levels are prepared before a tick, and the next entry is not,
+-- the levels are the entries that are prepared before it (`prepared`).
 pub record LevelsAreTheEntriesAhead : Type 0 where
   pub issue : (ds : List ℕ) (n tick : ℕ) (t : Option ℕ) (s : Machine) (f last : IssueState)
       (v : LevelsView) →
@@ -31,8 +31,8 @@ pub record LevelsAreTheEntriesAhead : Type 0 where
       (prepared_before now (ahead ds n m t s f) ≡ ahead ds n k t s f)
       × (length (prepared_before now (ahead ds n m t s f)) ≡ k)
 
--- Two levels that are prepared before a tick and not done before it: then none is done alone, since
--- an entry that is, and the one behind it, await the last one.
+-- If at least two levels are prepared before a tick and none completes before it, none is
+-- serializing: a serializing entry, and the entry after it, await the completion before them.
 abbrev pub LevelsThatAreNotDoneRunAhead : Type 0
 LevelsThatAreNotDoneRunAhead = (ds : List ℕ) (n tick now : ℕ) (t : Option ℕ) (s : Machine)
     (f last : IssueState)
@@ -41,9 +41,9 @@ LevelsThatAreNotDoneRunAhead = (ds : List ℕ) (n tick now : ℕ) (t : Option �
     All (λ q. now ≤ q.c) v.plans →
     2 ≤ length v.ring → RunAhead (length v.ring) t s
 
--- What a level that is not done writes is seen in what the fronts behind it keep, of at most eight
--- levels: a word whose latest writer is done by then is written by none of them, and so it stands
--- in the state.
+-- The entries that an issue state records, after at most eight uncompleted levels, show the words
+-- that these levels write: if the latest writer of a word has completed, no level writes it
+-- (`written`, `last`), and the predicted state has the word of the state (`words`).
 pub record WritersAreSeen : Type 0 where
   pub written : (ds : List ℕ) (n tick now j w : ℕ) (t : Option ℕ) (s : Machine)
       (f last : IssueState) (v : LevelsView) →
@@ -59,8 +59,8 @@ pub record WritersAreSeen : Type 0 where
       AreAhead ds n tick t s f last v → AreNotDone now v → length v.ring ≤ 8 → 32 ≤ w →
       latest_done last.past w ≤ now → word (guesses (length v.ring) t s) w ≡ word s w
 
--- A signal, and an order that brings no card, are passed over: the levels, none of them done alone,
--- are the entries ahead as before.
+-- After a signal, or an order without a card, levels that are not serializing are still the entries
+-- in flight.
 abbrev pub LevelsPassSignalsOver : Type 0
 LevelsPassSignalsOver = (ds : List ℕ) (n tick : ℕ) (s u : Machine) (f last : IssueState)
     (v : LevelsView) →
@@ -69,8 +69,8 @@ LevelsPassSignalsOver = (ds : List ℕ) (n tick : ℕ) (s u : Machine) (f last :
     AreAhead ds n tick None s f last v →
     AreAhead ds n tick None u f last v
 
--- Levels are prepared one after another, up to the last front, and they are done one after another:
--- where the oldest one is not done at a tick, none is, and when it is, the front behind it says so.
+-- Levels are prepared in order, up to P of the last issue state, and complete in order, up to its
+-- C. No level completes before the oldest one, whose C is that of the issue state after it.
 pub record LevelsComeInOrder : Type 0 where
   pub prepared : (ds : List ℕ) (n tick : ℕ) (t : Option ℕ) (s : Machine) (f last : IssueState)
       (v : LevelsView) →
@@ -94,8 +94,8 @@ pub record LevelsComeInOrder : Type 0 where
       (0 < length v.ring) × ((row_of_entry ds n f (entry t s)).c ≡ now) ×
       ((issue_after_entry ds n f (entry t s)).c ≡ now)
 
--- Where there is no level, nothing runs ahead: the last front is the oldest one, and the index
--- words are those of the state.
+-- Without levels nothing is in flight: the last issue state is the first one, and the index words
+-- are those of the state.
 pub record NothingIsAheadWithoutLevels : Type 0 where
   pub none : (ds : List ℕ) (n tick : ℕ) (t : Option ℕ) (s : Machine) (f : IssueState)
       (x : List ℕ) →

@@ -1,9 +1,9 @@
--- Eight slots that levels go round.
+-- The eight slots of a ring of levels.
 use Rattle.std.specs.Prelude.{◌≡◌, ℕ, ◌<◌, ◌≤◌, List, length, All}
 use Rattle.st_ring.specs.declared.level.Level.{Level}
 use Rattle.st_ring.specs.OneLevel.{HasNumber}
 
--- a ring of at most `most` levels
+-- a ring of n levels, at most `most` of them, from the slot `head` on
 pub record IsLevelRing (most head n : ℕ) (slots : List Level) : Type 0 where
   pub inside : head < 8
   pub few : n ≤ most

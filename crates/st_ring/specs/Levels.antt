@@ -1,4 +1,4 @@
--- The levels of a machine: entries that are prepared and not done, with their planned rows.
+-- The levels of a machine: entries that are prepared and not completed, with their planned rows.
 use Rattle.std.specs.Prelude.{ℕ, ◌≡◌, ◌-◌, ◌^◌, ◌≤◌, ◌<◌, Bool, false, ◌==◌, if◌then◌else◌, List, [], ◌∷◌, length, All, Option, None, Some}
 use Rattle.st_state.specs.Machine.{Machine}
 use Rattle.st_prep.specs.Plan.{plan}
@@ -15,14 +15,14 @@ use Rattle.st_ring.specs.Slots.{slot_of, slots_of, AreKept}
 use Rattle.st_ring.specs.declared.plans.PlannedRow.{PlannedRow}
 use Rattle.st_ring.specs.declared.levels.Completed.{Completed}
 
--- what is seen of them: the ring, the planned rows beside it, and the index words that run ahead
+-- the view of the levels: the ring, the planned rows, and the index words with the early changes
 pub record LevelsView : Type 0 where
   pub ring : List Level
   pub plans : List PlannedRow
   pub x : List ℕ
 
--- what is always kept of them: a planned row beside each level, at most n levels, 1 to 8, and each
--- entry in its ranges
+-- the invariant of the levels: a planned row for each level, at most n levels with n from 1 to 8,
+-- and each entry in its ranges
 pub record AreLevelsSound (n : ℕ) (ring : List Level) (plans : List PlannedRow) : Type 0 where
   pub beside : length plans ≡ length ring
   pub few : length ring ≤ n
@@ -31,12 +31,12 @@ pub record AreLevelsSound (n : ℕ) (ring : List Level) (plans : List PlannedRow
   pub prepared : All (λ level. IsPrepared level.prepared) ring
 
 module _ (ds : List ℕ) (n tick : ℕ) where
-  -- the operand words that the next entry of a state behind a front has at the tick
+  -- the slots of the next entry of the state s, issued from f, at the tick
   abbrev pub have_of : Option ℕ → Machine → IssueState → List (Option ℕ)
   have_of t s f = slots_of (fills ds n f (entry t s)) (plan s t) s tick
 
-  -- a level is the next entry of the state s behind the front f, prepared; t says whether it is a
-  -- table instruction. It has no other operand words than those that are there at the tick
+  -- a level is the next prepared entry of the state s, issued from f, and t is the indicator of a
+  -- table instruction. Its slots have only words that have arrived at the tick
   pub record IsLevel (t : Option ℕ) (s : Machine) (f : IssueState) (level : Level)
       (q : PlannedRow) : Type 0 where
     pub prepared : level.prepared ≡ plan s t
@@ -47,8 +47,8 @@ module _ (ds : List ℕ) (n tick : ℕ) where
     pub c : q.c ≡ (row_of_entry ds n f (entry t s)).c
     pub fills : q.fills ≡ fills ds n f (entry t s)
 
-  -- levels, oldest first, are the next entries by guessed steps, and `last` is the front behind
-  -- them
+  -- levels, oldest first, are the next entries along the predicted states, and `last` is the issue
+  -- state after them
   unfoldable pub AreLevels : Option ℕ → Machine → IssueState → IssueState → List Level →
       List PlannedRow → Type 0
   AreLevels t s f last [] [] = last ≡ f
@@ -57,39 +57,39 @@ module _ (ds : List ℕ) (n tick : ℕ) where
       × AreLevels None (prediction t s) (issue_after_entry ds n f (entry t s)) last levels qs
   AreLevels t s f last _ _ = ⊥
 
-  -- they have all operand words that are there at the tick
+  -- the levels have all operand words that have arrived at the tick
   unfoldable pub AreFull : Option ℕ → Machine → IssueState → List Level → Type 0
   AreFull t s f [] = Unit {0}
   AreFull t s f (level ∷ levels) =
       (level.have ≡ have_of t s f) × AreFull None (prediction t s)
       (issue_after_entry ds n f (entry t s)) levels
 
-  -- all of it: only the youngest level may be one that is done alone
+  -- the levels are the entries in flight, of which only the youngest may be serializing
   pub record AreAhead (t : Option ℕ) (s : Machine) (f last : IssueState) (v : LevelsView) : Type 0 where
     pub levels : AreLevels t s f last v.ring v.plans
     pub index : v.x ≡ split_words (length v.ring) t s
     pub run_ahead : RunAhead (length v.ring - 1) t s
 
--- none of them is done at this tick or before it
+-- no level completes at this tick or before it
 abbrev pub AreNotDone : ℕ → LevelsView → Type 0
 AreNotDone now v = All (λ q. now < q.c) v.plans
 
--- the tick at which the oldest of them is done, 2^64 - 1 where there is none
+-- the tick at which the oldest level completes, 2^64 - 1 if there is none
 abbrev pub due_of : List PlannedRow → ℕ
 due_of [] = 2 ^ 64 - 1
 due_of (q ∷ qs) = q.c
 
--- the oldest of them is done at this tick
+-- whether the oldest level completes at this tick
 abbrev pub is_oldest_due : List PlannedRow → ℕ → Bool
 is_oldest_due [] now = false
 is_oldest_due (q ∷ qs) now = q.c == now
 
--- the front of the oldest entry that is not done, given that behind the levels
+-- the issue state of the oldest uncompleted entry; `last` is the one after the levels
 abbrev pub oldest_issue : List PlannedRow → IssueState → IssueState
 oldest_issue [] last = last
 oldest_issue (q ∷ qs) last = q.issue.value
 
--- what is told of the next entry of the state s behind the front f when it is done
+-- the completion of the next entry of the state s, issued from f
 pub record IsCompleted (ds : List ℕ) (n : ℕ) (t : Option ℕ) (s : Machine) (f : IssueState)
     (done : Completed) : Type 0 where
   pub address : done.address ≡ (plan s t).place.address

@@ -1,18 +1,18 @@
--- Levels of the lookahead.
+-- One level of the look-ahead.
 use Rattle.std.specs.Prelude.{ℕ, ◌<◌, max, List, slice_set, Option, Some, IfSome}
 use Rattle.st_prep.specs.declared.entries.Prepared.{Prepared}
 use Rattle.st_ring.specs.declared.level.Level.{Level}
 
--- the level of an entry at the tick at which it is prepared, with the operand words that are there
--- by then
+-- the level of an entry that is prepared at the tick p, with the operand words that have arrived by
+-- then
 abbrev pub prepared_at : Prepared → ℕ → List (Option ℕ) → Level
 prepared_at entry p have = record { prepared = entry; p = p; r = p; have = have }
 
--- the index word that a level changes is one of sixteen
+-- the number of the index word that a level changes is below 16
 abbrev pub HasNumber : Level → Type 0
 HasNumber level = IfSome level.prepared.index (λ c. c.number < 16)
 
--- a level with an operand word that came at a tick
+-- a level with an operand word that arrived at the tick
 abbrev pub level_with_word : Level → ℕ → ℕ → ℕ → Level
 level_with_word level slot word tick =
     record level { r = max level.r tick; have = slice_set level.have slot (Some word) }

@@ -1,30 +1,30 @@
--- What levels make of the index words, and how that is undone.
+-- The index words after the early changes of levels, and how these changes are undone.
 use Rattle.std.specs.Prelude.{IfSome, ◌≡◌, ℕ, List, [], ◌∷◌, slice_index, slice_set, Option, None, Some}
 use Rattle.st_prep.specs.SpeculativeChanges.{words_after}
 use Rattle.st_prep.specs.declared.entries.IndexChange.{IndexChange}
 use Rattle.st_ring.specs.declared.level.Level.{Level}
 
--- what levels, one after another, make of index words
+-- the index words after the early changes of the levels, in order
 unfoldable pub index_words_after : List ℕ → List Level → List ℕ
 index_words_after x [] = x
 index_words_after x (level ∷ levels) = index_words_after (words_after x level.prepared.index) levels
 
--- a change keeps the word that it replaces
+-- a change records the word that it replaces
 abbrev pub ChangeKeeps : List ℕ → Option IndexChange → Type 0
 ChangeKeeps x change = IfSome change (λ c. slice_index x c.number ≡ c.kept)
 
--- each level keeps the word that it replaces of what the levels before it made
+-- each level records the word that it replaces in the index words after the levels before it
 unfoldable pub Kept : List ℕ → List Level → Type 0
 Kept x [] = Unit {0}
 Kept x (level ∷ levels) = ChangeKeeps x level.prepared.index
     × Kept (words_after x level.prepared.index) levels
 
--- the word that a change replaced, put back
+-- restores the word that a change replaced
 abbrev pub put_back : List ℕ → Option IndexChange → List ℕ
 put_back x None = x
 put_back x (Some c) = slice_set x c.number c.kept
 
--- the words that levels replaced, put back, that of the youngest first
+-- restores the words that the levels replaced, the youngest level first
 unfoldable pub unwound : List ℕ → List Level → List ℕ
 unwound x [] = x
 unwound x (level ∷ levels) = put_back (unwound x levels) level.prepared.index

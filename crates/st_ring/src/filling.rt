@@ -1,4 +1,4 @@
-//! Operand words that come into the slots of levels.
+//! The operand words that arrive in the slots of levels.
 ghost use Rattle.std.specs.Prelude.{◌≡◌, ◌≢◌, ℕ, ◌+◌, ◌<◌, ◌≤◌, true, length, slice_get, slice_set, All, None, Some, Option};
 ghost use Rattle.st_prep.specs.Ranges.{IsPrepared};
 ghost use Rattle.st_ring.specs.declared.level.Level.{Level as LevelOf};
@@ -13,7 +13,7 @@ use st_bits::register::FIRST_STORAGE_WORD;
 use st_prep::Prepared;
 use st_state::State;
 
-// When the operand word in place `k` is there, by the ticks of the first two words above the
+// The arrival tick of operand word `k`, given those of the first two operand words that are not
 // registers.
 fn fill_tick(p: &Prepared, fills: &[u64; 2], k: u8) -> u64
     requires prepared { IsPrepared p.now }
@@ -29,7 +29,7 @@ fn fill_tick(p: &Prepared, fills: &[u64; 2], k: u8) -> u64
     }
 }
 
-// The word of slot `k` of an entry, as it stands in the state, if it is there by the tick `now`.
+// The content in the state of operand word `k`, if it has arrived by the tick `now`.
 #[tactic(auto, unfolding(crate::specs::Slots::slot_of))]
 fn slot(p: &Prepared, fills: &[u64; 2], k: u8, state: &State, now: u64) -> Option<u64>
     requires prepared { IsPrepared p.now }
@@ -47,8 +47,8 @@ fn slot(p: &Prepared, fills: &[u64; 2], k: u8, state: &State, now: u64) -> Optio
     }
 }
 
-// The word that comes into slot `k` of a level by the tick `now`: one that is there, where the slot
-// is empty. Most levels have none that is left to come, so that this is tested first.
+// The word that has arrived by the tick `now` for slot `k` of a level, if the slot is empty. Most
+// levels await no word; this is tested first.
 #[tactic(auto, unfolding(crate::specs::Slots::slot_of))]
 #[inline(always)]
 fn coming(level: &Level, fills: &[u64; 2], k: u8, state: &State, now: u64) -> Option<u64>
@@ -65,7 +65,7 @@ fn coming(level: &Level, fills: &[u64; 2], k: u8, state: &State, now: u64) -> Op
     }
 }
 
-// When it came: a register is there when the entry is prepared.
+// The arrival tick of operand word `k`: a register is available when the entry is prepared.
 fn came_at(level: &Level, fills: &[u64; 2], k: u8) -> u64
     requires prepared { IsPrepared level.now.prepared }
     requires slot { k < 2 }
@@ -85,7 +85,7 @@ fn are_none(first: Option<u64>, second: Option<u64>) -> bool
     first.is_none() && second.is_none()
 }
 
-// Puts a word that came at the tick, if there is one, into a slot of level k.
+// Puts the word, if there is one, into a slot of level k, with its arrival tick.
 fn put<const N: usize>(ring: &mut SpecRing<N>, k: usize, slot: u8, word: Option<u64>, tick: u64)
     requires level { k < length ring.old }
     requires slot { slot < 2 }
@@ -98,7 +98,7 @@ fn put<const N: usize>(ring: &mut SpecRing<N>, k: usize, slot: u8, word: Option<
     }
 }
 
-// Puts the words that come by the tick `now` into the slots of level k.
+// Puts the words that have arrived by the tick `now` into the empty slots of level k.
 fn fill_level<const N: usize>(
     ring: &mut SpecRing<N>,
     k: usize,
@@ -126,7 +126,7 @@ fn fill_level<const N: usize>(
     put(ring, k, 1, second, twice);
 }
 
-// Puts the words that come by the tick `now` into the slots of all levels.
+// Puts the words that have arrived by the tick `now` into the empty slots of all levels.
 pub(crate) fn fill_all<const N: usize>(
     ring: &mut SpecRing<N>,
     plans: &PlannedRowRing,

@@ -1,23 +1,23 @@
-//! A level of the lookahead.
+//! A level of the look-ahead.
 ghost use Rattle.std.specs.Prelude.{◌≡◌, ◌<◌};
 ghost use Rattle.st_ring.specs.OneLevel.{level_with_word as filled_of, prepared_at};
 
 use st_prep::Prepared;
 
-/// An entry that is prepared and not yet done.
+/// An entry that is prepared and not completed.
 #[derive(Clone, Copy, Debug, Default, PartialEq, Eq)]
 pub struct Level {
-    /// The entry.
+    /// The prepared entry.
     pub prepared: Prepared,
-    /// The tick at which it was prepared.
+    /// P, the tick at which the entry was prepared.
     pub p: u64,
-    /// The greatest of that tick and of those at which its operand words come.
+    /// The greatest of `p` and the arrival ticks of the words in `have`.
     pub r: u64,
-    /// The operand words that came, each in its slot.
+    /// The operand words that have arrived, each in its slot.
     pub have: [Option<u64>; 2],
 }
 
-// The level becomes that of an entry that is prepared at the tick `p`, with these operand words.
+// Sets the level to an entry that is prepared at the tick `p`, with these operand words.
 pub(crate) fn begin(level: &mut Level, prepared: &Prepared, p: u64, have: [Option<u64>; 2])
     ensures { level.new ≡ prepared_at prepared.now p have }
 {
@@ -27,7 +27,7 @@ pub(crate) fn begin(level: &mut Level, prepared: &Prepared, p: u64, have: [Optio
     level.have = have;
 }
 
-// An operand word comes into the level at a tick.
+// Puts an operand word that arrived at the tick into a slot of the level.
 pub(crate) fn put_word(level: &mut Level, slot: u8, word: u64, tick: u64)
     requires { slot < 2 }
     ensures { level.new ≡ filled_of level.old slot word tick }

@@ -1,4 +1,4 @@
-//! Levels that are pushed, filled, done and undone.
+//! The levels of a machine: they are pushed, filled, completed and undone.
 ghost use Rattle.std.specs.Prelude.{◌≡◌, ℕ, ◌<◌, ◌≤◌, ◌^◌, length, Option, None, Some, List, [], ◌∷◌, ◌++◌, slice_get, All, false, true};
 ghost use Rattle.st_bits.specs.Indicators.{IsIndicatorIfAny};
 ghost use Rattle.st_state.specs.Machine.{Machine, IsMachine, word as word_of};
@@ -27,20 +27,20 @@ use st_rows::{Filled, IssueState};
 use st_state::State;
 use std::marker::Model;
 
-/// What is told of a level when it is done.
+/// The completion of a level.
 #[derive(Clone, Copy, Debug, PartialEq, Eq)]
 pub struct Completed {
     /// The half-word address of its entry.
     pub address: u32,
-    /// The tick at which it was prepared.
+    /// P, the tick at which the entry was prepared.
     pub p: u64,
-    /// The tick at which its operands were there.
+    /// R, the tick at which its operands had arrived.
     pub r: u64,
-    /// Where its guess was wrong, the counter by which what runs ahead goes on.
+    /// The predicted counter, a half-word address, if the entry is mispredicted.
     pub mispredicted: Option<u32>,
 }
 
-/// The levels of a machine with N levels, 1 to 8, and the index words that run ahead of the state.
+/// The levels of a machine of N levels, 1 to 8, and the index words with their early changes.
 #[derive(Drop)]
 pub struct Levels<const N: usize> {
     ring: SpecRing<N>,
@@ -48,7 +48,7 @@ pub struct Levels<const N: usize> {
     x: [u64; 16],
 }
 
-// Clauses see the levels and the planned rows, oldest first, and the index words.
+// The view has the levels and the planned rows, oldest first, and the index words.
 impl<const N: usize> Model for Levels<N> {
     ghost use Rattle.st_ring.specs.Levels.{LevelsView, AreLevelsSound};
 
@@ -60,7 +60,7 @@ impl<const N: usize> Model for Levels<N> {
 }
 
 impl<const N: usize> Levels<N> {
-    /// No levels, where these are the index words of the state.
+    /// No levels; `x` has the index words of the state.
     pub fn new(x: [u64; 16]) -> Levels<N>
         requires some { 1 ≤ N }
         requires few { N ≤ 8 }
@@ -73,7 +73,7 @@ impl<const N: usize> Levels<N> {
         }
     }
 
-    /// The number of levels.
+    /// The number of levels, at most N.
     pub fn len(&self) -> usize
         ensures value { result ≡ length self.now.ring }
         ensures within { result ≤ N }
@@ -90,7 +90,7 @@ impl<const N: usize> Levels<N> {
         &self.ring
     }
 
-    /// The index words that run ahead.
+    /// The index words with the early changes of all levels.
     pub fn index(&self) -> &[u64; 16]
         ensures words { result.now ≡ self.now.x }
         ensures few { length self.now.ring ≤ N }
@@ -98,7 +98,7 @@ impl<const N: usize> Levels<N> {
         &self.x
     }
 
-    /// The planned row of level k, counted from the oldest, which is 0. There is one.
+    /// The planned row of level k, which must exist; level 0 is the oldest.
     pub fn plan(&self, k: usize) -> &PlannedRow
         requires { k < length self.now.ring }
         ensures { slice_get self.now.plans k ≡ Some result.now }
@@ -106,8 +106,8 @@ impl<const N: usize> Levels<N> {
         self.plans.get(k)
     }
 
-    /// Appends an entry that is prepared behind `front`; `filled` is its row. The index word that
-    /// it changes is changed, and its slots are empty. There is room.
+    /// Appends the level of an entry that is issued from `issue` with the row `filled`. The entry
+    /// changes its index word, and its slots are empty. There must be room.
     pub fn push(&mut self, prepared: &Prepared, issue: &IssueState, filled: &Filled)
         requires room { length self.old.ring < N }
         requires prepared { IsPrepared prepared.now }
@@ -123,8 +123,8 @@ impl<const N: usize> Levels<N> {
         ensures not_done { (now : ℕ) → AreNotDone now self.old → now < filled.now.row.c →
             AreNotDone now self.new }
 
-        // Where the levels are the entries ahead, none done alone, and it is the next one, they are
-        // so with it.
+        // If the levels are the entries in flight, none of them serializing, and this is the next
+        // entry, they are still the entries in flight after the call.
         ensures ahead { (ds : List ℕ) (n tick : ℕ) (t : Option ℕ) (s : Machine)
             (f last : IssueStateOf) →
             let k = length self.old.ring in let u = guesses k t s in let i = table_behind k t in
@@ -141,7 +141,7 @@ impl<const N: usize> Levels<N> {
         self.plans.push(issue, filled);
     }
 
-    /// The tick at which the oldest level is done, 2^64 - 1 where there is none.
+    /// The tick at which the oldest level completes, 2^64 - 1 if there is none.
     #[inline(always)]
     pub fn due(&self) -> u64
         ensures tick { result ≡ due_of self.now.plans }
@@ -153,7 +153,7 @@ impl<const N: usize> Levels<N> {
         self.plans.get(0).c
     }
 
-    /// Whether the oldest level is done at this tick.
+    /// Whether the oldest level completes at the tick `now`.
     pub fn is_due(&self, now: u64) -> bool
         ensures value { result ≡ is_due_of self.now.plans now }
         ensures some { result ≡ true → 0 < length self.now.ring }
@@ -162,9 +162,9 @@ impl<const N: usize> Levels<N> {
         self.len() > 0 && self.plans.get(0).c == now
     }
 
-    /// The oldest level is done: its entry is executed by its operands as they stand in the state,
-    /// and it is taken away. Where it is done alone the index words become those of the state.
-    /// There is one.
+    /// Completes the oldest level, which must exist: executes its entry with the operands of the
+    /// state, and removes it. After a serializing entry the index words are those of the state.
+    /// Fewer than 2^63 instructions must be completed before.
     pub fn complete(&mut self, state: &mut State) -> Completed
         requires some { 0 < length self.old.ring }
         requires few { state.old.done < 2 ^ 63 }
@@ -193,16 +193,16 @@ impl<const N: usize> Levels<N> {
         done
     }
 
-    /// Puts the operand words that are there by this tick into their slots, where these are empty,
-    /// as they stand in the state.
+    /// Puts the operand words that have arrived by the tick `now` into their slots, if these are
+    /// empty. Their contents are those of the state.
     pub fn fill(&mut self, state: &State, now: u64)
         ensures plans { self.new.plans ≡ self.old.plans }
         ensures index { self.new.x ≡ self.old.x }
         ensures len { length self.new.ring ≡ length self.old.ring }
         ensures few { length self.new.ring ≤ N }
 
-        // All are prepared by then, and none is done yet. A word that is there is written by no
-        // older level, so it stands in the state as before the step of the entry.
+        // If all levels are prepared by then and none completes by then, they stay the entries in
+        // flight: no older level writes a word that has arrived, so the state has its content.
         ensures ahead { (ds : List ℕ) (n tick most : ℕ) (t : Option ℕ) (s : Machine)
             (f last : IssueStateOf) →
             AreDelaysUpTo most ds → IsMachine s → IsIndicatorIfAny t →
@@ -214,8 +214,8 @@ impl<const N: usize> Levels<N> {
         fill_all(&mut self.ring, &self.plans, state, now);
     }
 
-    /// Puts the index words back as they were before all levels, leaves no level, and gives the
-    /// number of levels that there were.
+    /// Restores the index words from before all levels, removes the levels, and returns their
+    /// number.
     pub fn undo(&mut self) -> u8
         ensures empty { (self.new.ring ≡ []) × (self.new.plans ≡ []) }
         ensures count { result ≡ length self.old.ring }
@@ -229,8 +229,8 @@ impl<const N: usize> Levels<N> {
     }
 }
 
-// The index words behind an entry that is done: those of the state where it is done alone, and else
-// as they were.
+// Updates the index words after a completion: after a serializing entry they become those of the
+// state.
 fn renew(x: &mut [u64; 16], alone: bool, state: &State)
     ensures alone { alone ≡ true → x.new ≡ index_words_of state.now }
     ensures stays { alone ≡ false → x.new ≡ x.old }

@@ -1,6 +1,6 @@
-//! The levels of the lookahead: entries that are prepared and not done, oldest first, in a ring,
-//! with their operands, their planned rows, and the index words that run ahead; and how their
-//! changes of index words are undone. `docs/timetable.md` has the rules.
+//! The look-ahead levels of a machine: entries that are prepared and not completed, oldest first,
+//! in a ring, with their operands, their planned rows, and the index words with their early
+//! changes. The levels can undo these changes. The rules are in `docs/timetable.md`.
 #![tactic(auto, using(st_bits::specs::Storage::words_of_storage_is))]
 
 mod filling;

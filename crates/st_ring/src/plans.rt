@@ -6,19 +6,19 @@ use st_rows::{Filled, IssueState};
 use std::marker::Model;
 use std::snapshot::Snapshot;
 
-// How many levels there can be.
+// The largest number of levels.
 const SLOTS: usize = 8;
 
 /// The planned row of a level.
 #[derive(Drop)]
 pub struct PlannedRow {
-    /// The front that the row was computed from, which clauses alone read.
+    /// The issue state that the row was computed from; only clauses read it.
     pub issue: Snapshot<IssueState>,
-    /// When the operands of the level are there.
+    /// R, the tick at which the operands of the level arrive.
     pub r: u64,
-    /// When it is done.
+    /// C, the tick at which the level completes.
     pub c: u64,
-    /// When its first two operand words above the registers are there; 0 where there is no such
+    /// The arrival ticks of the first two operand words that are not registers; 0 for a missing
     /// word.
     pub fills: [u64; 2],
 }
@@ -31,7 +31,7 @@ pub struct PlannedRowRing {
     len: usize,
 }
 
-// Clauses see the rows, oldest first.
+// The view is the list of rows, oldest first.
 impl Model for PlannedRowRing {
     ghost use Rattle.std.specs.Prelude.{List};
     ghost use Rattle.st_fetch.specs.Queue.{window, IsRing};
@@ -45,7 +45,7 @@ impl Model for PlannedRowRing {
 }
 
 impl PlannedRowRing {
-    /// No rows.
+    /// A ring without rows.
     pub fn new() -> PlannedRowRing
         ensures { result ≡ [] }
     {
@@ -65,7 +65,7 @@ impl PlannedRowRing {
         }
     }
 
-    /// The number of rows.
+    /// The number of rows, at most 8.
     pub fn len(&self) -> usize
         ensures value { result ≡ length self.now }
         ensures within { result ≤ 8 }
@@ -73,8 +73,8 @@ impl PlannedRowRing {
         self.len
     }
 
-    /// Appends the row of an entry behind `front`, whose operands are there as `filled` says; it is
-    /// the youngest then. There is room.
+    /// Appends the row of an entry that is issued from `issue` with the ticks `filled`, as the
+    /// youngest row. There must be room.
     pub fn push(&mut self, issue: &IssueState, filled: &Filled)
         requires { length self.old < 8 }
         ensures rows { self.new ≡ self.old ++ planned_row issue.now filled.now ∷ [] }
@@ -85,7 +85,7 @@ impl PlannedRowRing {
         self.len += 1;
     }
 
-    /// Row k, counted from the oldest, which is 0. There is one.
+    /// Row k, which must exist; row 0 is the oldest.
     pub fn get(&self, k: usize) -> &PlannedRow
         requires { k < length self.now }
         ensures { slice_get self.now k ≡ Some result.now }
@@ -93,7 +93,7 @@ impl PlannedRowRing {
         &self.slots[(self.head + k) % SLOTS]
     }
 
-    /// Takes away the oldest row. There is one.
+    /// Removes the oldest row, which must exist.
     pub fn drop_first(&mut self)
         requires { 0 < length self.old }
         ensures rows { self.new ≡ drop 1 self.old }
@@ -103,7 +103,7 @@ impl PlannedRowRing {
         self.len -= 1;
     }
 
-    /// Takes away all rows.
+    /// Removes all rows.
     pub fn clear(&mut self)
         ensures { self.new ≡ [] }
     {
@@ -111,7 +111,7 @@ impl PlannedRowRing {
     }
 }
 
-// What stands in a slot without a row.
+// The content of an unused slot.
 fn no_plan() -> PlannedRow {
     PlannedRow {
         issue: Snapshot::of(&IssueState::default()),
@@ -121,7 +121,7 @@ fn no_plan() -> PlannedRow {
     }
 }
 
-// The slot becomes the row of an entry behind `front`, whose operands are there as `filled` says.
+// Sets the slot to the row of an entry that is issued from `issue` with the ticks `filled`.
 fn plan_into(slot: &mut PlannedRow, issue: &IssueState, filled: &Filled)
     ensures { slot.new ≡ planned_row issue.now filled.now }
 {

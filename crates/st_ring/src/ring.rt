@@ -1,4 +1,4 @@
-//! The levels of the lookahead, oldest first.
+//! The ring of look-ahead levels, oldest first.
 ghost use Rattle.std.specs.Prelude.{◌≡◌, ℕ, ◌+◌, ◌<◌, ◌≤◌, List, [], ◌∷◌, ◌++◌, length, drop, slice_get, slice_set, MatchOption, IfSome, Some};
 ghost use Rattle.st_ring.specs.declared.level.Level.{Level as LevelOf};
 ghost use Rattle.st_ring.specs.OneLevel.{HasNumber, level_with_word as filled_of, prepared_at};
@@ -8,7 +8,7 @@ use crate::level::{Level, begin, put_word};
 use st_prep::{IndexChange, Prepared};
 use std::marker::Model;
 
-// How many levels there can be.
+// The largest number of levels.
 const SLOTS: usize = 8;
 
 /// At most N levels, oldest first; N is 1 to 8.
@@ -19,7 +19,7 @@ pub struct SpecRing<const N: usize> {
     len: usize,
 }
 
-// Clauses see the levels, oldest first.
+// The view is the list of levels, oldest first.
 impl<const N: usize> Model for SpecRing<N> {
     ghost use Rattle.std.specs.Prelude.{List};
     ghost use Rattle.st_fetch.specs.Queue.{window};
@@ -47,7 +47,7 @@ impl<const N: usize> SpecRing<N> {
         }
     }
 
-    /// The number of levels.
+    /// The number of levels, at most N.
     pub fn len(&self) -> usize
         ensures value { result ≡ length self.now }
         ensures within { result ≤ N }
@@ -55,8 +55,8 @@ impl<const N: usize> SpecRing<N> {
         self.len
     }
 
-    /// Appends a level, which is the youngest then. There is room, and the number of an index word
-    /// that it changes is below 16.
+    /// Appends a level as the youngest one. There must be room, and the number of the index word
+    /// that it changes must be below 16.
     pub fn push(&mut self, level: Level)
         requires room { length self.old < N }
         requires number { HasNumber level }
@@ -68,7 +68,7 @@ impl<const N: usize> SpecRing<N> {
     }
 
     /// Appends the level of an entry that is prepared at the tick `p`, with the operand words that
-    /// are there by then, as `push` does: it is written where it stands.
+    /// have arrived by then, as `push` does. The level is written in place.
     pub fn push_prepared(&mut self, prepared: &Prepared, p: u64, have: [Option<u64>; 2])
         requires room { length self.old < N }
         requires number { IfSome prepared.now.index (λ c. c.number < 16) }
@@ -80,7 +80,7 @@ impl<const N: usize> SpecRing<N> {
         self.len += 1;
     }
 
-    /// The oldest level. There is one.
+    /// The oldest level, which must exist.
     pub fn oldest(&self) -> &Level
         requires { 0 < length self.now }
         ensures level { self.now ≡ result.now ∷ drop 1 self.now }
@@ -89,7 +89,7 @@ impl<const N: usize> SpecRing<N> {
         &self.slots[self.head]
     }
 
-    /// Takes away the oldest level. There is one.
+    /// Removes the oldest level, which must exist.
     pub fn drop_oldest(&mut self)
         requires { 0 < length self.old }
         ensures levels { self.new ≡ drop 1 self.old }
@@ -99,7 +99,7 @@ impl<const N: usize> SpecRing<N> {
         self.len -= 1;
     }
 
-    /// Takes away the oldest level, and gives it. There is one.
+    /// Removes and returns the oldest level, which must exist.
     pub fn retire(&mut self) -> Level
         requires { 0 < length self.old }
         ensures level { self.old ≡ result ∷ self.new }
@@ -111,7 +111,7 @@ impl<const N: usize> SpecRing<N> {
         oldest
     }
 
-    /// Level k, counted from the oldest, which is 0. There is one.
+    /// A copy of level k, which must exist; level 0 is the oldest.
     pub fn get(&self, k: usize) -> Level
         requires { k < length self.now }
         ensures level { slice_get self.now k ≡ Some result }
@@ -120,7 +120,7 @@ impl<const N: usize> SpecRing<N> {
         *self.level(k)
     }
 
-    /// The same where it stands.
+    /// Level k, which must exist; level 0 is the oldest.
     pub fn level(&self, k: usize) -> &Level
         requires { k < length self.now }
         ensures level { slice_get self.now k ≡ Some result.now }
@@ -129,8 +129,8 @@ impl<const N: usize> SpecRing<N> {
         &self.slots[(self.head + k) % SLOTS]
     }
 
-    /// Puts an operand word that came at a tick into a slot, 0 or 1, of level k, counted from the
-    /// oldest. Its tick r becomes this tick, unless it is later already.
+    /// Puts an operand word that arrived at the tick into slot 0 or 1 of level k, where level 0 is
+    /// the oldest. The level's `r` is raised to this tick, if it was earlier.
     pub fn fill(&mut self, k: usize, slot: u8, word: u64, tick: u64)
         requires level { k < length self.old }
         requires slot { slot < 2 }
@@ -142,15 +142,15 @@ impl<const N: usize> SpecRing<N> {
         put_word(&mut self.slots[at], slot, word, tick);
     }
 
-    /// Puts the index words that the levels replaced back into `x`, that of the youngest level
-    /// first; leaves no level; and gives the number of levels that there were.
+    /// Restores in `x` the index words that the levels replaced, the youngest level first, removes
+    /// all levels, and returns their number.
     pub fn undo_into(&mut self, x: &mut [u64; 16]) -> u8
         ensures words { x.new ≡ unwound x.old self.old }
         ensures empty { self.new ≡ [] }
         ensures count { result ≡ length self.old }
 
-        // Where each level kept the word that it replaced, the words from before all of them stand
-        // there again.
+        // If each level recorded the word that it replaced, the index words are those from before
+        // all levels.
         ensures first_words { (first : List ℕ) → Kept first self.old → x.old
             ≡ index_words_after first self.old
             → x.new ≡ first }
@@ -162,7 +162,7 @@ impl<const N: usize> SpecRing<N> {
         undone
     }
 
-    // Takes away the youngest level, if there is one.
+    // Removes and returns the youngest level, if there is one.
     fn take_youngest(&mut self) -> Option<Level>
         ensures level { MatchOption result ((self.old ≡ []) × (self.new ≡ []))
             (λ level. self.old ≡ self.new ++ level ∷ []) }
@@ -176,7 +176,7 @@ impl<const N: usize> SpecRing<N> {
     }
 }
 
-// Puts the word that a change replaced back.
+// Restores the word that a change replaced.
 fn put_back(x: &mut [u64; 16], change: Option<IndexChange>)
     requires { IfSome change (λ c. c.number < 16) }
     ensures { x.new ≡ put_back_of x.old change }

@@ -1,4 +1,4 @@
-//! Whether a level is a transmission, and whether its guess was wrong.
+//! Whether an entry is a transmission, and whether it is mispredicted.
 ghost use Rattle.std.specs.Prelude.{◌≡◌, None, Some, if◌then◌else◌};
 ghost use Rattle.st_prep.specs.FewWords.{is_transmission as is_transmission_of};
 ghost use Rattle.st_prep.specs.Ranges.{IsPrepared};
@@ -16,7 +16,7 @@ pub(crate) fn is_transmission(instr: &Instr) -> bool
     matches!(*instr, Instr::Move { .. })
 }
 
-// The counter by which what runs ahead of an entry goes on, where the guess of it is wrong.
+// The predicted counter of an entry, if the entry is mispredicted.
 pub(crate) fn mispredicted(p: &Prepared, state: &State) -> Option<u32>
     requires { IsPrepared p.now }
     ensures { result ≡ (if is_mispredicted_of p.now state.now then Some p.now.following else None) }

@@ -1,4 +1,4 @@
--- The writers of all instruction words of an entry are awaited.
+-- An entry waits for the writers of all its instruction words.
 use Rattle.std.proofs.Common.{◌≡◌, ℕ, zero, suc, ◌+◌, ◌<◌, ◌≤◌, max, List, refl, arith, Option, None, Some}
 use Rattle.st_rows.specs.BusTimes.{answer_tick_on, bus_after_request}
 use Rattle.st_rows.specs.Entries.{latest_done}
@@ -39,7 +39,7 @@ module _ (ds : List ℕ) (f : IssueState) (e : Entry) (i : ℕ) where
   awaited-target inside =
       awaited-each ds f.past (max (wanted_from f) f.c) _ e.target.first e.target.len i (e.target.first + i) inside refl
 
--- answers only come later
+-- a further use does not make the latest arrival earlier
 module _ (ds : List ℕ) (past : List Past) (p : ℕ) where
   ready-later_if : (o : Option ℕ) (s : Fetching) (w : ℕ)
       → s.answered ≤ (read_if ds s w p o).answered
@@ -52,7 +52,7 @@ module _ (ds : List ℕ) (past : List Past) (p : ℕ) where
   ready-later s w (suc n) =
       omega (arith, ready-later (read_word ds past s w p) (w + 1) n, ready-later_if (forwarded_at past w p) s w)
 
--- the operands are there when the entry is prepared, or later
+-- operands arrive at preparation or later
 pub ready-after : (ds : List ℕ) (n : ℕ) (f : IssueState) (e : Entry) → tick_p ds n f e ≤ (operands ds n f e).answered
 unfolding operands operands_read read_words
 ready-after ds n f e =

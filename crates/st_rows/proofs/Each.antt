@@ -1,4 +1,4 @@
--- What holds of each read of an entry.
+-- Properties of each read of an entry.
 use Rattle.std.specs.Prelude.{if◌then◌else◌, nat_lt, Bool, IfSome}
 use Rattle.std.proofs.Common.{◌≡◌, ℕ, zero, suc, ◌+◌, ◌<◌, ◌≤◌, max, true, false, List, [], ◌++◌, All, Option, None, Some, refl, arith}
 use Rattle.std.proofs.lemmas.Bool.{ltb-true}

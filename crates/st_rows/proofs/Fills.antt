@@ -1,4 +1,4 @@
--- When the first operand words are there: after preparation, and before the entry is done.
+-- The first operand words arrive after preparation and before completion.
 use Rattle.std.specs.Prelude.{if◌then◌else◌, nat_lt, Bool}
 use Rattle.std.proofs.Common.{◌≡◌, ℕ, zero, suc, ◌+◌, ◌<◌, ◌≤◌, max, true, false, List, get_or, refl, ap, ◌∙◌, arith, None, Some}
 use Rattle.std.proofs.lemmas.Bool.{ltb-true, lt-ltb}
@@ -18,7 +18,7 @@ use Rattle.st_rows.proofs.Within.{delay-bounds, latest-within}
 use Rattle.st_rows.specs.declared.fetching.Fetching.{Fetching}
 use Rattle.st_rows.proofs.UseLemmas.{read_if}
 
--- ---- later than preparation
+-- ---- after preparation
 
 module _ (most : ℕ) (ds : List ℕ) (are : AreDelaysUpTo most ds) (past : List Past) where
   fill-late_if : (late : Bool) (b : Bus) (w p : ℕ) → (late ≡ true → p < latest_done past w)
@@ -37,7 +37,7 @@ module _ (most : ℕ) (ds : List ℕ) (are : AreDelaysUpTo most ds) (past : List
   unfolding fills_of
   second-late b run p some = rw (lt-ltb 1 run.len some) (fill-late (read_word ds past (record { bus = b; answered = p; awaited = 0 }) run.first p).bus (run.first + 1) p)
 
--- ---- not after the operands and the last completion
+-- ---- no later than the operands and the last completion
 
 module _ (ds : List ℕ) (past : List Past) (p c : ℕ) (before : ArePastWithin c past) where
   fill-early_if : (late : Bool) (s : Fetching) (w : ℕ)
@@ -71,7 +71,7 @@ module _ (ds : List ℕ) (past : List Past) (p c : ℕ) (before : ArePastWithin 
   fills-early b run (suc zero) = second-early (record { bus = b; answered = p; awaited = 0 }) run.first run.len
   fills-early b run (suc (suc i)) = omega arith
 
--- ---- the latest of two decides, where there are no more
+-- ---- the later of the two arrivals determines when the cost begins, if there are no others
 
 module _ (ds : List ℕ) (past : List Past) (p c : ℕ) (before : ArePastWithin c past) where
   fill-step_if : (late : Bool) (s : Fetching) (w : ℕ)

@@ -1,4 +1,4 @@
--- What holds of the ticks of all entries, proved.
+-- Proofs of the laws of the ticks of all entries.
 use Rattle.std.proofs.Common.{arith, [], ◌≡◌, ◌≤◌, ℕ, Option, None, Some, refl}
 use Rattle.st_rows.specs.Rows.{row_of_entry, address_tick, preparation_tick, tick_a, tick_p, tick_c, issue_after_entry, bus_a, opening_issue, wanted_from, operands}
 use Rattle.st_rows.proofs.Awaited.{awaited-own, awaited-target, ready-after}

@@ -1,4 +1,4 @@
--- What a log of reads is good for, proved.
+-- Proofs of the laws of the log.
 use Rattle.std.proofs.Common.{◌≡◌, ℕ, ◌<◌, List, [], ◌∷◌, ◌++◌, take, sym, subst, ap, ◌∙◌, append_assoc, arith}
 use Rattle.std.proofs.lemmas.List.{append-nil}
 use Rattle.std.proofs.lemmas.List.Elements.{All-append, All-weaker}
@@ -61,7 +61,7 @@ served-one : (ds : List ℕ) (reads : List Read) (r : Read) (b : Bus) → bus_af
 unfolding bus_after_reads
 served-one ds reads r b = served-append ds reads (r ∷ []) b
 
--- the log after more reads
+-- the log remains valid after more reads
 pub logged-noted : (ds : List ℕ) (now : ℕ) (reads added : List Read) (b : Bus) (log : List Made) → IsLogged ds now reads b log
     → IsLogged ds now (reads ++ added) b (log_after_reads ds added (bus_after_reads ds reads b) log)
 unfolding log_after_reads

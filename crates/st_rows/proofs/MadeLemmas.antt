@@ -1,4 +1,4 @@
--- Reads that are made before a tick.
+-- Reads that are accepted before a tick.
 use Rattle.std.specs.Prelude.{nat_lt}
 use Rattle.std.proofs.Common.{◌≡◌, ℕ, ◌+◌, ◌<◌, ◌≤◌, true, false, List, [], ◌∷◌, ◌++◌, All, refl, inl, inr, ◌⊎◌, arith}
 use Rattle.std.proofs.lemmas.Bool.{cases_Bool, ltb-true, lt-ltb, ltb-false}
@@ -8,7 +8,7 @@ use Rattle.st_rows.specs.BusTimes.{accept_at, Read, after_one}
 use Rattle.st_rows.specs.declared.bus.Bus.{Bus}
 use Rattle.st_rows.proofs.Served.{free-one_if}
 
--- a read is accepted before a tick, or it is not
+-- a read is accepted before a tick, at it, or later
 pub before-cases : (a t : ℕ) → ((nat_lt a t ≡ true) × (a < t)) ⊎ ((nat_lt a t ≡ false) × (t ≤ a))
 before-cases a t = elim (cases_Bool (nat_lt a t)) [ inl y ↦ inl (y, ltb-true a t y) | inr n ↦ inr (n, ltb-false a t n) ]
 
@@ -20,14 +20,14 @@ module _ (ds : List ℕ) where
   pub free-one : (b : Bus) (r : Read) → (after_one ds b r).free ≡ accept_at b r.w r.want + 1
   free-one b r = free-one_if ds r.fetch b r.w r.want
 
-  -- ---- free only rises
+  -- ---- the first free tick only increases
 
   pub free-served : (xs : List Read) (b : Bus) → b.free ≤ (bus_after_reads ds xs b).free
   unfolding bus_after_reads
   free-served [] b = omega arith
   free-served (r ∷ xs) b = omega (arith, free-one b r, free-served xs (after_one ds b r))
 
-  -- ---- all of them
+  -- ---- all reads are accepted before the tick
 
   pub all-made : (t : ℕ) (xs : List Read) (b : Bus) → (bus_after_reads ds xs b).free ≤ t → made_before ds t xs b ≡ bus_after_reads ds xs b
   unfolding made_before bus_after_reads
@@ -36,7 +36,7 @@ module _ (ds : List ℕ) where
       let early : accept_at b r.w r.want < t = omega (arith, free-one b r, free-served xs (after_one ds b r)) in
       rw (lt-ltb (accept_at b r.w r.want) t early) (all-made t xs (after_one ds b r) low)
 
-  -- then others are made on the bus behind them
+  -- if all of the first reads are accepted before the tick, the others follow on the bus after them
   pub made-behind : (t : ℕ) (xs ys : List Read) (b : Bus) → (bus_after_reads ds xs b).free ≤ t → made_before ds t (xs ++ ys) b ≡ made_before ds t ys (bus_after_reads ds xs b)
   unfolding made_before bus_after_reads
   made-behind t [] ys b low = refl
@@ -44,9 +44,9 @@ module _ (ds : List ℕ) where
       let early : accept_at b r.w r.want < t = omega (arith, free-one b r, free-served xs (after_one ds b r)) in
       rw (lt-ltb (accept_at b r.w r.want) t early) (made-behind t xs ys (after_one ds b r) low)
 
-  -- ---- none of them
+  -- ---- no read is accepted before the tick
 
-  -- reads that are wanted at a tick or later, behind others, change nothing of those that are made before
+  -- later reads that are requested at the tick or later do not affect the reads accepted before it
   pub made-more : (t : ℕ) (xs ys : List Read) (b : Bus) → All (λ (r : Read). t ≤ r.want) ys → made_before ds t (xs ++ ys) b ≡ made_before ds t xs b
   unfolding made_before
   made-more t [] [] b late = refl

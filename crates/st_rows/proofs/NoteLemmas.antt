@@ -1,4 +1,4 @@
--- Reads that are noted as they are made, and taken back.
+-- Reads that are recorded and undone.
 use Rattle.std.specs.Prelude.{if◌then◌else◌, nat_lt}
 use Rattle.std.proofs.Common.{◌≡◌, ℕ, zero, suc, ◌+◌, ◌-◌, ◌<◌, ◌≤◌, Bool, true, false, List, [], ◌∷◌, ◌++◌, length, take, drop, set, get_or, ◌%◌, ◌≢◌, All, length-set, refl, sym, ap, ◌∙◌, append_assoc, length-append, arith}
 use Rattle.std.proofs.lemmas.Bool.{lt-ltb, le-ltb, ltb-true, ltb-false}
@@ -14,9 +14,9 @@ use Rattle.st_rows.specs.declared.bus.Bus.{Bus}
 use Rattle.st_rows.specs.declared.log.Made.{Made}
 use Rattle.st_rows.proofs.Served.{free-one_if}
 
--- ---- one note
+-- ---- one record
 
--- an item that was written over is put back
+-- an overwritten item is restored
 set-back : (xs : List ℕ) (i x : ℕ) → set (set xs i x) i (get_or xs i 0) ≡ xs
 set-back [] i x = refl
 set-back (y ∷ xs) zero x = refl
@@ -25,13 +25,13 @@ set-back (y ∷ xs) (suc i) x = ap (λ (rest : List ℕ). y ∷ rest) (set-back 
 put-back : (answers : List ℕ) (w x : ℕ) → answered_at (answered_at answers w x) w (last_of answers w) ≡ answers
 put-back answers w x = set-back answers (bank_of w) x
 
--- a read that is late is taken back
+-- a late read is undone
 pub undone-late : (t : ℕ) (m : Made) (notes : List Made) (answers : List ℕ) → t ≤ m.tick
     → answers_left t (m ∷ notes) answers ≡ answers_left t notes (answered_at answers m.w m.before)
 unfolding answers_left
 undone-late t m notes answers late = rw (le-ltb m.tick t late) refl
 
--- nothing is, where the youngest one is early
+-- no read is undone if the youngest one is early
 pub undone-settled : (t : ℕ) (notes : List Made) (answers : List ℕ) → AreSettled t notes → answers_left t notes answers ≡ answers
 unfolding answers_left
 undone-settled t [] answers early = refl
@@ -41,7 +41,7 @@ early-settled : (t : ℕ) (notes : List Made) → AreEarly t notes → AreSettle
 early-settled t [] early = tt
 early-settled t (m ∷ notes) early = All-head (λ (x : Made). x.tick < t) m notes early
 
--- notes that are not kept do not count, where they are early
+-- early records that are not kept do not matter
 pub undone-take : (n t : ℕ) (notes : List Made) (answers : List ℕ) → AreEarly t (drop n notes)
     → answers_left t (take n notes) answers ≡ answers_left t notes answers
 unfolding answers_left
@@ -50,7 +50,7 @@ undone-take (suc n) t [] answers early = refl
 undone-take (suc n) t (m ∷ notes) answers early =
     ap (λ (x : List ℕ). if nat_lt m.tick t then answers else x) (undone-take n t notes (answered_at answers m.w m.before) early)
 
--- the oldest of some are early, where the youngest n are as many as may be late
+-- the oldest records are early if at most n records may be late
 pub drop-early : (n t : ℕ) (young old : List Made) → length young ≤ n → AreEarly t old → AreEarly t (drop n (young ++ old))
 drop-early n t [] old few early = All-drop (λ (x : Made). x.tick < t) n old early
 drop-early zero t (m ∷ young) old few early = absurd (omega (arith, few))
@@ -79,7 +79,7 @@ falling-more m (x ∷ notes) falls late = (
 
 -- ---- the ring
 
--- a write before the first item adds it in front
+-- a write before the first item adds it at the front
 pub window-issue : (head n : ℕ) (xs : List Made) (m : Made) → head < 64 → n < 64 → length xs ≡ 64
     → window ((head + 64 - 1) % 64) (n + 1) (set xs ((head + 64 - 1) % 64) m) ≡ m ∷ window head n xs
 window-issue head n xs m inside room whole =
@@ -110,17 +110,17 @@ window-issue head n xs m inside room whole =
         ∙ get_or-set_other xs at ((head + i) % 64) m d other
         ∙ sym (get_or-window 64 head n xs inside (omega arith) whole i d (omega (arith, in_range, length_new)))
 
--- with the last of 64 items left out
+-- a write into a full ring drops the last of 64 items
 pub window-full : (head : ℕ) (xs : List Made) (m : Made) → head < 64 → length xs ≡ 64
     → window ((head + 64 - 1) % 64) 64 (set xs ((head + 64 - 1) % 64) m) ≡ m ∷ take 63 (window head 64 xs)
 window-full head xs m inside whole =
     window-issue head 63 xs m inside (omega arith) whole ∙ ap (λ (rest : List Made). m ∷ rest) (sym (take-fewer 63 (drop head xs ++ take head xs)))
 
--- fewer items are all of them
+-- a prefix that is long enough is the whole list
 pub take-few : (n : ℕ) (notes : List Made) → length notes ≤ n → take n notes ≡ notes
 take-few n notes few = take_all n notes few
 
--- ---- reads, one after another
+-- ---- successive reads
 
 module _ (ds : List ℕ) where
   ticks-one_if : (fetch : Bool) (b : Bus) (w want : ℕ)
@@ -129,7 +129,7 @@ module _ (ds : List ℕ) where
   ticks-one_if true b w want = refl
   ticks-one_if false b w want = refl
 
-  -- the banks before a read stand again
+  -- undoing a read restores the last answers of the banks
   back-one : (b : Bus) (r : Read) → answered_at (after_one ds b r).banks.ticks r.w (last_of b.banks.ticks r.w) ≡ b.banks.ticks
   back-one b r =
       ap (λ (answers : List ℕ). answered_at answers r.w (last_of b.banks.ticks r.w)) (ticks-one_if r.fetch b r.w r.want)
@@ -159,7 +159,7 @@ module _ (ds : List ℕ) where
   length-logged [] b = refl
   length-logged (r ∷ reads) b = length-append (notes_of_reads ds reads (after_one ds b r)) (note b r ∷ []) ∙ omega (arith, length-logged reads (after_one ds b r))
 
-  -- reads are accepted before the bus behind them is free
+  -- reads are accepted before the first free tick of the bus after them
   pub logged-early : (reads : List Read) (b : Bus) → AreEarly (bus_after_reads ds reads b).free (notes_of_reads ds reads b)
   unfolding notes_of_reads bus_after_reads
   logged-early [] b = All-nil (λ (m : Made). m.tick < b.free)
@@ -168,7 +168,7 @@ module _ (ds : List ℕ) where
       All-append (λ (m : Made). m.tick < free) (notes_of_reads ds reads (after_one ds b r)) (note b r ∷ []) (logged-early reads (after_one ds b r))
       (All-cons (λ (m : Made). m.tick < free) (note b r) [] (omega (arith, free-one b r, free-rises reads (after_one ds b r))) (All-nil (λ (m : Made). m.tick < free)))
 
-  -- and not before the bus before them is
+  -- reads are accepted at the first free tick of the bus before them, or later
   logged-late : (reads : List Read) (b : Bus) → All (λ m. b.free ≤ m.tick) (notes_of_reads ds reads b)
   unfolding notes_of_reads
   logged-late [] b = All-nil (λ (m : Made). b.free ≤ m.tick)
@@ -186,9 +186,9 @@ module _ (ds : List ℕ) where
       (All-weaker (λ (m : Made). (after_one ds b r).free ≤ m.tick) (λ m. (note b r).tick < m.tick) (λ m late. omega (arith, late, free-one b r)) (notes_of_reads ds reads (after_one ds b r))
       (logged-late reads (after_one ds b r)))
 
-  -- ---- taken back
+  -- ---- undone reads
 
-  -- where the bus before them is not free before the tick, all of them are
+  -- all reads are undone if the bus before them is not free before the tick
   all-undone : (t : ℕ) (reads : List Read) (b : Bus) (older : List Made) → t ≤ b.free
       → answers_left t (notes_of_reads ds reads b ++ older) (bus_after_reads ds reads b).banks.ticks ≡ answers_left t older b.banks.ticks
   unfolding notes_of_reads bus_after_reads
@@ -216,7 +216,7 @@ module _ (ds : List ℕ) where
       ∙ ap (answers_left t older) (back-one b r)
       ∙ undone-settled t older b.banks.ticks (early-settled t older early)
 
-  -- those that are made before the tick alone are left
+  -- exactly the reads that are accepted before the tick remain
   pub undone-made : (t : ℕ) (reads : List Read) (b : Bus) (older : List Made) → AreEarly t older
       → answers_left t (notes_of_reads ds reads b ++ older) (bus_after_reads ds reads b).banks.ticks ≡ (made_before ds t reads b).banks.ticks
   unfolding notes_of_reads bus_after_reads made_before

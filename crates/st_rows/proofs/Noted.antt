@@ -1,4 +1,4 @@
--- The log after the reads of an entry, one part behind the other.
+-- The log after the reads of an entry, part by part.
 use Rattle.std.proofs.Common.{◌≡◌, ℕ, zero, suc, true, ◌+◌, ◌-◌, ◌≤◌, List, [], ◌∷◌, ◌++◌, refl, sym, ap, ◌∙◌, arith}
 use Rattle.st_rows.specs.Asked.{data_asked, operands_asked, runs_asked, inside_asked, following_asked, bus_after_reads}
 use Rattle.st_rows.specs.BusTimes.{Read, after_one}
@@ -19,13 +19,13 @@ module _ (ds : List ℕ) where
   noted-append [] ys b log = refl
   noted-append (x ∷ xs) ys b log = noted-append xs ys (after_one ds b x) _
 
-  -- one part, and what comes behind the bus that it leaves
+  -- the reads of a part, followed by those on the bus after it
   pub noted-two : (xs ys : List Read) (b d : Bus) (log new : List Made) → d ≡ bus_after_reads ds xs b → new ≡ log_after_reads ds xs b log
       → log_after_reads ds ys d new ≡ log_after_reads ds (xs ++ ys) b log
   noted-two xs ys b d log new is made = rw (is, made) (sym (noted-append xs ys b log))
 
   module _ (past : List Past) (p : ℕ) where
-    -- one operand word of a run
+    -- the read of one operand word of a run, followed by the rest
     pub operand-turn : (w : ℕ) (s t : Fetching) (n : ℕ) (log new : List Made) → t ≡ read_word ds past s w p → new ≡ log_after_reads ds (data_asked past w p) s.bus log → 1 ≤ n
         → log_after_reads ds (operands_asked past p (w + 1) (n - 1)) t.bus new ≡ log_after_reads ds (operands_asked past p w n) s.bus log
     unfolding operands_asked
@@ -35,7 +35,7 @@ module _ (ds : List ℕ) where
         let bus : t.bus ≡ bus_after_reads ds (data_asked past w p) s.bus = ap (λ (x : Fetching). x.bus) is ∙ sym (served-data ds past w p s) in
         rw e (noted-two (data_asked past w p) (operands_asked past p (w + 1) n) s.bus t.bus log new bus made)
 
-    -- two of them
+    -- the reads of two operand words of a run, followed by the rest
     pub operands-two : (w : ℕ) (s t u : Fetching) (n : ℕ) (log one two : List Made) → t ≡ read_word ds past s w p → u ≡ read_word ds past t (w + 1) p
         → one ≡ log_after_reads ds (data_asked past w p) s.bus log → two ≡ log_after_reads ds (data_asked past (w + 1) p) t.bus one → 2 ≤ n
         → log_after_reads ds (operands_asked past p (w + 2) (n - 2)) u.bus two ≡ log_after_reads ds (operands_asked past p w n) s.bus log
@@ -45,7 +45,7 @@ module _ (ds : List ℕ) where
         rw (further, less)
         (operand-turn (w + 1) t u (n - 1) one two then_is then_made (omega arith) ∙ operand-turn w s t n log one is made (omega arith))
 
-    -- one word alone
+    -- the read of a single operand word
     pub operand-one : (w : ℕ) (s t : Fetching) (n : ℕ) (log new : List Made) → t ≡ read_word ds past s w p → new ≡ log_after_reads ds (data_asked past w p) s.bus log → n ≡ 1
         → new ≡ log_after_reads ds (operands_asked past p w n) s.bus log
     unfolding operands_asked log_after_reads
@@ -54,7 +54,7 @@ module _ (ds : List ℕ) where
         let none : n - 1 ≡ 0 = omega arith in
         rw none at last
 
-  -- the second run behind the first
+  -- the reads of the first run, followed by those of the second
   pub runs-noted : (past : List Past) (p : ℕ) (reads : WordRuns) (s t : Fetching) (log one two : List Made)
       → t ≡ read_words ds past s p reads.one.first reads.one.len
       → one ≡ log_after_reads ds (operands_asked past p reads.one.first reads.one.len) s.bus log
@@ -65,7 +65,7 @@ module _ (ds : List ℕ) where
       ∙ noted-two (operands_asked past p reads.one.first reads.one.len) (operands_asked past p reads.two.first reads.two.len) s.bus t.bus log one
       (ap (λ (x : Fetching). x.bus) is ∙ sym (served-operands ds past p s reads.one.first reads.one.len)) one_is
 
-  -- both following words
+  -- the reads of both following words
   pub both-noted : (b d : Bus) (e : Entry) (p w : ℕ) (log one two : List Made) → e.follows ≡ true → w ≡ e.own.first + e.own.len
       → d ≡ request_inside ds b w p → one ≡ log_after_reads ds (inside_asked b w p) b log → two ≡ log_after_reads ds (inside_asked d (w + 1) p) d one
       → two ≡ log_after_reads ds (following_asked ds b e p) b log

@@ -1,4 +1,4 @@
--- Entries that lie as many back as there are levels decide no tick.
+-- Entries n or more before the last one do not affect any tick on n levels.
 use Rattle.std.specs.Prelude.{if◌then◌else◌, nat_lt, Bool}
 use Rattle.std.proofs.Common.{◌≡◌, ℕ, zero, suc, ◌+◌, ◌-◌, ◌<◌, ◌≤◌, max, true, false, List, [], ◌∷◌, get_or, take, Option, None, Some, refl, ap, ◌∙◌, inl, inr, ◌⊎◌, arith}
 use Rattle.std.proofs.lemmas.Bool.{cases_Bool, cases_lt, ltb-true}
@@ -20,7 +20,7 @@ use Rattle.st_rows.proofs.Sooner.{take-beyond}
 use Rattle.st_rows.specs.Uses.{behind, behind_use, uses, wishes}
 use Rattle.st_rows.proofs.UseLemmas.{read_if, side_if}
 
--- ---- they are done before the last entry is prepared
+-- ---- they are complete when the last entry is prepared
 
 older-taken : (n p : ℕ) (past : List Past) → ((j : ℕ) → n ≤ j → (get_or past j (record { c = 0; writes = no_runs })).c ≤ p)
     → (j : ℕ) → n ≤ j → (get_or (take 7 past) j (record { c = 0; writes = no_runs })).c ≤ p
@@ -40,7 +40,7 @@ older-after ds n f e some order =
     older-next n (tick_p ds n f e) (record { c = tick_c ds n f e; writes = e.writes }) (take 7 f.past) some
     (older-taken (n - 1) (tick_p ds n f e) f.past (λ j back. omega (arith, order.falls (n - 1) j back)))
 
--- ---- the latest writer among the last n entries, and among all that are kept
+-- ---- the latest writer among the last n entries, and among all kept entries
 
 abbrev AreAlike : ℕ → ℕ → ℕ → Type 0
 AreAlike p x y = (x ≡ y) ⊎ ((x ≡ 0) × (y ≤ p))
@@ -64,7 +64,7 @@ alike-max p m x y low (inr old) = omega (arith, old.0, old.1)
 not-later : (t y : ℕ) → y ≤ t → nat_lt t y ≡ false
 not-later t y low = elim (cases_Bool (nat_lt t y)) [ inl yet ↦ let none : ⊥ = omega (arith, ltb-true t y yet) in absurd none | inr f ↦ f ]
 
--- ---- one stage after the other
+-- ---- stage by stage
 
 record AreSame (p : ℕ) (s t : Fetching) : Type 0 where
   bus : s.bus ≡ t.bus
@@ -126,7 +126,7 @@ module _ (ds : List ℕ) (p : ℕ) (few past : List Past) (alike : (w : ℕ) →
       ap (λ (t : Fetching). read_words ds few t q reads.two.first reads.two.len) (same-reads q start reads.one.first reads.one.len late)
       ∙ same-reads q (read_words ds past start q reads.one.first reads.one.len) reads.two.first reads.two.len late
 
--- ---- the whole
+-- ---- the whole row
 
 take-thrice : (m k j : ℕ) (past : List Past) → m ≤ j → take m (take k (take j past)) ≡ take m (take k past)
 take-thrice zero k j past less = refl

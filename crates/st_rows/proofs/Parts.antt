@@ -1,4 +1,4 @@
--- The reads of an entry in their parts, when they are wanted, and when the bus is free of them.
+-- The reads of an entry in parts: when they are requested, and when the bus is free of them.
 use Rattle.std.proofs.Common.{◌≡◌, ℕ, ◌≤◌, List, ◌++◌, All, refl, append_assoc, arith}
 use Rattle.std.proofs.lemmas.List.Elements.{All-append}
 use Rattle.st_rows.specs.Asked.{side_asked, runs_asked, following_asked, fetches_asked, formed_asked, prepared_asked, data_of}
@@ -25,7 +25,7 @@ a-p ds n f e = omega arith
 pub two-parts : (ds : List ℕ) (n : ℕ) (f : IssueState) (e : Entry) → reads_of_entry ds n f e ≡ formed_asked ds f e ++ prepared_asked ds n f e
 two-parts ds n f e = reads-are ds n f e
 
--- each of the second part is wanted at preparation
+-- each read of the second part is requested at preparation
 pub at-prepared : (ds : List ℕ) (n : ℕ) (f : IssueState) (e : Entry) → All (λ (r : Read). r.want ≡ tick_p ds n f e) (prepared_asked ds n f e)
 at-prepared ds n f e =
     let p = tick_p ds n f e in
@@ -33,7 +33,7 @@ at-prepared ds n f e =
     (each-operand (λ (r : Read). r.want ≡ p) f.past e.reads p (λ v least most. refl) (λ v least most. refl))
     (each-following (λ (r : Read). r.want ≡ p) ds (operands ds n f e).bus e p (λ follows v least most. refl))
 
--- ---- when the buses behind the parts are free
+-- ---- when the bus is free after each part
 
 pub issue-formed : (ds : List ℕ) (f : IssueState) (e : Entry) → f.bus.free ≤ tick_a ds f e
 unfolding tick_a address_tick

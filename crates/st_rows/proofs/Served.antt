@@ -1,4 +1,4 @@
--- The reads of an entry, made one after the other, give the bus behind it.
+-- The reads of an entry, made in order, give the bus after it.
 use Rattle.std.specs.Prelude.{if◌then◌else◌, nat_lt, Bool}
 use Rattle.std.proofs.Common.{◌≡◌, ℕ, zero, suc, ◌+◌, ◌<◌, ◌≤◌, max, true, false, List, [], ◌∷◌, ◌++◌, length, Option, None, Some, refl, ap, sym, ◌∙◌, inl, inr, ◌⊎◌, length-append, arith}
 use Rattle.std.proofs.lemmas.Bool.{cases_Bool, ltb-true}
@@ -31,7 +31,7 @@ module _ (ds : List ℕ) where
   served-append [] ys b = refl
   served-append (x ∷ xs) ys b = served-append xs ys (after_one ds b x)
 
-  -- a word, given the tick at which it is there if it is not read
+  -- the read of a word, or none if the word arrives at a given tick without one
   served-one : (o : Option ℕ) (r : Read) (b : Bus) → bus_after_reads ds (read_made r o) b ≡ bus_if ds b r o
   unfolding bus_after_reads
   served-one (Some t) r b = refl
@@ -92,7 +92,7 @@ module _ (ds : List ℕ) where
       ∙ ap (bus_after_reads ds target) (served-words f.past (wanted_from f) start e.own.first e.own.len)
       ∙ served-words f.past (max (wanted_from f) f.c) own e.target.first e.target.len
 
-  -- the operands, and the following words behind them
+  -- the reads of the operands, followed by those of the following words
   pub served-runs : (n : ℕ) (f : IssueState) (e : Entry) → bus_after_reads ds (runs_asked f.past e.reads (tick_p ds n f e)) (bus_a ds f e) ≡ (operands ds n f e).bus
   unfolding operands operands_read read_words
   served-runs n f e =
@@ -111,7 +111,7 @@ module _ (ds : List ℕ) where
       let p = tick_p ds n f e in
       served-uses [] (unused (operands ds n f e).bus p) (followings e p)
 
-  -- both parts of its reads
+  -- both parts of the reads of an entry
   pub served-formed : (f : IssueState) (e : Entry) → bus_after_reads ds (formed_asked ds f e) f.bus ≡ bus_a ds f e
   unfolding bus_a bus_after_index_read
   served-formed f e =
@@ -132,7 +132,7 @@ module _ (ds : List ℕ) where
       ap (λ (rs : List Read). bus_after_reads ds rs f.bus) (reads-are ds n f e)
       ∙ served-append (formed_asked ds f e) others f.bus ∙ ap (bus_after_reads ds others) (served-formed f e) ∙ served-prepared n f e
 
--- ---- how many there are
+-- ---- the number of reads
 
 few-made : (o : Option ℕ) (r : Read) → length (read_made r o) ≤ 1
 few-made (Some t) r = omega arith
@@ -203,7 +203,7 @@ few-asked ds n f e =
 pub most-asked : (ds : List ℕ) (n : ℕ) (f : IssueState) (e : Entry) → own_reads e ≤ 36 → length (reads_of_entry ds n f e) ≤ 36 + 2
 most-asked ds n f e few = omega (arith, few, few-asked ds n f e)
 
--- ---- the reads that are made before a tick
+-- ---- the reads that are accepted before a tick
 
 ltb_cases : (a b : ℕ) → ((nat_lt a b ≡ true) × (a < b)) ⊎ (nat_lt a b ≡ false)
 ltb_cases a b = elim (cases_Bool (nat_lt a b)) [ inl t ↦ inl (t, ltb-true a b t) | inr n ↦ inr n ]

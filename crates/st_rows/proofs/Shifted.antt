@@ -1,4 +1,4 @@
--- The last eight entries in a ring, and what one more makes of them.
+-- The ring of the last eight entries, and the effect of adding one.
 use Rattle.std.specs.Prelude.{Bool, if◌then◌else◌, slice_set}
 use Rattle.std.proofs.Common.{◌≡◌, ℕ, zero, suc, ◌+◌, ◌-◌, ◌*◌, ◌%◌, ◌<◌, ◌≤◌, true, false, List, [], ◌∷◌, length, take, refl, arith}
 use mir.Val.{bool_byte}
@@ -6,7 +6,7 @@ use Rattle.st_fetch.specs.Queue.{window}
 use Rattle.st_rows.specs.Entries.{has_words, writer_bits}
 use Rattle.st_rows.specs.declared.past.Past.{Past}
 
--- a list of eight entries, by its entries
+-- a property of a list of eight entries, by its items
 of_eight : (P : List Past → Type 0)
     → ((a b c d e f g h : Past) → P (a ∷ b ∷ c ∷ d ∷ e ∷ f ∷ g ∷ h ∷ [])) → (xs : List Past) → length xs ≡ 8 → P xs
 of_eight P each (a ∷ b ∷ c ∷ d ∷ e ∷ f ∷ g ∷ h ∷ []) eight = each a b c d e f g h
@@ -20,7 +20,7 @@ of_eight P each (a ∷ b ∷ c ∷ d ∷ e ∷ f ∷ []) eight = absurd (omega a
 of_eight P each (a ∷ b ∷ c ∷ d ∷ e ∷ f ∷ g ∷ []) eight = absurd (omega arith)
 of_eight P each (a ∷ b ∷ c ∷ d ∷ e ∷ f ∷ g ∷ h ∷ i ∷ xs) eight = absurd (omega arith)
 
--- a number below eight, by each of them
+-- a property of a number below eight, by cases
 below_eight : (P : ℕ → Type 0) → P 0 → P 1 → P 2 → P 3 → P 4 → P 5 → P 6 → P 7 → (n : ℕ) → n < 8 → P n
 below_eight P a b c d e f g h zero below = a
 below_eight P a b c d e f g h (suc zero) below = b
@@ -32,7 +32,7 @@ below_eight P a b c d e f g h (suc (suc (suc (suc (suc (suc zero)))))) below = g
 below_eight P a b c d e f g h (suc (suc (suc (suc (suc (suc (suc zero))))))) below = h
 below_eight P a b c d e f g h (suc (suc (suc (suc (suc (suc (suc (suc n)))))))) below = absurd (omega arith)
 
--- the newest entry takes the place before the head, that of the oldest one
+-- the newest entry is written to the place before the head, over the oldest one
 pub window-put : (head : ℕ) (xs : List Past) (newest : Past) → head < 8 → length xs ≡ 8
     → window ((head + 8 - 1) % 8) 8 (slice_set xs ((head + 8 - 1) % 8) newest) ≡ newest ∷ take 7 (window head 8 xs)
 window-put head xs newest inside eight =
@@ -41,17 +41,17 @@ window-put head xs newest inside eight =
     below_eight (λ k. window ((k + 8 - 1) % 8) 8 (slice_set ys ((k + 8 - 1) % 8) newest) ≡ newest ∷ take 7 (window k 8 ys))
     refl refl refl refl refl refl refl refl head inside) xs eight
 
--- a bit is 1 at most
+-- a bit is at most 1
 bit-small : (b : Bool) → (if b then 1 else 0) ≤ 1
 bit-small true = omega arith
 bit-small false = omega arith
 
--- a bit is what the code makes of a test
+-- the code's bit of a test is that of the definition
 pub bit-is : (b : Bool) → bool_byte b ≡ (if b then 1 else 0)
 bit-is true = refl
 bit-is false = refl
 
--- the bits of the entries move on with them
+-- the bits of the entries move along with the entries
 pub bits-shifted : (newest : Past) (xs : List Past) → length xs ≡ 8
     → writer_bits xs % 128 * 2 + (if has_words newest.writes then 1 else 0) ≡ writer_bits (newest ∷ take 7 xs)
 unfolding writer_bits

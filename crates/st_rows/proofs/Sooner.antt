@@ -1,4 +1,4 @@
--- Ticks that are nowhere later lead to ticks that are nowhere later, where all reads take the same time and nothing is forwarded.
+-- From ticks that are no later follow ticks that are no later, if all reads take equally long and nothing is forwarded.
 use Rattle.std.specs.Prelude.{◌==◌, ◌||◌, ◌%◌, if◌then◌else◌, nat_lt, Bool, IfSome}
 use Rattle.std.proofs.Common.{◌≡◌, ℕ, zero, suc, ◌+◌, ◌-◌, ◌<◌, ◌≤◌, max, true, false, List, [], ◌∷◌, length, get_or, set, take, replicate, All, Option, None, Some, refl, sym, inl, inr, arith, subst}
 use Rattle.std.specs.List.{AllZip}
@@ -30,7 +30,7 @@ use Rattle.st_rows.proofs.Within.{past-weaker}
 use Rattle.st_rows.proofs.Stages.{nth-within}
 use Rattle.st_rows.proofs.UseLemmas.{followed-is}
 
--- ---- lists in pairs
+-- ---- pairs of lists
 
 pub paired-take : {A : Type 0} (R : A → A → Type 0) (n : ℕ) (xs ys : List A) → AllZip R xs ys → AllZip R (take n xs) (take n ys)
 paired-take R zero xs ys is = tt
@@ -53,7 +53,7 @@ paired-set (x ∷ xs) [] i s t low is = absurd is
 paired-set (x ∷ xs) (y ∷ ys) zero s t low is = (low, is.1)
 paired-set (x ∷ xs) (y ∷ ys) (suc i) s t low is = (is.0, paired-set xs ys i s t low is.1)
 
--- the same word is held by both or by neither
+-- the word is held in both buffers, answered no later in the first, or in neither
 abbrev BothSooner : Option ℕ → Option ℕ → Type 0
 BothSooner None None = Unit {0}
 BothSooner None (Some t) = ⊥
@@ -87,7 +87,7 @@ nth-sooner (x ∷ xs) [] i is = absurd is
 nth-sooner (x ∷ xs) (y ∷ ys) zero is = is.0.0
 nth-sooner (x ∷ xs) (y ∷ ys) (suc i) is = nth-sooner xs ys i is.1
 
--- a word that no entry writes is not forwarded
+-- a word that no entry writes has no latest writer
 unwritten-latest : (past : List Past) (w : ℕ) → All (λ entry. is_among w entry.writes ≡ false) past → latest_done past w ≡ 0
 unfolding latest_done
 unwritten-latest [] w none = refl
@@ -101,7 +101,7 @@ not-below-zero t = grind (arith, nat_tests)
 pub not-forwarded : (past : List Past) (w t : ℕ) → All (λ entry. is_among w entry.writes ≡ false) past → is_forwarded past w t ≡ false
 not-forwarded past w t none = rw (unwritten-latest past w none) (not-below-zero t)
 
--- the two machines keep entries that write the same words
+-- both machines keep entries that write equal words
 pub unwritten-same : (past late : List Past) (w : ℕ) → AllZip IsPastSooner past late
     → All (λ entry. is_among w entry.writes ≡ false) past → All (λ entry. is_among w entry.writes ≡ false) late
 unwritten-same [] [] w is none = none
@@ -227,9 +227,9 @@ module _ (d : ℕ) (ds : List ℕ) (are : AreEqual d ds) where
       inside_if-sooner (nat_lt (w + 1) words_of_storage) (request_inside ds b w p) (request_inside ds c w q) (w + 1) p q
       (inside_if-sooner (nat_lt w words_of_storage) b c w p q is low) low
 
--- ---- one entry, on m levels and on n, which are no more
+-- ---- one entry, on m levels and on n levels, where n is at most m
 
--- none of the entries before writes a word that it reads besides its instruction words
+-- none of the previous entries writes a word that the entry reads, except instruction words
 pub record IsHazardFreeBehind (past : List Past) (e : Entry) : Type 0 where
   pub side : IfSome e.side (λ w. All (λ entry. is_among w entry.writes ≡ false) past)
   pub one : (v : ℕ) → e.reads.one.first ≤ v → v < e.reads.one.first + e.reads.one.len → All (λ entry. is_among v entry.writes ≡ false) past
@@ -307,9 +307,9 @@ module _ (d : ℕ) (ds : List ℕ) (are : AreEqual d ds) (m n : ℕ) (more : n �
     past = ((c-sooner, refl), paired-take IsPastSooner 7 f.past g.past is.past);
   }
 
--- ---- the order of completions, and the words that are written
+-- ---- the order of completions, and the written words
 
--- behind the entries that are taken there are none
+-- there are no entries past the prefix
 pub take-beyond : (past : List Past) (k j : ℕ) → k ≤ j → (get_or (take k past) j (record { c = 0; writes = no_runs })).c ≤ 0
 take-beyond past zero j low = omega arith
 take-beyond [] (suc k) j low = omega arith
@@ -378,7 +378,7 @@ rows-sooner d ds are m n more (e ∷ es) f g earlier is order covered hazard_fre
           (after-sooner d ds are m n more f g e is order behind) (order-after ds n g e order) (covered-after ds m f e earlier covered) hazard_free.1,
     )
 
--- from the start of a segment
+-- ---- from the start of a segment
 
 same-ticks : (xs : List ℕ) → AllZip (λ s t. s ≤ t) xs xs
 same-ticks [] = tt

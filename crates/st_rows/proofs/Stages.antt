@@ -1,4 +1,4 @@
--- How late the ticks of an entry can be, stage by stage, where no delay is longer than `most`.
+-- Bounds of the ticks of an entry, stage by stage, if no delay is longer than `most`.
 use Rattle.std.proofs.Common.{ℕ, zero, suc, ◌+◌, ◌-◌, ◌*◌, ◌<◌, ◌≤◌, max, true, false, Bool, List, [], ◌∷◌, get_or, Option, None, Some, arith}
 use Rattle.std.specs.Prelude.{IfSome, ◌||◌, if◌then◌else◌}
 use Rattle.std.proofs.Math.Nat.{max-le, mul-le-mul_right}
@@ -18,16 +18,16 @@ use Rattle.st_rows.specs.declared.issue.IssueState.{IssueState}
 use Rattle.st_rows.proofs.Within.{latest-within, bus-weaker, past-weaker, fetching-weaker, reading-weaker, answer-within, read-within, fetch_words-within, read_words-within}
 use Rattle.st_rows.proofs.UseLemmas.{side_if}
 
--- an index-side word that is read is one of storage
+-- an index-side word that is read lies above the registers
 pub side-above : (side : Option ℕ) (end : ℕ) → IfSome side (λ w. (32 ≤ w) × (w < end)) → IfSome side (λ w. 32 ≤ w)
 side-above None end inside = tt
 side-above (Some w) end inside = inside.0
 
--- the bus of a tight front
+-- the bus of a tight issue state
 pub tight-bus : (most : ℕ) (f : IssueState) → IsTight most f → IsBusWithin (f.c + 3 * most + 2) f.bus
 tight-bus most f is = bus-weaker (f.bus.free + most) (f.c + 3 * most + 2) f.bus (omega (arith, is.free)) is.near
 
--- the first want is no later than the last completion
+-- the first request is no later than the last completion
 pub wanted-early : (most : ℕ) (f : IssueState) → IsTight most f → wanted_from f ≤ f.c
 wanted-early most f is = wanted-if f.serial
   where
@@ -36,7 +36,7 @@ wanted-early most f is = wanted-if f.serial
     wanted-if false = is.prepared
 
 module _ (most : ℕ) (ds : List ℕ) (are : AreDelaysUpTo most ds) where
-  -- two runs of at most two words
+  -- the instruction words of two runs of at most two words
   pub fetch_two-within : (past : List Past) (from w n m : ℕ) (s : Fetching) → n ≤ 2 → ArePastWithin m past → IsFetchingWithin m s → from ≤ m
       → IsFetchingWithin (m + 2 * (most + 1)) (fetch_words ds past s from w n)
   fetch_two-within past from w n m s few before is early =

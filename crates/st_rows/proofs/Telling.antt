@@ -1,4 +1,4 @@
--- Who looks on is told of the words of an entry, one after another.
+-- An observer is notified of the words of an entry, in order.
 use Rattle.std.specs.Prelude.{Bool, map, if◌then◌else◌, nat_lt}
 use Rattle.std.proofs.Common.{◌≡◌, ℕ, zero, suc, ◌+◌, ◌-◌, ◌≤◌, true, false, List, [], ◌∷◌, ◌++◌, refl, sym, ◌∙◌, ap, arith}
 use Rattle.st_bits.specs.Storage.{words_of_storage}
@@ -15,11 +15,11 @@ use Rattle.st_rows.specs.declared.past.Past.{Past}
 use Rattle.st_rows.specs.declared.uses.Role.TheVariants.{Operand, Following}
 use Rattle.st_rows.specs.declared.uses.Use.{Use}
 
--- words are told in two parts, or at once
+-- two successive notifications are one notification of both lists
 abbrev pub Joins : {A : Type 0} → (List Use → A → A) → Type 0
 Joins noted = (a b : List Use) (m : _) → noted b (noted a m) ≡ noted (a ++ b) m
 
--- nothing is told where there are no words
+-- a notification of no words has no effect
 abbrev pub Rests : {A : Type 0} → (List Use → A → A) → Type 0
 Rests noted = (m : _) → noted [] m ≡ m
 
@@ -28,7 +28,7 @@ module _ {A : Type 0} (noted : List Use → A → A) (more : Joins noted) where
   told-two a b m n o one two = two ∙ ap (noted b) one ∙ more a b m
 
   module _ (ds : List ℕ) (past : List Past) (p : ℕ) where
-    -- one operand word of a run, and those behind it
+    -- the notification of one operand word of a run, followed by that of the rest
     pub told-turn : (w : ℕ) (s t : Fetching) (k : ℕ) (m n : A) → t ≡ read_word ds past s w p
         → n ≡ noted (told ds past (use_of ds past s (record { role = Operand; w = w; from = p }) ∷ [])) m → 1 ≤ k
         → noted (told ds past (uses ds past t (wishes Operand p (w + 1) (k - 1)))) n ≡ noted (told ds past (uses ds past s (wishes Operand p w k))) m
@@ -39,7 +39,7 @@ module _ {A : Type 0} (noted : List Use → A → A) (more : Joins noted) where
         let x = use_of ds past s (record { role = Operand; w = w; from = p }) in
         rw (e, one, is) (more (told ds past (x ∷ [])) (told ds past (uses ds past (behind_use ds past s x) (wishes Operand p (w + 1) k))) m)
 
-    -- two of them, and those behind
+    -- the notification of two operand words, followed by that of the rest
     pub told-behind : (w : ℕ) (s t u : Fetching) (k : ℕ) (m n o : A) → t ≡ read_word ds past s w p → u ≡ read_word ds past t (w + 1) p
         → n ≡ noted (told ds past (use_of ds past s (record { role = Operand; w = w; from = p }) ∷ [])) m
         → o ≡ noted (told ds past (use_of ds past t (record { role = Operand; w = w + 1; from = p }) ∷ [])) n → 2 ≤ k
@@ -50,19 +50,19 @@ module _ {A : Type 0} (noted : List Use → A → A) (more : Joins noted) where
         rw (further, less)
         (told-turn (w + 1) t u (k - 1) n o then_is two (omega arith) ∙ told-turn w s t k m n is one (omega arith))
 
-  -- where none is left
+  -- the notification after the last word
   module _ (none : Rests noted) (ds : List ℕ) (past : List Past) (p : ℕ) where
     pub told-none : (w k : ℕ) (s : Fetching) (m : A) → k ≡ 0 → noted (told ds past (uses ds past s (wishes Operand p w k))) m ≡ m
     unfolding uses wishes
     told-none w k s m is = rw is (none m)
 
-    -- one word alone
+    -- the notification of a single operand word
     pub told-one : (w : ℕ) (s : Fetching) (k : ℕ) (m n : A) → n ≡ noted (told ds past (use_of ds past s (record { role = Operand; w = w; from = p }) ∷ [])) m → k ≡ 1
         → n ≡ noted (told ds past (uses ds past s (wishes Operand p w k))) m
     unfolding uses wishes
     told-one w s k m n one is = rw is one
 
-  -- a word that may lie behind storage
+  -- the notification of a following word, which may lie outside storage
   module _ (none : Rests noted) (ds : List ℕ) (b : Bus) (w p : ℕ) where
     pub told-outside : (m : A) → nat_lt w words_of_storage ≡ false → m ≡ noted (told ds [] (uses ds [] (unused b p) (inside_wish w p))) m
     unfolding uses
@@ -74,7 +74,7 @@ module _ {A : Type 0} (noted : List Use → A → A) (more : Joins noted) where
     unfolding uses
     told-inside m n within one = rw within one
 
-  -- both following words
+  -- the notification of both following words
   module _ (ds : List ℕ) (b : Bus) where
     both_if : (one two : Bool) (w v p : ℕ)
         → uses ds [] (unused b p) ((if one then record { role = Following; w = w; from = p } ∷ [] else []) ++ (if two then record { role = Following; w = v; from = p } ∷ [] else []))

@@ -1,4 +1,4 @@
--- The ticks of a front stay close together from entry to entry.
+-- The ticks of issue states stay close together from entry to entry.
 use Rattle.std.specs.Prelude.{if◌then◌else◌, nat_lt, Bool}
 use Rattle.std.proofs.Common.{ℕ, zero, suc, ◌+◌, ◌*◌, ◌<◌, ◌≤◌, max, true, false, List, take, Option, None, Some, arith, subst, sym, [], ◌∷◌}
 use Rattle.std.proofs.Math.Nat.{max-le}
@@ -24,14 +24,14 @@ use Rattle.st_rows.proofs.UseLemmas.{followed-is, read_if, side_if}
 module _ (most : ℕ) (ds : List ℕ) (are : AreDelaysUpTo most ds) where
   -- ---- one read
 
-  -- it is accepted when the bus is free and when it is wanted, and soon after both
+  -- a read is accepted when the bus is free and the read is requested, or soon after
   pub accept-bounds : (b : Bus) (w want : ℕ) → IsNear most b
       → (b.free ≤ accept_at b w want) × (want ≤ accept_at b w want) × (accept_at b w want ≤ max (b.free + most) want)
   accept-bounds b w want is =
       let bank = at-within (b.free + most) b.banks.ticks (bank_of w) is.banks in
       (omega arith, omega arith, max-le (max-le (omega arith) (omega arith)) (omega arith))
 
-  -- the bus is free before the answer
+  -- the bus is free no later than the answer
   pub free-answer : (b : Bus) (w want : ℕ) → (bus_after_read ds b w want).free ≤ answer_at ds b w want
   unfolding bus_after_read
   free-answer b w want = omega (arith, delay-bounds most ds (accept_at b w want) are)
@@ -96,7 +96,7 @@ module _ (most : ℕ) (ds : List ℕ) (are : AreDelaysUpTo most ds) where
   unfolding bus_after_request
   soon-requested b w want is = soon-requested_if (tick_of b.held.words w) b w want is
 
-  -- ---- the instruction words of an entry, behind a bus that is free at the tick `free`
+  -- ---- the instruction words of an entry, on a bus that is free at the tick `free`
 
   module _ (past : List Past) (from : ℕ) where
     pub free-fetch : (free : ℕ) (s : Fetching) (w n : ℕ) → s.bus.free ≤ max free s.answered
@@ -148,7 +148,7 @@ module _ (most : ℕ) (ds : List ℕ) (are : AreDelaysUpTo most ds) where
   free-sided past b None a is = omega arith
   free-sided past b (Some w) a is = free-side_if (forwarded_at past w a) b w a is
 
-  -- ---- following words, of which each is wanted by the tick c at the latest
+  -- ---- following words, each requested at the tick c or earlier
 
   near-inside_if : (inside : Bool) (b : Bus) (w p : ℕ) → IsNear most b → IsNear most (if inside then bus_after_request ds b w p else b)
   unfolding bus_after_request
@@ -169,7 +169,7 @@ module _ (most : ℕ) (ds : List ℕ) (are : AreDelaysUpTo most ds) where
       let two = soon-inside_if (nat_lt (w + 1) words_of_storage) (request_inside ds b w p) (w + 1) p (c + most + 1) near (omega arith) one in
       omega arith
 
-  -- ---- the whole
+  -- ---- the whole row
 
   module _ (n : ℕ) (f : IssueState) (e : Entry) (entry : IsEntryInTime e) (tight : IsTight most f) where
     near-fetched : IsNear most (words_tick ds f e).bus

@@ -1,4 +1,4 @@
--- One turn of a loop over the words of a run.
+-- One iteration of a loop over the words of a run.
 use Rattle.std.proofs.Common.{◌≡◌, ℕ, zero, suc, ◌+◌, ◌-◌, ◌≤◌, List, refl, arith}
 use Rattle.st_rows.specs.Words.{read_word, read_words}
 use Rattle.st_rows.specs.declared.past.Past.{Past}
@@ -12,7 +12,7 @@ module _ (ds : List ℕ) (past : List Past) (w tick : ℕ) where
   read-turn s t zero is some = let no : ⊥ = omega arith in absurd no
   read-turn s t (suc n) is some = let e : suc n - 1 ≡ n = omega arith in rw (is, e) refl
 
-  -- two turns
+  -- two iterations
   pub read-two : (s t u : Fetching) (n : ℕ) → t ≡ read_word ds past s w tick → u ≡ read_word ds past t (w + 1) tick → 2 ≤ n
       → read_words ds past u tick (w + 2) (n - 2) ≡ read_words ds past s tick w n
   unfolding read_words behind uses wishes read_word

@@ -1,4 +1,4 @@
--- What the list of uses of an entry comes to, part by part.
+-- The uses of an entry, part by part.
 use Rattle.std.specs.Prelude.{if◌then◌else◌, nat_lt, Bool}
 use Rattle.std.proofs.Common.{◌≡◌, ℕ, zero, suc, ◌+◌, true, false, List, [], ◌∷◌, ◌++◌, Option, None, Some, refl, append_assoc, ap, sym, ◌∙◌}
 use Rattle.std.proofs.lemmas.List.{append-nil}
@@ -17,13 +17,13 @@ use Rattle.st_rows.specs.declared.past.Past.{Past}
 use Rattle.st_rows.specs.declared.fetching.Fetching.{Fetching}
 use Rattle.st_rows.specs.declared.issue.IssueState.{IssueState}
 
--- ---- a word that is not held, given the tick at which it is there without a read
+-- ---- a word that is not held; it needs no read if it arrives at a given tick
 
--- the bus behind it
+-- the bus after the word
 abbrev pub side_if : List ℕ → Bus → ℕ → ℕ → Option ℕ → Bus
 side_if ds b w want o = bus_if ds b (record { w = w; want = want; fetch = false }) o
 
--- how far the operands are read behind it
+-- the progress through the operands after the word
 abbrev pub read_if : List ℕ → Fetching → ℕ → ℕ → Option ℕ → Fetching
 read_if ds s w p o = record {
   bus = side_if ds s.bus w p o;
@@ -31,7 +31,7 @@ read_if ds s w p o = record {
   awaited = s.awaited;
 }
 
--- ---- words that are asked for in two parts
+-- ---- words that are requested in two parts
 
 module _ (ds : List ℕ) (past : List Past) where
   pub uses-append : (s : Fetching) (xs ys : List Wish)

@@ -24,7 +24,7 @@ use Rattle.st_rows.proofs.UseLemmas.{read_if}
 pub delays-are : (d : Delays) → AreDelaysUpTo 255 d.list
 delays-are d = record { some = d.some; each = d.each }
 
--- an item of a list, or the 0 past its end
+-- an item of a list, or 0 past its end
 pub at-within : (m : ℕ) (xs : List ℕ) (i : ℕ) → All (λ t. t ≤ m) xs → get_or xs i 0 ≤ m
 at-within m [] i all = omega arith
 at-within m (x ∷ xs) zero all = All-head (λ t. t ≤ m) x xs all
@@ -39,7 +39,7 @@ delay-bounds most ds t are =
 pub accept-within : (m : ℕ) (b : Bus) (w want : ℕ) → IsBusWithin m b → want ≤ m → accept_at b w want ≤ m
 accept-within m b w want is early = max-le (max-le is.free early) (at-within m b.banks.ticks (bank_of w) is.banks)
 
--- the completion of the latest writer
+-- the completion tick of the latest writer
 pub latest-within : (m : ℕ) (past : List Past) (w : ℕ) → ArePastWithin m past → latest_done past w ≤ m
 unfolding latest_done
 latest-within m [] w are = omega arith
@@ -48,7 +48,7 @@ latest-within m (d ∷ past) w are = elim (cases_Bool (is_among w d.writes)) [
   | inr n ↦ rw n (latest-within m past w (record { each = All-tail (λ (entry : Past). entry.c ≤ m) d past are.each }))
 ]
 
--- the tick of a held word
+-- the answer of a held word
 pub found-within : (m : ℕ) (held : List AskedWord) (w : ℕ) → All (λ h. h.tick ≤ m) held → IfSome (tick_of held w) (λ t. t ≤ m)
 found-within m [] w all = tt
 found-within m (h ∷ held) w all = elim (cases_Bool (h.w == w)) [
@@ -56,7 +56,7 @@ found-within m (h ∷ held) w all = elim (cases_Bool (h.w == w)) [
   | inr n ↦ rw n (found-within m held w (All-tail (λ (f : AskedWord). f.tick ≤ m) h held all))
 ]
 
--- a greater bound serves as well
+-- a greater bound holds too
 pub bus-weaker : (m n : ℕ) (b : Bus) → m ≤ n → IsBusWithin m b → IsBusWithin n b
 bus-weaker m n b more is = record {
   free = omega (arith, is.free);
@@ -82,7 +82,7 @@ reading-weaker m n s more is = record {
   answered = omega (arith, is.answered);
 }
 
--- reads are wanted and accepted at m at the latest, and answered at n
+-- reads are requested and accepted at m at the latest, and answered at n
 module _ (most : ℕ) (ds : List ℕ) (are : AreDelaysUpTo most ds) (m n : ℕ) (more : m + most + 1 ≤ n) where
   pub answer-within : (b : Bus) (w want : ℕ) → IsBusWithin m b → want ≤ m → answer_at ds b w want ≤ n
   answer-within b w want is early =
@@ -139,11 +139,11 @@ module _ (most : ℕ) (ds : List ℕ) (are : AreDelaysUpTo most ds) (m n : ℕ) 
         awaited = max-le (omega (arith, is.awaited)) (omega (arith, latest-within m past w before));
       }
 
--- one word more
+-- one more word
 one-more : (m n k : ℕ) → m + k + n * k ≤ m + suc n * k
 one-more m n k = rw (suc-mul n k) (omega arith)
 
--- so do runs of words, each of which may take as long as the longest delay, and one tick more
+-- runs of words, each word of which takes at most the longest delay plus one tick
 module _ (most : ℕ) (ds : List ℕ) (are : AreDelaysUpTo most ds) (past : List Past) where
   pub fetch_words-within : (from : ℕ) (s : Fetching) (w n m : ℕ) → ArePastWithin m past → IsFetchingWithin m s → from ≤ m
       → IsFetchingWithin (m + n * (most + 1)) (fetch_words ds past s from w n)

@@ -12,11 +12,11 @@ use Rattle.st_rows.specs.Entries.{is_in, is_among, no_runs, has_words, writer_bi
 use Rattle.st_rows.specs.Supplies.{writer_back}
 use Rattle.st_rows.specs.declared.past.Past.{Past}
 
--- the entry at a place, one without words behind the last one
+-- the entry at a place; past the end, one without words
 abbrev pub nth : List Past → ℕ → Past
 nth past i = get_or past i (record { c = 0; writes = no_runs })
 
--- a number that a bit is put behind
+-- a number with an appended bit
 lowest-bit : (m : ℕ) (b : Bool) → (2 * m + (if b then 1 else 0)) % 2 ≡ (if b then 1 else 0)
 lowest-bit m true = omega arith
 lowest-bit m false = omega arith
@@ -33,12 +33,12 @@ writer-bit (entry ∷ past) zero = bit_at_lowest _ ∙ lowest-bit (writer_bits p
 writer-bit (entry ∷ past) (suc i) =
     bit_at-suc _ i ∙ ap (λ m. bit_at m i) (bits-above (writer_bits past) (has_words entry.writes)) ∙ writer-bit past i
 
--- runs without words have none
+-- empty runs contain no word
 none-in : (w a k b l : ℕ) → (nat_lt 0 k || nat_lt 0 l) ≡ false
     → ((nat_le a w && nat_lt w (a + k)) || (nat_le b w && nat_lt w (b + l))) ≡ false
 none-in w a k b l none = grind (arith, nat_tests)
 
--- a bit that is 0
+-- a test whose bit is 0 fails
 no-bit : (b : Bool) (bit : ℕ) → bit ≡ (if b then 1 else 0) → bit ≡ 0 → b ≡ false
 no-bit true bit is none = absurd (omega arith)
 no-bit false bit is none = refl
@@ -50,7 +50,7 @@ silent past w i zero_bit =
     let runs = (nth past i).writes in
     none-in w runs.one.first runs.one.len runs.two.first runs.two.len (no-bit (has_words runs) _ (writer-bit past i) zero_bit)
 
--- each bit that is 1 has an entry
+-- each bit that is 1 belongs to an entry
 writer-inside : (past : List Past) (i : ℕ) → bit_at (writer_bits past) i ≡ 1 → i < length past
 unfolding writer_bits
 writer-inside [] i is = absurd (let none : bit_at 0 i ≡ 0 = bit_at-zero i in omega arith)
@@ -59,7 +59,7 @@ writer-inside (entry ∷ past) (suc i) is =
     let inside = writer-inside past i (sym (ap (λ m. bit_at m i) (bits-above (writer_bits past) (has_words entry.writes))) ∙ (sym (bit_at-suc _ i) ∙ is)) in
     omega arith
 
--- the entries whose bits are left are still to be looked at, and no other one writes the word
+-- each remaining bit belongs to an entry, and each entry that writes the word has one
 pub record IsLeft (past : List Past) (w left : ℕ) : Type 0 where
   pub inside : (i : ℕ) → bit_at left i ≡ 1 → i < length past
   pub others : (i : ℕ) → i < length past → bit_at left i ≡ 0 → is_among w (nth past i).writes ≡ false
@@ -67,7 +67,7 @@ pub record IsLeft (past : List Past) (w left : ℕ) : Type 0 where
 pub all-left : (past : List Past) (w : ℕ) → IsLeft past w (writer_bits past)
 all-left past w = record { inside = writer-inside past; others = λ i inside. silent past w i }
 
--- where no entry writes the word
+-- no entry writes the word
 latest-none : (past : List Past) (w : ℕ) → ((i : ℕ) → i < length past → is_among w (nth past i).writes ≡ false) → latest_done past w ≡ 0
 unfolding latest_done
 latest-none [] w none = refl
@@ -80,12 +80,12 @@ latest-unwritten (entry ∷ past) w none =
     rw (All-head (λ (e : Past). is_among w e.writes ≡ false) entry past none)
     (latest-unwritten past w (All-tail (λ (e : Past). is_among w e.writes ≡ false) entry past none))
 
--- runs of no words
+-- empty runs contain no word of an entry
 pub silent-runs : (w : ℕ) (e : Past) → e.writes.one.len ≡ 0 → e.writes.two.len ≡ 0 → is_among w e.writes ≡ false
 unfolding is_among is_in
 silent-runs w e one two = none-in w e.writes.one.first e.writes.one.len e.writes.two.first e.writes.two.len (rw (one, two) refl)
 
--- of one entry more
+-- a word that no entry writes, after one more entry
 pub unwritten-put : (w : ℕ) (newest : Past) (past : List Past) → is_in w newest.writes.one ≡ false → is_in w newest.writes.two ≡ false
     → All (λ (entry : Past). is_among w entry.writes ≡ false) past → All (λ (entry : Past). is_among w entry.writes ≡ false) (newest ∷ take 7 past)
 unfolding is_among
@@ -93,7 +93,7 @@ unwritten-put w newest past one two each =
     All-cons (λ (e : Past). is_among w e.writes ≡ false) newest (take 7 past) (rw (one, two) refl)
     (All-take (λ (e : Past). is_among w e.writes ≡ false) 7 past each)
 
--- where an entry writes it, and no newer one does
+-- an entry writes the word, and no newer one does
 latest-here : (past : List Past) (w i : ℕ) → true ≡ is_among w (nth past i).writes
     → ((j : ℕ) → j < i → is_among w (nth past j).writes ≡ false) → (nth past i).c ≡ latest_done past w
 unfolding latest_done
@@ -101,7 +101,7 @@ latest-here [] w i here none = refl
 latest-here (entry ∷ past) w zero here none = rw (← here) refl
 latest-here (entry ∷ past) w (suc i) here none = rw (none 0 (omega arith)) (latest-here past w i here (λ j less. none (suc j) (omega arith)))
 
--- how far back it lies
+-- the distance of that entry
 back-here : (past : List Past) (w i : ℕ) → i < length past → true ≡ is_among w (nth past i).writes
     → ((j : ℕ) → j < i → is_among w (nth past j).writes ≡ false) → i + 1 ≡ writer_back past w
 back-here past w i inside here none =
@@ -113,7 +113,7 @@ back-none past w none =
     let at = position_or_len_is (λ (e : Past). is_among w e.writes) past (length past) (record { c = 0; writes = no_runs }) (omega arith) none (λ less. absurd (omega (arith, less))) in
     rw (at, le-ltb (length past) (length past) (omega arith)) refl
 
--- no entry is left
+-- no bit remains
 pub none-back : (past : List Past) (w left : ℕ) → left ≡ 0 → IsLeft past w left → 0 ≡ writer_back past w
 none-back past w left none is =
     back-none past w (λ i inside. is.others i inside (ap (λ m. bit_at m i) none ∙ bit_at-zero i))
@@ -122,7 +122,7 @@ pub none-left : (past : List Past) (w left : ℕ) → left ≡ 0 → IsLeft past
 none-left past w left none is =
     sym (latest-none past w (λ i inside. is.others i inside (ap (λ m. bit_at m i) none ∙ bit_at-zero i)))
 
--- a smaller number, by a bit
+-- a number is smaller if it lacks a bit
 less-by : (a b i : ℕ) → a ≤ b → bit_at a i ≡ 0 → bit_at b i ≡ 1 → a < b
 less-by a b i least none one = grind (arith)
 

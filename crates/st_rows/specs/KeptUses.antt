@@ -1,9 +1,9 @@
--- A list of words that keeps the first 48 of those that are put behind it.
+-- A list of words with room for 48, which ignores words that are appended when it is full.
 use Rattle.std.specs.Prelude.{◌≡◌, refl, List, [], ◌∷◌, ◌++◌, take}
 use Rattle.arrayvec.specs.ArrayVec.{ArrayVec}
 use Rattle.st_rows.specs.declared.uses.Use.{Use}
 
--- the list with these words behind it
+-- the list after these words are appended
 unfoldable pub uses_with : List Use → ArrayVec Use → ArrayVec Use
 uses_with [] kept = kept
 uses_with (u ∷ us) kept = uses_with us (record { items = take 48 (kept.items ++ u ∷ []) })

@@ -1,4 +1,4 @@
--- What holds of the ticks of all entries.
+-- Laws of the ticks of all entries.
 use Rattle.std.specs.Prelude.{◌≡◌, ℕ, List, [], ◌∷◌, ◌++◌, ◌+◌, ◌*◌, ◌<◌, ◌≤◌, ◌||◌, true, length, get_or, max, All}
 use Rattle.st_rows.specs.Ranges.{AreDelaysUpTo, IsEntryInTime, IsNear, IsTight}
 use Rattle.st_rows.specs.Entries.{latest_done}
@@ -18,7 +18,7 @@ use Rattle.st_rows.specs.declared.uses.Wish.{Wish}
 use Rattle.st_rows.specs.declared.fetching.Fetching.{Fetching}
 use Rattle.st_rows.specs.declared.past.Past.{Past}
 
--- The ticks of a row stand in their order, and behind those of the row before.
+-- The ticks of a row are in order. Its A is after P of the previous row, and its C after C of that row.
 pub record RowsAreInOrder : Type 0 where
   pub address : (ds : List ℕ) (n : ℕ) (f : IssueState) (e : Entry) →
       (f.p < (row_of_entry ds n f e).a) × (f.bus.free ≤ (row_of_entry ds n f e).a)
@@ -41,17 +41,17 @@ pub record RowsAreInOrder : Type 0 where
   pub done : (ds : List ℕ) (n : ℕ) (f : IssueState) (e : Entry) → IsEntryInTime e →
       ((row_of_entry ds n f e).r < (row_of_entry ds n f e).c) × (f.c < (row_of_entry ds n f e).c)
 
--- The ticks of a front stay close together, and no entry takes longer than 64 reads with four ticks
--- more each; sixteen ticks are to spare, in which the next segment starts.
+-- The ticks of an issue state stay close together. The next entry completes within 64 times (the
+-- longest delay plus four) ticks, less 16 ticks, which are left to start the next segment.
 pub record CompletionsAreBounded : Type 0 where
   pub tight : (most n : ℕ) (ds : List ℕ) (f : IssueState) (e : Entry) → AreDelaysUpTo most ds →
       IsEntryInTime e → IsTight most f → IsTight most (issue_after_entry ds n f e)
   pub bound : (most n : ℕ) (ds : List ℕ) (f : IssueState) (e : Entry) → AreDelaysUpTo most ds →
       IsEntryInTime e → IsTight most f → (issue_after_entry ds n f e).c + 16 ≤ f.c + 64 * (most + 4)
 
--- The first two operand words are there after preparation, and before the entry is done: when all
--- are read or the last entry is done. Where there are no others, the latest of them, preparation
--- and that completion decide when its turn comes.
+-- The first two operand words arrive after preparation and before completion, and no later than
+-- both R and C of the last entry. If there are no other operands, the latest of these two, P, and C
+-- of the last entry determine when the cost begins.
 pub record OperandsAreThereBeforeCompletion : Type 0 where
   pub first : (most n : ℕ) (ds : List ℕ) (f : IssueState) (e : Entry) → AreDelaysUpTo most ds →
       1 ≤ e.reads.one.len → (row_of_entry ds n f e).p < get_or (fills ds n f e) 0 0
@@ -66,8 +66,8 @@ pub record OperandsAreThereBeforeCompletion : Type 0 where
       max (row_of_entry ds n f e).r f.c ≡ max (max (row_of_entry ds n f e).p f.c)
       (max (get_or (fills ds n f e) 0 0) (get_or (fills ds n f e) 1 0))
 
--- Where all reads take the same time, a read that is wanted no later on a bus that is nowhere later
--- is answered no later.
+-- If all reads take equally long, a read that is requested no later, on a bus that is in no way
+-- later, is answered no later.
 pub record ReadsAreNoLater : Type 0 where
   pub read : (d : ℕ) (ds : List ℕ) (b c : Bus) (w want late : ℕ) → AreEqual d ds →
       IsBusSooner b c → want ≤ late →
@@ -78,8 +78,8 @@ pub record ReadsAreNoLater : Type 0 where
       IsBusSooner (bus_after_request ds b w want) (bus_after_request ds c w late)
       × (answer_tick_on ds b w want ≤ answer_tick_on ds c w late)
 
--- The same of an entry of which no word is written by an entry before, instruction words aside, and
--- of as many levels or more.
+-- If all reads take equally long and no earlier entry writes a word that this entry reads, except
+-- instruction words, then its row is no later with at least as many levels.
 pub record EntriesAreNoLater : Type 0 where
   pub row : (d m n : ℕ) (ds : List ℕ) (f g : IssueState) (e : Entry) (earlier : List WordRuns) →
       AreEqual d ds → n ≤ m → IsIssueSooner f g → AreInOrder g → AreCovered f.past earlier →
@@ -91,8 +91,8 @@ pub record EntriesAreNoLater : Type 0 where
       × AreInOrder (issue_after_entry ds n g e) × AreCovered (issue_after_entry ds m f e).past
       (e.writes ∷ earlier)
 
--- With more levels no entry of a segment is later, where all reads take the same time and no entry
--- reads a word that an earlier one writes, instruction words aside.
+-- With more levels no entry of a segment is later, if all reads take equally long and no entry
+-- reads a word that an earlier one writes, except instruction words.
 abbrev pub MoreLevelsAreNoLater : Type 0
 MoreLevelsAreNoLater = (d m n start : ℕ) (ds : List ℕ) (banks : LastAnswers) (es : List Entry) →
     AreEqual d ds → n ≤ m → AreHazardFree [] es →
@@ -100,14 +100,14 @@ MoreLevelsAreNoLater = (d m n start : ℕ) (ds : List ℕ) (banks : LastAnswers)
     (rows_of_entries ds m (opening_issue banks start) es)
     (rows_of_entries ds n (opening_issue banks start) es)
 
--- An entry that lies as many back as there are levels is done when the last one is prepared.
+-- On n levels, the entry n before the last one is complete when the last one is prepared.
 pub record OlderEntriesAreDoneBefore : Type 0 where
   pub opening : (n start : ℕ) (banks : LastAnswers) → AreInOrder (opening_issue banks start)
       × AreOlderDone n (opening_issue banks start)
   pub after : (ds : List ℕ) (n : ℕ) (f : IssueState) (e : Entry) → 1 ≤ n → AreInOrder f →
       AreInOrder (issue_after_entry ds n f e) × AreOlderDone n (issue_after_entry ds n f e)
 
--- So it decides no tick: the last n entries alone give the same row, and the same front behind it.
+-- Only the last n entries determine ticks: with only these, the row and the next issue state are equal.
 pub record OlderEntriesDecideNothing : Type 0 where
   pub row : (ds : List ℕ) (n : ℕ) (f : IssueState) (e : Entry) → 1 ≤ n → AreOlderDone n f →
       row_of_entry ds n (issue_of_last n f) e ≡ row_of_entry ds n f e
@@ -115,9 +115,9 @@ pub record OlderEntriesDecideNothing : Type 0 where
       issue_of_last n (issue_after_entry ds n (issue_of_last n f) e)
       ≡ issue_of_last n (issue_after_entry ds n f e)
 
--- The reads that are made for uses give, one after the other, the bus behind them; there are at most
--- as many as words that are asked for. The uses of words that are asked for in two parts are those
--- of the first part, and behind it those of the second.
+-- The reads of uses, made in order, give the bus after these uses. There are at most as many reads
+-- as requested words. The uses of two lists of words are those of the first list, followed by those
+-- of the second.
 pub record UsesMakeTheirReads : Type 0 where
   pub bus : (ds : List ℕ) (past : List Past) (s : Fetching) (xs : List Wish) →
       bus_after_reads ds (reads_of (uses ds past s xs)) s.bus
@@ -128,9 +128,9 @@ pub record UsesMakeTheirReads : Type 0 where
       uses ds past s (xs ++ ys)
       ≡ uses ds past s xs ++ uses ds past (behind ds past s (uses ds past s xs)) ys
 
--- The reads that are asked for an entry, made one after the other, give the bus behind it. They are
--- at most as many as the words that it reads for itself and two following ones: 36 and two, as each
--- entry of a machine has 36 such words at most.
+-- The reads of an entry, made in order, give the bus after the entry. Two of them at most are
+-- following words. There are at most 36 others, since an entry of a machine has at most 36
+-- instruction, index-side and operand words.
 pub record RowsMakeTheirReads : Type 0 where
   pub bus : (ds : List ℕ) (n : ℕ) (f : IssueState) (e : Entry) →
       bus_after_reads ds (reads_of_entry ds n f e) f.bus ≡ (issue_after_entry ds n f e).bus
@@ -139,8 +139,8 @@ pub record RowsMakeTheirReads : Type 0 where
   pub most : (ds : List ℕ) (n : ℕ) (f : IssueState) (e : Entry) → own_reads e ≤ 36 →
       length (reads_of_entry ds n f e) ≤ 36 + 2
 
--- Each read is accepted when it is wanted and the bus is free, which is one tick after the read
--- before it, and is answered later.
+-- A read is accepted when it is requested and the bus is free, or later. The bus is next free one
+-- tick after that. The answer comes later, by at most the longest delay.
 abbrev pub ReadsComeInOrder : Type 0
 ReadsComeInOrder = (most : ℕ) (ds : List ℕ) (b : Bus) (r : Read) → AreDelaysUpTo most ds →
     (r.want ≤ accept_at b r.w r.want) × (b.free ≤ accept_at b r.w r.want)
@@ -148,17 +148,17 @@ ReadsComeInOrder = (most : ℕ) (ds : List ℕ) (b : Bus) (r : Read) → AreDela
     × (accept_at b r.w r.want < answer_at ds b r.w r.want)
     × (answer_at ds b r.w r.want ≤ accept_at b r.w r.want + most)
 
--- The reads that are accepted before a tick leave a bus that is free at that tick, and what they
--- ask for is answered soon after it.
+-- After the reads that are accepted before a tick, the bus is free at that tick, and all answers
+-- come soon after the bus is free.
 abbrev pub MadeReadsAreAnsweredSoon : Type 0
 MadeReadsAreAnsweredSoon = (most t : ℕ) (ds : List ℕ) (reads : List Read) (b : Bus) →
     AreDelaysUpTo most ds →
     IsNear most b → b.free ≤ t →
     IsNear most (made_before ds t reads b) × ((made_before ds t reads b).free ≤ t)
 
--- The reads of an entry are those of its instruction words and, behind them, of its data; or those
--- until its address is formed and those from its preparation on. Each part gives the bus of its
--- stage.
+-- The reads of an entry are those of its instruction words, followed by those of its data. They are
+-- also those of instruction words and the index-side word, followed by those from its preparation
+-- on. Each part gives the bus of its stage.
 pub record EntriesAskInParts : Type 0 where
   pub parts : (ds : List ℕ) (n : ℕ) (f : IssueState) (e : Entry) →
       reads_of_entry ds n f e ≡ fetches_asked ds f e ++ data_of ds n f e
@@ -171,9 +171,9 @@ pub record EntriesAskInParts : Type 0 where
   pub prepared : (ds : List ℕ) (n : ℕ) (f : IssueState) (e : Entry) →
       bus_after_reads ds (prepared_asked ds n f e) (bus_a ds f e) ≡ (issue_after_entry ds n f e).bus
 
--- When the reads of an entry are wanted: instruction words from the first want on, the index-side
--- word at A, operands and following words at P, and so all behind the instruction words at A or
--- later.
+-- The ticks at which the reads of an entry are requested: instruction words at the first request or
+-- later, the index-side word at A, operands and following words at P. So all reads of data are
+-- requested at A or later.
 pub record ReadsAreWantedInTime : Type 0 where
   pub fetches : (ds : List ℕ) (f : IssueState) (e : Entry) →
       All (λ r. wanted_from f ≤ r.want) (fetches_asked ds f e)
@@ -184,8 +184,8 @@ pub record ReadsAreWantedInTime : Type 0 where
   pub «data» : (ds : List ℕ) (n : ℕ) (f : IssueState) (e : Entry) →
       All (λ r. tick_a ds f e ≤ r.want) (data_of ds n f e)
 
--- The bus is free of all reads before an entry when its address is formed, of its instruction words
--- too, and of its index-side word when it is prepared.
+-- The bus is free of the reads of earlier entries and of instruction words when the address is formed,
+-- free of the index-side word's read when the entry is prepared, and free of operands at completion.
 pub record BusesAreFreeInTime : Type 0 where
   pub before : (ds : List ℕ) (f : IssueState) (e : Entry) → f.bus.free ≤ tick_a ds f e
   pub fetched : (most n : ℕ) (ds : List ℕ) (f : IssueState) (e : Entry) → AreDelaysUpTo most ds →
@@ -196,8 +196,8 @@ pub record BusesAreFreeInTime : Type 0 where
       IsEntryInTime e → IsTight most f → (f.bus.free ≤ tick_c ds n f e)
       × ((operands ds n f e).bus.free ≤ tick_c ds n f e)
 
--- All reads are made before a tick at which the bus is free behind them; and reads that are wanted
--- at a tick or later, behind others, change nothing of those that are made before.
+-- All reads are accepted before a tick at which the bus is free after them. Reads that follow
+-- others and are requested at a tick or later do not affect which reads are accepted before it.
 pub record LateReadsChangeNothing : Type 0 where
   pub all : (ds : List ℕ) (t : ℕ) (xs : List Read) (b : Bus) →
       (bus_after_reads ds xs b).free ≤ t → made_before ds t xs b ≡ bus_after_reads ds xs b

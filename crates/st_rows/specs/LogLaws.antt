@@ -1,4 +1,4 @@
--- What a log of reads is good for: a segment's end takes reads back by it.
+-- Laws of the log of reads, by which the end of a segment undoes late reads.
 use Rattle.std.specs.Prelude.{ℕ, ◌≡◌, ◌≤◌, List, [], ◌∷◌, ◌++◌, length, take, drop}
 use Rattle.st_rows.specs.Asked.{bus_after_reads, made_before}
 use Rattle.st_rows.specs.BusTimes.{Read}
@@ -6,12 +6,12 @@ use Rattle.st_rows.specs.Notes.{note, notes_of_reads, answers_left, AreEarly, Ar
 use Rattle.st_rows.specs.declared.bus.Bus.{Bus}
 use Rattle.st_rows.specs.declared.log.Made.{Made}
 
--- Reads are accepted one after another: a note has a later tick than all older ones
+-- Reads are accepted in order: a record has a later tick than all older records.
 abbrev pub AcceptsRise : Type 0
 AcceptsRise = (ds : List ℕ) (reads : List Read) (b : Bus) → AreFalling (notes_of_reads ds reads b)
 
--- Taking the late ones of these reads back leaves the banks as they are where the early ones alone
--- are made
+-- Undoing the late ones of these reads restores the last answers of the banks after only the early
+-- reads.
 abbrev pub UndoneIsMadeBefore : Type 0
 UndoneIsMadeBefore = (ds : List ℕ) (t : ℕ) (reads : List Read) (b : Bus) (log : List Made) →
     IsLogged ds t reads b log
@@ -20,16 +20,16 @@ UndoneIsMadeBefore = (ds : List ℕ) (t : ℕ) (reads : List Read) (b : Bus) (lo
     → answers_left t log (bus_after_reads ds reads b).banks.ticks
     ≡ (made_before ds t reads b).banks.ticks
 
--- The log is long enough, where at most 64 reads come behind one behind which the bus is free by
--- then
+-- The log is long enough if the bus is free by the tick t after the first reads, and at most 64
+-- reads follow them.
 abbrev pub FewAreUndone : Type 0
 FewAreUndone = (ds : List ℕ) (t : ℕ) (first rest : List Read) (b : Bus) (older : List Made) →
     length rest ≤ 64
     → (bus_after_reads ds first b).free ≤ t → AreEarly t older →
     AreEarly t (drop 64 (notes_of_reads ds (first ++ rest) b ++ older))
 
--- A log goes on as reads are made, as ticks pass, and where the first reads are left behind, behind
--- which the bus is free by then
+-- A log remains valid as reads are made, as ticks pass, and without the first reads, if the bus is
+-- free by now after those.
 pub record LogsGoOn : Type 0 where
   pub opened : (ds : List ℕ) (now : ℕ) (b : Bus) → IsLogged ds now [] b []
   pub made : (ds : List ℕ) (now : ℕ) (reads : List Read) (r : Read) (b : Bus) (log : List Made) →

@@ -1,4 +1,4 @@
--- What holds of the numbers of entries, buses and fronts.
+-- Ranges of the numbers of entries, buses and issue states.
 use Rattle.std.specs.Prelude.{ℕ, ◌≡◌, ◌+◌, ◌*◌, ◌≤◌, ◌<◌, true, List, length, All, IfSome}
 use Rattle.st_bits.specs.declared.limits.TheConstants.{MOST_DELAY}
 use Rattle.st_bits.specs.Storage.{words_of_storage}
@@ -9,13 +9,13 @@ use Rattle.st_rows.specs.declared.fetching.Fetching.{Fetching}
 use Rattle.st_rows.specs.declared.issue.IssueState.{IssueState}
 use Rattle.st_rows.specs.declared.past.Past.{Past}
 
--- the words of a run lie in storage, above the registers
+-- a run of words in storage, above the registers
 pub record IsReadable (run : WordRun) : Type 0 where
   pub above : 1 ≤ run.len → 32 ≤ run.first
   pub inside : 1 ≤ run.len → run.first + run.len ≤ words_of_storage
 
--- the words of an entry that are read do; its numbers are in their ranges; it asks for following
--- words only where it has a word that they follow
+-- the words that an entry reads lie in storage above the registers; its numbers are in their
+-- ranges; it prefetches words only if it has an instruction word
 pub record IsEntryInTime (e : Entry) : Type 0 where
   pub own : IsReadable e.own
   pub own_few : e.own.len ≤ 2
@@ -29,41 +29,41 @@ pub record IsEntryInTime (e : Entry) : Type 0 where
   pub costs : (1 ≤ e.cost) × (e.cost ≤ 24)
   pub follows : e.follows ≡ true → 1 ≤ e.own.len
 
--- a list of delays of which none is longer than so many ticks
+-- a nonempty list of delays, each at most the given number of ticks
 pub record AreDelaysUpTo (most : ℕ) (ds : List ℕ) : Type 0 where
   pub some : 1 ≤ length ds
   pub each : All (λ d. (1 ≤ d) × (d ≤ most)) ds
 
--- no tick of the bus is past m
+-- no tick of the bus is later than m
 pub record IsBusWithin (m : ℕ) (b : Bus) : Type 0 where
   pub free : b.free ≤ m
   pub banks : All (λ t. t ≤ m) b.banks.ticks
   pub held : All (λ h. h.tick ≤ m) b.held.words
 
--- no tick of the words that are fetched so far is later than m
+-- no tick of the words that have been fetched is later than m
 pub record IsFetchingWithin (m : ℕ) (s : Fetching) : Type 0 where
   pub bus : IsBusWithin m s.bus
   pub answered : s.answered ≤ m
   pub awaited : s.awaited ≤ m
 
--- nor one of the operands
+-- no tick of the operands that have been read is later than m
 pub record IsReadingWithin (m : ℕ) (s : Fetching) : Type 0 where
   pub bus : IsBusWithin m s.bus
   pub answered : s.answered ≤ m
 
--- nor a completion of the entries before
+-- no previous entry completes later than m
 pub record ArePastWithin (m : ℕ) (past : List Past) : Type 0 where
   pub each : All (λ entry. entry.c ≤ m) past
 
--- the most ticks from one completion to the next, whatever the delays are
+-- the greatest number of ticks from one completion to the next, for any delays
 abbrev pub most_ticks_of_entry : ℕ
 most_ticks_of_entry = 64 * (MOST_DELAY + 4)
 
--- what is on its way on the bus is answered soon, where no read takes more than so many ticks
+-- all answers on the bus come at most the given number of ticks after the bus is free
 abbrev pub IsNear : ℕ → Bus → Type 0
 IsNear most b = IsBusWithin (b.free + most) b
 
--- the ticks of a front lie close together, where no read takes more than so many ticks
+-- the ticks of an issue state are close together, if no read takes more than the given number of ticks
 pub record IsTight (most : ℕ) (f : IssueState) : Type 0 where
   pub prepared : f.p ≤ f.c
   pub done : ArePastWithin f.c f.past

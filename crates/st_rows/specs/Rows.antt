@@ -1,6 +1,6 @@
--- The row of an entry, and what is computed of it for the next one, for a machine with the delays
--- ds and with n levels. The words that an entry uses are a list, of which each part goes on with the
--- bus where the part before it left it.
+-- The row of an entry, and the issue state after it, on a machine with the delays ds and n levels.
+-- The words that an entry uses form a list with several parts; each part starts with the bus after
+-- the previous part.
 use Rattle.std.specs.Prelude.{ℕ, ◌+◌, ◌-◌, max, false, ◌||◌, nat_lt, if◌then◌else◌, List, [], ◌∷◌, ◌++◌, get_or, take, replicate}
 use Rattle.st_bits.specs.Storage.{words_of_storage}
 use Rattle.st_banks.specs.declared.answers.LastAnswers.{LastAnswers}
@@ -16,7 +16,7 @@ use Rattle.st_rows.specs.declared.fetching.Fetching.{Fetching}
 use Rattle.st_rows.specs.declared.issue.IssueState.{IssueState}
 use Rattle.st_rows.specs.declared.issue.EntryTicks.{EntryTicks}
 
--- the front of a segment that starts at the tick
+-- the issue state of a segment that starts at the tick start
 abbrev pub opening_issue : LastAnswers → ℕ → IssueState
 opening_issue banks start = record {
   bus = no_reads banks start;
@@ -26,13 +26,13 @@ opening_issue banks start = record {
   past = replicate 8 (record { c = 0; writes = no_runs });
 }
 
--- behind an entry that is done alone, words are wanted once that is done, else once it is prepared
+-- the tick of the first request of an entry: P of the last entry, or its C if it is serializing
 abbrev pub wanted_from : IssueState → ℕ
 wanted_from f = if f.serial then max f.p f.c else f.p
 
--- ---- the address: one tick after the words are there and all that is awaited is done, and after
--- the reads of the entries before; an entry that is done alone, and the one behind it, await the
--- last entry
+-- ---- the address is formed one tick after the instruction words have arrived and their writers
+-- are complete, and not before the bus is free of earlier entries; a serializing entry, and the
+-- entry after one, also wait for the completion of the last entry
 
 -- the tick at which the address is formed
 unfoldable pub address_tick : IssueState → Entry → ℕ → ℕ → ℕ
@@ -40,45 +40,45 @@ address_tick f e answered awaited =
     max (max (max (max answered awaited) f.p) (if e.serial || f.serial then f.c else 0)
     + 1) f.bus.free
 
--- ---- preparation: one tick later, and later than the completion of the entry n before
+-- ---- preparation is one tick after the address, the index-side word, and the completion that frees a level
 
--- the completion of one of the entries before, 0 where there is none
+-- the completion tick of a previous entry, the newest at place 0; 0 if there is none
 abbrev pub completion_of : List Past → ℕ → ℕ
 completion_of past j = (get_or past j (record { c = 0; writes = no_runs })).c
 
--- that of the entry n before, whose level this entry takes over
+-- the completion tick of the nth previous entry, whose level this entry takes
 abbrev pub done_before : ℕ → List Past → ℕ
 done_before n past = (get_or past (n - 1) (record { c = 0; writes = no_runs })).c
 
--- the tick of preparation, by the ticks at which the address is formed and the index-side word is
--- there
+-- the tick of preparation, given the tick at which the address is formed and the tick at which the
+-- index-side word arrives
 unfoldable pub preparation_tick : ℕ → List Past → ℕ → ℕ → ℕ
 preparation_tick n past a y = max (max a y) (done_before n past) + 1
 
--- ---- the words that follow an entry, which are asked for ahead of time
+-- ---- the following words of an entry, which are prefetched
 
--- one of them, if it lies in storage
+-- the request for a following word, if it lies in storage
 abbrev pub inside_wish : ℕ → ℕ → List Wish
 inside_wish w p =
     if nat_lt w words_of_storage then record { role = Following; w = w; from = p } ∷ [] else []
 
--- both of them, where the entry has following words
+-- the requests for the following words of an entry, if it prefetches them
 abbrev pub followings : Entry → ℕ → List Wish
 followings e p =
     let w = e.own.first + e.own.len in
     if e.follows then inside_wish w p ++ inside_wish (w + 1) p else []
 
--- ---- the uses of the entry e behind the front f, part by part
+-- ---- the uses of the entry e in issue state f, part by part
 
 module _ (ds : List ℕ) (f : IssueState) (e : Entry) where
-  -- its own instruction words
+  -- the uses of the entry's own instruction words
   abbrev pub own_uses : List Use
   own_uses = uses ds f.past (unused f.bus 0) (words_of Instruction (wanted_from f) e.own)
 
   abbrev pub own_fetched : Fetching
   own_fetched = behind ds f.past (unused f.bus 0) own_uses
 
-  -- and then those of the target of EX, which wait for the last entry
+  -- the uses of the instruction words of the target of EX, which wait for the last entry
   abbrev pub target_uses : List Use
   target_uses =
       uses ds f.past own_fetched (words_of Instruction (max (wanted_from f) f.c) e.target)
@@ -86,31 +86,31 @@ module _ (ds : List ℕ) (f : IssueState) (e : Entry) where
   unfoldable pub words_tick : Fetching
   words_tick = behind ds f.past own_fetched target_uses
 
-  -- when its address is formed
+  -- A, the tick at which the address of the entry is formed
   unfoldable pub tick_a : ℕ
   tick_a = address_tick f e words_tick.answered words_tick.awaited
 
-  -- its index-side word
+  -- the use of the index-side word
   abbrev pub index_uses : List Use
   index_uses = uses ds f.past (unused words_tick.bus 0) (wish_of e.side tick_a)
 
   abbrev pub sided : Fetching
   sided = behind ds f.past (unused words_tick.bus 0) index_uses
 
-  -- the bus behind its instruction words and its index-side word
+  -- the bus after the instruction words and the index-side word
   unfoldable pub bus_a : Bus
   bus_a = sided.bus
 
-  -- when its index-side word is there
+  -- the tick at which the index-side word arrives
   unfoldable pub index_arrival : ℕ
   index_arrival = sided.answered
 
 module _ (ds : List ℕ) (n : ℕ) (f : IssueState) (e : Entry) where
-  -- when it is prepared
+  -- P, the tick at which the entry is prepared
   unfoldable pub tick_p : ℕ
   tick_p = preparation_tick n f.past (tick_a ds f e) (index_arrival ds f e)
 
-  -- its operands, of one run and then of the other
+  -- the uses of the operand words, the first run and then the second
   abbrev pub first_uses : List Use
   first_uses =
       uses ds f.past (unused (bus_a ds f e) tick_p) (words_of Operand tick_p e.reads.one)
@@ -124,27 +124,27 @@ module _ (ds : List ℕ) (n : ℕ) (f : IssueState) (e : Entry) where
   unfoldable pub operands : Fetching
   operands = behind ds f.past first_read second_uses
 
-  -- the words that follow it, whoever writes them
+  -- the uses of the following words, which do not wait for their writers
   abbrev pub following_uses : List Use
   following_uses = uses ds [] (unused operands.bus tick_p) (followings e tick_p)
 
-  -- all of them
+  -- the uses of all words of the entry
   unfoldable pub uses_of_entry : List Use
   uses_of_entry =
       ((own_uses ds f e ++ target_uses ds f e) ++ index_uses ds f e)
       ++ ((first_uses ++ second_uses) ++ following_uses)
 
-  -- ---- its row
+  -- ---- the row of the entry
 
-  -- when it is done: its cost after all operands are there and the entry before is done
+  -- C, the tick of completion: the cost after the later of R and C of the last entry
   unfoldable pub tick_c : ℕ
   tick_c = max f.c operands.answered + e.cost
 
-  -- all of these ticks
+  -- the row of the entry
   unfoldable pub row_of_entry : EntryTicks
   row_of_entry = record { a = tick_a ds f e; p = tick_p; r = operands.answered; c = tick_c }
 
-  -- the front behind it
+  -- the issue state after the entry
   unfoldable pub issue_after_entry : IssueState
   issue_after_entry = record {
     bus = (behind ds [] (unused operands.bus tick_p) following_uses).bus;
@@ -154,6 +154,6 @@ module _ (ds : List ℕ) (n : ℕ) (f : IssueState) (e : Entry) where
     past = record { c = tick_c; writes = e.writes } ∷ take 7 f.past;
   }
 
-  -- its reads
+  -- the reads of the entry
   unfoldable pub reads_of_entry : List Read
   reads_of_entry = reads_of uses_of_entry

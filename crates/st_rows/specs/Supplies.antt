@@ -1,4 +1,4 @@
--- Where the words come from that an entry uses, as who looks on is told.
+-- The sources of the words that an entry uses, as observers are notified of them.
 use Rattle.std.specs.Prelude.{ℕ, ◌+◌, if◌then◌else◌, List, [], ◌∷◌, map, Option, None, Some}
 use Rattle.std.specs.List.{position}
 use Rattle.st_banks.specs.Bank.{last_of}
@@ -13,7 +13,7 @@ use Rattle.st_rows.specs.declared.uses.Supply.{Supply}
 use Rattle.st_rows.specs.declared.uses.Supply.TheVariants.{Read, Held, Forwarded}
 use Rattle.st_rows.specs.declared.uses.Use.{Use}
 
--- the read of the word w that is wanted from a tick on, on the bus before it
+-- the ticks of a read of the word w, requested at the tick want, on the bus b
 abbrev pub read_ticks : List ℕ → Bus → ℕ → ℕ → ReadTicks
 read_ticks ds b w want = record {
   want = want;
@@ -23,13 +23,13 @@ read_ticks ds b w want = record {
   answer = answer_at ds b w want;
 }
 
--- an instruction word, given the tick of its answer if it is held
+-- the source of an instruction word, given the tick of its answer if it is held
 abbrev pub fetch_supply : Option ℕ → List ℕ → Bus → ℕ → ℕ → Supply
 fetch_supply (Some tick) ds b w want = Held tick
 fetch_supply None ds b w want = Read (read_ticks ds b w want)
 
--- how many entries before the latest one lies that writes the word w, 0 where none does; they stand
--- newest first
+-- the distance of the latest entry that writes the word w, 1 for the newest, 0 if none does; the
+-- entries are in order, newest first
 abbrev pub one_behind : Option ℕ → ℕ
 one_behind None = 0
 one_behind (Some k) = k + 1
@@ -37,14 +37,14 @@ one_behind (Some k) = k + 1
 abbrev pub writer_back : List Past → ℕ → ℕ
 writer_back past w = one_behind (position (λ entry. is_among w entry.writes) past)
 
--- a word of storage that is wanted at a tick: from its latest writer where that is not done by then
+-- the source of a word of storage requested at a tick: its latest writer unless complete by then, otherwise a read
 abbrev pub storage_supply : List ℕ → List Past → Bus → ℕ → ℕ → Supply
 storage_supply ds past b w tick =
     if is_forwarded past w tick
     then Forwarded (record { back = writer_back past w; done = latest_done past w })
     else Read (read_ticks ds b w tick)
 
--- where the word of a use comes from
+-- the source of the word of a use
 abbrev pub supply_told : List ℕ → List Past → WordUse → Supply
 supply_told ds past u =
     if u.read.fetch then fetch_supply u.unread ds u.bus u.read.w u.read.want
@@ -54,6 +54,6 @@ abbrev pub use_told : List ℕ → List Past → WordUse → Use
 use_told ds past u =
     record { role = u.role; word = u.read.w; supply = supply_told ds past u }
 
--- what is told of the uses of words
+-- the notifications of the uses of words
 abbrev pub told : List ℕ → List Past → List WordUse → List Use
 told ds past us = map (use_told ds past) us

@@ -1,6 +1,6 @@
--- The words that an entry uses, one after another: from when on each is wanted, and whether it is
--- read. The reads of an entry, the bus behind them and when its words are there are told from them.
--- The machine has the delays ds.
+-- The words that an entry uses, in order: when each is requested, and whether it is read. The reads
+-- of an entry, the bus after them and the arrival of its words are derived from these uses. The
+-- machine has the delays ds.
 use Rattle.std.specs.Prelude.{ℕ, zero, suc, ◌+◌, max, Bool, true, false, nat_lt, if◌then◌else◌, List, [], ◌∷◌, ◌++◌, Option, None, Some}
 use Rattle.st_fetch.specs.Planned.{tick_of}
 use Rattle.st_rows.specs.BusTimes.{Read, bus_if, answer_if}
@@ -13,51 +13,51 @@ use Rattle.st_rows.specs.declared.uses.Role.{Role}
 use Rattle.st_rows.specs.declared.uses.Role.TheVariants.{Instruction, Index, Operand, Following}
 use Rattle.st_rows.specs.declared.uses.Wish.{Wish}
 
--- a use of a word: its read, on the bus that it finds, and the tick at which the word is there where
--- no read is made, since it is held or comes from its writer
+-- the use of a word: its read, on the current bus; and the tick at which the word arrives if no
+-- read is made, because it is held or forwarded
 pub record Use : Type 0 where
   pub role : Role
   pub read : Read
   pub bus : Bus
   pub unread : Option ℕ
 
--- n words from the word w on
+-- the requests for n words from the word w
 unfoldable pub wishes : Role → ℕ → ℕ → ℕ → List Wish
 wishes role from w zero = []
 wishes role from w (suc n) = record { role = role; w = w; from = from }
     ∷ wishes role from (w + 1) n
 
--- those of a run
+-- the requests for the words of a run
 abbrev pub words_of : Role → ℕ → WordRun → List Wish
 words_of role from run = wishes role from run.first run.len
 
--- a word is held from its read on where it is an instruction word, or may become one
+-- instruction words and following words are held from their request on
 abbrev pub is_held : Role → Bool
 is_held Instruction = true
 is_held Following = true
 is_held role = false
 
--- an instruction word is wanted once the words before it are answered and the entries are done that
--- write them
+-- an instruction word is requested once the words before it are answered and the writers of these
+-- words are complete
 abbrev pub want_of : Role → Fetching → ℕ → ℕ
 want_of Instruction s from = max (max from s.answered) s.awaited
 want_of role s from = from
 
--- when the words so far are there, with this one: the index-side word is alone, and for an operand
--- that comes from its writer nothing is waited for but the entry before, for which each entry waits
+-- the latest arrival so far, including this word: for the index-side word, its own arrival; a forwarded
+-- operand does not count, since the entry waits anyway for the completion of all earlier entries
 abbrev pub answered_by : Role → ℕ → ℕ → Option ℕ → ℕ
 answered_by Operand before there (Some done) = before
 answered_by Index before there o = there
 answered_by role before there o = max before there
 
--- when a word comes from its latest writer: where that is not done at the tick
+-- the tick at which a forwarded word arrives: the completion of its latest writer, if later than the tick
 abbrev pub forwarded_at : List Past → ℕ → ℕ → Option ℕ
 forwarded_at past w tick =
     let done = latest_done past w in
     if nat_lt tick done then Some done else None
 
 module _ (ds : List ℕ) (past : List Past) where
-  -- how a word is used
+  -- the use of a requested word
   abbrev pub use_of : Fetching → Wish → Use
   use_of s x =
       let want = want_of x.role s x.from in
@@ -68,7 +68,7 @@ module _ (ds : List ℕ) (past : List Past) where
         unread = if is_held x.role then tick_of s.bus.held.words x.w else forwarded_at past x.w want;
       }
 
-  -- how far the entry is behind a use
+  -- the progress of the entry after a use
   unfoldable pub behind_use : Fetching → Use → Fetching
   behind_use s u =
       let there = answer_if ds u.bus u.read.w u.read.want u.unread in
@@ -79,31 +79,31 @@ module _ (ds : List ℕ) (past : List Past) where
             if u.read.fetch then max s.awaited (latest_done past u.read.w) else s.awaited;
       }
 
-  -- the uses of words, one after another
+  -- the uses of requested words, in order
   unfoldable pub uses : Fetching → List Wish → List Use
   uses s [] = []
   uses s (x ∷ xs) = use_of s x ∷ uses (behind_use s (use_of s x)) xs
 
-  -- how far the entry is behind uses
+  -- the progress of the entry after uses
   unfoldable pub behind : Fetching → List Use → Fetching
   behind s [] = s
   behind s (u ∷ us) = behind (behind_use s u) us
 
--- the read that is made for a use, if there is one
+-- the read of a use, if it makes one
 abbrev pub read_made : Read → Option ℕ → List Read
 read_made r (Some tick) = []
 read_made r None = r ∷ []
 
--- the reads that are made for uses
+-- the reads of a list of uses
 unfoldable pub reads_of : List Use → List Read
 reads_of [] = []
 reads_of (u ∷ us) = read_made u.read u.unread ++ reads_of us
 
--- no word is used yet where the bus is b, and what is waited for is there at the tick
+-- no word is used yet: the bus is b, and the latest arrival is at the given tick
 abbrev pub unused : Bus → ℕ → Fetching
 unused b tick = record { bus = b; answered = tick; awaited = 0 }
 
--- the index-side word, if there is one
+-- the request for the index-side word, if there is one
 abbrev pub wish_of : Option ℕ → ℕ → List Wish
 wish_of None a = []
 wish_of (Some w) a = record { role = Index; w = w; from = a } ∷ []

@@ -14,21 +14,19 @@ use crate::watch::Watch;
 use st_banks::{Delays, LastAnswers};
 use st_fetch::HeldWords;
 
-/// The way to storage: at most one read is accepted a tick, in the order in which reads are asked
-/// for.
+/// The bus to storage. It accepts at most one read per tick, in the order of the requests.
 #[derive(Clone, Copy, Debug, Default, PartialEq, Eq)]
 pub struct Bus {
     /// The last answer of each bank.
     pub banks: LastAnswers,
     /// The first tick at which the next read can be accepted.
     pub free: u64,
-    /// The instruction words that were asked for last.
+    /// The instruction words that were requested last.
     pub held: HeldWords,
 }
 
 impl Bus {
-    /// The bus of a segment that starts at the tick `start`, where the banks have these last
-    /// answers.
+    /// The bus of a segment that starts at the tick `start` with these last answers of the banks.
     pub fn new(banks: LastAnswers, start: u64) -> Bus
         ensures { result ≡ no_reads banks start }
     {
@@ -39,8 +37,8 @@ impl Bus {
         }
     }
 
-    /// Reads a word, notes that in the log, and tells it to who looks on. The result is the tick of
-    /// the answer.
+    /// Reads a word, records the read in the log, and reports it to the observer. Returns the tick
+    /// of the answer.
     pub fn read<W: Watch>(
         &mut self,
         log: &mut Log,
@@ -85,8 +83,8 @@ impl Bus {
         answer
     }
 
-    /// Asks for an instruction word: if it is held, no read is made, and else it is held from now
-    /// on. The result is the tick of its answer.
+    /// Requests an instruction word. A word that is not held is read, and is held from then on.
+    /// Returns the tick of its answer.
     pub fn request<W: Watch>(
         &mut self,
         log: &mut Log,

@@ -1,8 +1,8 @@
-//! Entries as the timetable sees them.
+//! The data of an entry that the timetable uses.
 ghost use Rattle.std.specs.Prelude.{◌≡◌};
 ghost use Rattle.st_rows.specs.Entries.{is_in, is_among, has_words};
 
-/// A run of words.
+/// A run of consecutive words.
 #[derive(Clone, Copy, Debug, Default, PartialEq, Eq)]
 pub struct WordRun {
     /// The address of its first word.
@@ -11,7 +11,7 @@ pub struct WordRun {
     pub len: u8,
 }
 
-/// The words of two runs, the first run before the second.
+/// Two runs of words, in this order.
 #[derive(Clone, Copy, Debug, Default, PartialEq, Eq)]
 pub struct WordRuns {
     /// The first run.
@@ -20,13 +20,13 @@ pub struct WordRuns {
     pub two: WordRun,
 }
 
-/// An entry as the timetable sees it: which words are read for it and written by it, and how long
-/// it takes. Registers make no read, so each word that is read is one from 32 up.
+/// The data of an entry that the timetable uses: the words that it reads and writes, and its cost.
+/// Registers need no read, so the words that are read are all from 32 up.
 #[derive(Clone, Copy, Debug, Default, PartialEq, Eq)]
 pub struct Entry {
-    /// Its own instruction words, up to the first one that is forbidden.
+    /// Its own instruction words, up to the first forbidden one.
     pub own: WordRun,
-    /// The instruction words of the target of EX, likewise.
+    /// The instruction words of the target of EX, up to the first forbidden one.
     pub target: WordRun,
     /// Its index-side word.
     pub side: Option<u32>,
@@ -36,9 +36,9 @@ pub struct Entry {
     pub writes: WordRuns,
     /// The ticks from the arrival of its operands to its completion, 1 to 24.
     pub cost: u8,
-    /// Whether it is done alone.
+    /// Whether it is serializing: it waits for all earlier entries, and all later ones wait for it.
     pub serial: bool,
-    /// Whether it asks for the words that follow its own.
+    /// Whether it prefetches the two words after its own.
     pub follows: bool,
 }
 

@@ -1,4 +1,4 @@
-//! The instruction words of an entry, asked for one after another.
+//! The instruction words of an entry, requested in order.
 ghost use Rattle.std.specs.Prelude.{◌≡◌, ◌-◌, ◌≤◌, ◌^◌, ◌∷◌, [], max};
 ghost use Rattle.st_fetch.specs.Planned.{tick_of};
 ghost use Rattle.st_rows.specs.Asked.{word_asked};
@@ -16,32 +16,32 @@ use crate::uses::{Role, Wish};
 use crate::watch::Watch;
 use st_banks::Delays;
 
-/// From when on words are wanted, and what decides when they are there: the delays of storage, and
-/// the last entries, which may write them.
+/// A request for words: its tick, the delays of storage, and the previous entries, which may write
+/// these words.
 #[derive(Clone, Copy)]
 pub struct Wanted<'a> {
-    /// The tick from which on they are wanted.
+    /// The tick of the request.
     pub tick: u64,
-    /// The delays of reads.
+    /// The delays of storage.
     pub delays: &'a Delays,
-    /// The last entries before.
+    /// The previous entries of the segment.
     pub past: &'a LastEntries,
 }
 
-/// How far the words of an entry are read: its instruction words, and behind them the others.
+/// The progress of an entry through its words: the instruction words first, then the others.
 #[derive(Clone, Copy, Debug, Default, PartialEq, Eq)]
 pub struct Fetching {
-    /// The bus after the words so far.
+    /// The bus after the words that are read so far.
     pub bus: Bus,
-    /// The latest of the answers of instruction words, 0 before the first one. Once operands are
-    /// read it is the latest of theirs and of the tick at which the entry was prepared.
+    /// For instruction words, their latest answer so far, 0 before the first. For operands, the
+    /// latest of their answers and the tick at which the entry is prepared.
     pub answered: u64,
-    /// The latest completion of an entry that writes one of them, 0 where none does.
+    /// The latest completion of an entry that writes one of the instruction words, 0 if none does.
     pub awaited: u64,
 }
 
 impl Fetching {
-    /// No word is fetched yet.
+    /// The progress before any word is fetched.
     pub fn new(bus: Bus) -> Fetching
         ensures { result ≡ record { bus = bus; answered = 0; awaited = 0 } }
     {
@@ -52,7 +52,7 @@ impl Fetching {
         }
     }
 
-    /// No word is fetched yet of an entry behind the last one.
+    /// Starts the next entry: no word is fetched, and the bus stays as it is.
     pub fn restart(&mut self)
         ensures { self.new ≡ record { bus = self.old.bus; answered = 0; awaited = 0 } }
     {
@@ -60,8 +60,8 @@ impl Fetching {
         self.awaited = 0;
     }
 
-    /// Fetches the next instruction word; the read that is made for it, where it was not held, is
-    /// noted in the log, and who looks on is told of the word.
+    /// Fetches the next instruction word and reports it to the observer. If the word is not held,
+    /// its read is recorded in the log.
     #[inline(always)]
     pub fn word<W: Watch>(&mut self, log: &mut Log, watch: &mut W, wanted: &Wanted<'_>, w: u32)
         requires room { IsFetchingWithin (2 ^ 64 - 512) self.old }

@@ -1,4 +1,4 @@
-//! Fronts: what the row of the next entry is computed from.
+//! The issue state: the input to the timetable row of the next entry.
 ghost use Rattle.std.specs.Prelude.{◌≡◌, ◌+◌, ◌-◌, ◌≤◌, ◌^◌, ◌++◌, [], ℕ, All, IfSome, List};
 ghost use Rattle.st_bits.specs.declared.limits.TheConstants.{MOST_DELAY};
 ghost use Rattle.st_rows.specs.Asked.{side_asked, operands_asked, runs_asked, inside_asked, following_asked, prepared_asked};
@@ -26,28 +26,28 @@ use st_bits::WORDS;
 /// The ticks of an entry.
 #[derive(Clone, Copy, Debug, Default, PartialEq, Eq)]
 pub struct EntryTicks {
-    /// When its address is formed, one tick after its instruction words are there.
+    /// A: its address is formed, after its instruction words have arrived.
     pub a: u64,
-    /// When it is prepared.
+    /// P: it is prepared.
     pub p: u64,
-    /// When its operands are there.
+    /// R: the operand words that it reads have arrived.
     pub r: u64,
-    /// When it is done.
+    /// C: it completes.
     pub c: u64,
 }
 
-/// What the row of the next entry is computed from.
+/// The input to the row of the next entry, as `docs/timetable.md` defines it.
 #[derive(Debug, Default, Drop)]
 pub struct IssueState {
     /// The bus after the reads of the entries so far.
     pub bus: Bus,
-    /// When the last entry was prepared, the start of the segment before the first one.
+    /// P of the last entry; before the first entry, the start of the segment.
     pub p: u64,
-    /// When the last entry is done, the start of the segment before the first one.
+    /// C of the last entry; before the first entry, the start of the segment.
     pub c: u64,
-    /// Whether the last entry is done alone.
+    /// Whether the last entry is serializing.
     pub serial: bool,
-    /// The last eight entries of the segment, the newest one first.
+    /// The last eight entries of the segment, newest first.
     pub past: LastEntries,
 }
 
@@ -60,14 +60,14 @@ pub struct Formed {
     pub p: u64,
 }
 
-/// The next entry, and what decides besides it when it is prepared.
+/// The next entry, with the delays and the number of levels.
 #[derive(Clone, Copy)]
 pub struct TimedEntry<'a> {
     pub entry: &'a Entry,
     pub timing: &'a Timing<'a>,
 }
 
-/// An entry whose address is formed, likewise.
+/// An entry whose address is formed, with the delays and the number of levels.
 #[derive(Clone, Copy)]
 pub struct FormedEntry<'a> {
     pub entry: &'a Entry,
@@ -76,19 +76,18 @@ pub struct FormedEntry<'a> {
     pub formed: Formed,
 }
 
-/// An entry whose operands are there.
+/// The result of reading the operands of an entry.
 #[derive(Clone, Copy, Debug, Default, PartialEq, Eq)]
 pub struct Filled {
     /// Its ticks.
     pub row: EntryTicks,
-    /// When the first two words of its first run of operands are there, 0 where the run has no such
-    /// word.
+    /// The arrival ticks of the first two words of its first run of operands, 0 for a missing word.
     pub fills: [u64; 2],
 }
 
 impl IssueState {
-    /// The front of a segment that starts at the tick `start`, where the banks have these last
-    /// answers.
+    /// The issue state of a segment that starts at the tick `start` with these last answers of the
+    /// banks.
     pub fn new(banks: LastAnswers, start: u64) -> IssueState
         requires { All (λ t. t ≤ start + MOST_DELAY) banks.ticks }
         ensures value { result ≡ opening_issue banks start }
@@ -103,7 +102,7 @@ impl IssueState {
         }
     }
 
-    /// The tick from which on the first instruction word of the next entry is wanted.
+    /// The tick at which the first instruction word of the next entry is requested.
     pub fn wanted_from(&self) -> u64
         ensures { result ≡ wanted_from self.now }
     {
@@ -132,8 +131,8 @@ impl IssueState {
         (there + 1).max(self.bus.free)
     }
 
-    /// The address of the next entry is formed, whose instruction words are fetched, and its
-    /// index-side word is asked for behind them.
+    /// Forms the address of the next entry, whose instruction words have been fetched, and requests
+    /// its index-side word.
     #[inline(always)]
     pub fn form<W: Watch>(
         &self,
@@ -169,8 +168,8 @@ impl IssueState {
         Formed { a, p }
     }
 
-    /// The operand words of the next entry are read, whose address is formed as `form` says, and
-    /// its following words are asked for; the front stays before it.
+    /// Reads the operand words of the next entry, whose address was formed by `form`, and requests
+    /// its following words. The issue state does not change.
     #[inline(always)]
     pub fn fill<W: Watch>(
         &self,
@@ -224,7 +223,7 @@ impl IssueState {
         }
     }
 
-    /// Goes on behind the next entry, with its row, and the bus after all its reads.
+    /// Advances past the next entry, given its row and the bus after all its reads.
     pub fn pass(&mut self, entry: &Entry, row: &EntryTicks, bus: &Bus)
         ensures { (ds : List ℕ) (n : ℕ) → row.now ≡ row_of ds n self.old entry.now →
             bus.now ≡ (issue_after_entry ds n self.old entry.now).bus →
@@ -241,9 +240,9 @@ impl IssueState {
     }
 }
 
-// Reads the index-side word, if there is one, of an entry, which is wanted when its address is
-// formed, unless an earlier entry writes it that is done later. The result is the tick at which it
-// is there, 0 where there is none.
+// Requests the index-side word of an entry, if there is one, when its address is formed. A word
+// whose latest writer completes later is forwarded. Returns the tick of its arrival, 0 if there is
+// none.
 fn side<W: Watch>(
     bus: &mut Bus,
     log: &mut Log,
@@ -295,8 +294,8 @@ fn prepared_at(levels: usize, past: &LastEntries, a: u64, y: u64) -> u64
     a.max(y).max(past.done_before(levels)) + 1
 }
 
-// The operand words of an entry are read, which are wanted when it is prepared. The result says
-// when the first two of its first run are there, 0 where that has no such word.
+// Reads the operand words of an entry, requested when it is prepared. Returns the arrival ticks of
+// the first two words of the first run, 0 for a missing word.
 #[inline(always)]
 fn read_operands<W: Watch>(
     operands: &mut Fetching,
@@ -330,8 +329,8 @@ fn read_operands<W: Watch>(
     fills
 }
 
-// The words of a run of operands are read. The result says when the first two are there, 0 where
-// there is no such word.
+// Reads the operand words of a run. Returns the arrival ticks of the first two, 0 for a missing
+// word.
 #[inline(always)]
 fn read_run<W: Watch>(
     operands: &mut Fetching,
@@ -373,7 +372,7 @@ fn read_run<W: Watch>(
     [first, second]
 }
 
-/// The following words of an entry are asked for, which are wanted when it is prepared.
+/// Prefetches the two words after those of an entry, if it prefetches any.
 #[inline(always)]
 pub fn follow<W: Watch>(
     bus: &mut Bus,
@@ -400,7 +399,7 @@ pub fn follow<W: Watch>(
     request_inside(bus, log, watch, wanted, w + 1);
 }
 
-// Asks for the word `w`, if it is a word of storage.
+// Requests the word `w` if it lies in storage.
 fn request_inside<W: Watch>(
     bus: &mut Bus,
     log: &mut Log,

@@ -1,5 +1,5 @@
-//! The numbers of the timetable: when the entries of a segment are fetched, addressed, prepared,
-//! ready and done. `docs/timetable.md` has the rules.
+//! The timetable of a segment: the ticks at which each entry is fetched, addressed, prepared, ready
+//! and complete. `docs/timetable.md` has the rules.
 #![tactic(auto, using(st_bits::specs::Storage::words_of_storage_is), unfolding(crate::specs::Asked::following_asked, crate::specs::Asked::side_asked, crate::specs::BusTimes::answer_tick_on, crate::specs::BusTimes::bus_after_read, crate::specs::BusTimes::bus_after_request, crate::specs::Entries::is_among, crate::specs::Entries::is_in, crate::specs::Entries::writer_bits, crate::specs::Notes::log_after_reads, crate::specs::Rows::address_tick, crate::specs::Words::bus_after_prefetch, crate::specs::Words::bus_after_index_read, crate::specs::Words::fetch_word, crate::specs::Words::fills_of, crate::specs::Words::operands_read, crate::specs::Rows::preparation_tick, crate::specs::Words::read_word, crate::specs::Words::read_words, crate::specs::Words::side_there, crate::specs::Uses::behind, crate::specs::Uses::behind_use, crate::specs::Uses::reads_of, crate::specs::Uses::uses, crate::specs::Uses::wishes))]
 
 mod bus;

@@ -1,15 +1,15 @@
-//! The reads of a segment that may still be taken back.
+//! A log of reads, by which late reads of a segment are undone.
 ghost use Rattle.std.specs.Prelude.{◌≡◌, ◌∷◌, ◌≤◌, [], take, MatchOption};
 ghost use Rattle.st_rows.specs.Notes.{AreSettled, answers_left};
 
 use st_banks::LastAnswers;
 use std::marker::Model;
 
-// How many notes are kept. At most 39 reads are accepted at the tick at which an entry is done or
-// later; this is a power of two above.
+// The number of records that are kept. At most 39 reads are accepted at the tick at which an entry
+// completes or later; this is a power of two above.
 const KEPT: usize = 64;
 
-/// A read that is made.
+/// A record of one read.
 #[derive(Clone, Copy, Debug, Default, PartialEq, Eq)]
 pub struct Made {
     /// The tick at which it is accepted.
@@ -20,16 +20,16 @@ pub struct Made {
     pub w: u32,
 }
 
-/// Notes of the last 64 reads of a segment. Contracts see their list, the youngest one first.
+/// The records of the last 64 reads of a segment. Contracts see them as a list, youngest first.
 #[derive(Debug, Drop)]
 pub struct Log {
-    // The youngest one stands at the head, older ones behind it, around the end.
+    // A ring: the youngest record is at `head`, older ones follow, wrapping around the end.
     notes: [Made; KEPT],
     head: usize,
     len: usize,
 }
 
-// Clauses see the notes, the youngest one first.
+// Contracts see the records, youngest first.
 impl Model for Log {
     ghost use Rattle.std.specs.Prelude.{List};
     ghost use Rattle.st_fetch.specs.Queue.{window, IsRing};
@@ -51,7 +51,7 @@ impl Default for Log {
 }
 
 impl Log {
-    /// No reads yet.
+    /// The empty log.
     pub fn new() -> Log
         ensures { result ≡ [] }
     {
@@ -62,14 +62,14 @@ impl Log {
         }
     }
 
-    /// Takes all notes away.
+    /// Removes all records.
     pub fn clear(&mut self)
         ensures { self.new ≡ [] }
     {
         self.len = 0;
     }
 
-    /// Keeps one note more, the youngest one; of more than 64 the oldest one goes.
+    /// Adds a record as the youngest one. If there are 64 already, the oldest one is dropped.
     pub fn put(&mut self, note: Made)
         ensures { self.new ≡ take 64 (note ∷ self.old) }
     {
@@ -80,8 +80,8 @@ impl Log {
         }
     }
 
-    /// Takes the reads back that are accepted at the tick `now` or later, the youngest one first:
-    /// the banks have the last answers from before them.
+    /// Undoes the reads that are accepted at the tick `now` or later, youngest first: restores the
+    /// last answers of their banks.
     pub fn undo(&mut self, banks: &mut LastAnswers, now: u64)
         ensures { banks.new.ticks ≡ answers_left now self.old banks.old.ticks }
     {
@@ -90,7 +90,7 @@ impl Log {
         }
     }
 
-    // Takes the youngest note away, if its read is accepted at the tick `now` or later.
+    // Removes and returns the youngest record if its read is accepted at the tick `now` or later.
     fn take_late(&mut self, now: u64) -> Option<Made>
         ensures { MatchOption result (AreSettled now self.old)
             (λ read. (self.old ≡ read ∷ self.new) × (now ≤ read.tick)) }

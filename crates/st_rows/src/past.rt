@@ -1,4 +1,4 @@
-//! What is kept of the entries before.
+//! The recent entries of a segment: when they complete, and the words that they write.
 ghost use Rattle.std.specs.Prelude.{◌≡◌, ◌∷◌, ℕ, ◌≤◌, take, replicate, true, false};
 ghost use Rattle.st_rows.specs.Entries.{no_runs, is_in, is_outside, latest_done as latest_done_of};
 ghost use Rattle.st_rows.specs.Rows.{done_before as done_before_of};
@@ -8,38 +8,38 @@ use crate::entry::{WordRun, WordRuns};
 use st_bits::register::FIRST_STORAGE_WORD;
 use std::marker::Model;
 
-/// What is kept of an earlier entry of the segment.
+/// The data of an earlier entry of the segment that the timetable keeps.
 #[derive(Clone, Copy, Debug, Default, PartialEq, Eq)]
 pub struct Past {
-    /// The tick at which it is done; 0 where there was no such entry.
+    /// The tick at which it completes; 0 if there was no such entry.
     pub c: u64,
     /// The words that it writes.
     pub writes: WordRuns,
 }
 
-// How many entries are kept.
+// The number of entries that are kept.
 const KEPT: usize = 8;
 
-/// The last eight entries of the segment. Contracts see their list, the newest one first.
+/// The last eight entries of the segment. Contracts see them as a list, newest first.
 #[derive(Debug, Drop)]
 pub struct LastEntries {
-    // The newest one stands at the head, older ones behind it, around the end.
+    // A ring: the newest entry is at `head`, older ones follow, wrapping around the end.
     entries: [Past; KEPT],
     head: usize,
-    // A bit for each entry, the lowest one for the newest: whether it writes any word.
+    // One bit per entry, the lowest for the newest: whether the entry writes any word.
     writers: u64,
-    // Between which words all lie that entries of the segment write.
+    // Bounds of all words from 32 up that entries of the segment write.
     bounds: Bounds,
 }
 
-// The words from `low` on and below `high`.
+// The words from `low` up, below `high`.
 #[derive(Clone, Copy, Debug)]
 struct Bounds {
     low: u64,
     high: u64,
 }
 
-// Clauses see the entries, the newest one first.
+// Contracts see the entries, newest first.
 impl Model for LastEntries {
     ghost use Rattle.std.specs.Prelude.{List};
     ghost use Rattle.st_fetch.specs.Queue.{window};
@@ -63,7 +63,7 @@ impl Default for LastEntries {
 }
 
 impl LastEntries {
-    /// None yet.
+    /// The history before the first entry.
     pub fn new() -> LastEntries
         ensures { result ≡ replicate 8 (record { c = 0; writes = no_runs }) }
     {
@@ -78,7 +78,7 @@ impl LastEntries {
         }
     }
 
-    /// Keeps one entry more, the newest one, and the seven before it.
+    /// Adds an entry as the newest one, and keeps the seven before it.
     pub fn put(&mut self, newest: Past)
         ensures { self.new ≡ newest ∷ take 7 self.old }
     {
@@ -89,7 +89,7 @@ impl LastEntries {
         self.bounds = widened(self.bounds, newest.writes);
     }
 
-    /// The tick at which the entry `n` before is done, 1 to 8; 0 where there was no such entry.
+    /// The completion tick of the `n`th previous entry, n from 1 to 8; 0 if there was none.
     pub fn done_before(&self, n: usize) -> u64
         requires { (1 ≤ n) × (n ≤ 8) }
         ensures { result ≡ done_before_of n self.now }
@@ -97,8 +97,8 @@ impl LastEntries {
         self.entries[(self.head + n - 1) % KEPT].c
     }
 
-    /// The tick at which the latest of these entries is done that writes the word `w`, from 32 up;
-    /// 0 where none does.
+    /// The completion tick of the latest of these entries that writes the word `w`, from 32 up; 0
+    /// if none does.
     #[inline(always)]
     pub fn latest_done(&self, w: u32) -> u64
         requires storage { 32 ≤ w }
@@ -110,7 +110,7 @@ impl LastEntries {
         self.latest_writer(w)
     }
 
-    // The same, whatever the bounds.
+    // The completion tick of the latest writer of the word `w`, without a test of the bounds.
     #[inline(always)]
     fn latest_writer(&self, w: u32) -> u64
         ensures { result ≡ latest_done_of self.now w }
@@ -127,8 +127,8 @@ impl LastEntries {
         0
     }
 
-    /// How many entries before the latest of these entries lies that writes the word `w`, 1 to 8; 0
-    /// where none does.
+    /// The distance of the latest of these entries that writes the word `w`, 1 for the newest, up
+    /// to 8; 0 if none does.
     pub fn latest_back(&self, w: u32) -> u8
         ensures { result ≡ writer_back self.now w }
     {
@@ -154,8 +154,8 @@ fn lies_outside(bounds: Bounds, w: u32) -> bool
     word < bounds.low || word >= bounds.high
 }
 
-// The bounds with the words of two runs, but for registers, for which no read is made. Most entries
-// write no word, so that this is tested first.
+// The bounds extended by the words of two runs, except registers, which are not read. Most entries
+// write no word, so this is tested first.
 #[inline(always)]
 fn widened(bounds: Bounds, runs: WordRuns) -> Bounds
     ensures { (w : ℕ) → 32 ≤ w → is_outside result.low result.high w ≡ true →
@@ -169,7 +169,7 @@ fn widened(bounds: Bounds, runs: WordRuns) -> Bounds
     widened_by(one, runs.two)
 }
 
-// The bounds with the words of a run.
+// The bounds extended by the words of a run.
 #[inline(always)]
 fn widened_by(bounds: Bounds, run: WordRun) -> Bounds
     ensures { (w : ℕ) → 32 ≤ w → is_outside result.low result.high w ≡ true →

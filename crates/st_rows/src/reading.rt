@@ -1,4 +1,4 @@
-//! The operand words of an entry, read one after another.
+//! The operand words of an entry, read in order.
 ghost use Rattle.std.specs.Prelude.{◌≡◌, ◌-◌, ◌≤◌, ◌^◌, ◌∷◌, []};
 ghost use Rattle.st_rows.specs.Asked.{data_asked, operands_asked};
 ghost use Rattle.st_rows.specs.Notes.{log_after_reads};
@@ -15,9 +15,9 @@ use crate::uses::{Role, Wish};
 use crate::watch::Watch;
 
 impl Fetching {
-    // Reads the next operand word of an entry, which is wanted when that is prepared, unless an
-    // earlier entry writes it that is done later. The result is the tick at which the word is
-    // there.
+    // Reads the next operand word of an entry, requested when it is prepared. A word whose latest
+    // writer completes later is forwarded and makes no read. Returns the tick at which the word
+    // arrives.
     pub(crate) fn read<W: Watch>(
         &mut self,
         log: &mut Log,
@@ -56,7 +56,7 @@ impl Fetching {
         answer
     }
 
-    /// Reads the next operand words.
+    /// Reads the operand words of a run.
     #[inline(always)]
     pub fn read_on<W: Watch>(
         &mut self,

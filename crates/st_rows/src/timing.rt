@@ -1,9 +1,9 @@
-//! What decides when the entries of a machine are prepared and done, besides what they are.
+//! The parameters of the timetable that do not depend on the program.
 ghost use Rattle.std.specs.Prelude.{◌≤◌};
 
 use st_banks::Delays;
 
-/// The delays of storage, and how many levels the machine has, 1 to 8.
+/// The delays of storage, and the number of levels of the machine, 1 to 8.
 #[derive(Clone, Copy)]
 pub struct Timing<'a> {
     pub delays: &'a Delays,

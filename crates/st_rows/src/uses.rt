@@ -1,10 +1,10 @@
-//! The words that an entry uses, and where each of them comes from.
+//! The words that an entry uses, and the source of each.
 ghost use Rattle.std.specs.Prelude.{◌≡◌, ◌≤◌, ◌∷◌, [], length};
 ghost use Rattle.st_rows.specs.KeptUses.{uses_with};
 
 use std::marker::Model;
 
-/// What a word is used as.
+/// The role of a word in an entry.
 #[derive(Clone, Copy, Debug, PartialEq, Eq)]
 pub enum Role {
     /// An instruction word, the entry's own or one of the target of EX.
@@ -13,7 +13,7 @@ pub enum Role {
     Index,
     /// An operand word.
     Operand,
-    /// One of the two words behind the entry's own, which are asked for ahead of time.
+    /// One of the two words after the entry's own, which are prefetched.
     Following,
 }
 
@@ -28,50 +28,50 @@ impl Default for Role {
     }
 }
 
-/// A word that is asked for.
+/// A request for a word.
 #[derive(Clone, Copy, Debug, Default, PartialEq, Eq)]
 pub struct Wish {
-    /// What it is used as.
+    /// The role of the word.
     pub role: Role,
     /// Its word address.
     pub w: u32,
-    /// From when on it is wanted.
+    /// The earliest tick of the request.
     pub from: u64,
 }
 
 /// The ticks of a read.
 #[derive(Clone, Copy, Debug, Default, PartialEq, Eq)]
 pub struct ReadTicks {
-    /// From when on it is wanted.
+    /// The tick of the request.
     pub want: u64,
     /// The first tick at which the bus is free.
     pub turn: u64,
-    /// The tick at which its bank is.
+    /// The first tick at which its bank is free: the last answer of the bank.
     pub free: u64,
-    /// When it is accepted, the greatest of the three.
+    /// The tick at which it is accepted, the greatest of these three.
     pub accept: u64,
-    /// When it is answered.
+    /// The tick at which it is answered.
     pub answer: u64,
 }
 
-/// An entry that writes a word and is not done when the word is wanted.
+/// An earlier entry that writes a requested word and has not completed at the request.
 #[derive(Clone, Copy, Debug, Default, PartialEq, Eq)]
 pub struct Writer {
-    /// How many entries it lies before, 1 to 8.
+    /// Its distance: how many entries before this one, 1 to 8.
     pub back: u8,
-    /// When it is done.
+    /// The tick at which it completes.
     pub done: u64,
 }
 
-/// Where a word comes from.
+/// The source of a word.
 #[derive(Clone, Copy, Debug, PartialEq, Eq)]
 pub enum Supply {
     /// It is read from its bank.
     Read(ReadTicks),
-    /// It is held, as an instruction word that was asked for before; this is the tick of its
+    /// It is held, because it was requested before as an instruction word; this is the tick of its
     /// answer.
     Held(u64),
-    /// It comes from the latest entry that writes it.
+    /// It is forwarded from its latest writer.
     Forwarded(Writer),
     /// It is a register.
     Register,
@@ -91,22 +91,22 @@ impl Default for Supply {
 /// A word that an entry uses.
 #[derive(Clone, Copy, Debug, Default, PartialEq, Eq)]
 pub struct Use {
-    /// What it is used as.
+    /// The role of the word.
     pub role: Role,
     /// Its word address.
     pub word: u32,
-    /// Where it comes from.
+    /// The source of the word.
     pub supply: Supply,
 }
 
-// Room for words.
+// The number of words for which there is room.
 const ROOM: usize = 48;
 
-/// The words that an entry uses, in the order of their reads. There are 39 at most: four
-/// instruction words, the index-side word, 32 operand words and two following ones.
+/// The words that an entry uses, in the order of their reads. There are at most 39: four
+/// instruction words, the index-side word, 32 operand words and two following words.
 #[derive(Debug, Drop)]
 pub struct Uses {
-    // The first of these places have the words.
+    // The first `len` places hold the words.
     words: [Use; ROOM],
     len: usize,
 }
@@ -153,7 +153,7 @@ impl Uses {
         &self.words[..self.len]
     }
 
-    /// Takes all words away. What stands in their places is written over by others.
+    /// Removes all words. Their places are overwritten later.
     #[inline(always)]
     pub fn clear(&mut self)
         ensures { self.new.items ≡ [] }
@@ -161,7 +161,7 @@ impl Uses {
         self.len = 0;
     }
 
-    /// Puts a word behind the others; of more than 48 the last ones are left out.
+    /// Appends a word. Changes nothing if there are 48 words already.
     #[inline(always)]
     pub fn push(&mut self, word: Use)
         ensures { self.new ≡ uses_with (word ∷ []) self.old }
@@ -172,7 +172,7 @@ impl Uses {
         }
     }
 
-    /// Has these words in place of its own.
+    /// Replaces the words by those of `other`.
     #[inline(always)]
     pub fn copy(&mut self, other: &Uses)
         ensures { self.new.items ≡ other.now.items }

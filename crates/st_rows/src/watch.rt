@@ -1,4 +1,4 @@
-//! Who looks on while the words of an entry are asked for.
+//! Observers of the words that an entry requests.
 ghost use Rattle.std.specs.Prelude.{◌≡◌, refl, ◌∷◌, ◌++◌, [], List};
 ghost use Rattle.st_rows.specs.Supplies.{writer_back};
 ghost use Rattle.st_rows.specs.KeptUses.{uses_with, uses_with_none, uses_with_more};
@@ -8,10 +8,10 @@ ghost use Rattle.st_rows.specs.declared.uses.Supply.TheVariants as from;
 use crate::past::LastEntries;
 use crate::uses::{ReadTicks, Role, Supply, Use, Uses, Writer};
 
-/// Who is told of each word that is asked for, in the order in which they are, and where it comes
-/// from.
+/// An observer of the words that an entry requests. It is notified of each word with its source, in
+/// the order of the requests.
 pub trait Watch {
-    // What it is once it is told of these words.
+    // The observer after it is notified of these words.
     ghost noted: { List Used → Self → Self };
 
     /// A word is read.
@@ -19,12 +19,12 @@ pub trait Watch {
         ensures { self.new ≡ noted
             (record { role = role; word = w; supply = from.Read read.now } ∷ []) self.old };
 
-    /// An instruction word is held, and answered at this tick.
+    /// An instruction word is held, and its answer is at this tick.
     fn held(&mut self, role: Role, w: u32, answer: u64)
         ensures { self.new ≡ noted
             (record { role = role; word = w; supply = from.Held answer } ∷ []) self.old };
 
-    /// A word comes from the latest of the last entries that writes it, which is done at this tick.
+    /// A word is forwarded from its latest writer, which completes at this tick.
     fn forwarded(&mut self, role: Role, w: u32, past: &LastEntries, done: u64)
         ensures { self.new ≡ noted (record {
           role = role;
@@ -37,7 +37,7 @@ pub trait Watch {
     ghost noted_more: { (a b : List Used) (m : Self) → noted b (noted a m) ≡ noted (a ++ b) m };
 }
 
-/// Nobody looks on.
+/// The observer that ignores all words.
 #[derive(Clone, Copy, Debug, Default, PartialEq, Eq)]
 pub struct Nobody;
 
@@ -71,7 +71,7 @@ impl Watch for Nobody {
     }
 }
 
-/// The words are put behind the others.
+/// Appends each word to the list.
 impl Watch for Uses {
     ghost noted = { uses_with };
 

@@ -64,7 +64,7 @@ row-later : (ds : List ℕ) (n now : ℕ) (f : IssueState) (e : Entry) → IsEnt
 unfolding row_of_entry tick_c
 row-later ds n now f e is late = omega (arith, is.costs.0)
 
--- the machine before the next entry, with the front f
+-- the machine before the next entry, with the issue state f
 abbrev going : Overlap → Machine → Option ℕ → IssueState → Overlap
 going o s t f = record o { state = s; taken = t; issue = f; owed = false; ended = false; mispredicted = None; closing = None; now = o.now + 1 }
 
@@ -153,7 +153,7 @@ module _ (b t : Together) (text : Option (List ℕ)) (over : Bool) (is : IsBehin
       ∙ ends-by (is_some b.machine.mispredicted) (has_card m) (has_waited m) (is_some (interrupt s))
       ∙ ap (λ (u : Machine). is_some b.machine.mispredicted || has_card m || has_waited m || is_some (interrupt u)) state-is
 
-  -- the front after the decision
+  -- the issue state after the decision
   abbrev issue : IssueState
   issue = if ends then next_segment m else b.machine.issue
 

@@ -62,7 +62,7 @@ count-alike ds n now (suc k) s u f m alike late =
 
 -- ---- the end of a segment
 
--- the machine in a state, with the front of the segment after the one that ends here
+-- the machine in a state, with the issue state of the segment after the one that ends here
 abbrev pub opened : Overlap → Machine → Overlap
 opened o s = record o {
   state = s;

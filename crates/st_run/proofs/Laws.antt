@@ -11,7 +11,7 @@ use Rattle.st_run.proofs.Turns.{nothing-ahead, snapshot-none}
 use Rattle.st_run.proofs.PrintLemmas.{settled-one}
 use Rattle.st_run.proofs.GuessLemmas.{behind-right, behind-mispredicted}
 use Rattle.st_run.proofs.SceneLemmas.{settled-scene, stepped-scene}
-use Rattle.st_run.specs.Laws.{TheTimedRunIsTheRun, DelaysChangeNothingButTicks, RunsAreInTime, TheLastMomentEndsTheRun, EventsComeInOrder, SnapshotsAreShownUpToTheEnd, NothingIsAheadBehindAnEnd, PrintsComeOneAtATime, DroppedEntriesFollowTheGuess, ScenesAreKept}
+use Rattle.st_run.specs.Laws.{TheTimedRunIsTheRun, DelaysChangeNothingButTicks, RunsAreInTime, TheLastMomentEndsTheRun, EventsComeInOrder, SnapshotsAreShownUpToTheEnd, NothingIsAheadBehindAnEnd, PrintsComeOneAtATime, DroppedEntriesFollowThePrediction, ScenesAreKept}
 use Rattle.st_refine.proofs.Kept.{interrupt-below}
 
 pub the_timed_run_is_the_run : TheTimedRunIsTheRun
@@ -51,7 +51,7 @@ nothing_is_ahead_behind_an_end = record {
 pub prints_come_one_at_a_time : PrintsComeOneAtATime
 prints_come_one_at_a_time = λ scene. settled-one scene
 
-pub dropped_entries_follow_the_prediction : DroppedEntriesFollowTheGuess
+pub dropped_entries_follow_the_prediction : DroppedEntriesFollowThePrediction
 dropped_entries_follow_the_prediction = record {
   right = λ ds n k p is right. behind-right ds n k p is right;
   mispredicted = λ ds n k p is mispredicted. behind-mispredicted ds n k p is mispredicted;

@@ -34,7 +34,7 @@ use Rattle.st_run.specs.Together.{Together, IsBeforeEntry}
 use Rattle.st_refine.proofs.Kept.{interrupt-below}
 use Rattle.st_run.proofs.TickLemmas.{ready-table}
 
--- ---- the word that an early change replaces
+-- ---- the word that a speculative change replaces
 
 -- the view contains the previous contents of the index word
 abbrev Keeps : List ℕ → Option IndexChange → Type 0

@@ -10,8 +10,8 @@ use Rattle.st_segment.specs.Guesses.{split_words}
 
 -- ---- the entries in flight as snapshots show them
 
--- an entry in flight: its address, the index word that it changed early (its number, and its
--- contents before this change), and whether all its operands have arrived
+-- an entry in flight: its address, the index word that it changed speculatively (its number, and
+-- its contents before this change), and whether all its operands have arrived
 pub record Level : Type 0 where
   pub address : ℕ
   pub changed : Option (ℕ × ℕ)

@@ -74,7 +74,7 @@ PrintsComeOneAtATime = (c : Scene) → length (interlude c).happened ≤ 1
 -- The entries after the prediction of an entry are those in flight in its completed state if the
 -- prediction was right; if it was wrong, those in flight in this state with the predicted program
 -- counter.
-pub record DroppedEntriesFollowTheGuess : Type 0 where
+pub record DroppedEntriesFollowThePrediction : Type 0 where
   pub right : (ds : List ℕ) (n k : ℕ) (p : Standing) → IsScene p.scene →
       let m = next_moment ds n p in m.mispredicted ≡ false →
       entries_behind ds n p k ≡ ahead ds n k None m.scene.machine m.issue

@@ -17,9 +17,9 @@ use Rattle.st_segment.specs.Entries.{entry}
 use Rattle.st_segment.specs.Ahead.{Ahead, ahead, prepared_before, reads_to_end, banks_at_end, issue_behind_end}
 
 -- the point at which an entry has completed at this tick, before any external event: the scene with
--- the state after it; the front after it; whether its branch was mispredicted; and, in case the
--- segment ends here, the entries in flight after the prediction, oldest first, and the last answers
--- of the banks
+-- the state after it; the issue state after it; whether its branch was mispredicted; and, in case
+-- the segment ends here, the entries in flight after the prediction, oldest first, and the last
+-- answers of the banks
 pub record Moment : Type 0 where
   pub scene : Scene
   pub tick : ℕ
@@ -29,7 +29,7 @@ pub record Moment : Type 0 where
   pub banks : LastAnswers
 
 -- the point right before the next entry, after all external events: the scene, the tick of the last
--- completion, and the front from which the row of the next entry is computed
+-- completion, and the issue state from which the row of the next entry is computed
 pub record Standing : Type 0 where
   pub scene : Scene
   pub tick : ℕ
@@ -72,11 +72,12 @@ module _ (m : Moment) where
   unfoldable pub ends_segment : Bool
   ends_segment = m.mispredicted || has_card || has_waited || is_some (interrupt next_state)
 
-  -- the front of the next segment, which starts one tick later and one more for each flushed entry
+  -- the issue state of the next segment, which starts one tick later and one more for each flushed
+  -- entry
   abbrev pub next_segment : IssueState
   next_segment = issue_behind_end m.banks m.tick (length m.dropped)
 
-  -- the front from which the row of the next entry is computed
+  -- the issue state from which the row of the next entry is computed
   unfoldable pub next_issue : IssueState
   next_issue = if ends_segment then next_segment else m.issue
 
@@ -95,7 +96,7 @@ module _ (ds : List ℕ) (n : ℕ) (p : Standing) where
   unfoldable pub next_row : EntryTicks
   next_row = row_of_entry ds n p.issue (entry_of_moment p)
 
-  -- the front after the next entry
+  -- the issue state after the next entry
   abbrev pub issue_after : IssueState
   issue_after = issue_after_entry ds n p.issue (entry_of_moment p)
 

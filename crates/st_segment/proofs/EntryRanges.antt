@@ -29,7 +29,7 @@ unfolding word_list_from
 length-words_from w zero = refl
 length-words_from w (suc n) = ap suc (length-words_from (w + 1) n)
 
--- words that follow each other are those of their run
+-- the run of consecutive words has these words
 words-run : (w n : ℕ) → words_of_run (run_of (word_list_from w n)) ≡ word_list_from w n
 unfolding word_list_from run_of
 words-run w zero = refl
@@ -120,7 +120,7 @@ all-right : (P : ℕ → Type 0) (xs ys : List ℕ) → All P (xs ++ ys) → All
 all-right P [] ys h = h
 all-right P (x ∷ xs) ys h = all-right P xs ys (λ k d few. h (suc k) d (omega arith))
 
--- a run that begins with registers, without them
+-- a run without the registers at its start
 readable-by : (b : Bool) (w n : ℕ) → nat_le 32 w ≡ b → (1 ≤ n → w + n ≤ words_of_storage)
     → IsReadable (if b then record { first = w; len = n } else record { first = 32; len = n - (32 - w) })
 readable-by true w n e inside = record { above = λ h. leb-true 32 w e; inside = inside }

@@ -1,4 +1,4 @@
--- Guessed steps go on one by one.
+-- Each predicted step continues from the state before it.
 use Rattle.std.proofs.Common.{◌≡◌, ℕ, zero, suc, ◌<◌, List, [], ◌∷◌, ◌++◌, Option, None, refl, ◌∙◌, ap}
 use Rattle.std.specs.Prelude.{IfSome}
 use Rattle.st_state.specs.Machine.{Machine, IsMachine}
@@ -14,7 +14,7 @@ use Rattle.st_segment.specs.Ahead.{next_ahead, ahead, issue_behind}
 
 -- ---- the table instruction
 
--- behind an entry there is none
+-- only the first entry is a table instruction
 pub behind-none : (k : ℕ) → table_behind k None ≡ None
 behind-none zero = refl
 behind-none (suc k) = refl

@@ -1,4 +1,4 @@
--- The index words of which entries ahead are prepared.
+-- The index words with the early changes of the entries in flight.
 use Rattle.std.proofs.Common.{◌≡◌, ℕ, zero, suc, ◌<◌, false, Option, None, refl, sym, ◌∙◌, ap}
 use Rattle.std.specs.Prelude.{IfSome}
 use Rattle.st_state.specs.Machine.{Machine, IsMachine}
@@ -13,12 +13,12 @@ use Rattle.st_segment.specs.Guesses.{guesses, table_behind, split_words}
 use Rattle.st_segment.specs.Alone.{RunAhead}
 use Rattle.st_segment.proofs.GuessLemmas.{behind-none, behind-indicator, guesses-machine, guesses-next}
 
--- the guess of an entry that is not done alone
+-- the predicted state after an entry that is not serializing
 pub prediction-past : (t : Option ℕ) (s : Machine) → IsMachine s → IfSome t (λ i. i < 64) → (plan s t).serial ≡ false
     → IsPast (plan s t) s (prediction t s)
 prediction-past t s m some free = predicted-past (plan s t) s (plan-prepared s t m some) m free
 
--- where none of the next entries is done alone, the last of them is not
+-- of k + 1 entries that are not serializing, the last one
 pub last-ahead : (k : ℕ) (t : Option ℕ) (s : Machine) → RunAhead (suc k) t s
     → (plan (guesses k t s) (table_behind k t)).serial ≡ false
 unfolding RunAhead guesses

@@ -18,12 +18,12 @@ use Rattle.st_segment.specs.Alone.{word_list_from}
 
 -- ---- one instruction
 
--- so many of n words count as the entry's own
+-- how many of n words are the entry's own; none is, of the target of EX
 abbrev own_of : Bool → ℕ → ℕ
 own_of true n = 0
 own_of false n = n
 
--- a reading that reads words from w on, m at most, and then goes on with what it found
+-- a reading that reads at most m words from w on, and then continues with the found instruction
 record IsRead (t : Bool) (w m : ℕ) (k : Continuation) (c : ℕ → ℕ) (r : Reading) : Type 0 where
   n : ℕ
   found : FoundInstruction
@@ -31,13 +31,13 @@ record IsRead (t : Bool) (w m : ℕ) (k : Continuation) (c : ℕ → ℕ) (r : R
   words : words_read r c ≡ word_list_from w n ++ words_read (k found) c
   own : own_words r c ≡ own_of t n + own_words (k found) c
 
--- it reads none
+-- no word is read
 read-none : (t : Bool) (w m : ℕ) (k : Continuation) (c : ℕ → ℕ) (f : FoundInstruction) → IsRead t w m k c (k f)
 unfolding word_list_from
 read-none true w m k c f = record { n = 0; found = f; few = omega arith; words = refl; own = omega arith }
 read-none false w m k c f = record { n = 0; found = f; few = omega arith; words = refl; own = omega arith }
 
--- one word more before
+-- one more word is read first
 read-more : (t : Bool) (w m : ℕ) (k : Continuation) (c : ℕ → ℕ) (r : ℕ → Reading) → IsRead t (w + 1) m k c (r (c w))
     → IsRead t w (suc m) k c (Reads t w r)
 unfolding word_list_from words_read own_words
@@ -56,7 +56,7 @@ read-more false w m k c r h = record {
   own = omega (arith, h.own);
 }
 
--- the half-word behind lies in the same word or in the next one
+-- the next half-word lies in the word h / 2 or in the one after it
 second-word : (h : ℕ) → ((h + 1) / 2 == h / 2) ≡ false → (h + 1) / 2 ≡ h / 2 + 1
 second-word h e = grind (arith, nat_tests, e)
 
@@ -98,7 +98,7 @@ read-at t b en h k c = read-after (forbidden_by b en Fetch (h / 2)) t b en h k c
 
 -- ---- the target of EX
 
--- so many words from w on, none of them the entry's own
+-- a reading of n words from w on, none of them the entry's own
 record IsTarget (c : ℕ → ℕ) (r : Reading) : Type 0 where
   w : ℕ
   n : ℕ
@@ -127,7 +127,7 @@ target-use x b en own c =
 
 -- ---- the whole
 
--- the first run is the entry's own
+-- a reading of two runs of words, of which the first is the entry's own
 pub record IsCut (c : ℕ → ℕ) (r : Reading) : Type 0 where
   pub w : ℕ
   pub n : ℕ
@@ -155,7 +155,7 @@ reading-cut x b en p c =
       own = it.own ∙ ap (λ k. it.n + k) target.own ∙ add-zero it.n;
     }
 
--- where no word is forbidden there is an own word
+-- an entry without a forbidden word has a word of its own
 some-after : (f : Option ℕ) (x : List ℕ) (b : ℕ) (en : Bool) (h : ℕ) (c : ℕ → ℕ)
     → is_none (outcome (read_after f false b en h (own_use x b en)) c).fault ≡ true
     → 1 ≤ own_words (read_after f false b en h (own_use x b en)) c

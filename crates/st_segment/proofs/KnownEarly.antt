@@ -1,4 +1,4 @@
--- What is known of an entry without its index-side word.
+-- The parts of an entry that are known without its index-side word.
 use Rattle.std.proofs.Common.{◌≡◌, ℕ, Option, refl, ap}
 use Rattle.st_state.specs.Machine.{Machine}
 use Rattle.st_prep.specs.declared.entries.Prepared.{Prepared}
@@ -8,7 +8,7 @@ use Rattle.st_prep.proofs.PreparedLemmas.{prepared-read}
 use Rattle.st_segment.specs.Entries.{words_to_read, words_to_write, entry_with, entry}
 use Rattle.st_segment.specs.Laws.{EntriesAreKnownEarly}
 
--- the plan is that of any other index-side word, but for the index change and its indicators
+-- with any index-side word the plan differs only in the index change and its indicators
 plan-by_any : (t : Option ℕ) (s : Machine) (q : Option ℕ)
     → plan s t
     ≡ record (prepared_entry (decode_context s (place_of s t)) q) { index = (plan s t).index; ind = (plan s t).ind }
@@ -30,7 +30,7 @@ known-early t s q =
       ap (λ (p : Prepared). p.instr) same,
     )
 
--- so it is known by its instruction words and by what is seen
+-- the entry follows from its instruction words and its decode context
 pub entry-seen : (t : Option ℕ) (s : Machine) (q : Option ℕ)
     → let e = entry t s in let v = decode_context s (place_of s t) in
     e ≡ entry_with e.own e.target (needs v) (prepared_entry v q) v.place.table v.fetched.fault

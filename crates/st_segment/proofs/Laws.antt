@@ -1,4 +1,4 @@
--- What holds of the entries ahead, whatever is executed, proved.
+-- Proofs of the laws of the entries in flight.
 use Rattle.st_segment.proofs.EntryRanges.{entry-ranges, entry-reads, entry-words, entry-own}
 use Rattle.st_segment.proofs.GuessLemmas.{guesses-machine, guesses-next, ahead-next, issue-next}
 use Rattle.st_segment.proofs.IndexLemmas.{split-change, index-split}

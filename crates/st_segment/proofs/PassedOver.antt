@@ -1,4 +1,4 @@
--- Signals, and orders that bring no card, are passed over by the entries ahead.
+-- Signals, and orders without a card, leave the entries in flight unchanged.
 use Rattle.std.proofs.Common.{◌≡◌, ◌≢◌, ℕ, zero, suc, ◌+◌, false, List, get_or, length, Option, None, Some, refl, sym, subst, ◌∙◌, ap, get_or-set_other}
 use Rattle.std.specs.List.{AllZip}
 use Rattle.std.proofs.lemmas.List.{length-set}
@@ -55,7 +55,7 @@ stored-same s u w x h =
     with-words s u _ _ h (length-set u.words w (register_word w x) ∙ h.size ∙ sym (length-set s.words w (register_word w x)))
     (λ i other. same-set s.words u.words w (register_word w x) i h.size (h.words i other))
 
--- whatever the indicators become
+-- for any new indicators
 indicators-same : (s u : Machine) (x y : ℕ) → AreAlikeBesideOrders s u
     → AreAlikeBesideOrders (with_word s 11 x) (with_word u 11 y)
 indicators-same s u x y h =
@@ -71,7 +71,7 @@ early-same : (p : Prepared) (s u : Machine) → AreAlikeBesideOrders s u → Are
 unfolding state_with_early_changes
 early-same p s u h = indicators-same _ _ _ _ (change-same p.index s u h)
 
--- ---- guesses
+-- ---- predictions
 
 prediction-machine : (s : Machine) → IsMachine s → IsMachine (prediction None s)
 prediction-machine s m = predicted-machine (plan s None) s (plan-prepared s None m tt) m
@@ -97,7 +97,7 @@ run-same (suc k) s u m h run = (
   run-same k (prediction None s) (prediction None u) (prediction-machine s m) (prediction-same s u m h run.0) run.1,
 )
 
--- the last of them apart
+-- the last of k + 1 entries that are not serializing
 run-last : (k : ℕ) (s : Machine) → RunAhead (suc k) None s
     → RunAhead k None s × ((plan (guesses k None s) None).serial ≡ false)
 unfolding guesses RunAhead

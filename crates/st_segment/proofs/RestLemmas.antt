@@ -1,4 +1,4 @@
--- What guessed steps leave as it was.
+-- The parts of the state that predicted steps leave unchanged.
 use Rattle.std.proofs.Common.{◌≡◌, ℕ, zero, suc, ◌+◌, ◌<◌, ◌≤◌, ◌⊎◌, inl, inr, false, ◌&&◌, Option, None, refl, ◌∙◌, ap}
 use Rattle.std.specs.Prelude.{IfSome, nat_lt, nat_le}
 use Rattle.std.proofs.lemmas.Bool.{leb-false, ltb-false, and_cases, or_parts}
@@ -16,7 +16,7 @@ use Rattle.st_segment.specs.Alone.{RunAhead, is_word_written}
 use Rattle.st_segment.proofs.GuessLemmas.{prediction-machine, guesses-next}
 use Rattle.st_segment.proofs.IndexLemmas.{prediction-past}
 
--- ---- low registers and the mark
+-- ---- low registers and the flag for interrupts
 
 pub low-kept : (k : ℕ) (t : Option ℕ) (s : Machine) (w : ℕ) → IsMachine s → IfSome t (λ i. i < 64) → RunAhead k t s
     → w < 7 → word (guesses k t s) w ≡ word s w

@@ -1,4 +1,4 @@
--- What is read the same in states that differ in indicators and orders alone.
+-- States that differ only in indicators and orders have equal readings.
 use Rattle.std.proofs.Common.{◌≡◌, ℕ, suc, ◌+◌, ◌*◌, ◌%◌, ◌^◌, ◌<◌, ◌≤◌, true, false, List, ◌∷◌, get_or, take, drop, length, Option, None, Some, refl, sym, ◌∙◌, ap, arith}
 use Rattle.std.specs.Prelude.{All}
 use Rattle.std.proofs.lemmas.List.{ext_get_or, get_or-take, get_or-drop, length-take, length-drop}
@@ -73,7 +73,7 @@ same-reading s u p h =
     ∙ ap (λ b. reading_at_place (index_words s) b u.enabled p) (h.words 3 (omega arith))
     ∙ ap (λ en. reading_at_place (index_words s) (word s 3) en p) h.enabled
 
--- no register is an instruction word
+-- instruction words are not registers, so the states agree in them
 same-words : (s u : Machine) (p : Place) → AreAlikeBesideOrders s u
     → All (λ w. word u w ≡ word s w) (words_read (reading_of s p) (word s))
 same-words s u p h k d few =

@@ -1,4 +1,4 @@
--- What the entry behind those ahead is prepared by.
+-- The decode context of the entry after those in flight.
 use Rattle.std.proofs.Common.{◌≡◌, ℕ, ◌<◌, List, Option, refl, ◌∙◌, ap, arith}
 use Rattle.std.specs.Prelude.{IfSome}
 use Rattle.st_state.specs.Machine.{Machine, IsMachine, word}
@@ -19,7 +19,7 @@ reading-behind k t s p m some free =
     ∙ ap (λ b. reading_at_place (split_words k t s) b u.enabled p) (low-kept k t s 3 m some free (omega arith))
     ∙ ap (λ on. reading_at_place (split_words k t s) (word s 3) on p) (enabled-kept k t s m some free)
 
--- a state is seen as another one where index words, word 3 and the mark are the same
+-- the decode context of a state, from equal index words, word 3 and flag of another state
 decode_context-by : (u s : Machine) (p : Place) (x : List ℕ) → index_words u ≡ x → word u 3 ≡ word s 3 → u.enabled ≡ s.enabled
     → decode_context u p ≡ decode_context_of p (words_fetched u p) x s
 unfolding decode_context

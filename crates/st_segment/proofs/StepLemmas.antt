@@ -1,4 +1,4 @@
--- A step and its guess.
+-- A step and its prediction.
 use Rattle.std.proofs.Common.{◌≡◌, ℕ, ◌<◌, Bool, true, false, not, ◌&&◌, if◌then◌else◌, Option, refl, ap}
 use Rattle.std.specs.Prelude.{IfSome}
 use Rattle.st_state.specs.Machine.{Machine, IsMachine}
@@ -9,12 +9,12 @@ use Rattle.st_exec.specs.Completion.{state_with_early_changes, is_taken, state_a
 use Rattle.st_exec.proofs.AheadLemmas.{predicted-right}
 use Rattle.st_exec.proofs.UnwrittenLemmas.{predicted-alone}
 
--- three tests of which the first one fails
+-- the first part of a conjunction that holds
 first-false : (a b c : Bool) → (not a && not b && c) ≡ true → a ≡ false
 first-false false b c h = refl
 first-false true b c h = cc
 
--- an entry that is done alone is not missed
+-- a serializing entry is not mispredicted
 mispredicted-ahead : (p : Prepared) (s : Machine) → is_mispredicted p s ≡ true → p.serial ≡ false
 unfolding is_mispredicted
 mispredicted-ahead p s h = first-false p.serial p.suppressed _ h

@@ -1,5 +1,5 @@
--- The entries ahead of a state, with their rows: those that are prepared before a tick, and the
--- reads that are made for them.
+-- The entries in flight after a state, with their rows: those prepared before a tick, and the reads
+-- that are made for them.
 use Rattle.std.specs.Prelude.{ℕ, zero, suc, ◌+◌, nat_lt, if◌then◌else◌, List, [], ◌∷◌, ◌++◌, Option, None}
 use Rattle.st_state.specs.Machine.{Machine}
 use Rattle.st_prep.specs.Plan.{plan}
@@ -15,8 +15,8 @@ use Rattle.st_rows.specs.declared.issue.IssueState.{IssueState}
 use Rattle.st_rows.specs.declared.issue.EntryTicks.{EntryTicks}
 use Rattle.st_segment.specs.Entries.{entry}
 
--- an entry ahead: the state before its step, the indicator where it is a table instruction, the
--- front that its row is computed from, what it is for the timetable, and its row
+-- an entry in flight: the state before its step, the indicator if it is a table instruction, the
+-- issue state that its row is computed from, the entry for the timetable, and its row
 pub record Ahead : Type 0 where
   pub state : Machine
   pub table : Option ℕ
@@ -24,18 +24,18 @@ pub record Ahead : Type 0 where
   pub entry : Entry
   pub row : EntryTicks
 
--- how an entry ahead is prepared
+-- the prepared entry
 abbrev pub plan_of : Ahead → Prepared
 plan_of a = plan a.state a.table
 
--- those at the front of the list that are prepared before the tick t
+-- the first entries of the list, as long as they are prepared before the tick t
 unfoldable pub prepared_before : ℕ → List Ahead → List Ahead
 prepared_before t [] = []
 prepared_before t (a ∷ rest) = if nat_lt a.row.p t then a ∷ prepared_before t rest else []
 
--- on a machine with the delays ds and with n levels
+-- on a machine with the delays ds and n levels
 module _ (ds : List ℕ) (n : ℕ) where
-  -- the next entry of a state behind a front
+  -- the next entry of the state s, issued from f
   abbrev pub next_ahead : Option ℕ → Machine → IssueState → Ahead
   next_ahead table s f = record {
     state = s;
@@ -45,21 +45,21 @@ module _ (ds : List ℕ) (n : ℕ) where
     row = row_of_entry ds n f (entry table s);
   }
 
-  -- the next k entries by guessed steps
+  -- the next k entries along the predicted states
   unfoldable pub ahead : ℕ → Option ℕ → Machine → IssueState → List Ahead
   ahead zero table s f = []
   ahead (suc k) table s f =
       next_ahead table s f ∷ ahead k None (prediction table s)
       (issue_after_entry ds n f (entry table s))
 
-  -- the front behind k of them
+  -- the issue state after the next k entries
   unfoldable pub issue_behind : ℕ → Option ℕ → Machine → IssueState → IssueState
   issue_behind zero table s f = f
   issue_behind (suc k) table s f =
       issue_behind k None (prediction table s) (issue_after_entry ds n f (entry table s))
 
-  -- the reads of those, and of the first one that is not: its instruction words, and its index-side
-  -- word, may be accepted before that tick
+  -- the reads of the entries that are prepared before the tick t, and of the first other one, whose
+  -- instruction words and index-side word may be accepted before t
   unfoldable pub reads_before : ℕ → List Ahead → List Read
   reads_before t [] = []
   reads_before t (a ∷ rest) =
@@ -68,19 +68,19 @@ module _ (ds : List ℕ) (n : ℕ) where
 
   -- ---- the end of a segment
 
-  -- the reads that may be made by then, where it ends at a tick: those of the next entry, and of
-  -- those behind the guess of it
+  -- the reads that may be made in a segment that ends at the tick: those of the next entry, and of
+  -- the predicted entries after it
   abbrev pub reads_to_end : ℕ → Option ℕ → Machine → IssueState → Entry → List Read
   reads_to_end tick table s f e =
       reads_of_entry ds n f e ++ reads_before tick (ahead (suc n) None (prediction table s)
       (issue_after_entry ds n f e))
 
--- the last answers of the banks, where it ends at a tick: those of the reads are made that are
--- accepted before
+-- the last answers of the banks at the end of a segment: after those of the reads that are accepted
+-- before its tick
 abbrev pub banks_at_end : List ℕ → ℕ → List Read → Bus → LastAnswers
 banks_at_end ds tick reads bus = (made_before ds tick reads bus).banks
 
--- the front of the segment behind it, which starts one tick later and one more for each entry that
--- is dropped
+-- the issue state of the next segment, which starts one tick later, and one more for each dropped
+-- entry
 abbrev pub issue_behind_end : LastAnswers → ℕ → ℕ → IssueState
 issue_behind_end banks tick dropped = opening_issue banks (tick + 1 + dropped)

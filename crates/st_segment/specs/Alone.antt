@@ -1,4 +1,4 @@
--- Entries that are not done alone, and what they leave for the entries behind them.
+-- Predicted entries without a serializing one among them, and the words that they write.
 use Rattle.std.specs.Prelude.{ℕ, zero, suc, ◌≡◌, ◌+◌, false, Bool, ◌||◌, List, [], ◌∷◌, Option, None}
 use Rattle.st_state.specs.Machine.{Machine}
 use Rattle.st_prep.specs.Plan.{plan}
@@ -9,12 +9,12 @@ use Rattle.st_rows.specs.declared.entry.WordRun.{WordRun}
 use Rattle.st_segment.specs.Entries.{entry}
 use Rattle.st_segment.specs.Ahead.{Ahead}
 
--- none of the next k entries is done alone
+-- none of the next k predicted entries is serializing
 unfoldable pub RunAhead : ℕ → Option ℕ → Machine → Type 0
 RunAhead zero table s = Unit {0}
 RunAhead (suc k) table s = ((plan s table).serial ≡ false) × RunAhead k None (prediction table s)
 
--- one of the next k entries writes the word w
+-- whether one of the next k predicted entries writes the word w
 unfoldable pub is_word_written : ℕ → Option ℕ → Machine → ℕ → Bool
 is_word_written zero table s w = false
 is_word_written (suc k) table s w =
@@ -29,8 +29,7 @@ word_list_from w (suc n) = w ∷ word_list_from (w + 1) n
 abbrev pub words_of_run : WordRun → List ℕ
 words_of_run run = word_list_from run.first run.len
 
--- two entries ahead that are the same for the timetable, with the same words but for indicators,
--- and beside the orders
+-- two entries in flight that differ only in the indicators and the device orders of their states
 pub record IsSameAhead (a b : Ahead) : Type 0 where
   pub state : AreAlikeBesideOrders a.state b.state
   pub rest : b ≡ record a { state = b.state }

@@ -13,41 +13,41 @@ use Rattle.st_rows.specs.declared.entry.WordRuns.{WordRuns}
 use Rattle.st_rows.specs.declared.entry.Entry.{Entry}
 use Rattle.st_rows.specs.Entries.{no_run}
 
--- words that follow each other, as a run
+-- consecutive words, as a run
 unfoldable pub run_of : List ℕ → WordRun
 run_of [] = no_run
 run_of (w ∷ ws) = record { first = w; len = suc (length ws) }
 
 -- ---- the words of data
 
--- a run of words without the registers at its front, which make no read
+-- a run of words without the registers at its start, which make no read
 unfoldable pub above_registers : ℕ → ℕ → WordRun
 above_registers first n =
     if nat_le FIRST_STORAGE_WORD first then record { first = first; len = n }
     else record { first = FIRST_STORAGE_WORD; len = n - (FIRST_STORAGE_WORD - first) }
 
--- its operand words that are read from storage
+-- the operand words that are read from storage
 unfoldable pub words_to_read : Words → WordRuns
 words_to_read w =
     record { one = above_registers w.first w.len; two = above_registers w.first2 w.len2 }
 
--- the words that it writes, registers among them
+-- the words that are written, registers included
 abbrev pub words_to_write : Words → WordRuns
 words_to_write w = record {
   one = record { first = w.first; len = w.len };
   two = record { first = w.first2; len = w.len2 };
 }
 
--- its index-side word, where that is read from storage
+-- the index-side word, if it is read from storage
 unfoldable pub side_to_read : Option ℕ → Option ℕ
 side_to_read None = None
 side_to_read (Some w) = if nat_le FIRST_STORAGE_WORD w then Some w else None
 
--- ---- from what is found and prepared
+-- ---- from the fetched and prepared entry
 
--- an entry by its instruction words, its own and those of the target of EX, by what it needs and
--- how it is prepared, and by two indicators: of the interrupt whose table instruction it is, and of
--- a word of it that may not be fetched. Following words are asked for where there is neither
+-- an entry of its own instruction words and those of the target of EX, of its needs and its
+-- preparation, and of two indicators: that of the interrupt of a table instruction, and that of a
+-- word that may not be fetched. If there is neither, following words are requested
 abbrev pub entry_with : WordRun → WordRun → Needs → Prepared → Option ℕ → Option ℕ → Entry
 entry_with own target needed prepared table forbidden = record {
   own = own;
@@ -63,15 +63,15 @@ entry_with own target needed prepared table forbidden = record {
 -- ---- from a state
 
 module _ (table : Option ℕ) (s : Machine) where
-  -- how the next entry of a state is read, or its table instruction
+  -- the reading of the next entry of a state, or of its table instruction
   abbrev pub reading_at : Reading
   reading_at = reading_of s (place_of s table)
 
-  -- its instruction words, in order
+  -- the instruction words of the entry, in order
   unfoldable pub instruction_words : List ℕ
   instruction_words = words_read reading_at (word s)
 
-  -- how many of them are its own, and not of the target of EX
+  -- the number of the entry's own instruction words, without those of the target of EX
   unfoldable pub own_count : ℕ
   own_count = own_words reading_at (word s)
 

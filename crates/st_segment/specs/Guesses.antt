@@ -1,27 +1,27 @@
--- What runs ahead of a state: guessed steps, and the index words that they change early.
+-- Predicted steps from a state, and the index words after the early changes of their entries.
 use Rattle.std.specs.Prelude.{ℕ, zero, suc, List, Option, None}
 use Rattle.st_state.specs.Machine.{Machine}
 use Rattle.st_prep.specs.Fetch.{index_words}
 use Rattle.st_prep.specs.Plan.{plan, state_at_entry}
 use Rattle.st_exec.specs.Completion.{state_with_early_changes, prediction}
 
--- the state after k guessed steps; the first one is the table instruction of an interrupt where one
--- was taken
+-- the state after k predicted steps; the first step is the table instruction of an interrupt, if
+-- one was taken
 unfoldable pub guesses : ℕ → Option ℕ → Machine → Machine
 guesses zero table s = s
 guesses (suc k) table s = guesses k None (prediction table s)
 
--- only the first of them is
+-- the interrupt of the entry after k others: only the first entry is a table instruction
 abbrev pub table_behind : ℕ → Option ℕ → Option ℕ
 table_behind zero table = table
 table_behind (suc k) table = None
 
--- the state with the early change of its next entry, its index word and indicators
+-- the state with the early change of its next entry: an index word and indicators
 abbrev pub after_early_change : Option ℕ → Machine → Machine
 after_early_change table s = state_with_early_changes (plan s table) (state_at_entry table s)
 
--- the index words of a state of which k entries are ahead: as the early changes of all of them
--- leave them
+-- the index words of a state with k entries in flight: those after the early changes of all k
+-- entries
 unfoldable pub split_words : ℕ → Option ℕ → Machine → List ℕ
 split_words zero table s = index_words s
 split_words (suc k) table s =

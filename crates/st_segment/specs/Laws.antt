@@ -1,4 +1,4 @@
--- What holds of the entries ahead, whatever is executed.
+-- Laws of the entries in flight.
 use Rattle.std.specs.Prelude.{◌≡◌, ℕ, suc, ◌<◌, ◌≤◌, true, false, ◌++◌, [], ◌∷◌, List, Option, None}
 use Rattle.std.specs.List.{AllZip}
 use Rattle.st_bits.specs.Indicators.{IsIndicatorIfAny}
@@ -17,8 +17,8 @@ use Rattle.st_segment.specs.Guesses.{guesses, table_behind, split_words}
 use Rattle.st_segment.specs.Ahead.{next_ahead, ahead, issue_behind}
 use Rattle.st_segment.specs.Alone.{RunAhead, is_word_written, words_of_run, IsSameAhead}
 
--- The next entry of each state is in the ranges of the timetable, and its instruction words are two
--- runs of words.
+-- The next entry of a state is in the ranges of the timetable, has at most 36 reads of its own, and
+-- its instruction words are two runs of words.
 pub record EntriesAreInRange : Type 0 where
   pub ranges : (t : Option ℕ) (s : Machine) → IsMachine s → IsIndicatorIfAny t →
       IsEntryInTime (entry t s)
@@ -28,7 +28,7 @@ pub record EntriesAreInRange : Type 0 where
       instruction_words t s ≡ words_of_run (entry t s).own ++ words_of_run (entry t s).target
   pub own : (t : Option ℕ) (s : Machine) → own_count t s ≡ (entry t s).own.len
 
--- Guessed steps leave states, and go on one by one.
+-- Predicted steps lead to valid states, and each one continues from the state before it.
 pub record GuessesGoOn : Type 0 where
   pub machine : (k : ℕ) (t : Option ℕ) (s : Machine) → IsMachine s → IsIndicatorIfAny t →
       IsMachine (guesses k t s)
@@ -42,8 +42,8 @@ pub record GuessesGoOn : Type 0 where
       issue_behind ds n (suc k) t s f ≡ issue_behind ds n 1 (table_behind k t) (guesses k t s)
       (issue_behind ds n k t s f)
 
--- The index words of which entries ahead are prepared: each early change makes the next ones of
--- them, and behind entries that are not done alone they are those of the state.
+-- The index words with k + 1 early changes are those of the k-th predicted state with the last
+-- change (`change`). Without a serializing entry, k changes give those of this state (`state`).
 pub record IndexWordsRunAhead : Type 0 where
   pub change : (k : ℕ) (t : Option ℕ) (s : Machine) → IsMachine s → IsIndicatorIfAny t →
       split_words (suc k) t s
@@ -51,8 +51,8 @@ pub record IndexWordsRunAhead : Type 0 where
   pub state : (k : ℕ) (t : Option ℕ) (s : Machine) → IsMachine s → IsIndicatorIfAny t →
       RunAhead k t s → index_words (guesses k t s) ≡ split_words k t s
 
--- Entries that are not done alone leave the low registers and the mark, and each word from 32 up
--- that none of them writes; and the counter behind one of them is its following one.
+-- Entries that are not serializing leave words 0 to 6, the flag for interrupts, and each word from
+-- 32 up that none of them writes. The counter after such an entry is its following address.
 pub record GuessesLeaveTheRest : Type 0 where
   pub low : (k : ℕ) (t : Option ℕ) (s : Machine) (w : ℕ) → IsMachine s → IsIndicatorIfAny t →
       RunAhead k t s → w < 7 → word (guesses k t s) w ≡ word s w
@@ -65,8 +65,8 @@ pub record GuessesLeaveTheRest : Type 0 where
       (plan (guesses k t s) (table_behind k t)).serial ≡ false →
       (guesses (suc k) t s).ic ≡ (plan (guesses k t s) (table_behind k t)).following
 
--- So the entry behind them is read by the index words so far, and by the low registers and the mark
--- of the state; and what is so seen of it is what it is prepared by.
+-- The entry after k entries that are not serializing is fetched by the index words with their early
+-- changes, and by the bounds and the flag of the state; its decode context has these.
 pub record EntriesBehindAreSeen : Type 0 where
   pub reading : (k : ℕ) (t : Option ℕ) (s : Machine) (p : Place) → IsMachine s →
       IsIndicatorIfAny t →
@@ -87,7 +87,7 @@ EntriesAreKnownEarly = (t : Option ℕ) (s : Machine) (q : Option ℕ) → let v
     × ((plan s t).following ≡ p.following) × ((plan s t).reads ≡ p.reads)
     × ((plan s t).instr ≡ p.instr)
 
--- A step is the guess, but for the counter of a branch on an indicator that is missed.
+-- A step is the predicted one, except for the counter after a mispredicted branch.
 pub record StepsAreGuesses : Type 0 where
   pub right : (t : Option ℕ) (s : Machine) → IsMachine s → IsIndicatorIfAny t →
       is_mispredicted (plan s t) s ≡ false → prediction t s ≡ state_after_execution t s
@@ -97,9 +97,8 @@ pub record StepsAreGuesses : Type 0 where
   pub alone : (t : Option ℕ) (s : Machine) → (plan s t).serial ≡ true →
       (is_mispredicted (plan s t) s ≡ false) × (prediction t s ≡ state_after_execution t s)
 
--- A signal, and an order that brings no card, are passed over: the next entry is the same for the
--- timetable; and where none of the next k is done alone they are the same too, and so are the index
--- words.
+-- A signal, and an order without a card, leave the next entry as the timetable sees it. They also
+-- leave the entries after it, with their rows and index words, up to a serializing one.
 pub record SignalsArePassedOver : Type 0 where
   pub entry : (t : Option ℕ) (s u : Machine) → AreAlikeBesideOrders s u → entry t u ≡ entry t s
   pub same : (k : ℕ) (s u : Machine) → IsMachine s → AreAlikeBesideOrders s u → RunAhead k None s →

@@ -1,4 +1,4 @@
-//! The words of an entry that make reads, and those that it writes.
+//! The words that an entry reads from storage, and those that it writes.
 ghost use Rattle.std.specs.Prelude.{◌≡◌};
 ghost use Rattle.st_segment.specs.Entries.{above_registers as above_registers_of, words_to_read as words_to_read_of, words_to_write as words_to_write_of, side_to_read as side_to_read_of};
 
@@ -6,7 +6,7 @@ use st_bits::register::FIRST_STORAGE_WORD;
 use st_prep::Words;
 use st_rows::{WordRun, WordRuns};
 
-// A run of words without the registers at its front.
+// `len` words from the word address `first`, without the registers, which make no read.
 fn above_registers(first: u32, len: u8) -> WordRun
     ensures { result ≡ above_registers_of first len }
 {
@@ -18,7 +18,7 @@ fn above_registers(first: u32, len: u8) -> WordRun
     }
 }
 
-/// The operand words that make reads.
+/// The operand words that are read from storage, in order; registers make no read.
 pub fn words_to_read(words: Words) -> WordRuns
     ensures { result ≡ words_to_read_of words }
 {
@@ -28,7 +28,7 @@ pub fn words_to_read(words: Words) -> WordRuns
     }
 }
 
-/// The words that are written.
+/// The words that are written, registers included.
 pub fn words_to_write(words: Words) -> WordRuns
     ensures { result ≡ words_to_write_of words }
 {
@@ -44,7 +44,7 @@ pub fn words_to_write(words: Words) -> WordRuns
     }
 }
 
-/// The index-side word, where it makes a read.
+/// The index-side word if it is read from storage; None if it is a register or there is none.
 pub fn side_to_read(side: Option<u32>) -> Option<u32>
     ensures { result ≡ side_to_read_of side }
 {

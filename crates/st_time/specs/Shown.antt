@@ -8,7 +8,7 @@ levels_standing [] = zero
 levels_standing (None ∷ more) = zero
 levels_standing (Some level ∷ more) = suc (levels_standing more)
 
--- the number and the previous contents of the index word that a level changed early, if it changed
--- one
+-- the number and the previous contents of the index word that a level changed speculatively, if it
+-- changed one
 abbrev pub change_shown : LevelView → Option (ℕ × ℕ)
 change_shown level = option_map (λ number. (number, level.kept)) level.index

@@ -36,7 +36,7 @@ pub fn chart(row: &Row) -> Line
     line_row(&entry_row(row))
 }
 
-/// As `chart`, written to a line that is already there; its previous bytes are removed.
+/// Writes the line of `chart` over a given line.
 #[inline(always)]
 pub fn fill_chart(line: &mut EntryLine, row: &Row)
     ensures { line.new.bytes
@@ -60,8 +60,8 @@ pub fn level_line(level: &LevelView) -> Line
     line_lev(level.address, change(level.index, level.kept), level.ready)
 }
 
-/// `SNAP t DONE q AHEAD k`: the line of a snapshot at the last tick that was made. The levels are
-/// in the first places of `levels`.
+/// `SNAP t DONE q AHEAD k`: the line of a snapshot at the tick of the view. The levels are in the
+/// first places of `levels`.
 pub fn snap_line(view: &View) -> Line
     ensures { result.bytes ≡ snap_line_of view.now.tick view.now.done
         (levels_standing view.now.levels) }
@@ -69,7 +69,7 @@ pub fn snap_line(view: &View) -> Line
     line_snap(view.tick, view.done, count(&view.levels))
 }
 
-// The number and the previous contents of the index word that was changed early, if one was.
+// The number and the previous contents of the index word that was changed speculatively, if any.
 fn change(index: Option<u8>, kept: u64) -> Option<(u8, u64)>
     ensures { result ≡ option_map (λ number. (number, kept)) index }
 {

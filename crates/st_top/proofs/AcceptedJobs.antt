@@ -1,4 +1,4 @@
--- A job whose delays cards are exchanged for other good ones is again not refused.
+-- A job that is not refused is not refused with other good delay cards either.
 use Rattle.std.proofs.Common.{◌≡◌, ℕ, ◌+◌, ◌&&◌, Bool, true, false, if◌then◌else◌, List, [], ◌∷◌, ◌++◌, length, filter, refl, sym, ◌∙◌, ap, subst, Option, Some, None, arith}
 use Rattle.std.specs.Prelude.{nat_le}
 use Rattle.std.specs.List.{list_all}
@@ -13,9 +13,9 @@ use Rattle.st_card.specs.declared.keywords.Keyword.{Keyword}
 use Rattle.st_top.specs.Delays.{is_delays, begins_delays, is_control, is_delays_card, asked_in}
 use Rattle.st_top.proofs.DelayCards.{asked_on, still, stills, keyword-is, others, asked_by, asked_with, other-still, delays-still, others-kept, others-left, asks-none}
 
--- ---- a good delays card is good beside others
+-- ---- a good delay card is good among others
 
--- the numbers of a delays card are added to delays, whatever else is asked for
+-- a delay card appends its numbers to the delays, regardless of the other requests
 like-if : (test : Bool) (ds : List ℕ) (a d e : Asked) → a.delays ≡ d.delays → (if test then Some (record d { delays = d.delays ++ ds }) else None) ≡ Some e
     → (b : Asked) × ((if test then Some (record a { delays = a.delays ++ ds }) else None) ≡ Some b) × (b.delays ≡ e.delays)
 like-if true ds a d e same h =
@@ -23,7 +23,7 @@ like-if true ds a d e same h =
     (record a { delays = a.delays ++ ds }, refl, ap (λ l. l ++ ds) same ∙ ap (λ (z : Asked). z.delays) is)
 like-if false ds a d e same h = let no : ⊥ = cc in absurd no
 
--- what it is to be good beside others
+-- a card that is good after some cards is good after others, and gives equal delays
 abbrev Likewise : (Asked → Option Asked) → Asked → Asked → Type 0
 Likewise next a e = (b : Asked) × (next a ≡ Some b) × (b.delays ≡ e.delays)
 
@@ -52,7 +52,7 @@ words-like : (a d e : Asked) (ws : List (List ℕ)) → begins_delays ws ≡ tru
 words-like a d e [] h same is = let no : ⊥ = cc in absurd no
 words-like a d e (word ∷ more) h same is = card-like (row_of word keywords) a d e (card_numbers more) h same is
 
--- another card leaves the delays
+-- a card of another kind does not change the delays
 keyword-leaves : (k : Keyword) (a b : Asked) (ns : List ℕ) → is_delays (Some k) ≡ false → with_keyword k a ns ≡ Some b → b.delays ≡ a.delays
 keyword-leaves k a b ns h is = grind (arith, h, is)
 
@@ -65,9 +65,9 @@ words-leave : (a b : Asked) (ws : List (List ℕ)) → begins_delays ws ≡ fals
 words-leave a b [] h is = let no : ⊥ = cc in absurd no
 words-leave a b (word ∷ more) h is = card-leaves (row_of word keywords) a b (card_numbers more) h is
 
--- ---- all cards behind END are good, where the delays cards and the others are
+-- ---- all cards after END are good if the delay cards and the others are
 
--- something, from a part of it
+-- requests exist if they exist without the delays
 stills-some : (o : Option Asked) (s : Asked) → stills o ≡ Some s → (b : Asked) × (o ≡ Some b) × (still b ≡ s)
 stills-some None s h = let no : ⊥ = cc in absurd no
 stills-some (Some b) s h = let is : still b ≡ s = cc in (b, refl, is)
@@ -76,15 +76,15 @@ on-some : (o : Option Asked) (next : Asked → Option Asked) (s : Asked) → ask
 on-some None next s h = let no : ⊥ = cc in absurd no
 on-some (Some b) next s h = (b, refl, h)
 
--- what is asked for with all of some texts
+-- the requests of all of some texts
 abbrev All-asked : Asked → List (List ℕ) → Type 0
 All-asked a texts = (z : Asked) × (asked_with a texts ≡ Some z)
 
--- the texts that are delays cards
+-- the texts that are delay cards
 abbrev pub delays_in : List (List ℕ) → List (List ℕ)
 delays_in texts = filter is_delays_card texts
 
--- the two kinds of texts, from here on
+-- texts are good if their delay cards and their other cards are good
 abbrev Mixes : List (List ℕ) → Type 0
 Mixes texts = (a d s e : Asked) → a.delays ≡ d.delays → asked_with (still a) (others texts) ≡ Some s → asked_in d (delays_in texts) ≡ Some e
     → All-asked a texts

@@ -1,4 +1,4 @@
--- The deck of a program, or the card that is too many.
+-- The deck of a program, or the refusal of its first card over the limit.
 use Rattle.std.proofs.Common.{◌≡◌, ◌≤◌, Bool, true, nat_le, if◌then◌else◌, sym, ap, arith}
 use Rattle.std.proofs.lemmas.Bool.Decides.{nat_tests}
 use Rattle.st_card.specs.declared.faults.Fault.TheVariants.{TooManyCards}

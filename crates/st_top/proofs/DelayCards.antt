@@ -1,4 +1,4 @@
--- A delays card changes the delays alone, and no other control card reads them.
+-- A delay card changes only the delays, and no other control card depends on them.
 use Rattle.std.proofs.Common.{◌≡◌, ℕ, ◌+◌, ◌&&◌, Bool, true, false, not, if◌then◌else◌, List, [], ◌∷◌, ◌++◌, length, filter, refl, sym, ◌∙◌, ap, subst, Option, Some, None, arith}
 use Rattle.std.specs.Prelude.{nat_le}
 use Rattle.std.specs.List.{list_all}
@@ -14,23 +14,23 @@ use Rattle.st_card.specs.declared.keywords.Keyword.{Keyword}
 use Rattle.st_card.specs.declared.keywords.Keyword.TheVariants.{Delays}
 use Rattle.st_top.specs.Delays.{is_delays, begins_delays, is_control, is_delays_card}
 
--- what comes next where something is asked for
+-- the requests after a further card, if the previous cards are good
 abbrev pub asked_on : Option Asked → (Asked → Option Asked) → Option Asked
 asked_on o next = option_and_then next o
 
--- what is asked for without the delays
+-- the requests without the delays
 abbrev pub still : Asked → Asked
 still asked = record asked { delays = [] }
 
--- the same of what may be asked for
+-- optional requests without the delays
 abbrev pub stills : Option Asked → Option Asked
 stills o = option_map still o
 
--- the keyword of delays is the only one
+-- only one keyword is that of delay cards
 pub keyword-is : (k : Keyword) → is_delays (Some k) ≡ true → k ≡ Delays
 keyword-is k h = grind (arith, h)
 
--- a card of another keyword asks for the same, whatever the delays are
+-- the requests of a card with another keyword do not depend on the delays
 keyword-still : (k : Keyword) (a : Asked) (ns : List ℕ) → is_delays (Some k) ≡ false → with_keyword k (still a) ns ≡ stills (with_keyword k a ns)
 keyword-still k a ns h = grind (arith, h)
 
@@ -46,7 +46,7 @@ words-still a (word ∷ more) h = card-still (row_of word keywords) a (card_numb
 pub other-still : (a : Asked) (text : List ℕ) → begins_delays (words (columns text)) ≡ false → asked_with_card (still a) text ≡ stills (asked_with_card a text)
 other-still a text h = words-still a (words (columns text)) h
 
--- a card of delays leaves all else
+-- a delay card does not change the other requests
 kept-if : (test : Bool) (a x b : Asked) → still x ≡ still a → (if test then Some x else None) ≡ Some b → still b ≡ still a
 kept-if true a x b same h = let is : x ≡ b = cc in ap still (sym is) ∙ same
 kept-if false a x b same h = let no : ⊥ = cc in absurd no
@@ -72,15 +72,15 @@ words-keep a b (word ∷ more) h is = card-keeps (row_of word keywords) a b (car
 pub delays-still : (a b : Asked) (text : List ℕ) → begins_delays (words (columns text)) ≡ true → asked_with_card a text ≡ Some b → still b ≡ still a
 delays-still a b text h is = words-keep a b (words (columns text)) h is
 
--- ---- the cards behind END
+-- ---- the cards after END
 
--- what is asked for with a card that is no statement card
+-- the requests after a card that is no statement card
 abbrev pub asked_by : CardKind → Asked → List ℕ → Option Asked
 asked_by Comment a text = Some a
 asked_by Control a text = asked_with_card a text
 asked_by Statement a text = None
 
--- what is asked for with cards of these texts
+-- the requests after cards of these texts
 unfoldable pub asked_with : Asked → List (List ℕ) → Option Asked
 asked_with a [] = Some a
 asked_with a (text ∷ texts) = asked_on (asked_by (kind_of text) a text) (λ b. asked_with b texts)
@@ -89,7 +89,7 @@ pub asks-none : (a : Asked) → asked_with a [] ≡ Some a
 unfolding asked_with
 asks-none a = refl
 
--- one text before others
+-- a text followed by others
 pub asks-some : (a z : Asked) (text : List ℕ) (texts : List (List ℕ)) → asked_with a (text ∷ texts) ≡ Some z
     → (b : Asked) × (asked_by (kind_of text) a text ≡ Some b) × (asked_with b texts ≡ Some z)
 unfolding asked_with
@@ -98,18 +98,18 @@ asks-some a z text texts h = by (asked_by (kind_of text) a text) h where
   by None g = let no : ⊥ = cc in absurd no
   by (Some b) g = (b, refl, g)
 
--- those of texts that are no delays cards
+-- the texts that are not delay cards
 abbrev pub others : List (List ℕ) → List (List ℕ)
 others texts = filter (λ text. not (is_delays_card text)) texts
 
--- one text before others, where it is left, and where it is none
+-- a text followed by others, if it is kept and if it is not
 pub others-kept : (text : List ℕ) (texts : List (List ℕ)) → is_delays_card text ≡ false → others (text ∷ texts) ≡ text ∷ others texts
 others-kept text texts h = ap (λ (b : Bool). if not b then text ∷ others texts else others texts) h
 
 pub others-left : (text : List ℕ) (texts : List (List ℕ)) → is_delays_card text ≡ true → others (text ∷ texts) ≡ others texts
 others-left text texts h = ap (λ (b : Bool). if not b then text ∷ others texts else others texts) h
 
--- a comment card asks for nothing
+-- a comment card does not change the requests
 pub asks-comment : (a : Asked) (to : Option Asked) (text : List ℕ) (texts : List (List ℕ)) → kind_of text ≡ Comment
     → asked_with a (others texts) ≡ to → asked_with a (others (text ∷ texts)) ≡ to
 unfolding asked_with is_delays_card
@@ -118,7 +118,7 @@ asks-comment a to text texts kind rest =
     ∙ ap (λ (k : CardKind). asked_on (asked_by k a text) (λ b. asked_with b (others texts))) kind
     ∙ rest
 
--- a control card
+-- a control card changes the requests
 pub asks-control : (a b : Asked) (to : Option Asked) (text : List ℕ) (texts : List (List ℕ)) → kind_of text ≡ Control → asked_with_card a text ≡ Some b
     → asked_with (still b) (others texts) ≡ to → asked_with (still a) (others (text ∷ texts)) ≡ to
 unfolding asked_with is_delays_card

@@ -1,4 +1,4 @@
--- What holds of marks, and of what gives the same but for the delays.
+-- Proofs of the laws of marked lines and of delays.
 use Rattle.st_object.proofs.OtherDelays.{has-lines, again-read}
 use Rattle.st_top.specs.Marks.{marked_output}
 use Rattle.st_top.specs.DelayLaws.{MarksAreTheReport, DelaysChangeNothingButTheTimetable, JobsThatDifferInDelaysAlone, CardsOfDelaysChangeDelaysAlone, ObjectTextsThatDifferInDelaysAlone}

@@ -1,4 +1,4 @@
--- The lines of a run that are not marked hang on the plain run alone.
+-- The unmarked lines of a run depend only on the plain run.
 use Rattle.st_state.specs.Machine.{Machine}
 use Rattle.st_run.specs.TimedRun.{timed_run}
 use Rattle.st_run.proofs.CourseLemmas.{last-same}
@@ -17,7 +17,7 @@ use Rattle.st_top.specs.StepsBack.{states_of_run, events_of_run, last_state, lin
 use Rattle.st_top.specs.declared.reporting.TheConstants.{LEVELS}
 use Rattle.st_top.proofs.PlainEventLemmas.{unmarked-append, unmarked-plain, happening_lines, report-lines, counted-run}
 
--- the lines of the plain run, and of the state so many steps before its end
+-- the lines of the plain run, and of the requested state before its end
 abbrev pub run_lines : Asked → Scene → List (List ℕ)
 run_lines asked c =
     flat_map (happening_lines asked.trace asked.dumps) (run asked.budget c).happened
@@ -39,7 +39,7 @@ run-unmarked asked c =
     ∙ ap (λ (ss : List Machine). lines_of_steps_back asked ss (last_state asked c)) (sym (states-same asked.delays LEVELS asked.budget (moment_at_start c)))
     ∙ ap (lines_of_steps_back asked (states asked.budget c)) (sym (last-same asked.delays LEVELS asked.budget (moment_at_start c))))
 
--- other delays, snapshots and marks leave them as they are
+-- other delays, snapshots and marks do not change them
 pub run-same : (asked : Asked) (ds snaps : List ℕ) (time chart : Bool) (c : Scene)
     → lines_unmarked (marked_run (record asked { delays = ds; snaps = snaps; time = time; chart = chart }) c)
     ≡ lines_unmarked (marked_run asked c)

@@ -1,4 +1,4 @@
--- Delays show in marked lines alone.
+-- Only marked lines depend on delays.
 use Rattle.std.specs.Prelude.{Result, Ok, Err, nat_le, List, []}
 use Rattle.std.proofs.Common.{◌≡◌, ◌≤◌, ℕ, Bool, true, false, if◌then◌else◌, refl, sym, ◌∙◌, ap, subst}
 use Rattle.std.proofs.lemmas.Bool.{leb-true, le-leb}
@@ -21,7 +21,7 @@ use Rattle.st_top.proofs.PartedJobs.{cards-differ, again-accepted}
 use Rattle.st_command.specs.declared.command.Command.{Command}
 use Rattle.st_command.specs.declared.command.Command.TheVariants.{Run, Assemble, Load, Disassemble, Sweep, Soak}
 
--- ---- what is not refused
+-- ---- jobs that are not refused
 
 ran-job : (job : List ℕ) (r : Result Assembly Refusal) → (ran_by [] job r).status ≡ Done → (a : Assembly) × (r ≡ Ok a)
 ran-job job (Ok a) is = (a, refl)
@@ -42,7 +42,7 @@ short-deck false deck other refused is = absurd (cc)
 few-cards : (p : Program) → (disassembled_by (Ok p)).status ≡ Done → card_count p ≤ MOST_CARDS
 few-cards p is = leb-true (card_count p) MOST_CARDS (short-deck (nat_le (card_count p) MOST_CARDS) _ _ refl is)
 
--- ---- the lines that are not marked
+-- ---- unmarked lines
 
 same-loaded : (text other : List ℕ) (read also : Result Program ℕ) → IsReading text read → IsReading other also
     → (loaded_by read).status ≡ Done → (loaded_by also).status ≡ Done → DifferInDelayLines text other

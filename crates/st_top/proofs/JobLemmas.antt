@@ -1,4 +1,4 @@
--- Two jobs that give the same but for the delays have the same lines that are not marked.
+-- Two jobs with equal assemblies apart from the delays have equal unmarked lines.
 use Rattle.std.proofs.Common.{◌≡◌, ◌≤◌, ℕ, Bool, true, false, if◌then◌else◌, List, [], ◌∷◌, ◌++◌, length, take, drop, map, filter, not, refl, sym, ◌∙◌, ap}
 use Rattle.std.proofs.lemmas.Bool.{le-leb}
 use Rattle.std.specs.Prelude.{Ok}
@@ -36,7 +36,7 @@ use Rattle.st_top.proofs.PlainEventLemmas.{unmarked-append, unmarked-plain, unma
 
 -- ---- the listing
 
--- the lines of texts, each by its row
+-- the lines of texts, given the row of each
 text_lines : List Listed → List (List ℕ) → List (List ℕ)
 text_lines [] texts = []
 text_lines (row ∷ rows) [] = []
@@ -81,7 +81,7 @@ listing-same job other a b h =
 
 -- ---- the run
 
--- the start of a run of an image, with the signals that are asked for and these cards
+-- the start of a run of an image, with the requested signals and these cards
 abbrev scene_with : Asked → List ℕ → ℕ → List (List ℕ) → Scene
 scene_with asked image start cards =
     record { machine = opening_state image start; signals = asked.signals; cards = cards }
@@ -116,7 +116,7 @@ pub jobs-same : (job other : List ℕ) (a b : Assembly) → assembly job ≡ Ok 
 jobs-same job other a b is also h =
     ap (λ r. lines_unmarked (marked_by job r)) is ∙ by-same job other a b h ∙ sym (ap (λ r. lines_unmarked (marked_by other r)) also)
 
--- ---- a program that is loaded
+-- ---- a loaded program
 
 pub loads-same : (p q : Program) → record p { controls = record p.controls { delays = q.controls.delays } } ≡ q
     → lines_unmarked (marked_run p.controls (loaded_start p)) ≡ lines_unmarked (marked_run q.controls (loaded_start q))
@@ -126,7 +126,7 @@ loads-same p q h =
 
 -- ---- an object text, and a deck
 
--- a line without its end, by whether it is one of delays
+-- a line without its line end is kept unless it is a delay line
 text-if : (b : Bool) (x : List ℕ) (parts : List Marked) (rest : List (List ℕ)) → joined parts ≡ map (λ t. t ++ lf) rest
     → joined (if not b then record { lines = (x ++ lf) ∷ []; varies = b } ∷ parts else parts) ≡ map (λ t. t ++ lf) (if not b then x ∷ rest else rest)
 text-if true x parts rest same = same
@@ -146,7 +146,7 @@ objects-same p q h =
     ∙ sym (texts-unmarked (map line_text (object_lines (record p { controls = record p.controls { delays = q.controls.delays } }))))
     ∙ ap (λ (r : Program). lines_unmarked (marked_object r)) h
 
--- what control cards ask for beside delays
+-- the requests of control cards other than delays
 abbrev others_asked : Asked → List (List ℕ)
 others_asked a =
     let made : Control → List ℕ = λ c. control_line forms.Card c ++ lf in
@@ -158,7 +158,7 @@ cards-unmarked a =
     let made : Control → List ℕ = λ c. control_line forms.Card c ++ lf in
     unmarked-between (unless_zero a.budget (made (Budget a.budget))) (map (λ d. made (Delay d)) a.delays) _
 
--- a deck without its delays
+-- a deck without its delay cards
 abbrev deck_beside : Program → List (List ℕ)
 deck_beside p =
     map (λ card. card ++ lf) (word_cards 0 0 p.words ++ statement_card (end_text p.start) ∷ []) ++ others_asked p.controls

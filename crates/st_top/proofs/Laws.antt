@@ -1,4 +1,4 @@
--- What an object text is read as, its lines and those of a deck, and the numbers in figures.
+-- Proofs of the laws of object texts, and of the numbers.
 use Rattle.std.proofs.Common.{refl, sym, ◌∙◌}
 use Rattle.st_object.specs.Object.{read_text}
 use Rattle.st_object.proofs.ReadingLemmas.{reading-is, reading-only}

@@ -1,4 +1,4 @@
--- The lines of the state so many steps before the end.
+-- The lines of the requested state before the end.
 use Rattle.st_run.specs.Moments.{moment_at_start}
 use Rattle.st_run.proofs.CourseLemmas.{last-same}
 use Rattle.st_beside.proofs.Rewinds.{states-same}

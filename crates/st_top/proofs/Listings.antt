@@ -1,4 +1,4 @@
--- Writing the listing, line after line.
+-- The listing is written line by line.
 use Rattle.std.proofs.Common.{◌≡◌, ℕ, ◌+◌, ◌<◌, List, [], ◌∷◌, ◌++◌, true, false, length, get_or, drop, sym, ◌∙◌, ap, subst, arith, if◌then◌else◌}
 use Rattle.std.proofs.lemmas.List.{drop_more}
 use Rattle.std.specs.Prelude.{Result, Ok, Err, IsErr, All, None}
@@ -14,7 +14,7 @@ use Rattle.st_io.specs.Lines.{WritesLines}
 use Rattle.st_io.proofs.Progress.{LinesSoFar, lines_more, lines_failed}
 use Rattle.st_top.specs.Listing.{HasCards, listing_row_line, rows_lines, symbols_lines, listing}
 
--- the cards of a job that is assembled
+-- the cards of an assembled job
 pub has_cards : (job : List ℕ) (rows : List Listed) (cards : List Card) → cards ≡ cards_of job → All (IsCardOf job) (cards_of job)
     → All (λ (card : Card). card.fault ≡ None) (cards_of job) → All IsRow rows → length rows ≡ length (cards_of job) → HasCards job rows cards
 has_cards job rows cards are texts good fit same = record {
@@ -25,7 +25,7 @@ has_cards job rows cards are texts good fit same = record {
   same = same ∙ ap (λ (cs : List Card). length cs) (sym are);
 }
 
--- where the rows from the k-th on are left, the k-th comes next
+-- if the rows from the k-th remain, the k-th comes next
 rows_next : (s t : OutputState) (all : List (List ℕ)) (job : List ℕ) (rows : List Listed) (cards : List Card) (k : ℕ) (d : Listed) (e : Card) → k < length rows → length rows ≡ length cards → LinesSoFar s t all (rows_lines job (drop k rows) (drop k cards)) → LinesSoFar s t all ((listing_row_line job (get_or rows k d) (get_or cards k e) ∷ []) ++ rows_lines job (drop (k + 1) rows) (drop (k + 1) cards))
 rows_next s t all job rows cards k d e lt same h =
     subst (λ xs. LinesSoFar s t all (rows_lines job (get_or rows k d ∷ drop (k + 1) rows) xs)) (drop_more cards k e (omega arith))
@@ -50,7 +50,7 @@ pub symbols_failed : (s t u : OutputState) (all : List (List ℕ)) (ss : List Sy
 symbols_failed s t u all ss k d x r f lt h w =
     lines_failed s t u all (symbols_lines (get_or ss k d ∷ [])) (symbols_lines (drop (k + 1) ss)) r f (symbols_next s t all ss k d lt h) w.err
 
--- the listing is nothing where it is not asked for, else the rows and the symbols
+-- the listing is empty if it is not requested, and otherwise has the rows and the symbols
 pub listing_none : (job : List ℕ) (a : Assembly) → a.asked.list ≡ false → [] ≡ listing job a
 unfolding listing
 listing_none job a h = sym (ap (λ b. if b then rows_lines job a.rows (cards_of job) ++ symbols_lines a.symbols else []) h)

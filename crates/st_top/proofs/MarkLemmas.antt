@@ -1,4 +1,4 @@
--- Lines with marks: all of them, and those that are not marked.
+-- Lines with marks: all lines, and the unmarked ones.
 use Rattle.std.proofs.Common.{◌≡◌, ◌==◌, ℕ, Bool, true, false, if◌then◌else◌, List, [], ◌∷◌, ◌++◌, length, map, drop, refl, sym, ◌∙◌, ap, append_assoc}
 use Rattle.std.proofs.lemmas.List.{map-append, append-nil}
 use Rattle.std.proofs.lemmas.Simd.{map-map}
@@ -55,14 +55,14 @@ lines-plain lines = refl
 pub lines-marked : (lines : List (List ℕ)) → joined (with_marks lines) ≡ lines
 lines-marked lines = refl
 
--- lines of which each is a part
+-- lines that are each a part of their own
 lines-each : {X : Type 0} (f : X → List ℕ) (g : X → Bool) (xs : List X) → joined (map (λ x. record { lines = f x ∷ []; varies = g x }) xs) ≡ map f xs
 lines-each f g [] = refl
 lines-each f g (x ∷ xs) =
     joined-cons (record { lines = f x ∷ []; varies = g x }) (map (λ y. record { lines = f y ∷ []; varies = g y }) xs)
     ∙ ap (λ rest. f x ∷ rest) (lines-each f g xs)
 
--- lines that are not marked, some that are, and again some that are not
+-- unmarked lines, marked lines, and unmarked lines again
 lines-between : (xs ys zs : List (List ℕ)) → joined (without_marks xs ++ with_marks ys ++ without_marks zs) ≡ xs ++ ys ++ zs
 lines-between xs ys zs =
     lines-append (without_marks xs ++ with_marks ys) (without_marks zs)
@@ -96,7 +96,7 @@ lines-run asked start =
 
 -- ---- a listing
 
--- the cards up to END, and those behind it, are all cards
+-- the cards up to END and those after it are all cards
 pub cards-split : (cards : List Card) → up_to_end cards ++ behind_statements cards ≡ cards
 unfolding up_to_end behind_statements
 cards-split [] = refl
@@ -106,7 +106,7 @@ cards-split (card ∷ cards) = split-if (has_statement (card ∷ cards)) card ca
   split-if true card cards same = ap (λ rest. card ∷ rest) same
   split-if false card cards same = refl
 
--- the lines of cards and of cards behind them
+-- the lines of two lists of cards
 rows-split : (job : List ℕ) (rows : List Listed) (xs ys : List Card)
     → rows_lines job rows xs ++ rows_lines job (drop (length xs) rows) ys ≡ rows_lines job rows (xs ++ ys)
 rows-split job [] [] ys = refl
@@ -131,7 +131,7 @@ lines-listing job a = listing-if a.asked.list (listed_lines job a) _ (lines-list
   listing-if true xs lines same = same
   listing-if false xs lines same = refl
 
--- ---- what a command writes
+-- ---- the output of a command
 
 lines-by : (job : List ℕ) (r : Result Assembly Refusal) → joined (marked_by job r) ≡ lines_of (ran_by [] job r).events
 lines-by job (Ok a) =
@@ -146,7 +146,7 @@ lines-load : (r : Result Program ℕ) → joined (marked_load r) ≡ lines_of (l
 lines-load (Ok p) = lines-run p.controls (loaded_start p)
 lines-load (Err n) = lines-plain _
 
--- all that asks for things, made line by line
+-- an optional control card, as a line
 mapped-if : {X : Type 0} (f : X → List ℕ) (b : Bool) (x : X) → map f (if b then x ∷ [] else []) ≡ (if b then f x ∷ [] else [])
 mapped-if f true x = refl
 mapped-if f false x = refl
@@ -176,7 +176,7 @@ mapped-controls f made a =
     (map-map f (λ t. made (Snap t)) a.snaps))
     (mapped-unless f (a.back == 0) (made (Back a.back))))
 
--- what asks for things has the lines of all of it
+-- the control cards of a deck have the lines of all requests
 lines-cards : (a : Asked) → joined (marked_cards a) ≡ controls_made (λ c. control_line forms.Card c ++ lf) a
 lines-cards a =
     let made : Control → List ℕ = λ c. control_line forms.Card c ++ lf in

@@ -1,4 +1,4 @@
--- The moment of what is told last of a run is that of its end.
+-- The moment of the last event of a run is that of its end.
 use Rattle.st_run.specs.Moments.{moment_at_start}
 use Rattle.st_run.proofs.CourseLemmas.{last-same}
 use Rattle.st_run.proofs.ShownLemmas.{tick-same}
@@ -37,7 +37,7 @@ last-is asked start m =
     ∙ ap (λ (s : Machine). s.done) (last-same asked.delays LEVELS asked.budget (moment_at_start start)))
     ∙ ap with_tick (tick-same asked.delays LEVELS asked.budget m.tick (moment_at_start start) asked.snaps))
 
--- what a run tells, from its start, and then the lines of the state before its end
+-- the events of a run from its start, followed by the lines of the state before its end
 tells-is : (s t : OutputState) (asked : Asked) (start : Scene) (m n : Moment) (rest : List TimedReportedEvent) (r : Result (Unit {0}) Failed)
     → rest ≡ reported_events (events_of_run asked start) → WritesEvents s t (report asked rest) (last_moment m rest) n r
     → WritesEvents s t (report asked (reported_events (events_of_run asked start))) (moment_at_end asked start) n r

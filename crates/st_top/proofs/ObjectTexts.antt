@@ -1,4 +1,4 @@
--- An object text and a deck line by line.
+-- Object texts and decks, line by line.
 use Rattle.std.proofs.Common.{◌≡◌, ◌+◌, ◌==◌, ℕ, List, [], ◌∷◌, ◌++◌, length, map, take, true, false, if◌then◌else◌, refl, sym, ◌∙◌, ap, subst, append_assoc}
 use Rattle.std.proofs.lemmas.List.{take_at, length_push}
 use Rattle.std.specs.Prelude.{Ok}
@@ -18,7 +18,7 @@ use Rattle.st_dis.specs.Deck.{deck_cards, deck_text}
 use Rattle.st_dis.proofs.Printable.{deck_pieces}
 use Rattle.st_top.specs.ObjectText.{object_text_lines, deck_lines, whole_lines}
 
--- a line with a line end comes first, and then those of what stands behind it
+-- a line with a line end comes first, followed by the lines after it
 ended-onto : (line : List ℕ) (c : ℕ) (pieces : List (List ℕ)) → whole_lines (line ∷ onto_first c pieces) ≡ (line ++ lf) ∷ whole_lines (onto_first c pieces)
 ended-onto line c [] = refl
 ended-onto line c (piece ∷ pieces) = refl
@@ -32,13 +32,13 @@ ended-line line (c ∷ cs) =
       | false ↦ ended-onto line c (pieces_of 10 cs)
     ]
 
--- what a text begins with, up to its first line end
+-- the first line of a text, with its line end
 first_ended : (line after rest : List ℕ) → rest ≡ line ++ 10 ∷ after → take (length line + 1) rest ≡ line ++ lf
 first_ended line after rest e =
     let whole : rest ≡ (line ++ lf) ++ after = e ∙ sym (append_assoc line lf after) in
     ap (λ (s : List ℕ). take (length line + 1) s) whole ∙ take_at (line ++ lf) after (length line + 1) (length_push line 10)
 
--- where the lines of a text are left, its first line comes next
+-- if the lines of a text remain, its first line comes next
 pub ended_next : (s t : OutputState) (all : List (List ℕ)) (rest line after whole : List ℕ) → pieces_of 10 rest ≡ line ∷ pieces_of 10 after → rest ≡ line ++ 10 ∷ after → whole ≡ take (length line + 1) rest → LinesSoFar s t all (whole_lines (pieces_of 10 rest)) → LinesSoFar s t all ((whole ∷ []) ++ whole_lines (pieces_of 10 after))
 ended_next s t all rest line after whole pieces same cut h =
     let first : line ++ lf ≡ whole = sym (cut ∙ first_ended line after rest same) in
@@ -53,7 +53,7 @@ text-map : {X : Type 0} (f : X → List ℕ) (items : List X) → text (map f it
 text-map f [] = refl
 text-map f (item ∷ more) = ap (λ (s : List ℕ). f item ++ s) (text-map f more)
 
--- the lines one after another are the text
+-- the lines of an object text, joined, are the text
 pub text-object_lines : (p : Program) → text (object_text_lines p) ≡ object_text p
 unfolding object_text_lines
 text-object_lines p = text-map (λ item. line_text item ++ lf) (lines_of p)
@@ -76,7 +76,7 @@ pub deck_text-lines : (p : Program) → whole_lines (pieces_of 10 (deck_text p))
 unfolding deck_lines
 deck_text-lines p = ap whole_lines (deck_pieces p) ∙ ended-pieces (deck_cards p)
 
--- and one after another they are the deck
+-- the lines of a deck, joined, are the deck
 pub text-deck_lines : (p : Program) → text (deck_lines p) ≡ deck_text p
 unfolding deck_lines deck_text
 text-deck_lines p = text-map (λ card. card ++ lf) (deck_cards p)

@@ -1,4 +1,4 @@
--- What the answer of a run says of its output.
+-- The answer of a run, and its output.
 use Rattle.std.proofs.Common.{◌≡◌, ℕ, List, [], sym, ◌∙◌, ap, subst}
 use Rattle.std.specs.Prelude.{Result, Ok, Err, OnOk, OnErr}
 use Rattle.st_io.specs.Output.{OutputState, Wrote}
@@ -35,13 +35,13 @@ writes_run s t output last m answer (Err x) status done ticks w count tick good 
 pub writes_output : (s t : OutputState) (output other : Output) (answer : Answer) → output ≡ other → Writes answer.status s t output answer → Writes answer.status s t other answer
 writes_output s t output other answer e h = subst (λ o. Writes answer.status s t o answer) e h
 
--- lines that belong to no moment of a run are all written
+-- all lines of an output without a run are written
 pub wrote_alone : (s t : OutputState) (ls : List (List ℕ)) (answer : Answer) → Wrote s t (text ls) → answer.status ≡ Done → answer.done ≡ 0 → answer.ticks ≡ 0 → Writes answer.status s t (lines_alone Done ls) answer
 wrote_alone s t ls answer w good done ticks =
     let all : WroteAll s t (lines_alone Done ls) answer = record { status = good; wrote = wrote_at_moment s t 0 0 ls w; done = done; ticks = ticks } in
     subst (λ st. Writes st s t (lines_alone Done ls) answer) (sym good) all
 
--- so it is with a program that is loaded, whose reader is empty
+-- the start of a loaded program is that of a job with an empty reader
 pub loaded_scene : (p : Program) → scene_at_start p.words p.start p.controls [] ≡ loaded_start p
 loaded_scene p =
     let with_cards : List (List ℕ) → Scene = λ cards. record { machine = opening_state p.words p.start; signals = p.controls.signals; cards = cards } in
@@ -50,6 +50,6 @@ loaded_scene p =
 pub loaded_is : (p : Program) → output_of_run [] p.controls (scene_at_start p.words p.start p.controls []) ≡ loaded_by (Ok p)
 loaded_is p = ap (output_of_run [] p.controls) (loaded_scene p)
 
--- the parser finds what an object text is
+-- the parser finds the reading of an object text
 pub text_is_read : (text : List ℕ) → IsReading text (read_text text)
 text_is_read text = reading-is text

@@ -1,4 +1,4 @@
--- What a job is assembled to hangs on its cards up to END, but for what the control cards behind it ask for.
+-- The assembly of a job depends only on its cards up to END, except for the requests of the control cards after it.
 use Rattle.std.proofs.Common.{◌≡◌, ℕ, zero, suc, ◌+◌, ◌==◌, ◌&&◌, ◌||◌, Bool, true, false, if◌then◌else◌, List, [], ◌∷◌, ◌++◌, length, map, filter, take, refl, sym, ◌∙◌, ap, subst, append_assoc, append-nil, length-append, arith, Result, Ok, Err, Option, Some, None, is_some, All}
 use Rattle.std.proofs.lemmas.Bool.{or_parts}
 use Rattle.std.proofs.lemmas.List.{length-map}
@@ -36,7 +36,7 @@ use Rattle.st_top.proofs.DelayCards.{still, others, asked_by, asked_with, asks-n
 
 -- ---- cards and their texts
 
--- cards numbered from n on
+-- cards with successive numbers from n
 abbrev AreNumbered : ℕ → List Card → Type 0
 AreNumbered n [] = Unit {0}
 AreNumbered n (card ∷ cards) = (card.number ≡ n) × AreNumbered (n + 1) cards
@@ -58,7 +58,7 @@ issue-numbered : (n : ℕ) (xs ys : List Card) → AreNumbered n (xs ++ ys) → 
 issue-numbered n [] ys h = tt
 issue-numbered n (x ∷ xs) ys h = (h.0, issue-numbered (n + 1) xs ys h.1)
 
--- cards without a fault, each of the kind of its text
+-- cards without a fault, each with the kind of its text
 abbrev AreGood : List ℕ → List Card → Type 0
 AreGood job [] = Unit {0}
 AreGood job (card ∷ cards) = (card.kind ≡ kind_of (text_in job card)) × (card.fault ≡ None) × AreGood job cards
@@ -124,9 +124,9 @@ pass-texts job found n (card ∷ cards) numbered good =
     ∙ onward-same (λ f. pass (form_card job) (λ c. c.number) f cards) (λ f. form_texts f (n + 1) texts) n (form_text found n (text_in job card))
     (λ f. pass-texts job f (n + 1) cards numbered.1 good.2)
 
--- ---- the cards behind END
+-- ---- the cards after END
 
--- cards of these numbers and texts lead from one state to another: they say nothing, and ask for something
+-- cards with these numbers and texts lead from one state to another: they only add requests
 record Went (from to : Found) (numbers : List ℕ) (texts : List (List ℕ)) : Type 0 where
   ended : to.ended ≡ from.ended
   lines : to.lines ≡ from.lines ++ quiet numbers
@@ -178,9 +178,9 @@ went job from to (card ∷ cards) good none h =
 some-same : {A : Type 0} (x y : A) → (the : Option A) → the ≡ Some x → the ≡ Some y → x ≡ y
 some-same x y the one two = cc
 
--- ---- the cards up to END ask for nothing
+-- ---- the cards up to END request nothing
 
--- each card is a statement card or stands before one
+-- each card is a statement card or comes before one
 abbrev AreBefore : List Card → Type 0
 AreBefore [] = Unit {0}
 AreBefore (card ∷ cards) = (has_statement (card ∷ cards) ≡ true) × AreBefore cards
@@ -268,7 +268,7 @@ open-issue job from to (card ∷ cards) before good e h =
       by true is at-false at-true = at-true is
       by false is at-false at-true = at-false is
 
--- ---- cards behind END that are good
+-- ---- good cards after END
 
 kind-goes : (k : CardKind) (from : Found) (b : Asked) (n : ℕ) (text : List ℕ) → from.ended ≡ true → asked_by k from.asked text ≡ Some b
     → form_kind k from n None text ≡ Ok (record { ended = true; asked = b; lines = from.lines ++ silent_line n ∷ [] })
@@ -348,7 +348,7 @@ reader-others job good =
 
 -- ---- a job
 
--- what the form pass leaves of a job, by what it leaves of the cards up to END
+-- the result of the form pass on a job, by its result on the cards up to END
 record Read (job : List ℕ) (all : Found) : Type 0 where
   found : Found
   read : form_texts found_at_start 1 (texts_up_to_end job) ≡ Ok found
@@ -408,7 +408,7 @@ job-read job all is =
       reader = reader-others job (behind-good job issue behind split_good);
     }
 
--- what a job gives, by what its cards up to END give
+-- the assembly of a job, by that of its cards up to END
 record FromFront (job : List ℕ) (a : Assembly) : Type 0 where
   found : Found
   named : Named
@@ -480,7 +480,7 @@ defaults-still : (ds : List ℕ) (asked : Asked) → record (with_defaults asked
 unfolding with_defaults
 defaults-still ds asked = refl
 
--- jobs that differ in their delays cards give the same but for the delays
+-- jobs that differ only in their delay cards have equal assemblies apart from the delays
 pub cards-differ : (job other : List ℕ) (a b : Assembly) → assembly job ≡ Ok a → assembly other ≡ Ok b → DifferInDelaysCards job other
     → AreAlikeBesideDelays job other a b
 cards-differ job other a b is also h =
@@ -512,13 +512,13 @@ cards-differ job other a b is also h =
       reader = x.reader ∙ ap (λ l. map card_words (comments l)) h.others ∙ sym y.reader;
     }
 
--- ---- a job with other good delays cards
+-- ---- a job with other good delay cards
 
 some-of : {A : Type 0} (o : Option A) → is_some o ≡ true → (x : A) × (o ≡ Some x)
 some-of (Some x) h = (x, refl)
 some-of None h = let no : ⊥ = cc in absurd no
 
--- the form pass, where the cards up to END lead to a state and those behind it are good
+-- the form pass on a job, given its result on the cards up to END, if the cards after it are good
 form-again : (job : List ℕ) (found : Found) (z : Asked) → form_texts found_at_start 1 (texts_up_to_end job) ≡ Ok found → found.ended ≡ true
     → All (λ (card : Card). card.fault ≡ None) (cards_of job) → asked_with found.asked (texts_behind_end job) ≡ Some z
     → form_pass job (cards_of job)
@@ -539,7 +539,7 @@ form-again job found z read e no_faults asks =
     ∙ ap (λ r. pass_then r (λ s. next s behind)) first ∙ last in
     ap (λ r. pass_then r (with_end (length cards))) whole
 
--- the later passes over lines with cards that say nothing behind them
+-- the later passes on lines that are followed by cards without statements
 again : (job : List ℕ) (all found : Found) (named : Named) (emitted : Emitted) (ns : List ℕ) → form_pass job (cards_of job) ≡ Ok all
     → all.lines ≡ found.lines ++ quiet ns → name_pass found.lines ≡ Ok named → value_pass (table named.symbols) found.lines named.places ≡ Ok emitted
     → assembly job ≡ Ok (together all (with_places named (no_places ns)) (with_rows emitted (quiet_rows ns)))
@@ -555,7 +555,7 @@ again job all found named emitted ns formed lines names values =
     ∙ ap (λ r. pass_then r (laying all)) has_names
     ∙ ap (λ r. pass_then r (λ l. Ok (together all more l))) has_values
 
--- a job with the same cards but for its delays cards is not refused, where these are good
+-- a job with other delay cards is not refused, if these are good
 pub again-accepted : (job other : List ℕ) (a : Assembly) → assembly job ≡ Ok a → DifferInDelaysCards job other → HasGoodDelays other
     → (b : Assembly) × (assembly other ≡ Ok b)
 again-accepted job other a is h g =

@@ -1,4 +1,4 @@
--- What the passes of the assembler leave of the cards up to END, and of those behind it, which say nothing to the later passes.
+-- The results of the later passes of the assembler on the cards up to END, and on those after it, which have no effect.
 use Rattle.std.proofs.Common.{◌≡◌, ℕ, Bool, List, [], ◌∷◌, ◌++◌, length, map, refl, sym, ◌∙◌, ap, append_assoc, append-nil, arith, Result, Ok, Err, Option, None}
 use Rattle.std.specs.List.{zip, filter_map}
 use Rattle.std.proofs.lemmas.List.{length-map}
@@ -13,17 +13,17 @@ use Rattle.st_asm.specs.declared.naming.Symbol.{Symbol}
 use Rattle.st_asm.specs.declared.valuing.Listed.{Listed}
 use Rattle.st_asm.proofs.KeptLemmas.{name_pass-counts, value_pass-numbers}
 
--- the type of a thing
+-- the type of a value
 abbrev type_of : {X : Type 0} → X → Type 0
 type_of {X} x = X
 
--- what a card is to the passes behind the first one
+-- a card as the form pass reads it
 abbrev pub ReadCard : Type 0
 ReadCard = type_of (silent_line 0)
 
 -- ---- passes
 
--- what comes first, where something comes next
+-- two results in sequence, both of them good
 pub record ComesNext {A B : Type 0} (next : A → Result B Refusal) (r : Result A Refusal) (b : B) : Type 0 where
   pub first : A
   pub is : r ≡ Ok first
@@ -33,7 +33,7 @@ pub and_then-ok : {A B : Type 0} (next : A → Result B Refusal) (r : Result A R
 and_then-ok next (Ok a) b h = record { first = a; is = refl; last = h }
 and_then-ok next (Err e) b h = let no : ⊥ = cc in absurd no
 
--- a card that goes on
+-- a good card, after which the pass continues
 pub record GoesOn {S T : Type 0} (rest : S → Result T Refusal) (r : Result S Fault) (t : T) : Type 0 where
   pub state : S
   pub good : r ≡ Ok state
@@ -52,7 +52,7 @@ onward-then : {S T U : Type 0} (f : S → Result U Refusal) (g : S → Result T 
 onward-then f g k n (Ok s) same = same s
 onward-then f g k n (Err e) same = refl
 
--- a pass over a list and one behind it
+-- a pass over a list followed by another list
 pub pass-append : {S X : Type 0} (next : S → X → Result S Fault) (number : X → ℕ) (from : S) (xs ys : List X)
     → pass next number from (xs ++ ys) ≡ pass_then (pass next number from xs) (λ s. pass next number s ys)
 pass-append next number from [] ys = refl
@@ -60,9 +60,9 @@ pass-append next number from (x ∷ xs) ys =
     onward-then (λ s. pass next number s (xs ++ ys)) (λ s. pass next number s xs) (λ s. pass next number s ys) (number x) (next from x)
     (λ s. pass-append next number s xs ys)
 
--- ---- cards that say nothing
+-- ---- cards without statements
 
--- the lines of cards that say nothing, by their numbers
+-- the lines of cards without statements, given their numbers
 abbrev pub quiet : List ℕ → List ReadCard
 quiet ns = map silent_line ns
 
@@ -78,11 +78,11 @@ names-same lines ns =
     ∙ ap (λ names. filter_map (λ (line : ReadCard). line.name) lines ++ names) (no-names ns)
     ∙ append-nil (filter_map (λ (line : ReadCard). line.name) lines)
 
--- no place for each
+-- no place for each of these cards
 abbrev pub no_places : List ℕ → List (Option ℕ)
 no_places ns = map (λ n. None) ns
 
--- what is known with places more
+-- the result of the name pass with more places
 abbrev pub with_places : Named → List (Option ℕ) → Named
 with_places named places = record { location = named.location; symbols = named.symbols; places = named.places ++ places }
 
@@ -110,18 +110,18 @@ names-parted lines ns =
       then-same (Ok named) = name-quiet (has_name (names_of lines)) named ns
       then-same (Err e) = refl
 
--- their rows
+-- the row of a card without a statement
 abbrev pub quiet_row : ℕ → Listed
 quiet_row n = record { card = n; location = None; bits = 0; length = 0 }
 
 abbrev pub quiet_rows : List ℕ → List Listed
 quiet_rows ns = map quiet_row ns
 
--- what is laid with rows more
+-- the result of the value pass with more rows
 abbrev pub with_rows : Emitted → List Listed → Emitted
 with_rows emitted rows = record { image = emitted.image; start = emitted.start; rows = emitted.rows ++ rows }
 
--- cards that say nothing, with their places
+-- cards without statements, each with its place
 abbrev quiet_pairs : List ℕ → List (ReadCard × Option ℕ)
 quiet_pairs ns = map (λ n. (silent_line n, None)) ns
 
@@ -163,7 +163,7 @@ values-parted symbols lines places ns same =
 
 -- ---- both later passes
 
--- what the name pass and the value pass leave of lines, and with cards that say nothing behind them
+-- the results of the name and value passes on some lines, and with cards without statements after them
 pub record Parts (lines : List ReadCard) (ns : List ℕ) (all : Named) (whole : Emitted) : Type 0 where
   pub named : Named
   pub emitted : Emitted

@@ -1,4 +1,4 @@
--- The lines of a report that are not marked are those of what happens in the plain run.
+-- The unmarked lines of a report are those of the events of the plain run.
 use Rattle.std.proofs.Common.{◌≡◌, ℕ, Bool, true, false, if◌then◌else◌, List, [], ◌∷◌, ◌++◌, map, reverse, zero, suc, Option, None, Some, refl, sym, ◌∙◌, ap, subst, ◌+◌}
 use Rattle.std.specs.Prelude.{not, filter}
 use Rattle.std.proofs.lemmas.List.{map-append, append-nil}
@@ -24,12 +24,12 @@ use Rattle.st_run.proofs.CourseLemmas.{timed-none, timed-step}
 use Rattle.st_top.specs.Marks.{lines_unmarked, marked_report}
 use Rattle.st_telling.specs.Report.{Part as Marked, varying as with_marks, fixed as without_marks, joined, parts_at, line_if, block, snapshot_lines}
 
--- what holds both ways holds of what is chosen
+-- a property of both branches holds for the conditional
 of_choice : {A : Type 0} (P : A → Type 0) (b : Bool) (x y : A) → P x → P y → P (if b then x else y)
 of_choice P true x y p q = p
 of_choice P false x y p q = q
 
--- ---- lines that are not marked
+-- ---- unmarked lines
 
 pub unmarked-append : (xs ys : List Marked) → lines_unmarked (xs ++ ys) ≡ lines_unmarked xs ++ lines_unmarked ys
 unfolding lines_unmarked
@@ -58,7 +58,7 @@ unmarked-between xs ys zs =
     ∙ ap (λ issue. issue ++ lines_unmarked (without_marks zs)) (unmarked-before xs ys)
     ∙ ap (λ rest. xs ++ rest) (unmarked-plain zs)
 
--- ---- what happens in the plain run, as lines
+-- ---- the events of the plain run, as lines
 
 pub happening_lines : Bool → List (ℕ × ℕ) → PlainEvent → List (List ℕ)
 happening_lines trace dumps (Prints s words) = prt_line (line_of_words words) ∷ []
@@ -66,7 +66,7 @@ happening_lines trace dumps (Interrupts s i) = int_line i s.done ∷ block dumps
 happening_lines trace dumps (Executes s address) = line_if trace (trc_line s.done address)
 happening_lines trace dumps (Ends s rests) = end_line rests ∷ done_line s.done ∷ block dumps s
 
--- an event comes when as many entries are done as its state says
+-- the count of completed instructions at an event is that of its state
 pub HappensAt : ℕ → PlainEvent → Type 0
 HappensAt done (Prints s words) = Unit {0}
 HappensAt done (Interrupts s i) = done ≡ s.done
@@ -125,7 +125,7 @@ report-lines asked (x ∷ xs) are =
     ∙ ap (λ rest. flat_map lines (plain_event x.event) ++ rest) (report-lines asked xs are.1)
     ∙ sym (flat_map-append lines (plain_event x.event) (plain_run xs))
 
--- ---- what comes between two steps is prints alone
+-- ---- only prints occur between two steps
 
 ArePrints : List PlainEvent → Type 0
 ArePrints [] = Unit {0}

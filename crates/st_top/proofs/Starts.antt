@@ -1,4 +1,4 @@
--- A run that is prepared starts from the scene that is meant.
+-- A prepared run starts from the scene of its job.
 use Rattle.std.proofs.Common.{◌≡◌, ℕ, [], List, All, refl, ◌∙◌, ap, subst}
 use Rattle.st_card.specs.Controls.{Asked}
 use Rattle.st_state.specs.Machine.{Machine, IsMachine, opening_state}
@@ -20,7 +20,7 @@ scene_is c m n xs ys cs ds e p q r =
     let with_cards : List (List ℕ) → Scene = λ k. record { machine = n; signals = ys; cards = k } in
     e ∙ (ap with_machine p ∙ (ap with_signals q ∙ ap with_cards r))
 
--- what is still to be told, by what the run was made from
+-- the remaining events of a run, given its parameters
 pub rest_is : (rest : List TimedReportedEvent) (asked : Asked) (ds snaps : List ℕ) (budget : ℕ) (c start : Scene)
     → rest ≡ reported_events (timed_run ds LEVELS budget c snaps) → ds ≡ asked.delays → budget ≡ asked.budget → c ≡ start → snaps ≡ asked.snaps
     → rest ≡ reported_events (events_of_run asked start)

@@ -33,11 +33,11 @@ use Rattle.st_top.specs.declared.answer.Status.{Status}
 use Rattle.st_top.specs.declared.answer.Status.TheVariants.{Done, Refused, Usage, JobTooLong, ReadFault, WriteFault, NoMemory}
 use Rattle.st_top.specs.declared.reporting.TheConstants.{LEVELS}
 
--- a line is in time
+-- an event whose tick keeps the bound
 abbrev InTime : ℕ → Event → Type 0
 InTime b e = e.ticks ≤ b * (e.done + 1)
 
--- so is all that is told
+-- a timed event whose tick keeps the bound
 abbrev TimedInTime : ℕ → Timed → Type 0
 TimedInTime b x = x.tick ≤ b * (x.done + 1)
 
@@ -55,7 +55,7 @@ report-time b asked (x ∷ xs) all =
     (moment-time b x.done x.tick (lines_told asked (timed_reported_event x)) (All-head (TimedInTime b) x xs all))
     (report-time b asked xs (All-tail (TimedInTime b) x xs all))
 
--- what stopped in a line that is in time is
+-- if all events keep the bound, the one at which the writing stopped keeps it too
 behind-time : (b : ℕ) (earlier : List Event) (e : Event) (later : List Event) → All (InTime b) (earlier ++ e ∷ later) → InTime b e
 behind-time b [] e later all = All-head (InTime b) e later all
 behind-time b (x ∷ xs) e later all = behind-time b xs e later (All-tail (InTime b) x (xs ++ e ∷ later) all)
@@ -65,11 +65,11 @@ stopped-time b s t events done tick all h =
     let there : InTime b h.failed = behind-time b h.earlier h.failed h.later (subst (All (InTime b)) h.order all) in
     subst (λ k. k ≤ b * (done + 1)) (sym h.ticks_then) (subst (λ n. h.failed.ticks ≤ b * (n + 1)) (sym h.done_then) there)
 
--- an answer is in time for a number that no delay exceeds
+-- an answer whose ticks keep the bound for delays up to a number
 abbrev IsIn : ℕ → Answer → Type 0
 IsIn most answer = answer.ticks ≤ 64 * (most + 4) * (answer.done + 1)
 
--- a run is in time
+-- the events of a run keep the bound
 module _ (most : ℕ) (asked : Asked) (start : Scene) (are : AreDelaysUpTo most asked.delays) (is : IsScene start) where
   end-time : (moment_at_end asked start).tick ≤ 64 * (most + 4) * ((moment_at_end asked start).done + 1)
   unfolding moment_at_end
@@ -114,7 +114,7 @@ module _ (most : ℕ) (asked : Asked) (start : Scene) (are : AreDelaysUpTo most 
       → Writes answer.status s t (output_of_run listed asked start) answer → IsIn most answer
   writes_time s t listed answer w = by-status answer.status s t listed answer w
 
--- a sweep is in time
+-- a sweep keeps the bound
 module _ (most : ℕ) (image : List ℕ) (first : ℕ) (asked : Asked) (are : AreDelaysUpTo most asked.delays) (is : IsScene (sweep_start image first asked)) where
   eight-time : slice_index (sweep_of image first asked).ticks 7 ≤ 64 * (most + 4) * ((sweep_of image first asked).done + 1)
   unfolding sweep_of ticks run
@@ -147,7 +147,7 @@ module _ (most : ℕ) (image : List ℕ) (first : ℕ) (asked : Asked) (are : Ar
       → Writes answer.status s t (output_of_sweep asked.delays (sweep_of image first asked)) answer → IsIn most answer
   swept_time s t answer w = swept-status answer.status s t answer w
 
--- delays that keep the limits of control cards, none of which exceeds a number
+-- valid delays, none of which exceeds a number
 pub delays_within : (most : ℕ) (ds : List ℕ) → 1 ≤ length ds → AllPass (is_in_range 1 MOST_DELAY) ds → All (λ d. d ≤ most) ds → AreDelaysUpTo most ds
 delays_within most ds some limits below = record {
   some = some;
@@ -164,13 +164,13 @@ pub keeps_time : (asked : Asked) (start : Scene) (s t : OutputState) (listed : L
 keeps_time asked start s t listed answer some limits is w = λ most below.
     writes_time most asked start (delays_within most asked.delays some limits below) is s t listed answer w
 
--- so they bound the ticks of its sweep
+-- the delays of a job bound the ticks of its sweep
 pub keeps_sweep : (image : List ℕ) (first : ℕ) (asked : Asked) (s t : OutputState) (answer : Answer)
     → 1 ≤ length asked.delays → AllPass (is_in_range 1 MOST_DELAY) asked.delays → IsScene (sweep_start image first asked)
     → Writes answer.status s t (output_of_sweep asked.delays (sweep_of image first asked)) answer → KeepsTime asked.delays answer
 keeps_sweep image first asked s t answer some limits is w = λ most below.
     swept_time most image first asked (delays_within most asked.delays some limits below) is s t answer w
 
--- an answer without ticks is in time
+-- an answer without ticks keeps the bound
 pub keeps_still : (delays : List ℕ) (answer : Answer) → answer.ticks ≡ 0 → KeepsTime delays answer
 keeps_still delays answer none = λ most below. omega (arith, none)

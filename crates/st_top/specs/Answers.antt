@@ -1,4 +1,4 @@
--- What each answer of the program says: when it comes, and what was read and written.
+-- The answers of the program: when each is returned, and what was read and written.
 use Rattle.std.specs.Prelude.{◌≡◌, ℕ, ◌+◌, ◌*◌, ◌≤◌, List, All, Option, None, Some, Result}
 use Rattle.st_bits.specs.declared.limits.TheConstants.{LONGEST_JOB}
 use Rattle.st_io.specs.Count.{HasRisen}
@@ -14,7 +14,7 @@ use Rattle.st_top.specs.declared.answer.Status.TheVariants.{Done, Refused, Usage
 use Rattle.st_command.specs.declared.command.Command.{Command}
 use Rattle.st_command.specs.declared.command.Command.TheVariants.{Soak}
 
--- nothing ran
+-- the answer of a call without a run
 pub record NothingRan (answer : Answer) : Type 0 where
   pub none_done : answer.done ≡ 0
   pub no_ticks : answer.ticks ≡ 0
@@ -26,8 +26,8 @@ pub record WroteAll (before after : OutputState) (output : Output) (answer : Ans
   pub done : answer.done ≡ output.done
   pub ticks : answer.ticks ≡ output.ticks
 
--- how an output was written, by the status: wholly; or up to a write that failed; or not at all,
--- for want of memory
+-- the effect of writing an output, by the status: the whole output; the first part up to a failed
+-- write; or nothing, because memory ran out
 abbrev pub Writes : Status → OutputState → OutputState → Output → Answer → Type 0
 Writes Done before after output answer = WroteAll before after output answer
 Writes Refused before after output answer = WroteAll before after output answer
@@ -36,15 +36,15 @@ Writes WriteFault before after output answer =
 Writes NoMemory before after output answer = (after ≡ before) × NothingRan answer
 Writes _ before after output answer = ⊥
 
--- where none of the delays exceeds a number, each instruction that is done, and one more, takes 64
--- times (that number and four) ticks at most
+-- if no delay exceeds a number, the ticks are at most 64 times (that number plus four) for each
+-- completed instruction and for one more
 abbrev pub KeepsTime : List ℕ → Answer → Type 0
 KeepsTime delays answer =
     (most : ℕ) → All (λ delay. delay ≤ most) delays → answer.ticks
     ≤ 64 * (most + 4) * (answer.done + 1)
 
--- a job came whole, and its output was written, in time; `read` is what the job is as an object text,
--- which counts for `load` and `disassemble`
+-- a job was read whole, and its output was written, with bounded ticks; `read` is the reading of
+-- the job as an object text, used only by `load` and `disassemble`
 pub record WroteOutput (command : Command) (status : Status) (input input' : InputState)
     (before after : OutputState)
     (answer : Answer) : Type 0 where
@@ -55,7 +55,7 @@ pub record WroteOutput (command : Command) (status : Status) (input input' : Inp
   pub written : Writes status before after (output_of command job read) answer
   pub in_time : KeepsTime (output_of command job read).delays answer
 
--- what a command that reads a job did to its source and its sink, by the status
+-- the effect of a command that reads a job on its source and sink, by the status
 abbrev pub Did : Command → Status → InputState → InputState → OutputState → OutputState → Answer →
     Type 0
 Did command JobTooLong input input' before after answer =
@@ -71,13 +71,13 @@ Did command Usage input input' before after answer = ⊥
 Did command status input input' before after answer =
     WroteOutput command status input input' before after answer
 
--- how a call with words that mean nothing ends: as a bad command line, or for want of memory
+-- the statuses of a call whose words are no valid command: a bad command line, or out of memory
 abbrev pub IsWordRefusal : Status → Type 0
 IsWordRefusal Usage = Unit {0}
 IsWordRefusal NoMemory = Unit {0}
 IsWordRefusal _ = ⊥
 
--- what a command did, by the status: `soak` reads no job, and each other one does
+-- the effect of a command, by the status: `soak` reads no job, and every other command reads one
 abbrev pub Acted : Command → Status → InputState → InputState → OutputState → OutputState → Answer →
     Type 0
 Acted (Soak number cards) status input input' before after answer =
@@ -86,7 +86,7 @@ Acted (Soak number cards) status input input' before after answer =
 Acted command status input input' before after answer =
     Did command status input input' before after answer
 
--- what a call did, by the meaning of its words: words that mean nothing touch neither source nor
+-- the effect of a call, by its command: words that are no valid command affect neither source nor
 -- sink
 abbrev pub IsAnswer : Option Command → InputState → InputState → OutputState → OutputState →
     Answer → Type 0

@@ -1,4 +1,4 @@
--- What holds of the marks of a run, and of jobs and object texts that give the same but for the
+-- Laws of marked lines, and of jobs and object texts that differ only in their
 -- delays.
 use Rattle.std.specs.Prelude.{◌≡◌, ℕ, ◌≤◌, Bool, List, take, Result, Ok}
 use Rattle.st_bits.specs.declared.limits.TheConstants.{MOST_CARDS}
@@ -16,8 +16,8 @@ use Rattle.st_top.specs.Delays.{DifferInDelaysCards}
 use Rattle.st_top.specs.StepsBack.{run_report}
 use Rattle.st_command.specs.declared.command.Command.TheVariants.{Run, Assemble, Load, Disassemble}
 
--- two jobs give the same but for the delays: the cards up to END have the same texts and rows, and
--- the reader holds the same cards
+-- two jobs have equal assemblies apart from the delays: the cards up to END have equal texts and
+-- rows, and the readers have equal cards
 pub record AreAlikeBesideDelays (job other : List ℕ) (a b : Assembly) : Type 0 where
   pub texts : texts_up_to_end job ≡ texts_up_to_end other
   pub rows : take (end_card job) a.rows ≡ take (end_card other) b.rows
@@ -27,13 +27,13 @@ pub record AreAlikeBesideDelays (job other : List ℕ) (a b : Assembly) : Type 0
   pub asked : record a.asked { delays = b.asked.delays } ≡ b.asked
   pub reader : reader_cards job ≡ reader_cards other
 
--- The lines with their marks are those of the report of a run, one by one.
+-- The lines with their marks are the lines of the report of a run, in order.
 abbrev pub MarksAreTheReport : Type 0
 MarksAreTheReport = (asked : Asked) (start : Scene) → joined (marked_run asked start)
     ≡ lines_of (run_report asked start)
 
--- With other delays, and other cards `/SNAP`, `/TIME` and `/CHART`, a run has the same lines that
--- are not marked.
+-- The unmarked lines of a run do not depend on the delays, nor on the cards `/SNAP`, `/TIME` and
+-- `/CHART`.
 abbrev pub DelaysChangeNothingButTheTimetable : Type 0
 DelaysChangeNothingButTheTimetable = (asked : Asked) (ds snaps : List ℕ) (time chart : Bool)
     (start : Scene) →
@@ -45,9 +45,9 @@ DelaysChangeNothingButTheTimetable = (asked : Asked) (ds snaps : List ℕ) (time
     }) start)
     ≡ lines_unmarked (marked_run asked start)
 
--- Jobs that give the same but for the delays write the same lines that are not marked, where they
--- are run and where they are assembled. So do programs that differ in their delays alone, where
--- these are loaded, and where they are disassembled to decks that have not too many cards.
+-- Jobs with equal assemblies apart from the delays write equal unmarked lines, both when they are
+-- run and when they are assembled. So do programs that differ only in their delays when they are
+-- loaded, and when they are disassembled to decks without too many cards.
 pub record JobsThatDifferInDelaysAlone : Type 0 where
   pub run : (job other : List ℕ) (read also : Result Program ℕ) (a b : Assembly)
       → assembly job ≡ Ok a → assembly other ≡ Ok b → AreAlikeBesideDelays job other a b
@@ -66,15 +66,15 @@ pub record JobsThatDifferInDelaysAlone : Type 0 where
       → lines_unmarked (marked_output Disassemble text (Ok p))
       ≡ lines_unmarked (marked_output Disassemble other (Ok q))
 
--- Jobs that are not refused and whose texts differ in their delays cards alone give the same but
--- for the delays.
+-- Jobs that are not refused and differ only in their delay cards have equal assemblies apart from
+-- the delays.
 abbrev pub CardsOfDelaysChangeDelaysAlone : Type 0
 CardsOfDelaysChangeDelaysAlone = (job other : List ℕ) (a b : Assembly) → assembly job ≡ Ok a →
     assembly other ≡ Ok b → DifferInDelaysCards job other → AreAlikeBesideDelays job other a b
 
--- Where a text is an object text, and another one that differs from it in its lines of delays alone
--- has lines of these delays, that is the object text of the same program with these delays. The
--- lines of each object text are those of its program's delays.
+-- If a text is an object text, then a text that differs from it only in its delay lines, which are
+-- those of valid delays, is the object text of the program with these delays. The delay lines of
+-- each object text are those of its program's delays.
 pub record ObjectTextsThatDifferInDelaysAlone : Type 0 where
   pub accepted : (text other delays : List ℕ) (p : Program) → read_text text ≡ Ok p →
       DifferInDelayLines text other

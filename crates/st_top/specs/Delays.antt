@@ -1,5 +1,5 @@
--- Jobs whose texts differ in their delays cards alone, and object texts that differ in their lines
--- of delays alone. They write the same, but for the lines that are marked.
+-- Jobs whose texts differ only in their delay cards, and object texts that differ only in their
+-- delay lines. They write equal lines except those that are marked.
 use Rattle.std.specs.Prelude.{◌≡◌, ℕ, ◌≤◌, ◌&&◌, Bool, true, false, not, List, [], ◌∷◌, map, filter, All, Option, Some, None, IsSome, Result, Ok}
 use Rattle.std.specs.Option.{option_and_then}
 use Rattle.st_bits.specs.declared.limits.TheConstants.{MOST_CARDS}
@@ -24,12 +24,12 @@ use Rattle.st_top.specs.declared.answer.Status.TheVariants.{Done}
 use Rattle.st_command.specs.declared.command.Command.{Command}
 use Rattle.st_command.specs.declared.command.Command.TheVariants.{Load, Disassemble}
 
--- whether a keyword is that of delays
+-- whether a keyword is that of delay cards
 abbrev pub is_delays : Option Keyword → Bool
 is_delays (Some Delays) = true
 is_delays _ = false
 
--- whether words begin with that keyword
+-- whether a list of words begins with that keyword
 abbrev pub begins_delays : List (List ℕ) → Bool
 begins_delays [] = false
 begins_delays (word ∷ more) = is_delays (row_of word keywords)
@@ -40,68 +40,68 @@ is_control Comment = false
 is_control Control = true
 is_control Statement = false
 
--- whether a card with this text is a delays card: a control card that begins with `/DELAYS`
+-- whether a card with this text is a delay card: a control card that begins with `/DELAYS`
 unfoldable pub is_delays_card : List ℕ → Bool
 is_delays_card text = is_control (kind_of text) && begins_delays (words (columns text))
 
--- the texts of a job's cards behind END
+-- the texts of the cards of a job after END
 abbrev pub texts_behind_end : List ℕ → List (List ℕ)
 texts_behind_end job = map (text_in job) (behind_statements (cards_of job))
 
--- those of them that are not delays cards
+-- the texts of the cards after END that are not delay cards
 abbrev pub others_behind_end : List ℕ → List (List ℕ)
 others_behind_end job = filter (λ text. not (is_delays_card text)) (texts_behind_end job)
 
--- two jobs have the same cards, in the same order, once the delays cards are taken out of both
+-- two jobs have equal cards in the same order, apart from the delay cards after END
 pub record DifferInDelaysCards (job other : List ℕ) : Type 0 where
   pub up_to_end : texts_up_to_end job ≡ texts_up_to_end other
   pub others : others_behind_end job ≡ others_behind_end other
 
--- what control cards of these texts ask for, one after the other, where each is good
+-- the requests of control cards with these texts, in order; None if a card is bad
 unfoldable pub asked_in : Asked → List (List ℕ) → Option Asked
 asked_in kept [] = Some kept
 asked_in kept (text ∷ texts) =
     option_and_then (λ more. asked_in more texts) (asked_with_card kept text)
 
--- the texts of a job's delays cards behind END
+-- the texts of the delay cards of a job after END
 abbrev pub delays_behind_end : List ℕ → List (List ℕ)
 delays_behind_end job = filter is_delays_card (texts_behind_end job)
 
--- no card of a job has a fault by itself, and its delays cards alone are good, one after the other:
--- each has numbers from 1 to 255, and all of them together at most 4,096
+-- no card of a job has a fault of its own, and its delay cards are good by themselves: each has
+-- numbers from 1 to 255, and together they have at most 4,096
 pub record HasGoodDelays (job : List ℕ) : Type 0 where
   pub cards : All (λ (card : Card). card.fault ≡ None) (cards_of job)
   pub delays : IsSome (asked_in nothing_asked (delays_behind_end job))
 
--- two jobs, or two object texts, have the same cards or lines once those of delays are taken out of
--- both
+-- two jobs have equal cards apart from delay cards, or two object texts have equal lines apart from
+-- delay lines
 abbrev pub DifferInDelaysAlone : Command → List ℕ → List ℕ → Type 0
 DifferInDelaysAlone Load text other = DifferInDelayLines text other
 DifferInDelaysAlone Disassemble text other = DifferInDelayLines text other
 DifferInDelaysAlone _ job other = DifferInDelaysCards job other
 
--- an object text has lines of some delays
+-- the delay lines of an object text are those of some valid delays
 abbrev pub HasGoodLines : List ℕ → Type 0
 HasGoodLines text = (delays : List ℕ) × HasDelayLines text delays
 
--- its deck has not too many cards
+-- the deck of an object text does not have too many cards
 abbrev pub HasShortDeck : List ℕ → Type 0
 HasShortDeck text = (p : Program) → IsReading text (Ok p) → card_count p ≤ MOST_CARDS
 
--- the delays that a job or an object text names are good for a command
+-- the delays of a job or an object text are valid for a command
 abbrev pub AreDelaysGood : Command → List ℕ → Type 0
 AreDelaysGood Load text = HasGoodLines text
 AreDelaysGood Disassemble text = HasGoodLines text × HasShortDeck text
 AreDelaysGood _ job = HasGoodDelays job
 
--- a command does not refuse a job, by what the job is read as
+-- a command does not refuse a job, given its reading as an object text
 abbrev pub IsAccepted : Command → List ℕ → Result Program ℕ → Type 0
 IsAccepted command job read = (output_of command job read).status ≡ Done
 
--- delays show in marked lines alone: the lines with their marks are those that a command writes; of
--- two jobs that it does not refuse, and that differ in their delays alone, it writes the same lines
--- that are not marked; and where it does not refuse one of the two, and the other's delays are good,
--- it does not refuse that either
+-- only marked lines depend on delays: the lines with their marks are those that a command writes;
+-- two jobs that it does not refuse and that differ only in their delays give equal unmarked lines;
+-- if it does not refuse one of two such jobs and the delays of the other are valid, it does not
+-- refuse the other either
 pub record DelaysShowInMarksAlone : Type 0 where
   pub marks : (command : Command) (job : List ℕ) (read : Result Program ℕ)
       → joined (marked_output command job read) ≡ lines_of (output_of command job read).events

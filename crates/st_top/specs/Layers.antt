@@ -1,4 +1,4 @@
--- What the errors of the layers below say of a command that reads a job.
+-- The errors of the layers below, for a command that reads a job.
 use Rattle.std.specs.Prelude.{◌≡◌, ℕ, ◌+◌, List, Result, Ok, Err}
 use Rattle.st_bits.specs.declared.limits.TheConstants.{LONGEST_JOB, MOST_CARDS}
 use Rattle.st_asm.specs.declared.stop.AsmError.{AsmError}
@@ -42,7 +42,7 @@ abbrev pub of_disassembly : DisError → LayerError
 of_disassembly (DeckTooLong cards) = Refused (MOST_CARDS + 1) TooManyCards
 of_disassembly DisNoMemory = NoMemory
 
--- what an error says of the output that is wanted: it is that of the refused card, or memory ran
+-- the output that an error allows: the line of the refused card, or any output if memory ran
 -- out
 abbrev pub Halts : Output → LayerError → Type 0
 Halts output (Refused card fault) = output ≡ refusal_output (record { card = card; fault = fault })
@@ -50,13 +50,13 @@ Halts output NoMemory = Unit {0}
 Halts output TooLong = ⊥
 Halts output Unread = ⊥
 
--- how a command ends on a job that was read: with an answer, or with an error and nothing written
+-- the effect of a command on a job that was read: an answer, or an error and nothing written
 abbrev pub Ends : OutputState → OutputState → Output → Result Answer LayerError → Type 0
 Ends before after output (Ok answer) = Writes answer.status before after output answer
     × KeepsTime output.delays answer
 Ends before after output (Err e) = (after ≡ before) × Halts output e
 
--- a job was read whole, and the command ended so on it
+-- a job was read whole, and the command had this effect on it
 pub record EndsOnJob (command : Command) (input input' : InputState) (before after : OutputState)
     (result : Result Answer LayerError) : Type 0 where
   pub job : List ℕ
@@ -65,7 +65,7 @@ pub record EndsOnJob (command : Command) (input input' : InputState) (before aft
   pub reading : IsReading job read
   pub ends : Ends before after (output_of command job read) result
 
--- how a command ends that reads a job
+-- the effect of a command that reads a job, by its result
 abbrev pub Tries : Command → InputState → InputState → OutputState → OutputState →
     Result Answer LayerError → Type 0
 Tries command input input' before after (Ok answer) = EndsOnJob command input input' before after

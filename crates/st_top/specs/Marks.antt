@@ -1,6 +1,6 @@
--- The lines that the delays of storage may change: of a report those of the timetable, and with a
--- listing those of the cards behind END; of an object text and of a deck those that say the delays.
--- All others are the same with any delays.
+-- The lines that the delays of storage can change: in a report those of the timetable, in a listing
+-- those of the cards after END, in an object text and a deck those of the delays. No other line
+-- depends on the delays.
 use Rattle.std.specs.Prelude.{ℕ, if◌then◌else◌, nat_le, List, [], ◌∷◌, ◌++◌, length, map, filter, not, drop, Result, Ok, Err}
 use Rattle.std.specs.List.{flat_map}
 use Rattle.st_bits.specs.declared.limits.TheConstants.{MOST_CARDS}
@@ -30,17 +30,17 @@ use Rattle.st_top.specs.StepsBack.{events_of_run, states_of_run, last_state, lin
 use Rattle.st_command.specs.declared.command.Command.{Command}
 use Rattle.st_command.specs.declared.command.Command.TheVariants.{Run, Assemble, Load, Disassemble}
 
--- the lines that the delays do not change
+-- the lines that do not depend on the delays
 unfoldable pub lines_unmarked : List Part → List (List ℕ)
 lines_unmarked parts = joined (filter (λ p. not p.varies) parts)
 
 -- ---- a run
 
--- the report of what is told
+-- the report of a list of events
 unfoldable pub marked_report : Asked → List TimedReportedEvent → List Part
 marked_report asked ts = flat_map (λ t. parts_at asked t.done t.tick t.event) ts
 
--- the report of a run, with the state so many steps before its end
+-- the report of a run, with the requested state before its end
 unfoldable pub marked_run : Asked → Scene → List Part
 marked_run asked start =
     marked_report asked (reported_events (events_of_run asked start))
@@ -57,30 +57,30 @@ up_to_end (card ∷ cards) = if has_statement (card ∷ cards) then card ∷ up_
 abbrev pub texts_up_to_end : List ℕ → List (List ℕ)
 texts_up_to_end job = map (text_in job) (up_to_end (cards_of job))
 
--- how many cards these are
+-- the number of cards of a job up to END
 abbrev pub end_card : List ℕ → ℕ
 end_card job = length (up_to_end (cards_of job))
 
--- its lines: those of the cards behind END may change, as `/DELAYS` cards are among them
+-- the lines of a listing: those of the cards after END can change, since delay cards are among them
 abbrev pub listed_lines : List ℕ → Assembly → List Part
 listed_lines job a =
     fixed (rows_lines job a.rows (up_to_end (cards_of job)))
     ++ varying (rows_lines job (drop (end_card job) a.rows) (behind_statements (cards_of job)))
     ++ fixed (symbols_lines a.symbols)
 
--- the same, if a listing is asked for
+-- the listing of a job, if it is requested
 unfoldable pub marked_listing : List ℕ → Assembly → List Part
 marked_listing job a = if a.asked.list then listed_lines job a else []
 
 -- ---- an object text, and a deck
 
--- the object text of a program: its lines of delays may change
+-- the object text of a program: its delay lines can change
 abbrev pub marked_object : Program → List Part
 marked_object p =
     map (λ text. record { lines = (text ++ lf) ∷ []; varies = is_delay_line text })
     (map line_text (object_lines p))
 
--- the control cards of a deck: those of the delays may change
+-- the control cards of a deck: the delay cards can change
 abbrev pub marked_cards : Asked → List Part
 marked_cards a =
     let made : Control → List ℕ = λ c. control_line forms.Card c ++ lf in
@@ -89,7 +89,7 @@ marked_cards a =
     ++ fixed (map (λ s. made (Signal s.count s.indicator)) a.signals
     ++ map (λ p. made (Dump p.0 p.1)) a.dumps ++ shows made a)
 
--- the deck
+-- the deck of a program
 abbrev pub marked_deck : Program → List Part
 marked_deck p =
     fixed (map (λ card. card ++ lf)
@@ -98,30 +98,30 @@ marked_deck p =
 
 -- ---- a job
 
--- what `run` writes, by what a job gives
+-- the output of `run`, given the assembly of a job or its refusal
 abbrev pub marked_by : List ℕ → Result Assembly Refusal → List Part
 marked_by job (Ok a) = marked_listing job a ++ marked_run a.asked (scene_of_assembly job a)
 marked_by job (Err r) = fixed (lines_of (refusal_output r).events)
 
--- what `load` writes, by what an object text is read as
+-- the output of `load`, given the reading of an object text
 abbrev pub marked_load : Result Program ℕ → List Part
 marked_load (Ok p) = marked_run p.controls (loaded_start p)
 marked_load (Err n) = fixed (lines_of (loaded_by (Err n)).events)
 
--- what `assemble` writes, by what a job gives
+-- the output of `assemble`, given the assembly of a job or its refusal
 abbrev pub marked_assembled : Result Assembly Refusal → List Part
 marked_assembled (Ok a) = marked_object (program_in a)
 marked_assembled (Err r) = fixed (lines_of (refusal_output r).events)
 
--- what `disassemble` writes, by what an object text is read as: a deck that has too many cards with
--- these delays may have fewer with others
+-- the output of `disassemble`, given the reading of an object text; a deck that has too many cards
+-- with these delays may have fewer with others
 abbrev pub marked_disassembled : Result Program ℕ → List Part
 marked_disassembled (Ok p) = if nat_le (card_count p) MOST_CARDS then marked_deck p
     else varying (lines_of (deck_by p).events)
 marked_disassembled (Err n) = fixed (lines_of (loaded_by (Err n)).events)
 
--- what a command writes for a job, by what the job is read as: all that `sweep` tells depends on the
--- delays, and `soak` draws its delays itself
+-- the output of a command for a job, given its reading as an object text; all lines of `sweep`
+-- depend on the delays, and `soak` draws its own delays
 unfoldable pub marked_output : Command → List ℕ → Result Program ℕ → List Part
 marked_output Run job read = marked_by job (assembly job)
 marked_output Load text read = marked_load read

@@ -6,7 +6,7 @@ use Rattle.st_object.specs.Object.{Program, object_lines as lines_of}
 use Rattle.st_dis.specs.Deck.{deck_cards}
 use Rattle.st_text.specs.Bytes.{lf}
 
--- what an object text keeps of a job that is assembled: all but whether it is listed
+-- the part of an assembled job that its object text keeps: all but whether it is listed
 abbrev pub program_in : Assembly → Program
 program_in a = record {
   words = a.image;
@@ -18,7 +18,7 @@ program_in a = record {
 unfoldable pub object_text_lines : Program → List (List ℕ)
 object_text_lines p = map (λ item. line_text item ++ lf) (lines_of p)
 
--- the pieces of a text that have a line end behind them, each with it
+-- the lines of a text that have a line end, including the line end, given its pieces
 abbrev pub whole_lines : List (List ℕ) → List (List ℕ)
 whole_lines [] = []
 whole_lines (rest ∷ []) = []

@@ -1,4 +1,4 @@
--- What the program writes for a command and a job.
+-- The output of the program for a command and a job.
 use Rattle.std.specs.Prelude.{ℕ, ◌+◌, slice_index, List, [], ◌∷◌, ◌++◌, nat_le, if◌then◌else◌, Result, Ok, Err}
 use Rattle.st_bits.specs.declared.limits.TheConstants.{MOST_CARDS}
 use Rattle.st_card.specs.Controls.{Asked}
@@ -24,8 +24,8 @@ use Rattle.st_top.specs.declared.answer.Status.TheVariants.{Done, Refused}
 use Rattle.st_command.specs.declared.command.Command.{Command}
 use Rattle.st_command.specs.declared.command.Command.TheVariants.{Run, Assemble, Load, Disassemble, Sweep, Soak}
 
--- the status, the lines, the number of instructions done, the tick of the last completion, and the
--- delays of storage with which a job runs, where one does
+-- the status, the lines, the number of completed instructions, the tick of the last completion, and
+-- the delays of storage of the run, if there is one
 pub record Output : Type 0 where
   pub status : Status
   pub events : List Event
@@ -33,7 +33,7 @@ pub record Output : Type 0 where
   pub ticks : ℕ
   pub delays : List ℕ
 
--- lines that belong to no moment of a run
+-- an output without a run
 abbrev pub lines_alone : Status → List (List ℕ) → Output
 lines_alone status lines = record {
   status = status;
@@ -47,8 +47,8 @@ lines_alone status lines = record {
 abbrev pub refusal_output : Refusal → Output
 refusal_output r = lines_alone Refused (fault_line r.card (name_of r.fault) ∷ [])
 
--- the start of a run: the machine of an image and a start, the signals that are asked for, and the
--- cards of a job's reader
+-- the start of a run: the machine with an image and a start, the requested signals, and the cards
+-- of the job's reader
 abbrev pub scene_at_start : List ℕ → ℕ → Asked → List ℕ → Scene
 scene_at_start image start asked job = record {
   machine = opening_state image start;
@@ -56,11 +56,11 @@ scene_at_start image start asked job = record {
   cards = reader_cards job;
 }
 
--- that of a job that is assembled
+-- the start of the run of an assembled job
 abbrev pub scene_of_assembly : List ℕ → Assembly → Scene
 scene_of_assembly job a = scene_at_start a.image a.start a.asked job
 
--- the output of a run from its start: the listing, and then the report
+-- the output of a run from its start: the listing, followed by the report
 abbrev pub output_of_run : List (List ℕ) → Asked → Scene → Output
 output_of_run listed asked start = record {
   status = Done;
@@ -70,20 +70,20 @@ output_of_run listed asked start = record {
   delays = asked.delays;
 }
 
--- the output of the run of a job, by what it gives: some lines, and then the listing and the report
+-- the output of the run of a job, given its assembly or refusal: some lines, the listing, and the report
 abbrev pub ran_by : List (List ℕ) → List ℕ → Result Assembly Refusal → Output
 ran_by first job (Ok a) = output_of_run (first ++ listing job a) a.asked (scene_of_assembly job a)
 ran_by first job (Err r) = refusal_output r
 
--- the output of `soak`: that of the deck which a seed and a number of cards make, behind a line of
--- these
+-- the output of `soak`: a line with the seed and the number of cards, followed by the output of the
+-- deck that they generate
 abbrev pub soak_output : ℕ → ℕ → Output
 soak_output number cards =
     let deck = made_deck number cards in
     ran_by (soak_line number cards ∷ []) deck (assembly deck)
 
--- the output of a sweep: its lines belong to no moment of a run, and what is done is that of the
--- run on eight levels
+-- the output of a sweep: its lines belong to no moment of a run; completed instructions and ticks
+-- are those of the run on eight levels
 abbrev pub output_of_sweep : List ℕ → Swept → Output
 output_of_sweep delays s = record {
   status = Done;
@@ -93,17 +93,17 @@ output_of_sweep delays s = record {
   delays = delays;
 }
 
--- the output of `sweep`, by what a job gives
+-- the output of `sweep`, given the assembly of a job or its refusal
 abbrev pub swept_by : Result Assembly Refusal → Output
 swept_by (Ok a) = output_of_sweep a.asked.delays (sweep_of a.image a.start a.asked)
 swept_by (Err r) = refusal_output r
 
--- the output of `assemble`, by what a job gives: its object text, line by line
+-- the output of `assemble`, given the assembly of a job or its refusal: its object text, line by line
 abbrev pub assembled_by : Result Assembly Refusal → Output
 assembled_by (Ok a) = lines_alone Done (object_text_lines (program_in a))
 assembled_by (Err r) = refusal_output r
 
--- the start of the run of a program that is loaded; the reader is empty
+-- the start of the run of a loaded program; the reader is empty
 abbrev pub loaded_start : Program → Scene
 loaded_start p = record {
   machine = opening_state p.words p.start;
@@ -111,26 +111,26 @@ loaded_start p = record {
   cards = [];
 }
 
--- the output of `load`, by what an object text gives: the program, or the number of the line that
--- is refused
+-- the output of `load`, given the reading of an object text: the program, or the number of its bad
+-- line
 abbrev pub loaded_by : Result Program ℕ → Output
 loaded_by (Ok p) = output_of_run [] p.controls (loaded_start p)
 loaded_by (Err n) = refusal_output (record { card = n; fault = BadObjectCard })
 
--- the deck of a program, line by line, or the refusal of the first card that is too many
+-- the deck of a program, line by line, or the refusal of the first card over the limit
 abbrev pub deck_by : Program → Output
 deck_by p =
     if nat_le (card_count p) MOST_CARDS then lines_alone Done (deck_lines p)
     else refusal_output (record { card = MOST_CARDS + 1; fault = TooManyCards })
 
--- the output of `disassemble`, by what an object text holds: its deck, or the number of its bad
--- line
+-- the output of `disassemble`, given the reading of an object text: the program, or the number of
+-- its bad line
 abbrev pub disassembled_by : Result Program ℕ → Output
 disassembled_by (Ok p) = deck_by p
 disassembled_by (Err n) = refusal_output (record { card = n; fault = BadObjectCard })
 
--- the output of a command on a job, by what the job is read as, which `load` and `disassemble` alone
--- look at; that of `soak` is the same for any job
+-- the output of a command for a job, given its reading as an object text, which only `load` and
+-- `disassemble` use; that of `soak` does not depend on the job
 unfoldable pub output_of : Command → List ℕ → Result Program ℕ → Output
 output_of Run job read = ran_by [] job (assembly job)
 output_of Assemble job read = assembled_by (assembly job)

@@ -1,4 +1,4 @@
--- The state that is shown so many steps before the end of a run, and the whole report.
+-- The state that is shown a number of steps before the end of a run, and the whole report.
 use Rattle.std.specs.Prelude.{ℕ, ◌-◌, ◌==◌, min, if◌then◌else◌, List, [], ◌∷◌, ◌++◌, slice_index_or, map}
 use Rattle.st_card.specs.Controls.{Asked}
 use Rattle.st_state.specs.Machine.{Machine}
@@ -14,12 +14,12 @@ use Rattle.st_telling.specs.Report.{block, report}
 use Rattle.st_telling.specs.declared.moment.Moment.{Moment}
 use Rattle.st_top.specs.declared.reporting.TheConstants.{LEVELS}
 
--- the line and the block of the state so many steps before the last one, but no more than were made
+-- the line and the block of the state j steps before the last one
 abbrev pub block_before : List (ℕ × ℕ) → ℕ → List Machine → Machine → List (List ℕ)
 block_before dumps j states last = back_line j ∷ block dumps
     (slice_index_or states (last.done - j) last)
 
--- its lines, where steps back are asked for
+-- the lines of the requested state before the end, if any; at most as many steps back as were made
 abbrev pub lines_of_steps_back : Asked → List Machine → Machine → List (List ℕ)
 lines_of_steps_back asked states last =
     if asked.back == 0 then [] else block_before asked.dumps (min asked.back last.done) states last
@@ -30,11 +30,11 @@ lines_of_steps_back asked states last =
 abbrev pub moments_of_run : Asked → Scene → Course RunMoment
 moments_of_run asked start = moments asked.delays LEVELS asked.budget (moment_at_start start)
 
--- what it tells
+-- the events of a run
 abbrev pub events_of_run : Asked → Scene → List Timed
 events_of_run asked start = timed_run asked.delays LEVELS asked.budget start asked.snaps
 
--- its states
+-- the states of a run
 abbrev pub states_of_run : Asked → Scene → List Machine
 states_of_run asked start =
     map next_state (moments_of_run asked start).before
@@ -44,14 +44,14 @@ states_of_run asked start =
 abbrev pub last_state : Asked → Scene → Machine
 last_state asked start = next_state (moments_of_run asked start).last
 
--- its end: how many instructions are done, and the tick of the last completion
+-- the end of a run: the number of completed instructions, and the tick of the last completion
 unfoldable pub moment_at_end : Asked → Scene → Moment
 moment_at_end asked start = record {
   done = (last_state asked start).done;
   tick = (moments_of_run asked start).last.tick;
 }
 
--- the report of a run: what is told, and at the moment of its end the state so many steps before it
+-- the report of a run: its events, then, at the moment of its end, the requested state before the end
 unfoldable pub run_report : Asked → Scene → List Event
 run_report asked start =
     report asked (reported_events (events_of_run asked start))

@@ -1,5 +1,5 @@
--- What a sweep writes of a job: its ticks on machines of one to eight levels, and whether its run
--- is hazard-free.
+-- The output of a sweep for a job: its ticks on machines of one to eight levels, and whether its
+-- run is hazard-free.
 use Rattle.std.specs.Prelude.{ℕ, ◌+◌, List, [], ◌∷◌, ◌++◌}
 use Rattle.st_card.specs.Controls.{Asked}
 use Rattle.st_state.specs.Machine.{opening_state}
@@ -9,7 +9,7 @@ use Rattle.st_sweep.specs.Sweep.{without_cards}
 use Rattle.st_sweep.specs.SideBySide.{side_by_side}
 use Rattle.st_sweep.specs.declared.sweeping.Swept.{Swept}
 
--- the lines of machines with n levels, n + 1 levels and so on, by their ticks
+-- the lines of machines with n levels, n + 1 levels and so on, given their ticks
 unfoldable pub levels_lines : ℕ → List ℕ → List (List ℕ)
 levels_lines n [] = []
 levels_lines n (t ∷ ts) = levels_line n t ∷ levels_lines (n + 1) ts
@@ -22,6 +22,6 @@ sweep_lines s = levels_lines 1 s.ticks ++ calm_line s.hazard_free ∷ []
 abbrev pub sweep_start : List ℕ → ℕ → Asked → Scene
 sweep_start image start asked = without_cards (opening_state image start) asked.signals
 
--- what a sweep tells of an image, a start and what is asked for
+-- the result of a sweep of an image from a start, with the requests of control cards
 unfoldable pub sweep_of : List ℕ → ℕ → Asked → Swept
 sweep_of image start asked = side_by_side asked.delays asked.budget (sweep_start image start asked)

@@ -1,4 +1,4 @@
-//! A job that runs: the listing, where it is asked for, and then the report of the run.
+//! Runs of jobs: the listing, if it is requested, followed by the report of the run.
 ghost use Rattle.std.specs.Prelude.{◌≡◌, ◌≤◌, ◌<◌, ◌^◌, None, Ok, All, IfOk, IfSome, OnOk, OnErr, [], ◌++◌, length};
 ghost use Rattle.st_bits.specs.Storage.{IsImage};
 ghost use Rattle.st_asm.specs.Assembly.{assembly_parts};
@@ -34,15 +34,15 @@ use st_state::State;
 use st_telling::Moment;
 use std::alloc::Global;
 
-// A run that is ready to be told.
+// A prepared run, whose report has not begun.
 #[derive(Drop)]
 struct RunWithSecond<'a> {
     run: Run<'a, LEVELS>,
-    // The machine beside it, where steps back are asked for.
+    // The machine that follows the run and can undo steps, if steps back are requested.
     second: Option<MachineBeside<'a>>,
 }
 
-// Writes what stands in front of the report of a job, and then the report of its run.
+// Writes the lines before the report of a job, then the report of its run.
 fn write_output<K: Sink>(
     out: &mut K,
     job: &Job,
@@ -75,7 +75,7 @@ fn write_output<K: Sink>(
     )
 }
 
-// The answer of a run, or of one whose report stopped at a moment.
+// The answer of a run whose report ended at a moment, completely or by a failed write.
 fn answer_of(written: Result<(), Failed>, moment: Moment) -> Answer
     ensures done { result.done ≡ moment.done }
     ensures ticks { result.ticks ≡ moment.tick }
@@ -93,7 +93,7 @@ fn answer_of(written: Result<(), Failed>, moment: Moment) -> Answer
     }
 }
 
-// The machine beside a run, where steps back are asked for. It reads the cards of the same job.
+// The machine that follows a run, if steps back are requested. It reads the cards of this job.
 fn beside<'a>(
     alloc: Global,
     job: &Job,
@@ -119,8 +119,8 @@ fn beside<'a>(
     Ok(Some(MachineBeside::new(machine, controls.signals(), hopper, steps)))
 }
 
-// Takes all memory of a run: that of an image, a start and controls, with the reader's cards of a
-// job.
+// Allocates all memory of a run: of the machine with an image, a start and controls, and of the
+// reader with the cards of a job. The only error is a failed allocation.
 fn prepare<'a>(
     alloc: Global,
     job: &Job,
@@ -156,7 +156,7 @@ fn prepare<'a>(
     Ok(RunWithSecond { run, second })
 }
 
-// Writes what stands in front of the report of a job, and the report of its run, and answers.
+// Writes the lines before the report of a job and the report of its run. Returns the answer.
 fn answer_run<K: Sink>(
     out: &mut K,
     job: &Job,
@@ -181,8 +181,8 @@ fn answer_run<K: Sink>(
     answer_of(written, moment)
 }
 
-/// Runs a job that is assembled from its start, and writes its report. That of a made deck begins
-/// with the line of its seed and its number of cards.
+/// Runs an assembled job from its start and writes its report. For a generated deck, the line of
+/// its seed and its number of cards comes first. Nothing is written if memory runs out.
 #[tactic(auto, using(st_bits::specs::Storage::words_of_storage_is, crate::proofs::Times::keeps_still))]
 pub fn execute<K: Sink>(alloc: Global, job: &Job, program: &Assembled, out: &mut K) -> Answer
     requires sound { IsAssemblySound (length (cards_of job.now.text.now))
@@ -200,7 +200,7 @@ pub fn execute<K: Sink>(alloc: Global, job: &Job, program: &Assembled, out: &mut
     answer_run(out, job, program, &mut prepared)
 }
 
-// Writes the report of the run of a program that was loaded, and answers.
+// Writes the report of the run of a loaded program. Returns the answer.
 fn answer_loaded<K: Sink>(
     out: &mut K,
     prepared: &mut RunWithSecond<'_>,
@@ -225,7 +225,7 @@ fn answer_loaded<K: Sink>(
     answer_of(written, moment)
 }
 
-/// Runs a program that was loaded from its start, with an empty reader, and writes the report.
+/// Runs a loaded program from its start, with an empty reader, and writes its report.
 #[tactic(auto, using(st_bits::specs::Storage::words_of_storage_is, crate::proofs::Times::keeps_still))]
 pub fn execute_loaded<K: Sink>(alloc: Global, program: &Image, out: &mut K) -> Answer
     requires { IsProgram program.now }

@@ -1,4 +1,4 @@
-//! Why a command stops before its first line: the errors of the layers below as one type.
+//! Errors before the first line of output: those of the layers below as one type.
 ghost use Rattle.std.specs.Prelude.{◌≡◌};
 ghost use Rattle.st_top.specs.Layers.{of_reading, of_assembly, of_object, of_disassembly};
 
@@ -10,11 +10,11 @@ use st_io::ReadError;
 use st_object::ObjectError;
 use thiserror::Error;
 
-/// Why a command stops before it writes anything.
+/// An error of a command before any line is written.
 #[derive(Debug, Drop, Error)]
 pub enum LayerError {
-    /// A card of the job, a line of the object text or a card of its deck is refused. All are
-    /// counted from 1.
+    /// A card of the job, a line of the object text or a card of its deck is refused. Each is
+    /// numbered from 1.
     #[error("card {card} is refused")]
     Refused { card: u32, fault: Fault },
     /// The job has more than 2,000,000 bytes.
@@ -62,7 +62,7 @@ impl From<ObjectError> for LayerError {
     }
 }
 
-// The first card that is too many for an assembler.
+// The number of the first card over the assembler's limit.
 const FIRST_CARD_TOO_MANY: u32 = MOST_CARDS + 1;
 
 impl From<DisError> for LayerError {

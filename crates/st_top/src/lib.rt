@@ -1,5 +1,5 @@
-//! The program: the words of a command line, a job's bytes in and a report's lines out. `stretch`
-//! carries what the whole program promises. `docs/machine.md`, `docs/report.md` and
+//! The program: executes a command line on the bytes of a job and writes the lines of its output.
+//! `stretch` has the theorem of the whole program. `docs/machine.md`, `docs/report.md` and
 //! `docs/object-text.md` have the rules.
 #![tactic(auto, using(st_bits::specs::Storage::words_of_storage_is))]
 

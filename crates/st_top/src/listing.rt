@@ -1,4 +1,4 @@
-//! The listing of a job.
+//! The lines before the report of a job: the listing of its cards and symbols.
 ghost use Rattle.std.specs.Prelude.{◌≡◌, [], ◌∷◌, ◌++◌, All, None, length};
 ghost use Rattle.st_asm.specs.Assembly.{assembly_parts};
 ghost use Rattle.st_asm.specs.Sound.{IsRow, IsSymbol};
@@ -13,7 +13,7 @@ use st_io::{Failed, Sink};
 use st_report::{line_listed, line_soak, line_symbol};
 use st_telling::put;
 
-// Writes the line of a card, by its row.
+// Writes the line of a card, given its row.
 fn write_row<K: Sink>(out: &mut K, job: &[u8], row: Listed, card: Card) -> Result<(), Failed>
     requires row { IsRow row }
     requires text { IsCardOf job.now card }
@@ -28,7 +28,7 @@ fn write_row<K: Sink>(out: &mut K, job: &[u8], row: Listed, card: Card) -> Resul
     )
 }
 
-// Writes the lines of cards, each by its row.
+// Writes the lines of cards, given the row of each.
 fn write_rows<K: Sink>(
     out: &mut K,
     job: &[u8],
@@ -68,7 +68,7 @@ fn write_symbols<K: Sink>(out: &mut K, symbols: &[Symbol]) -> Result<(), Failed>
     Ok(())
 }
 
-// Writes a line for each card of a job, and then one for each symbol.
+// Writes a line for each card of a job, then one for each symbol.
 fn write_both<K: Sink>(
     out: &mut K,
     job: &Job,
@@ -85,7 +85,7 @@ fn write_both<K: Sink>(
     write_symbols(out, symbols)
 }
 
-// Writes the line of a made deck, where the job is one: its seed and its number of cards.
+// Writes the line of a generated deck, its seed and its number of cards, if the job is one.
 fn write_made<K: Sink>(out: &mut K, made: Option<(u64, u32)>) -> Result<(), Failed>
     ensures { WritesLines (K.output out.old) (K.output out.new) (made_lines made) result }
 {
@@ -95,7 +95,7 @@ fn write_made<K: Sink>(out: &mut K, made: Option<(u64, u32)>) -> Result<(), Fail
     }
 }
 
-/// Writes what stands in front of the report of a job that is assembled.
+/// Writes the lines before the report of an assembled job. The only error is a failed write.
 pub fn write_front<K: Sink>(out: &mut K, job: &Job, program: &Assembled) -> Result<(), Failed>
     requires cards { HasCards job.now.text.now program.now.listing.items job.now.cards.now }
     requires symbols { All IsSymbol program.now.symbols.items }
@@ -106,7 +106,7 @@ pub fn write_front<K: Sink>(out: &mut K, job: &Job, program: &Assembled) -> Resu
     write_listing(out, job, program)
 }
 
-// Writes the listing of a job that is assembled, where it is asked for.
+// Writes the listing of an assembled job, if it is requested.
 fn write_listing<K: Sink>(out: &mut K, job: &Job, program: &Assembled) -> Result<(), Failed>
     requires cards { HasCards job.now.text.now program.now.listing.items job.now.cards.now }
     requires symbols { All IsSymbol program.now.symbols.items }

@@ -1,4 +1,4 @@
-//! The object text of a job and the deck of a program, written line by line.
+//! Writes the object text of a job and the deck of a program, line by line.
 ghost use Rattle.std.specs.Prelude.{◌≡◌, ◌+◌, ◌≤◌, Ok, length, take};
 ghost use Rattle.st_asm.specs.Assembly.{assembly_parts};
 ghost use Rattle.st_text.specs.Pieces.{pieces_of};
@@ -19,7 +19,7 @@ use st_object::{Image, write_object};
 use st_text::cut;
 use std::alloc::Global;
 
-/// What an object text keeps of a job that is assembled: all but whether it is listed.
+/// The part of an assembled job that its object text keeps: all but whether it is listed.
 pub fn image_of(program: Assembled) -> Image
     ensures { result ≡ program_in (assembly_parts program) }
 {
@@ -37,7 +37,7 @@ pub fn image_of(program: Assembled) -> Image
     }
 }
 
-// The line that a text begins with, with its line end.
+// The first line of a text, with its line end.
 fn with_end<'a>(text: &'a [u8], line: &[u8]) -> &'a [u8]
     requires { length line.now + 1 ≤ length text.now }
     ensures { result.now ≡ take (length line.now + 1) text.now }
@@ -45,7 +45,7 @@ fn with_end<'a>(text: &'a [u8], line: &[u8]) -> &'a [u8]
     text.split_at(line.len() + 1).0
 }
 
-// Writes the lines of a text that have a line end, each with it.
+// Writes the lines of a text that have a line end, including the line end.
 fn write_ended<K: Sink>(out: &mut K, text: &[u8]) -> Result<(), Failed>
     ensures { WritesLines (K.output out.old) (K.output out.new)
         (whole_lines (pieces_of 10 text.now)) result }
@@ -58,7 +58,7 @@ fn write_ended<K: Sink>(out: &mut K, text: &[u8]) -> Result<(), Failed>
     Ok(())
 }
 
-// Writes a text line by line, and answers.
+// Writes a text line by line. Returns the answer.
 fn answer_text<K: Sink>(out: &mut K, text: &[u8]) -> Answer
     ensures writes { Writes result.status (K.output out.old) (K.output out.new)
         (lines_alone Done (whole_lines (pieces_of 10 text.now))) result }
@@ -74,7 +74,7 @@ fn answer_text<K: Sink>(out: &mut K, text: &[u8]) -> Answer
     }
 }
 
-/// Writes the object text of a program line by line, and answers. Its memory is taken before.
+/// Writes the object text of a program line by line. All memory is allocated first.
 pub fn answer_object<K: Sink>(alloc: Global, program: &Image, out: &mut K) -> Answer
     requires { IsProgram program.now }
     ensures writes { Writes result.status (K.output out.old) (K.output out.new)
@@ -87,7 +87,7 @@ pub fn answer_object<K: Sink>(alloc: Global, program: &Image, out: &mut K) -> An
     }
 }
 
-/// Writes the deck of a program line by line, and answers. Its memory is taken before.
+/// Writes the deck of a program line by line. All memory is allocated first.
 pub fn answer_deck<K: Sink>(
     alloc: Global,
     program: &Image,

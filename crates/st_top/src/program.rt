@@ -1,4 +1,4 @@
-//! The program: a job in, its output out.
+//! The call of the whole program, and one function for each of its commands.
 ghost use Rattle.std.specs.Prelude.{◌≡◌, ◌<◌, ◌≤◌, ◌^◌, None, false, map, length};
 ghost use Rattle.std.specs.List.{list_all};
 ghost use Rattle.std.specs.String.{string_bytes};
@@ -30,8 +30,8 @@ use st_io::{Sink, Source, read_all};
 use st_object::read_object;
 use std::alloc::Global;
 
-// Assembles a job, made by a seed with a number of cards or not, and runs it. Its cards are cut
-// once.
+// Assembles a job and runs it. The job may be the deck that was generated from a seed and a number
+// of cards. Its cards are split once.
 fn run_job<K: Sink>(
     alloc: Global,
     made: Option<(u64, u32)>,
@@ -64,7 +64,7 @@ fn assemble_job<K: Sink>(alloc: Global, job: &[u8], out: &mut K) -> Result<Answe
     Ok(answer_object(alloc, &image_of(program), out))
 }
 
-// Loads an object text and runs it.
+// Loads an object text and runs its program.
 fn load_job<K: Sink>(alloc: Global, text: &[u8], out: &mut K) -> Result<Answer, LayerError>
     requires { length text.now ≤ LONGEST_JOB }
     ensures { Ends (K.output out.old) (K.output out.new) (loaded_by (read_text text.now)) result }
@@ -73,7 +73,7 @@ fn load_job<K: Sink>(alloc: Global, text: &[u8], out: &mut K) -> Result<Answer, 
     Ok(execute_loaded(alloc, &program, out))
 }
 
-// Reads an object text and writes its deck.
+// Reads an object text and writes the deck of its program.
 fn disassemble_text<K: Sink>(alloc: Global, text: &[u8], out: &mut K) -> Result<Answer, LayerError>
     requires { length text.now ≤ LONGEST_JOB }
     ensures { Ends (K.output out.old) (K.output out.new) (disassembled_by (read_text text.now)) result }
@@ -91,7 +91,7 @@ fn sweep_job<K: Sink>(alloc: Global, job: &[u8], out: &mut K) -> Result<Answer, 
     Ok(execute_sweep(alloc, &program, out))
 }
 
-// Makes a deck, assembles it and runs it.
+// Generates a deck, assembles it and runs it.
 fn run_made<K: Sink>(
     alloc: Global,
     number: u64,
@@ -108,8 +108,8 @@ fn run_made<K: Sink>(
     run_job(alloc, made, deck.as_slice(), out)
 }
 
-// Does what a command asks for on a job that was read, as far as no layer refuses it. `soak` does
-// not look at the job.
+// Executes a command on the bytes of a job. Returns the first error of a layer below. `soak`
+// ignores the job.
 #[tactic(auto, unfolding(crate::specs::Output::output_of))]
 fn try_job<K: Sink>(
     alloc: Global,
@@ -132,7 +132,7 @@ fn try_job<K: Sink>(
     }
 }
 
-// Reads a job, and does what a command asks for, as far as no layer stops it.
+// Reads a job and executes a command on it. Returns the first error of a layer below.
 #[tactic(auto, using(st_bits::specs::Storage::words_of_storage_is, crate::proofs::Outputs::text_is_read))]
 fn try_command<S: Source, K: Sink>(
     alloc: Global,
@@ -148,7 +148,7 @@ fn try_command<S: Source, K: Sink>(
     try_job(alloc, command, text.as_slice(), out)
 }
 
-// Reads a job, and does what a command asks for, or says why it does not.
+// Reads a job and executes a command on it. Writes the refusal if the job is refused.
 #[tactic(auto, using(st_bits::specs::Storage::words_of_storage_is, crate::proofs::Times::keeps_still))]
 fn answer<S: Source, K: Sink>(alloc: Global, command: Command, job: &mut S, out: &mut K) -> Answer
     requires { IsWithinCards command }
@@ -164,7 +164,7 @@ fn answer<S: Source, K: Sink>(alloc: Global, command: Command, job: &mut S, out:
     }
 }
 
-// Runs a made deck, or says why it does not.
+// Generates a deck and runs it. Writes the refusal if the deck is refused.
 #[tactic(auto, using(st_bits::specs::Storage::words_of_storage_is, crate::proofs::Times::keeps_still))]
 fn answer_made<K: Sink>(alloc: Global, number: u64, cards: u32, out: &mut K) -> Answer
     requires { cards ≤ MOST_MADE_CARDS }
@@ -181,7 +181,7 @@ fn answer_made<K: Sink>(alloc: Global, number: u64, cards: u32, out: &mut K) -> 
     }
 }
 
-// Does what a command asks for, or says why it does not.
+// Executes a command. Returns the answer.
 fn act<S: Source, K: Sink>(alloc: Global, command: Command, job: &mut S, out: &mut K) -> Answer
     requires { IsWithinCards command }
     ensures { Acted command result.status
@@ -194,15 +194,15 @@ fn act<S: Source, K: Sink>(alloc: Global, command: Command, job: &mut S, out: &m
     }
 }
 
-/// Does what the words of the command line, after the program's name, ask for, on a job of at most
-/// 2,000,000 bytes. `run` assembles it, runs it and writes its report; `assemble` assembles it and
-/// writes its object text; `load` takes it as an object text, runs that and writes its report;
-/// `disassemble` takes it as an object text and writes its deck; `sweep` assembles it, runs it with
-/// an empty reader on machines of one to eight levels, and writes the ticks of each run. `soak`
-/// reads no job: it makes the deck of a seed and a number of cards, and does with it what `run`
-/// does, behind a line that names them. Each line is written by itself, and all memory is taken
-/// before the first one. Lines that are not of the timetable, and do not say the delays themselves,
-/// are the same under every list of delays (`docs/report.md`, "What depends on the delays").
+/// Executes the command in the words of the command line, the program's name not included, on a job
+/// of at most 2,000,000 bytes. `run` assembles the job, runs it and writes its report; `assemble`
+/// assembles it and writes its object text; `load` reads it as an object text, runs it and writes
+/// its report; `disassemble` reads it as an object text and writes its deck; `sweep` assembles it,
+/// runs it with an empty reader on machines of one to eight levels, and writes the ticks of each
+/// run. `soak` reads no job: it generates the deck of a seed and a number of cards, writes a line
+/// with these two, and then runs the deck. Each line is written by itself, and all memory is
+/// allocated before the first one. Lines that neither belong to the timetable nor show delays do
+/// not depend on the delays (`docs/report.md`, "What depends on the delays").
 #[tactic(auto, using(st_bits::specs::Storage::words_of_storage_is, crate::proofs::Delayed::delays_show_in_marks_alone))]
 pub fn stretch<S: Source, K: Sink>(
     alloc: Global,
@@ -210,22 +210,21 @@ pub fn stretch<S: Source, K: Sink>(
     job: &mut S,
     out: &mut K,
 ) -> Answer
-    // By the meaning of the words and the status: what was read, exactly what was written, and how
-    // many ticks that took at most.
+    // For each command and status: the bytes that were read, the lines that were written, and a
+    // bound on the ticks of the run.
     ensures answer { IsAnswer (command_of (map string_bytes words.now))
         (S.input job.old) (S.input job.new) (K.output out.old) (K.output out.new) result }
 
-    // A bad command line is one of words that mean nothing. One with a word that is empty or begins
-    // with `-`, one without words and one of more than three words are always called so.
+    // The status is `Usage` only if the words are no valid command. An empty word, a word that
+    // begins with `-`, no words at all, and more than three words always give it.
     ensures usage { result.status ≡ Status.Usage → command_of (map string_bytes words.now) ≡ None }
     ensures plain { list_all is_plain (map string_bytes words.now) ≡ false
         → result.status ≡ Status.Usage }
     ensures some { length words.now ≡ 0 → result.status ≡ Status.Usage }
     ensures few { 3 < length words.now → result.status ≡ Status.Usage }
 
-    // Whatever was asked for: which of the lines that a command writes depend on the delays of
-    // storage, and that two jobs, run or assembled, or two object texts, loaded or disassembled,
-    // that differ in their delays alone have all others in common.
+    // For every command: the lines that depend on the delays of storage. Two jobs (or object texts
+    // for `load` and `disassemble`) that differ only in their delays have equal other lines.
     ensures delays { DelaysShowInMarksAlone }
 {
     match read_words(alloc, words) {

@@ -1,4 +1,4 @@
-//! The one line of a job that is refused.
+//! The line that a refused job prints.
 ghost use Rattle.std.specs.Prelude.{◌≡◌, [], ◌∷◌};
 ghost use Rattle.st_card.specs.Faults.{name_of};
 ghost use Rattle.st_io.specs.Lines.{WritesLines};
@@ -20,7 +20,7 @@ fn write_refusal<K: Sink>(out: &mut K, card: u32, fault: Fault) -> Result<(), Fa
     put(out, &line_fault(card, &fault.name()))
 }
 
-/// Refuses a job at a card.
+/// Refuses a job at a card: writes its line. Returns the answer.
 pub fn refuse<K: Sink>(out: &mut K, card: u32, fault: Fault) -> Answer
     ensures writes { Writes result.status (K.output out.old) (K.output out.new)
         (refusal_output (record { card = card; fault = fault })) result }

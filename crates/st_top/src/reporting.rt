@@ -19,17 +19,17 @@ use st_run::{Run, StateView};
 use st_state::State;
 use st_telling::{Moment, put, write_run, write_state};
 
-/// The levels of the overlapped machine that a job runs on.
+/// The number of levels of the overlapped machine on which a job runs.
 pub const LEVELS: usize = 4;
 
-// Writes the line that says how many steps a state lies before the end.
+// Writes the line with the number of steps between a state and the end of the run.
 fn write_steps<K: Sink>(out: &mut K, steps: u8) -> Result<(), Failed>
     ensures { WritesLines (K.output out.old) (K.output out.new) (back_line steps ∷ []) result }
 {
     put(out, &line_back(steps))
 }
 
-// Writes the line and the block of the state so many steps before the end.
+// Writes that line and the block of the state.
 fn write_before<K: Sink>(
     out: &mut K,
     steps: u8,
@@ -44,7 +44,7 @@ fn write_before<K: Sink>(
     write_state(out, &StateView::new(state), controls)
 }
 
-// Writes the state before the end to which the machine beside a run steps back, where there is one.
+// Undoes the last steps of the machine that follows a run, if there is one, and writes its state.
 #[tactic(auto, using(st_io::proofs::Progress::wrote_nothing))]
 fn write_back<K: Sink>(
     out: &mut K,
@@ -66,7 +66,7 @@ fn write_back<K: Sink>(
     write_before(out, steps, second.state(), controls)
 }
 
-// Makes the run on the machine beside it, and writes the state before the end that is asked for.
+// Repeats the run on the machine that follows it, then writes the requested state before the end.
 fn write_second<K: Sink>(
     out: &mut K,
     second: &mut Option<MachineBeside>,
@@ -83,8 +83,8 @@ fn write_second<K: Sink>(
     write_back(out, second, controls)
 }
 
-/// Writes the report of a run from its start: what is told, and then the state before the end that
-/// is asked for. After a failed write `moment` is that of the line, else that of the end.
+/// Writes the report of a run from its start: its events, then the requested state before the end.
+/// Afterwards `moment` is that of the line that could not be written, or that of the end.
 pub fn write_report<K: Sink>(
     out: &mut K,
     run: &mut Run<'_, LEVELS>,

@@ -1,4 +1,4 @@
-//! A job on machines of one to eight levels, and what is written of it.
+//! Runs of a job on machines of one to eight levels, and their lines.
 ghost use Rattle.std.specs.Prelude.{◌≡◌, ℕ, List, ◌+◌, ◌≤◌, ◌<◌, ◌^◌, Ok, [], ◌∷◌, IfOk, length};
 ghost use Rattle.st_bits.specs.Storage.{IsImage};
 ghost use Rattle.st_asm.specs.Assembly.{assembly_parts};
@@ -20,7 +20,7 @@ use st_sweep::{Swept, SweptJob, sweep};
 use st_telling::put;
 use std::alloc::Global;
 
-// Writes the lines of machines with `n` levels, `n + 1` levels and so on, by their ticks.
+// Writes the lines of machines with `n` levels, `n + 1` levels and so on, given their ticks.
 #[tactic(auto, using(st_io::proofs::Progress::wrote_nothing))]
 fn write_levels<K: Sink>(out: &mut K, n: u8, ticks: &[u64]) -> Result<(), Failed>
     requires { n + length ticks.now ≤ 9 }
@@ -49,7 +49,7 @@ fn write_sweep<K: Sink>(out: &mut K, swept: Swept) -> Result<(), Failed>
     write_calm(out, swept.hazard_free)
 }
 
-// Writes the lines of a sweep, and answers by the run on eight levels.
+// Writes the lines of a sweep. Returns the answer, with the extent of the run on eight levels.
 fn answer_swept<K: Sink>(out: &mut K, swept: Swept) -> Answer
     ensures { (delays : List ℕ) → Writes result.status (K.output out.old) (K.output out.new)
         (output_of_sweep delays swept) result }
@@ -68,7 +68,7 @@ fn answer_swept<K: Sink>(out: &mut K, swept: Swept) -> Answer
     }
 }
 
-// Runs an image from a start on machines of one to eight levels, with an empty reader.
+// Runs an image from a start, with an empty reader, on machines of one to eight levels.
 fn sweep_image(
     alloc: Global,
     image: &[u64],
@@ -94,8 +94,7 @@ fn sweep_image(
     sweep(alloc, &job)
 }
 
-/// Runs a job that is assembled on machines of one to eight levels, and writes the lines of the
-/// sweep.
+/// Runs an assembled job on machines of one to eight levels, and writes the lines of the sweep.
 #[tactic(auto, using(st_bits::specs::Storage::words_of_storage_is, crate::proofs::Times::keeps_still))]
 pub fn execute_sweep<K: Sink>(alloc: Global, program: &Assembled, out: &mut K) -> Answer
     requires image { IsImage program.now.image.items }

@@ -133,7 +133,7 @@ EN 1
 REG 12 FFFFF00000000000
 ";
 
-/// A job with four consecutive early index changes.
+/// A job with four consecutive speculative index changes.
 pub const CALM: &str = "         *(BU,64),100.0
          V+I,$X1,1.0
          V+I,$X1,1.0

@@ -168,7 +168,7 @@ fn each_write_that_fails_leaves_the_lines_before_it(rt: HostRuntime) -> Result<(
 }
 
 // Whether a sink with this much room receives a prefix of the report of one load.
-fn holds_issue(alloc: Global, room: usize) -> Result<bool, Fail> {
+fn holds_front(alloc: Global, room: usize) -> Result<bool, Fail> {
     let job = LOAD.as_bytes().to_vec(alloc)?;
     let (answer, out) = answer_failing(alloc, "run", job, (0, 0, room))?;
     let issue = LOADED.as_bytes().get(..room).ok_or("no such front")?;
@@ -186,7 +186,7 @@ fn a_sweep_answers_with_what_eight_levels_did(rt: HostRuntime) -> Result<(), Fai
 #[test]
 fn a_sink_that_is_full_holds_a_front_of_the_report(rt: HostRuntime) -> Result<(), Fail> {
     for room in 0..LOADED.len() {
-        check(holds_issue(rt.alloc(), room)?, "a sink that is full")?;
+        check(holds_front(rt.alloc(), room)?, "a sink that is full")?;
     }
     Ok(())
 }

@@ -7,10 +7,10 @@ returns-then-count-eq0 g t c = delays_all _ _ c.args.ds.now _ (omega (arith, c.c
 
 pub returns-in_err-write_ten : goal.returns-in_err-write_ten
 returns-in_err-write_ten g t c =
-    delays_cut _ _ c.args.ds.now c.issue.result.now _ _ c.from_residual.ensures.0 (λ none. omega (arith, c.count_of-count.ensures, c.if-count-eq0.false, none))
-    (rw (sym c.count_of-count.ensures) c.issue.ensures) c.in_err-write_ten.ensures
+    delays_cut _ _ c.args.ds.now c.front.result.now _ _ c.from_residual.ensures.0 (λ none. omega (arith, c.count_of-count.ensures, c.if-count-eq0.false, none))
+    (rw (sym c.count_of-count.ensures) c.front.ensures) c.in_err-write_ten.ensures
 
 pub returns : goal.returns
 returns g t c =
-    delays_then _ _ _ c.args.ds.now c.issue.result.now c.behind.result.now _ _ (λ none. omega (arith, c.count_of-count.ensures, c.if-count-eq0.false, none))
-    (rw (sym c.count_of-count.ensures) c.issue.ensures) (rw (sym c.count_of-count.ensures) c.behind.ensures) c.in_ok-write_ten.ensures c.write_delays.ensures
+    delays_then _ _ _ c.args.ds.now c.front.result.now c.behind.result.now _ _ (λ none. omega (arith, c.count_of-count.ensures, c.if-count-eq0.false, none))
+    (rw (sym c.count_of-count.ensures) c.front.ensures) (rw (sym c.count_of-count.ensures) c.behind.ensures) c.in_ok-write_ten.ensures c.write_delays.ensures

@@ -81,7 +81,7 @@ returns-then-begun-reach-clause-bus t c =
     (omega (arith, row-p ds n f (entry None s), p, c.begin-begun.ensures.tick, c.if-begun-reach.true))
     (c.begin-begun.ensures.bus ∙ ap (bus_a ds f) c.begin-begun.ensures.entry)
 
--- it is
+-- the next entry is prepared in time
 
 pub push-requires : goal.push-requires
 push-requires t c =

@@ -6,7 +6,7 @@ use Rattle.st_rows.proofs.Stages.{read_sixteen-within}
 use Rattle.st_plain.proofs.uses.use_data.Goals as goal
 use Rattle.st_rows.specs.declared.fetching.Fetching.{Fetching}
 
--- behind the first run
+-- after the first run
 pub use_run-requires-2-clause-room : goal.use_run-requires-2-clause-room
 use_run-requires-2-clause-room c =
     let m = 2 ^ 64 - 2 ^ 17 in

@@ -3,7 +3,7 @@ use Rattle.st_state.specs.Machine.{word}
 use Rattle.st_prep.specs.Checks.{forbidden_run}
 use Rattle.st_prep.proofs.faults.forbidden_run.Given as goal
 
--- what is left to look at decides what is found
+-- the remaining words determine the result
 abbrev pub invariant-loop-w : goal.invariant-loop-w
 invariant-loop-w l =
     let bounds = word l.state 3 in

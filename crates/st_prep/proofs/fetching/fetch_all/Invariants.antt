@@ -4,7 +4,7 @@ use Rattle.st_prep.specs.Reading.{reading_at_place, left_after}
 use Rattle.st_prep.proofs.ReadingLemmas.{IsLeft}
 use Rattle.st_prep.proofs.fetching.fetch_all.Given as goal
 
--- what is left of the reading finds the same, by four words at most
+-- the rest of the reading has the result of the whole, with at most four words
 abbrev pub invariant-loop-word : goal.invariant-loop-word
 invariant-loop-word l =
     let r = reading_at_place l.x (word l.state 3) l.state.enabled l.place in

@@ -10,7 +10,7 @@ use Rattle.st_rows.proofs.Stages.{read_sixteen-within}
 use Rattle.st_rows.proofs.issue.read_operands.Goals as goal
 use Rattle.st_rows.specs.declared.fetching.Fetching.{Fetching}
 
--- behind the first run
+-- after the first run
 pub read_on-requires-clause-room : goal.read_on-requires-clause-room
 read_on-requires-clause-room g c =
     let m = 2 ^ 64 - 2 ^ 17 in

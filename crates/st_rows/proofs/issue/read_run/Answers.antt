@@ -32,7 +32,7 @@ read-second-requires-clause-storage g c = omega (arith, c.requires.words.above (
 pub overflow_add-run : goal.overflow_add-run
 overflow_add-run g c = omega (arith, words_of_storage_is, c.requires.words.inside (omega arith))
 
--- behind the first word
+-- after the first word
 pub read-second-requires-clause-room : goal.read-second-requires-clause-room
 read-second-requires-clause-room g c =
     let m = 2 ^ 64 - 2 ^ 17 in
@@ -43,7 +43,7 @@ read-second-requires-clause-room g c =
 pub overflow_add-behind : goal.overflow_add-behind
 overflow_add-behind g c = omega (arith, words_of_storage_is, c.requires.words.inside (omega arith))
 
--- behind the second
+-- after the second word
 pub read_on-requires-clause-room : goal.read_on-requires-clause-room
 read_on-requires-clause-room g c =
     let m = 2 ^ 64 - 2 ^ 17 in

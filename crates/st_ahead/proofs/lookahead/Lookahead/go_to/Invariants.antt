@@ -4,7 +4,7 @@ use Rattle.st_ahead.specs.Forecast.{count}
 use Rattle.st_ahead.specs.Going.{GoesUpTo, Reaches}
 use Rattle.st_ahead.proofs.lookahead.Lookahead.go_to.Given as goal
 
--- it goes on as it did, and no level is taken away
+-- the look-ahead advances as before, and no level is removed
 abbrev pub invariant-entries : goal.invariant-entries
 invariant-entries g l = record {
   going : Reaches l.delays.list g.row.N l.last l.state l.self;

@@ -60,7 +60,7 @@ prepare-requires-clause-ready g c =
       };
     }
 
--- the front before it is that of the planned entry still, and preparing leaves the entry and its ticks
+-- the issue state is still that of the planned entry, and `prepare` leaves the entry and its ticks
 pub fill-filled-requires : goal.fill-filled-requires
 fill-filled-requires g c =
     let ds = c.args.delays.now.list in

@@ -4,7 +4,7 @@ use Rattle.st_ahead.specs.Running.{GoesFrom}
 use Rattle.st_ahead.proofs.Runs.{IsNoting}
 use Rattle.st_ahead.proofs.lookahead.Lookahead.run_to.Given as goal
 
--- ticks are passed so far
+-- the ticks so far are passed
 abbrev pub invariant-entries : goal.invariant-entries
 invariant-entries g l = record {
   each : (f : IssueState) (now : ℕ) → GoesFrom l.delays.list g.row.N l.last now l.fn.committed.taken l.fn.committed.state f l.fn.self

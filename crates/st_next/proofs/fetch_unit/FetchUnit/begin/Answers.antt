@@ -2,7 +2,7 @@ use Rattle.std.proofs.Common.{refl, sym, ◌∙◌, ap, arith}
 use Rattle.st_prep.specs.declared.entries.Fetching.TheVariants.{Next}
 use Rattle.st_rows.proofs.Within.{delays-are}
 use Rattle.st_next.proofs.Steps.{own-goes}
-use Rattle.st_next.proofs.Asking.{known-early, known-place, own-above, own-asks, further-nothing}
+use Rattle.st_next.proofs.Asking.{known-early, known-place, own-above, own-asks, own-tells, further-nothing}
 use Rattle.st_next.proofs.fetch_unit.FetchUnit.begin.Goals as goal
 
 pub returns-then-self-ne0-clause-further : goal.returns-then-self-ne0-clause-further
@@ -32,3 +32,7 @@ returns-then-given-clause-further g c = further-nothing _ _ _ _
 
 pub returns-else-self-ne0-2-clause-further : goal.returns-else-self-ne0-2-clause-further
 returns-else-self-ne0-2-clause-further g c = further-nothing _ _ _ _
+
+pub returns-in-Next-default-false-clause-told : goal.returns-in-Next-default-false-clause-told
+returns-in-Next-default-false-clause-told g c =
+    own-tells _ _ _ _ _ _ _ c.requires.unplanned c.requires.known (omega (arith, c.requires.soon)) _ refl g.W.Watch.noted _ _ _ _ (sym c.in-Next-default-false.ensures.value ∙ ap (λ t. Next c.in-Next-default-false.word t) c.in-Next-default-false.target-test) c.ask_own.ensures.next c.ask_own.ensures.told

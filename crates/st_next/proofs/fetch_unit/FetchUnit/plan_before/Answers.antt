@@ -1,7 +1,8 @@
 use Rattle.std.proofs.Common.{refl, arith}
 use Rattle.st_next.proofs.Goes.{goes-then, goes-waits, known-then}
 use Rattle.st_next.proofs.Steps.{plan-goes}
-use Rattle.st_next.proofs.Asking.{known-seen, plan-words, plan-asks, further-then, further-nothing}
+use Rattle.st_next.proofs.Asking.{known-seen, plan-words, plan-asks, plan-tells, further-then, further-nothing}
+use Rattle.st_next.proofs.Telling.{told-then, told-nothing}
 use Rattle.st_next.proofs.fetch_unit.FetchUnit.plan_before.Goals as goal
 
 pub returns-then-waits_for-due-clause-next : goal.returns-then-waits_for-due-clause-next
@@ -53,3 +54,20 @@ returns-clause-further g c =
       bus = c.form-self.ensures.bus;
       tick = c.form-self.ensures.tick;
     }) c.form-self.ensures.log)
+
+pub returns-then-waits_for-due-clause-told : goal.returns-then-waits_for-due-clause-told
+returns-then-waits_for-due-clause-told g c = told-nothing g.W.Watch.noted _ _ g.met.W.Watch.noted_none _ _
+
+pub returns-clause-told : goal.returns-clause-told
+returns-clause-told g c =
+    told-then g.W.Watch.noted _ _ g.met.W.Watch.noted_more _ _ _ _ _ _ c.if-not-prepare_own_before.ensures.told
+    (plan-tells g.W.Watch.noted _ _ _ _ _ _ _ c.if-not-prepare_own_before.ensures.unplanned (record {
+      rest = refl;
+      awaited = c.form-self.ensures.awaited;
+      address = c.form-self.ensures.address;
+      bus = c.form-self.ensures.bus;
+      tick = c.form-self.ensures.tick;
+    }) c.form-self.ensures.told)
+
+pub returns-clause-found : goal.returns-clause-found
+returns-clause-found g c is = (c.if-not-prepare_own_before.ensures.prepared refl).found

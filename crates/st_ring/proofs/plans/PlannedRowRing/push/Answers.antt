@@ -3,7 +3,7 @@ use Rattle.st_fetch.proofs.Windows.{length-window, window-push}
 use Rattle.st_ring.specs.declared.plans.PlannedRow.{PlannedRow}
 use Rattle.st_ring.proofs.plans.PlannedRowRing.push.Goals as goal
 
--- the write is behind the youngest row
+-- the row is written after the youngest one
 pub returns-clause-rows : goal.returns-clause-rows
 returns-clause-rows c =
     let q = c.self.inside in

@@ -3,7 +3,7 @@ use Rattle.st_fetch.proofs.Windows.{length-window, window-push}
 use Rattle.st_ring.specs.declared.level.Level.{Level}
 use Rattle.st_ring.proofs.ring.SpecRing.push_prepared.Goals as goal
 
--- the write is behind the youngest level
+-- the level is written after the youngest one
 pub returns-clause-levels : goal.returns-clause-levels
 returns-clause-levels g c =
     let q = c.self.inside in

@@ -9,7 +9,7 @@ use Rattle.st_rows.specs.Words.{read_words}
 use Rattle.st_rows.specs.declared.uses.Role.TheVariants.{Operand}
 use Rattle.st_rows.proofs.fetching.Fetching.read_on.Given as goal
 
--- the words that are left make of it and of the log what all words make of what they were; there is time left for each
+-- the remaining words have the effect here that all words have on the first state; there is time for each
 abbrev pub invariant-words : goal.invariant-words
 invariant-words g l = record {
   value : read_words l.wanted.delays.now.list l.wanted.past.now l.self l.wanted.tick l.w l.left

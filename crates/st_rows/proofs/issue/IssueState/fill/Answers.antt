@@ -17,13 +17,13 @@ use Rattle.st_rows.proofs.Stages.{bus_a-within, p-within, operands_of-within}
 use Rattle.st_rows.proofs.issue.IssueState.fill.Goals as goal
 use Rattle.st_rows.specs.declared.fetching.Fetching.{Fetching}
 
--- what is read behind the index-side word from preparation on are the operands
+-- the reads from preparation on are those of the operands
 all-read : (ds : List ℕ) (n : ℕ) (f : IssueState) (e : Entry) (s : Fetching) (b : Bus) (p : ℕ) → s ≡ operands_read ds f.past (record { bus = b; answered = p; awaited = 0 }) e.reads p → b ≡ bus_a ds f e
     → p ≡ tick_p ds n f e → s ≡ operands ds n f e
 unfolding operands operands_read read_words
 all-read ds n f e s b p is bus tick = is ∙ ap₂ (λ (x : Bus) (y : ℕ). operands_read ds f.past (record { bus = x; answered = y; awaited = 0 }) e.reads y) bus tick
 
--- and these are noted
+-- the log has the reads of the operands and the following words
 all-noted : (ds : List ℕ) (n : ℕ) (f : IssueState) (e : Entry) (b d : Bus) (p : ℕ) (log one two : List Made) → b ≡ bus_a ds f e → d ≡ (operands ds n f e).bus
     → p ≡ tick_p ds n f e → one ≡ log_after_reads ds (runs_asked f.past e.reads p) b log → two ≡ log_after_reads ds (following_asked ds d e p) d one
     → two ≡ log_after_reads ds (prepared_asked ds n f e) b log

@@ -2,7 +2,7 @@ use Rattle.std.proofs.Common.{◌≡◌, length}
 use Rattle.st_rows.specs.Notes.{answers_left}
 use Rattle.st_rows.proofs.log.Log.undo.Given as goal
 
--- taking the others back gives what taking all back gives
+-- undoing the remaining reads gives the effect of undoing all
 abbrev pub invariant-reads : goal.invariant-reads
 invariant-reads l = answers_left l.now l.self l.banks.ticks ≡ answers_left l.now l.initial.self l.initial.banks.ticks
 

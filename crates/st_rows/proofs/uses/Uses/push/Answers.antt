@@ -8,14 +8,14 @@ use Rattle.st_rows.proofs.uses.Uses.push.Goals as goal
 abbrev listed : List Use → ArrayVec Use
 listed us = record { items = us }
 
--- where there is room
+-- an append with room left
 put-more : (words : List Use) (n : ℕ) (u : Use) → length words ≡ 48 → n < 48 → take (n + 1) (set words n u) ≡ take 48 (take n words ++ u ∷ [])
 put-more words n u whole less =
     let counted = length-take-le n words (omega (arith, whole, less)) in
     take_more_set words n u (omega (arith, whole, less))
     ∙ sym (take_all 48 (take n words ++ u ∷ []) (omega (arith, length-append (take n words) (u ∷ []), counted, less)))
 
--- and where there is none
+-- an append without room
 put-none : (words : List Use) (n : ℕ) (u : Use) → length words ≡ 48 → 48 ≤ n → n ≤ 48 → take n words ≡ take 48 (take n words ++ u ∷ [])
 put-none words n u whole full most =
     let counted = length-take-le n words (omega (arith, whole, most)) in
