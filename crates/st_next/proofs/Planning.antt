@@ -4,11 +4,9 @@ use Rattle.st_bits.specs.Indicators.{IsIndicatorIfAny}
 use Rattle.st_state.specs.Machine.{Machine, IsMachine}
 use Rattle.st_prep.specs.Fetch.{index_words, place_of}
 use Rattle.st_prep.specs.Plan.{needs, decode_context}
-use Rattle.st_prep.specs.Ranges.{IsPlace}
-use Rattle.st_prep.proofs.PlanLemmas.{decode_context-fits}
 use Rattle.st_rows.specs.Asked.{formed_asked}
 use Rattle.st_rows.specs.Notes.{log_after_reads}
-use Rattle.st_rows.specs.Ranges.{AreDelaysUpTo, IsEntryInTime}
+use Rattle.st_rows.specs.Ranges.{AreDelaysUpTo}
 use Rattle.st_rows.specs.Rows.{tick_a, index_uses}
 use Rattle.st_rows.specs.Supplies.{told}
 use Rattle.st_rows.specs.Uses.{uses, wishes}
@@ -23,12 +21,10 @@ use Rattle.st_rows.proofs.Stages.{a-within}
 use Rattle.st_segment.specs.Entries.{entry, side_to_read}
 use Rattle.st_segment.proofs.EntryRanges.{entry-ranges}
 use Rattle.st_next.specs.Known.{IsStateBefore}
-use Rattle.st_next.specs.Words.{words_alone}
 use Rattle.st_next.specs.Progress.{IsUnread, IsNext, IsPlanned, IsKnown, IsNextReady, reads_so_far}
 use Rattle.st_next.specs.Going.{GoesOnTo, IsReadFurther, IsIssueInTime}
 use Rattle.st_next.specs.Told.{words_told, told_so_far, formed_told, IsToldFurther}
 use Rattle.st_next.specs.declared.fetch_unit.FetchUnit.{FetchUnit}
-use Rattle.st_next.proofs.Contents.{words-entry}
 use Rattle.st_next.proofs.Resting.{address-late}
 use Rattle.st_next.proofs.Starting.{new-next, new-reads}
 use Rattle.st_next.proofs.Telling.{told-fetches, told-planned}
@@ -105,13 +101,6 @@ module _ (ds : List ℕ) (n : ℕ) (f : IssueState) (x : List ℕ) (s : Machine)
       issue = f;
       known = record { table = t; state = s; indicator = table; before = self-before now f.past x s machine index; is_next = after-next };
     }
-
-    pub after-place : IsPlace after.place
-    unfolding decode_context
-    after-place = rw after-next.read_on.place (decode_context-fits s t machine table).place
-
-    pub after-words : IsEntryInTime (words_alone after.entry.own after.entry.target)
-    after-words = words-entry after.entry.own after.entry.target e after-next.read_on.first (entry-ranges t s machine table)
 
     pub after-log : (log new : List Made) → IsReadFurther ds f fresh after log new → new ≡ log_after_reads ds (formed_asked ds f e) f.bus log
     after-log log new is =

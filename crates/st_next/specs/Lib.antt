@@ -3,7 +3,6 @@ pub mod Progress
 pub mod Known
 pub mod Going
 pub mod Told
-pub mod Spelled
 pub mod Laws
 pub use Rattle.st_bits.specs.Storage
 pub use Rattle.st_fetch.specs.Planned

@@ -4,7 +4,7 @@ ghost use Rattle.st_bits.specs.Indicators.{IsIndicatorIfAny};
 ghost use Rattle.st_bits.specs.Storage.{words_of_storage};
 ghost use Rattle.st_fetch.specs.Planned.{tick_of};
 ghost use Rattle.st_state.specs.Machine.{IsMachine, word};
-ghost use Rattle.st_prep.specs.Fetch.{index_words as index_words_of, place_of as place_by, words_fetched};
+ghost use Rattle.st_prep.specs.Fetch.{index_words as index_words_of, place_of as place_by};
 ghost use Rattle.st_prep.specs.Plan.{plan as plan_of, needs as needs_of, decode_context};
 ghost use Rattle.st_prep.specs.Ranges.{HasFields, IsPlace, IsFetched, IsFetching, IsPrepared};
 ghost use Rattle.st_prep.specs.Reading.{fetched_plain, is_execute};
@@ -24,7 +24,6 @@ ghost use Rattle.st_next.specs.Words.{words_alone, run_with_word as with_word_of
 ghost use Rattle.st_next.specs.Progress.{IsUnread, IsKnown, IsNextReady};
 ghost use Rattle.st_next.specs.Going.{given_so_far, IsIssueInTime, IsEarly, GoesOnTo, IsReadFurther, IsPreparedBy, IsPlanAtItsTick, as_entry, prepared_as};
 ghost use Rattle.st_next.specs.Told.{formed_told, IsToldFurther};
-ghost use Rattle.st_next.specs.Spelled.{fetched_by, IsSpelling};
 
 use st_banks::Delays;
 use st_format::{Decoded, Format, FullOp, decode_as, format_of};
@@ -71,16 +70,6 @@ pub struct PlanContext<'a, 'b> {
     pub state: &'a State,
     pub issue: &'b IssueState,
     pub index: &'b [u64; 16],
-}
-
-/// What is fetched of an entry.
-#[derive(Clone, Copy, Debug, PartialEq, Eq)]
-pub enum Spelling {
-    /// An instruction other than EX whose words may all be fetched, by its half-words. The second one
-    /// of a half-word instruction is arbitrary.
-    Halves { first: u32, second: u32 },
-    /// Everything else.
-    Other(Fetched),
 }
 
 // An instruction whose half-words and format are known.
@@ -297,8 +286,6 @@ impl FetchUnit {
         ensures told { let b = context.now in IsToldFurther W.noted
             b.timing.delays.now.list b.issue.now self.old self.new watch.old watch.new }
         ensures planned { result ≡ self.new.planned }
-        ensures found { result ≡ true → given_so_far context.now.index.now context.now.state.now
-            self.new ≡ Found self.new.fetched.value }
         ensures still { let f = context.now.issue.now in
             due ≤ max self.old.words.awaited (if f.serial then f.c else 0) →
             (self.new ≡ self.old) × (log.new ≡ log.old) }
@@ -321,14 +308,14 @@ impl FetchUnit {
 
     /// Plans the next entry of a state after an issue state, or the table instruction of an interrupt
     /// by the indicator in `table`, whatever entry was known before, and completes its preparation.
-    /// The index words of `context` are those of its state. Returns what is fetched of the entry.
+    /// The index words of `context` are those of its state.
     pub fn plan<W: Watch>(
         &mut self,
         table: Option<u8>,
         context: &PlanContext<'_, '_>,
         log: &mut Log,
         watch: &mut W,
-    ) -> Spelling
+    )
         requires indicator { IsIndicatorIfAny table }
         requires index { context.now.index.now ≡ index_words_of context.now.state.now }
         requires issue { IsIssueInTime context.now.issue.now }
@@ -342,9 +329,6 @@ impl FetchUnit {
         ensures needs { let s = context.now.state.now in
             self.new.needs ≡ needs_of (decode_context s (place_by s table)) }
         ensures side { self.new.entry.side ≡ side_to_read_of self.new.needs.index_read }
-        ensures fetched { let s = context.now.state.now in
-            fetched_by result ≡ words_fetched s (place_by s table) }
-        ensures spelling { IsSpelling result }
 
         // Its A and P, and its reads until A.
         ensures address { let b = context.now in self.new.formed.a
@@ -362,31 +346,7 @@ impl FetchUnit {
         self.words.bus = context.issue.bus;
         self.restart(place_of(context.state, table));
         self.plan_before(u64::MAX, context, log, watch);
-        let spelling = self.spelling(context.index, context.state);
         self.prepare(context.index, context.state);
-        spelling
-    }
-
-    // What is fetched of the entry, whose words are all requested. So `given` does not return another
-    // word to request.
-    #[inline(always)]
-    fn spelling(&self, x: &[u64; 16], state: &State) -> Spelling
-        requires place { IsPlace self.now.place }
-        requires words { IsEntryInTime (words_alone self.now.entry.own self.now.entry.target) }
-        requires found { given_so_far x.now state.now self.now ≡ Found self.now.fetched.value }
-        ensures fetched { fetched_by result ≡ self.now.fetched.value }
-        ensures shape { IsSpelling result }
-    {
-        if let Some(spelled) = self.spelled(state) {
-            return Spelling::Halves {
-                first: spelled.first,
-                second: spelled.second,
-            };
-        }
-        match self.given(x, state) {
-            Given::Found(fetched) => Spelling::Other(fetched),
-            Given::Next { .. } => Spelling::Other(Fetched::default()),
-        }
     }
 
     // Prepares the entry without its index-side word, and returns whether its words are known.
@@ -557,7 +517,6 @@ impl FetchUnit {
             ≡ Found (fetched_plain (decoded_entry r.first r.second))) }
         ensures format { IfSome result (λ r. spelled_as r.format r.first r.second
             ≡ instruction_of r.first r.second) }
-        ensures plain { IfSome result (λ r. is_execute (instruction_of r.first r.second) ≡ false) }
     {
         let halves = self.halves(state)?;
         spelled_unless_execute(halves.0, halves.1)

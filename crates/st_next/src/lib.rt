@@ -4,4 +4,4 @@
 
 mod fetch_unit;
 
-pub use fetch_unit::{FetchUnit, PlanContext, Spelling};
+pub use fetch_unit::{FetchUnit, PlanContext};

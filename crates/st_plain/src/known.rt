@@ -42,6 +42,7 @@ fn second_where(full: bool, second: u32) -> Option<u32>
 }
 
 // The half-words of an instruction.
+#[inline(always)]
 fn code_of(instr: &Instr) -> Code
     requires { HasFields instr.now }
     ensures { result ≡ code_by instr.now }
@@ -79,10 +80,8 @@ fn code_found(fetched: &Fetched) -> Option<Code>
     if fetched.fault.is_some() {
         return None;
     }
-    match fetched.target {
-        Some(target) => Some(code_of(&target.instr)),
-        None => Some(code_of(&fetched.instr.instr)),
-    }
+    let executed = fetched.target.unwrap_or(fetched.instr);
+    Some(code_of(&executed.instr))
 }
 
 // The facts of the next entry of a state, whose words are read again.

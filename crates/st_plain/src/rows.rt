@@ -87,13 +87,13 @@ fn level_wait(issue: &IssueState, timing: &Timing<'_>, entry: &Entry, a: u64, bu
 /// The input of a row: the state and the issue state before its entry, and the timing of the
 /// machine.
 #[derive(Clone, Copy)]
-pub struct Before<'a> {
+pub struct Before<'a, 'b> {
     /// The state before the entry.
     pub state: &'a State,
     /// The issue state before the entry.
-    pub issue: &'a IssueState,
+    pub issue: &'b IssueState,
     /// The delays and the number of levels of the machine.
-    pub timing: &'a Timing<'a>,
+    pub timing: &'b Timing<'b>,
 }
 
 /// A planned entry: its facts, its P, and its wait for a level.
@@ -113,7 +113,7 @@ pub struct Begun {
 pub fn begin(
     unit: &mut FetchUnit,
     table: Option<u8>,
-    before: &Before<'_>,
+    before: &Before<'_, '_>,
     log: &mut Log,
     uses: &mut Uses,
 ) -> Begun

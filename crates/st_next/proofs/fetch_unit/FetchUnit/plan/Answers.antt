@@ -5,23 +5,11 @@ use Rattle.st_next.specs.declared.fetch_unit.FetchUnit.{FetchUnit}
 use Rattle.st_prep.specs.declared.entries.Needs.{Needs}
 use Rattle.st_rows.specs.declared.entry.Entry.{Entry}
 use Rattle.st_segment.specs.Entries.{side_to_read}
-use Rattle.st_next.proofs.Planning.{side-read, self-before, fresh-known, after-next, after-planned, after-known, after-ready, after-place, after-words, after-log, after-told}
+use Rattle.st_next.proofs.Planning.{side-read, self-before, fresh-known, after-next, after-planned, after-known, after-ready, after-log, after-told}
 use Rattle.st_next.proofs.fetch_unit.FetchUnit.plan.Goals as goal
 
 pub plan_before-requires-clause-known : goal.plan_before-requires-clause-known
 plan_before-requires-clause-known g c = λ waits. fresh-known _ _ _ _ _ c.args.table _ (c.restart.ensures.place ∙ c.place_of.ensures.value) c.restart.ensures.unread c.place_of.ensures.machine c.requires.index c.requires.indicator _
-
-pub spelling-spelling-requires-clause-place : goal.spelling-spelling-requires-clause-place
-spelling-spelling-requires-clause-place g c =
-    after-place _ _ _ _ _ c.args.table _ (c.restart.ensures.place ∙ c.place_of.ensures.value) c.restart.ensures.unread c.place_of.ensures.machine c.requires.index c.requires.indicator _ _ _ c.plan_before.ensures.next (delays-are c.args.context.now.timing.delays.now) c.requires.issue (omega (arith, c.requires.issue.early))
-
-pub spelling-spelling-requires-clause-words : goal.spelling-spelling-requires-clause-words
-spelling-spelling-requires-clause-words g c =
-    after-words _ _ _ _ _ c.args.table _ (c.restart.ensures.place ∙ c.place_of.ensures.value) c.restart.ensures.unread c.place_of.ensures.machine c.requires.index c.requires.indicator _ _ _ c.plan_before.ensures.next (delays-are c.args.context.now.timing.delays.now) c.requires.issue (omega (arith, c.requires.issue.early))
-
-pub spelling-spelling-requires-clause-found : goal.spelling-spelling-requires-clause-found
-spelling-spelling-requires-clause-found g c =
-    c.plan_before.ensures.found (c.plan_before.ensures.planned ∙ after-planned _ _ _ _ _ c.args.table _ (c.restart.ensures.place ∙ c.place_of.ensures.value) c.restart.ensures.unread c.place_of.ensures.machine c.requires.index c.requires.indicator _ _ _ c.plan_before.ensures.next (delays-are c.args.context.now.timing.delays.now) c.requires.issue (omega (arith, c.requires.issue.early)))
 
 pub prepare-requires-clause-planned : goal.prepare-requires-clause-planned
 prepare-requires-clause-planned g c =
@@ -53,10 +41,6 @@ returns-clause-side g c =
     ap (λ (m : FetchUnit). m.entry.side) c.prepare.ensures.rest
     ∙ ap (λ (e : Entry). e.side) (after-known _ _ _ _ _ c.args.table _ (c.restart.ensures.place ∙ c.place_of.ensures.value) c.restart.ensures.unread c.place_of.ensures.machine c.requires.index c.requires.indicator _ _ _ c.plan_before.ensures.next (delays-are c.args.context.now.timing.delays.now) c.requires.issue (omega (arith, c.requires.issue.early))).entry ∙ side-read c.args.table c.args.context.now.state.now
     ∙ ap (λ (k : Needs). side_to_read k.index_read) (sym (returns-clause-needs g c))
-
-pub returns-clause-fetched : goal.returns-clause-fetched
-returns-clause-fetched g c =
-    c.spelling-spelling.ensures.fetched ∙ (after-known _ _ _ _ _ c.args.table _ (c.restart.ensures.place ∙ c.place_of.ensures.value) c.restart.ensures.unread c.place_of.ensures.machine c.requires.index c.requires.indicator _ _ _ c.plan_before.ensures.next (delays-are c.args.context.now.timing.delays.now) c.requires.issue (omega (arith, c.requires.issue.early))).found
 
 pub returns-clause-address : goal.returns-clause-address
 returns-clause-address g c =

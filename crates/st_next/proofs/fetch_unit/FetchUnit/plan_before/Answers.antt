@@ -68,6 +68,3 @@ returns-clause-told g c =
       bus = c.form-self.ensures.bus;
       tick = c.form-self.ensures.tick;
     }) c.form-self.ensures.told)
-
-pub returns-clause-found : goal.returns-clause-found
-returns-clause-found g c is = (c.if-not-prepare_own_before.ensures.prepared refl).found
