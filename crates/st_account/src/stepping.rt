@@ -124,9 +124,9 @@ pub(crate) fn count_on(
     last.before.copy(&last.uses);
     last.uses.clear();
     let before = Before {
-        state,
+        state: &*state,
         issue: &last.issue,
-        timing,
+        timing: &*timing,
     };
     let begun = begin(&mut last.unit, taken, &before, log, &mut last.uses);
     last.because = find_reason(

@@ -1,8 +1,9 @@
-use Rattle.std.proofs.Common.{List, [], ◌∙◌, ap}
+use Rattle.std.proofs.Common.{List, [], ◌∷◌, take, ◌∙◌, ap}
 use Rattle.st_rows.specs.Rows.{reads_of_entry}
 use Rattle.st_rows.specs.Notes.{log_after_reads}
 use Rattle.st_rows.specs.declared.entry.Entry.{Entry}
 use Rattle.st_rows.specs.declared.log.Made.{Made}
+use Rattle.st_next.specs.declared.fetch_unit.FetchUnit.{FetchUnit}
 use Rattle.st_prep.specs.declared.entries.Prepared.{Prepared}
 use Rattle.st_plain.specs.declared.known.Known.{Known}
 use Rattle.st_plain.proofs.UseLemmas.{all-used}
@@ -12,7 +13,9 @@ use Rattle.st_account.proofs.stepping.count_on.Goals as goal
 pub returns-clause-past : goal.returns-clause-past
 returns-clause-past c =
     past-kept c.args.timing.now.delays.now.list c.args.timing.now.levels c.args.last.now.issue c.begin-begun.new.unit.entry c.finish-ticks.result _ _ _ c.requires.past
-    c.finish-ticks.ensures.value c.put_past.ensures c.finish-ticks.ensures.after
+    c.finish-ticks.ensures.value
+    (c.put_past.ensures ∙ ap (λ (m : FetchUnit). record { c = c.finish-ticks.result.c; writes = m.entry.writes } ∷ take 7 c.args.last.now.past) c.finish-ticks.ensures.kept)
+    c.finish-ticks.ensures.after
 
 pub returns-clause-log : goal.returns-clause-log
 returns-clause-log c =
