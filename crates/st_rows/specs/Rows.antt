@@ -40,7 +40,7 @@ address_tick f e answered awaited =
     max (max (max (max answered awaited) f.p) (if e.serial || f.serial then f.c else 0)
     + 1) f.bus.free
 
--- ---- preparation is one tick after the address, the index-side word, and the completion that frees a level
+-- ---- preparation: one tick after the address, the index-side word and a free level
 
 -- the completion tick of a previous entry, the newest at place 0; 0 if there is none
 abbrev pub completion_of : List Past → ℕ → ℕ
