@@ -1,7 +1,7 @@
 -- What is known of an entry that is planned, where it asks for following words.
 use Rattle.std.specs.Prelude.{if◌then◌else◌, is_none, nat_lt}
-use Rattle.std.proofs.Common.{◌≡◌, ℕ, zero, suc, ◌+◌, ◌-◌, ◌/◌, ◌≤◌, Bool, true, false, ◌&&◌, ◌==◌, List, [], ◌∷◌, length, drop, Option, None, Some, inl, inr, refl, sym, subst, ◌∙◌, ap, arith}
-use Rattle.std.proofs.lemmas.Bool.{and_parts, cases_Bool}
+use Rattle.std.proofs.Common.{◌≡◌, ℕ, ◌+◌, ◌-◌, ◌/◌, ◌≤◌, Bool, true, false, ◌==◌, List, [], ◌∷◌, length, Option, None, Some, refl, sym, ◌∙◌, ap, arith}
+use Rattle.std.proofs.lemmas.Bool.{and_parts}
 use Rattle.std.proofs.lemmas.Bool.Decides.{nat_tests}
 use Rattle.std.proofs.lemmas.List.{length-drop}
 use Rattle.st_format.specs.declared.instruction.Decoded.{Decoded}
@@ -22,7 +22,6 @@ use Rattle.st_prep.specs.declared.entries.ResolvedEntry.{ResolvedEntry}
 use Rattle.st_prep.specs.declared.fetching.FoundInstruction.{FoundInstruction}
 use Rattle.st_prep.proofs.Choices.{of_choice}
 use Rattle.st_rows.specs.declared.entry.Entry.{Entry}
-use Rattle.st_rows.specs.declared.entry.WordRun.{WordRun}
 use Rattle.st_segment.specs.Entries.{run_of, reading_at, instruction_words, own_count, entry}
 use Rattle.st_plain.specs.Looking.{code_of, code_found, side_at, executes_at, executed_code, known_at}
 use Rattle.st_plain.specs.declared.known.Code.{Code}

@@ -1,22 +1,17 @@
 -- The reads of an entry in the log, part by part.
 use Rattle.std.specs.Prelude.{slice_set, slice_index_or}
-use Rattle.std.proofs.Common.{◌≡◌, ℕ, zero, suc, ◌+◌, ◌-◌, ◌≤◌, max, List, [], ◌∷◌, length, take, refl, sym, ap, ◌∙◌, arith}
-use Rattle.st_fetch.specs.Planned.{tick_of}
-use Rattle.st_rows.specs.Asked.{word_asked, words_asked, side_asked, runs_asked, following_asked, fetches_asked, formed_asked, prepared_asked, bus_after_reads}
-use Rattle.st_rows.specs.BusTimes.{bus_after_request, answer_tick_on}
+use Rattle.std.proofs.Common.{◌≡◌, ℕ, ◌+◌, ◌-◌, List, [], ◌∷◌, length, take, refl, sym, ap, ◌∙◌, arith}
+use Rattle.st_rows.specs.Asked.{runs_asked, following_asked, formed_asked, prepared_asked}
 use Rattle.st_rows.specs.Notes.{log_after_reads}
-use Rattle.st_rows.specs.Rows.{wanted_from, words_tick, tick_a, bus_a, tick_p, operands, reads_of_entry}
-use Rattle.st_rows.specs.Words.{fetch_word, fetch_words}
+use Rattle.st_rows.specs.Rows.{bus_a, tick_p, operands, reads_of_entry}
 use Rattle.st_rows.specs.declared.bus.Bus.{Bus}
 use Rattle.st_rows.specs.declared.entry.Entry.{Entry}
-use Rattle.st_rows.specs.declared.fetching.Fetching.{Fetching}
 use Rattle.st_rows.specs.declared.issue.IssueState.{IssueState}
 use Rattle.st_rows.specs.declared.log.Made.{Made}
 use Rattle.st_rows.specs.declared.past.Past.{Past}
 use Rattle.st_rows.proofs.Noted.{noted-two}
 use Rattle.st_rows.proofs.Parts.{two-parts}
-use Rattle.st_rows.proofs.Served.{served-word, served-words, served-runs, served-fetches, served-formed}
-use Rattle.st_rows.specs.Uses.{behind, behind_use, reads_of, uses, wishes}
+use Rattle.st_rows.proofs.Served.{served-runs, served-formed}
 
 module _ (ds : List ℕ) (f : IssueState) (e : Entry) where
   -- the following words after the operands

@@ -12,7 +12,7 @@ use Rattle.st_rows.specs.KeptUses.{uses_with}
 use Rattle.st_rows.specs.Ranges.{IsEntryInTime}
 use Rattle.st_rows.specs.Rows.{wanted_from, own_uses, own_fetched, target_uses, words_tick, tick_a, bus_a, tick_p, index_uses, operands, followings}
 use Rattle.st_next.specs.Told.{formed_told}
-use Rattle.st_rows.specs.Words.{fetch_word, fetch_words, read_word, operands_read, read_words, request_inside}
+use Rattle.st_rows.specs.Words.{operands_read, read_words, request_inside}
 use Rattle.st_rows.specs.declared.bus.Bus.{Bus}
 use Rattle.st_rows.specs.declared.entry.Entry.{Entry}
 use Rattle.st_rows.specs.declared.entry.WordRun.{WordRun}
@@ -23,10 +23,9 @@ use Rattle.st_rows.specs.declared.past.Past.{Past}
 use Rattle.st_plain.specs.Uses.{fetch_uses, side_uses, register_uses, operand_uses, data_uses, inside_uses, following_uses, formed_uses, prepared_uses, side_register, uses_of_entry}
 use Rattle.st_rows.specs.Supplies.{fetch_supply, use_told, told}
 use Rattle.st_rows.specs.declared.uses.Role.TheVariants.{Instruction, Operand, Following}
-use Rattle.st_rows.specs.declared.uses.Supply.{Supply}
 use Rattle.st_rows.specs.declared.uses.Supply.TheVariants.{Register}
 use Rattle.st_rows.specs.declared.uses.Use.{Use}
-use Rattle.st_rows.specs.Uses.{uses, wishes, words_of, wish_of, use_of, unused, behind_use}
+use Rattle.st_rows.specs.Uses.{uses, words_of, wish_of, use_of, unused, behind_use}
 use Rattle.st_rows.specs.declared.uses.Wish.{Wish}
 use Rattle.st_rows.specs.BusTimes.{bus_after_request}
 use Rattle.st_rows.proofs.Served.{wishes-length, followings-length}
