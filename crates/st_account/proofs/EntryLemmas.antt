@@ -53,7 +53,7 @@ told_lines i a origin ticks wait mispredicted q known before start end why uses 
 
 pub kept-some : (k : ℕ) (l : Last) (end : Option ℕ) → k ≢ 0
     → kept_lines k l end
-    ≡ told_lines l.done.n l.done.address l.done.origin l.done.row.ticks l.done.row.level_wait l.mispredicted l.plan l.done.known l.done.before l.done.start end l.because l.uses.items l.before.items
+    ≡ told_lines l.done.n l.done.address l.done.origin l.done.row.ticks l.done.row.level_wait l.mispredicted l.unit.prepared l.done.known l.done.before l.done.start end l.because l.uses.items l.before.items
 unfolding kept_lines done_entry_lines
 kept-some zero l end some = absurd (some refl)
 kept-some (suc k) l end some = rw (not-zero k) refl
@@ -74,7 +74,7 @@ pub kept-row : (k : ℕ) (l : Last) (end : Option ℕ) (us bs : List Use) → k 
       end = end;
       because = l.because;
     })
-    l.plan l.done.known us bs
+    l.unit.prepared l.done.known us bs
     ≡ kept_lines k l end
 unfolding done_entry_lines
 kept-row k l end us bs some used earlier = rw (used, earlier) (sym (kept-some k l end some))

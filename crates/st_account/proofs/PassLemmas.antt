@@ -24,9 +24,9 @@ use Rattle.st_account.specs.Text.{words_behind, begun_at, segment_ends}
 use Rattle.st_account.proofs.LeftLemmas.{area, between-left}
 use Rattle.st_account.proofs.RunLemmas.{end-looks}
 
-pub may-is : (may : Changeable) (l k : Last) (s : Machine) → may ≡ record { writes = l.plan.writes; card = area s.reader } → l ≡ k
-    → may ≡ record { writes = k.plan.writes; card = area s.reader }
-may-is may l k s is same = subst (λ (l : Last). may ≡ record { writes = l.plan.writes; card = area s.reader }) same is
+pub may-is : (may : Changeable) (l k : Last) (s : Machine) → may ≡ record { writes = l.unit.prepared.writes; card = area s.reader } → l ≡ k
+    → may ≡ record { writes = k.unit.prepared.writes; card = area s.reader }
+may-is may l k s is same = subst (λ (l : Last). may ≡ record { writes = l.unit.prepared.writes; card = area s.reader }) same is
 
 module _ (ds : List ℕ) (n : ℕ) (b : Machine) (m : Moment) (a : Account) (xs : List Signal) (cards : List (List ℕ)) (h : IsAt ds n b m a xs cards) where
   -- the events have been applied; before them the entries that ran ahead were determined
@@ -58,10 +58,10 @@ module _ (ds : List ℕ) (n : ℕ) (b : Machine) (m : Moment) (a : Account) (xs 
         ∙ ap (λ (c : Scene). rests (with_due_orders (with_due_signals c)).scene.machine) (sym h.scene)
 
     -- a word that no event may have changed
-    pub left-is : (may : Changeable) → may ≡ record { writes = a.last.plan.writes; card = area mid.reader } → a.k ≢ 0 → (v : ℕ) → v < WORDS → IsUntouched v may
+    pub left-is : (may : Changeable) → may ≡ record { writes = a.last.unit.prepared.writes; card = area mid.reader } → a.k ≢ 0 → (v : ℕ) → v < WORDS → IsUntouched v may
         → slice_index a.words.items v ≡ word state v
     left-is may is some v inside left =
-        let l : IsUntouched v (record { writes = a.last.plan.writes; card = area mid.reader }) = subst (IsUntouched v) is left in
+        let l : IsUntouched v (record { writes = a.last.unit.prepared.writes; card = area mid.reader }) = subst (IsUntouched v) is left in
         let each : All IsCard cards = subst (λ (c : Scene). All IsCard c.cards) h.scene h.each in
         ap (λ (xs : List ℕ). slice_index xs v) (h.words some)
         ∙ sym (h.unwritten some v l.above l.unwritten)

@@ -268,7 +268,7 @@ module _ (ds : List ℕ) (n : ℕ) (total : Stage → ℕ) (waited : Stage → S
             → d.state ≡ step c.state → ((p : Standing) → IsStanding p c.state c.last → IsLast ds n (next_moment ds n p) d.last d.log)
             → ((p : Standing) (x : Stage) → IsStanding p c.state c.last → sum_at x d.sums ≡ sum_at x c.sums + ticks_for x (charges_at ds n p))
             → AreWithin d.last.tick d.sums → d.last.enabled ≡ c.state.enabled → predicting d.last.ic d.state ≡ prediction (interrupt c.state) c.state
-            → ((w : ℕ) → 32 ≤ w → IsNotAmong w d.last.plan.writes → word d.state w ≡ word c.state w) → d.words.items ≡ c.words.items → d.k ≡ c.k
+            → ((w : ℕ) → 32 ≤ w → IsNotAmong w d.last.unit.prepared.writes → word d.state w ≡ word c.state w) → d.words.items ≡ c.words.items → d.k ≡ c.k
             → c.last.uses.items ≡ words_before m a'.last.uses.items → ((p : Standing) → IsStanding p c.state c.last → d.last.uses.items ≡ uses_at ds n p)
             → IsWaiting d.last d.waiting.totals
             → ((r : Stage) (z : Stall) → is_parted r ≡ true → waited_at r z c.waiting.totals ≡ waited_at r z a'.waiting.totals + kept_stalled r z a'.k a'.last)

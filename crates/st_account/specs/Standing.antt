@@ -90,7 +90,7 @@ kept_lines k l end =
       start = l.done.start;
       end = end;
       because = l.because;
-    }) l.plan l.done.known l.uses.items l.before.items
+    }) l.unit.prepared l.done.known l.uses.items l.before.items
 
 -- the charges of the last completed entry
 abbrev pub charges_kept : Last → List Charge
@@ -127,7 +127,7 @@ pub record IsAt (ds : List ℕ) (n : ℕ) (b : Machine) (m : Moment) (a : Accoun
   pub was : b.enabled ≡ a.last.enabled
   pub predicted : a.k ≢ 0 → predicting a.last.ic m.scene.machine ≡ prediction (interrupt b) b
   pub words : a.k ≢ 0 → a.words.items ≡ b.words
-  pub unwritten : a.k ≢ 0 → (w : ℕ) → 32 ≤ w → IsNotAmong w a.last.plan.writes →
+  pub unwritten : a.k ≢ 0 → (w : ℕ) → 32 ≤ w → IsNotAmong w a.last.unit.prepared.writes →
       word a.state w ≡ word b w
 
 -- The account agrees with the state after the events at a moment, if `left` entries may still

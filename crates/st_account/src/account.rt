@@ -106,7 +106,7 @@ fn write_row<K: Sink>(
     };
     let entry = EntryRecord {
         done: &done,
-        plan: &last.plan,
+        plan: &last.unit.prepared,
         known: &last.done.known,
         uses: last.uses.as_slice(),
         before: last.before.as_slice(),
@@ -258,7 +258,7 @@ impl Account {
     {
         let still = is_still(&self.state, self.last.mispredicted, pending.signals());
         self.look_if(timing, is_end_near(left, still));
-        self.behind.may = changeable(&self.last.plan, &self.state);
+        self.behind.may = changeable(&self.last.unit.prepared, &self.state);
         let came = settle(still, &mut self.state, pending, &mut self.behind.printed);
         self.behind.card = came.card;
         self.behind.waited = came.waited;
@@ -573,7 +573,7 @@ impl Account {
         ensures enabled { self.new.last.enabled ≡ self.old.state.enabled }
         ensures prediction { predicting self.new.last.ic self.new.state
             ≡ prediction_of (interrupt_of self.old.state) self.old.state }
-        ensures left { (w : ℕ) → 32 ≤ w → IsNotAmong w self.new.last.plan.writes →
+        ensures left { (w : ℕ) → 32 ≤ w → IsNotAmong w self.new.last.unit.prepared.writes →
             word self.new.state w ≡ word self.old.state w }
         ensures words { self.new.words.items ≡ self.old.words.items }
         ensures origins { self.new.origins ≡ self.old.origins }

@@ -7,10 +7,11 @@ ghost use Rattle.st_rows.specs.Rows.{opening_issue};
 
 use st_banks::LastAnswers;
 use st_lines::Origin;
+use st_next::FetchUnit;
 use st_plain::{Known, WaitedRow};
-use st_prep::Prepared;
+use st_prep::Place;
 use st_reasons::StallCause;
-use st_rows::{IssueState, LastEntries, Past, Uses};
+use st_rows::{Bus, IssueState, LastEntries, Past, Uses};
 
 /// The facts about a completed entry, except its preparation.
 #[derive(Clone, Copy, Debug, Default, PartialEq, Eq)]
@@ -45,8 +46,8 @@ pub(crate) struct Last {
     pub ic: u32,
     /// Whether interrupts were enabled before the entry.
     pub enabled: bool,
-    /// The preparation of the entry.
-    pub plan: Prepared,
+    /// The entry as it was planned and prepared.
+    pub unit: FetchUnit,
     /// Further facts about the entry.
     pub done: DoneEntry,
     /// The words that the entry uses.
@@ -113,7 +114,7 @@ pub(crate) fn at_start(ic: u32, enabled: bool) -> Last
         mispredicted: false,
         ic,
         enabled,
-        plan: Prepared::default(),
+        unit: FetchUnit::new(Place::default(), Bus::new(banks, 0)),
         done: DoneEntry::default(),
         uses: Uses::new(),
         before: Uses::new(),

@@ -21,7 +21,7 @@ use crate::last::Last;
 use st_card::Signal;
 use st_exec::{complete_in, interrupt, is_mispredicted};
 use st_lines::{Changeable, Why};
-use st_plain::{Begun, NextEntry, WaitedRow, begin, finish, plan_entry, put_past};
+use st_plain::{Before, WaitedRow, begin, finish, put_past};
 use st_prep::Prepared;
 use st_reasons::find_reason;
 use st_rows::{Log, Past, Timing};
@@ -91,8 +91,8 @@ pub(crate) fn count_on(
     requires early { last.old.issue.c ≤ 2 ^ 63 }
     requires past { last.old.past ≡ last.old.issue.past }
 
-    ensures plan { last.new.plan ≡ plan_of state.now taken }
-    ensures prepared { IsPrepared last.new.plan }
+    ensures plan { last.new.unit.prepared ≡ plan_of state.now taken }
+    ensures prepared { IsPrepared last.new.unit.prepared }
     ensures row { last.new.done.row.ticks ≡ row_of timing.now.delays.now.list timing.now.levels
         last.old.issue (entry_of taken state.now) }
     ensures wait { last.new.done.row.level_wait
@@ -120,36 +120,34 @@ pub(crate) fn count_on(
     ensures before { last.new.done.before ≡ last.old.done.before }
     ensures start { last.new.done.start ≡ last.old.done.start }
 {
-    let planned = plan_entry(taken, state, &mut last.plan);
     log.clear();
     last.before.copy(&last.uses);
     last.uses.clear();
-    let mut begun = Begun::default();
-    let next = NextEntry {
-        plan: &last.plan,
-        planned: &planned,
-        timing,
+    let before = Before {
+        state: &*state,
+        issue: &last.issue,
+        timing: &*timing,
     };
-    begin(&mut begun, &last.issue, &next, log, &mut last.uses);
+    let begun = begin(&mut last.unit, taken, &before, log, &mut last.uses);
     last.because = find_reason(
         &last.issue,
-        &planned.entry,
+        &last.unit.entry,
         &begun,
         last.uses.as_slice(),
         last.before.as_slice(),
     );
     let level_wait = begun.level_wait;
-    let ticks = finish(&mut last.issue, &next, &mut begun, log, &mut last.uses);
+    let ticks = finish(&mut last.issue, &mut last.unit, timing, log, &mut last.uses);
     put_past(
         &mut last.past,
         Past {
             c: ticks.c,
-            writes: planned.entry.writes,
+            writes: last.unit.entry.writes,
         },
     );
     last.tick = ticks.c;
     last.done.row = WaitedRow { ticks, level_wait };
-    last.done.known = planned.known;
+    last.done.known = begun.known;
 }
 
 // The instruction counter by the prediction of a completed entry with the preparation `p`.
@@ -163,8 +161,8 @@ fn predicted_counter(p: &Prepared, state: &State) -> u32
 
 /// Executes the next entry, whose preparation is in `last`.
 pub(crate) fn execute(state: &mut State, taken: Option<u8>, last: &mut Last)
-    requires prepared { IsPrepared last.old.plan }
-    requires plan { last.old.plan ≡ plan_of state.old taken }
+    requires prepared { IsPrepared last.old.unit.prepared }
+    requires plan { last.old.unit.prepared ≡ plan_of state.old taken }
     requires few { state.old.done < 2 ^ 63 }
 
     ensures state { state.new ≡ state_after_execution taken state.old }
@@ -177,9 +175,9 @@ pub(crate) fn execute(state: &mut State, taken: Option<u8>, last: &mut Last)
     } }
 {
     last.enabled = is_enabled(state);
-    last.mispredicted = is_mispredicted(&last.plan, state);
-    complete_in(&last.plan, state);
-    last.ic = predicted_counter(&last.plan, state);
+    last.mispredicted = is_mispredicted(&last.unit.prepared, state);
+    complete_in(&last.unit.prepared, state);
+    last.ic = predicted_counter(&last.unit.prepared, state);
 }
 
 /// The number of the next row.

@@ -99,7 +99,8 @@ impl<const N: usize> Lookahead<N> {
             issue: &self.issue,
             index: self.levels.index(),
         };
-        self.next.plan_before(due, &context, &mut self.log);
+        self.next
+            .plan_before(due, &context, &mut self.log, &mut Nobody);
     }
 
     // Makes the next entry a level at the tick `now`, its P.

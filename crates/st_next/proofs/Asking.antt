@@ -1,6 +1,6 @@
 -- The requests of one step and their premises, by a state before the entry that agrees with the known part.
 use Rattle.std.specs.Prelude.{All}
-use Rattle.std.proofs.Common.{◌≡◌, ℕ, ◌+◌, ◌*◌, ◌-◌, ◌^◌, ◌≤◌, max, Bool, true, false, if◌then◌else◌, List, [], ◌∷◌, ◌++◌, map, Option, None, Some, refl, sym, ◌∙◌, ap, arith, append_assoc}
+use Rattle.std.proofs.Common.{◌≡◌, ℕ, ◌+◌, ◌*◌, ◌-◌, ◌^◌, ◌≤◌, max, true, false, if◌then◌else◌, List, [], ◌∷◌, ◌++◌, map, Option, None, Some, refl, sym, ◌∙◌, ap, arith, append_assoc}
 use Rattle.std.proofs.lemmas.List.{append-nil}
 use Rattle.std.proofs.lemmas.List.Elements.{All-cons, All-nil}
 use Rattle.st_fetch.specs.Planned.{tick_of}
@@ -13,9 +13,12 @@ use Rattle.st_rows.specs.Asked.{side_asked, bus_after_reads}
 use Rattle.st_rows.specs.BusTimes.{bus_after_request, answer_tick_on}
 use Rattle.st_rows.specs.Notes.{log_after_reads}
 use Rattle.st_rows.specs.Ranges.{IsEntryInTime, AreDelaysUpTo}
-use Rattle.st_rows.specs.Rows.{words_tick, wanted_from, tick_a, bus_a}
-use Rattle.st_rows.specs.Words.{fetch_word, bus_after_index_read, fetch_words, is_forwarded}
+use Rattle.st_rows.specs.Rows.{words_tick, wanted_from, tick_a, bus_a, index_uses}
+use Rattle.st_rows.specs.Words.{fetch_word, bus_after_index_read, fetch_words}
+use Rattle.st_rows.specs.Supplies.{told}
 use Rattle.st_rows.specs.Uses.{behind_use, read_made, forwarded_at}
+use Rattle.st_rows.specs.declared.uses.Use.{Use}
+use Rattle.st_rows.specs.declared.entry.Entry.{Entry}
 use Rattle.st_rows.specs.declared.entry.WordRun.{WordRun}
 use Rattle.st_rows.specs.declared.past.Past.{Past}
 use Rattle.st_rows.specs.declared.fetching.Fetching.{Fetching}
@@ -31,11 +34,13 @@ use Rattle.st_segment.proofs.EntryRanges.{entry-ranges}
 use Rattle.st_next.specs.Words.{words_alone, words_so_far, asked_so_far}
 use Rattle.st_next.specs.Progress.{IsKnown, reads_so_far}
 use Rattle.st_next.specs.Going.{IsIssueInTime, IsEarly, IsReadFurther, prepared_as}
+use Rattle.st_next.specs.Told.{words_told, IsToldFurther}
 use Rattle.st_next.specs.declared.fetch_unit.FetchUnit.{FetchUnit}
 use Rattle.st_next.proofs.Starts.{IsNextOwn, IsNextTarget, word-behind}
 use Rattle.st_next.proofs.Contents.{words-entry}
 use Rattle.st_next.proofs.WordByWord.{want_of, read_of, own-asked, target-asked}
 use Rattle.st_next.proofs.Late.{IsLate}
+use Rattle.st_next.proofs.Telling.{next_use, own-told, target-told, told-fetches, told-planned}
 use Rattle.st_next.proofs.Steps.{IsPlannedAs, what, comes-own, comes-target, comes-all, with_own, with_target, decode_context-same, entry-same}
 
 -- ---- request ticks
@@ -118,6 +123,22 @@ module _ (ds : List ℕ) (n now : ℕ) (f : IssueState) (x : List ℕ) (s : Mach
           kept = kept;
         })
 
+    pub own-tells : {A : Type 0} (noted : List Use → A → A) (w : ℕ) (after : FetchUnit) (m o : A) → what ds n now f x s before un due cs contents ≡ GivenWord w false
+        → after ≡ with_own ds n now f x s before un due cs contents w → o ≡ noted (told ds f.past (next_use ds f.past (wanted_from f) before.words w ∷ [])) m
+        → IsToldFurther noted ds f before after m o
+    own-tells noted w after m o e same one =
+        let it = known-own w e in
+        let place = word-behind before.entry.own (entry k.table k.state).own w k.is_next.read_on.first.own_start it.place in
+        let there = with_own ds n now f x s before un due cs contents w in
+        rw same (record {
+          used = told ds f.past (next_use ds f.past (wanted_from f) before.words w ∷ []);
+          so_far =
+              told-fetches ds f there un ∙ own-told ds f before.entry.own before.entry.target w it.none place
+              ∙ ap (λ s. words_told ds f before.entry.own before.entry.target ++ told ds f.past (next_use ds f.past (wanted_from f) s w ∷ [])) (sym (k.is_next.read_on.words un))
+              ∙ ap (λ us. us ++ told ds f.past (next_use ds f.past (wanted_from f) before.words w ∷ [])) (sym (told-fetches ds f before un));
+          told = one;
+        })
+
     -- a word of the target is next
     pub known-target : (w : ℕ) → what ds n now f x s before un due cs contents ≡ GivenWord w true → IsNextTarget before.entry.own before.entry.target (entry k.table k.state) w
     known-target w e = comes-target ds n now f x s before un due cs contents k.table k.state k.indicator k.before k.is_next.read_on w e
@@ -141,6 +162,23 @@ module _ (ds : List ℕ) (n now : ℕ) (f : IssueState) (x : List ℕ) (s : Mach
               ∙ ap (λ reads. reads ++ read_of ds f.past waits before.words w) (sym (reads-none ds f before un));
           bus = served-read ds f.past waits before.words w;
           kept = kept;
+        })
+
+    pub target-tells : {A : Type 0} (noted : List Use → A → A) (w : ℕ) (after : FetchUnit) (m o : A) → what ds n now f x s before un due cs contents ≡ GivenWord w true
+        → after ≡ with_target ds n now f x s before un due cs contents w
+        → o ≡ noted (told ds f.past (next_use ds f.past (max (wanted_from f) f.c) before.words w ∷ [])) m → IsToldFurther noted ds f before after m o
+    target-tells noted w after m o e same one =
+        let it = known-target w e in
+        let place = word-behind before.entry.target (entry k.table k.state).target w k.is_next.read_on.first.target_start it.place in
+        let there = with_target ds n now f x s before un due cs contents w in
+        let waits = max (wanted_from f) f.c in
+        rw same (record {
+          used = told ds f.past (next_use ds f.past waits before.words w ∷ []);
+          so_far =
+              told-fetches ds f there un ∙ target-told ds f before.entry.own before.entry.target w place
+              ∙ ap (λ s. words_told ds f before.entry.own before.entry.target ++ told ds f.past (next_use ds f.past waits s w ∷ [])) (sym (k.is_next.read_on.words un))
+              ∙ ap (λ us. us ++ told ds f.past (next_use ds f.past waits before.words w ∷ [])) (sym (told-fetches ds f before un));
+          told = one;
         })
 
     -- the entry is prepared
@@ -175,6 +213,20 @@ module _ (ds : List ℕ) (n now : ℕ) (f : IssueState) (x : List ℕ) (s : Mach
                 ∙ ap (λ reads. bus_after_reads ds reads before.words.bus) (sym same);
             kept = kept;
           }
+
+-- its index-side word is told
+pub plan-tells : {A : Type 0} (noted : List Use → A → A) (ds : List ℕ) (n : ℕ) (f : IssueState) (before after : FetchUnit) (m o : A) → before.planned ≡ false
+    → IsPlannedAs ds n f before after → o ≡ noted (told ds f.past (index_uses ds f before.entry)) m → IsToldFurther noted ds f before after m o
+plan-tells noted ds n f before after m o un made one =
+    let same : after.entry ≡ before.entry = ap (λ (m : FetchUnit). m.entry) made.rest in
+    record {
+      used = told ds f.past (index_uses ds f before.entry);
+      so_far =
+          told-planned ds f after (ap (λ (m : FetchUnit). m.planned) made.rest) (made.address ∙ ap (tick_a ds f) (sym same))
+          ∙ ap (λ (g : Entry). words_told ds f g.own g.target ++ told ds f.past (index_uses ds f g)) same
+          ∙ ap (λ us. us ++ told ds f.past (index_uses ds f before.entry)) (sym (told-fetches ds f before un));
+      told = one;
+    }
 
 -- ---- steps in sequence
 

@@ -8,9 +8,11 @@ pub mod Late
 pub mod Resting
 pub mod Shown
 pub mod Steps
+pub mod Telling
 pub mod Asking
 pub mod Preparing
 pub mod Goes
 pub mod Starting
 pub mod Whole
+pub mod Planning
 pub mod Laws

@@ -61,7 +61,7 @@ module _ (ds : List ℕ) (n : ℕ) (t : Option ℕ) (u : Machine) (f : IssueStat
   planned : IsPlanned ds n t u f next
   planned = is.planned done
 
-  planned-reads : reads_so_far ds f next ≡ fetches_asked ds f e ++ side_asked f.past e.side (tick_a ds f e)
+  pub planned-reads : reads_so_far ds f next ≡ fetches_asked ds f e ++ side_asked f.past e.side (tick_a ds f e)
   planned-reads =
       reads-planned ds f next done
       ∙ ap (λ reads. reads ++ side_asked f.past next.entry.side next.formed.a) (fetches-same ds f next.entry e planned.entry)

@@ -2,6 +2,7 @@ pub mod Words
 pub mod Progress
 pub mod Known
 pub mod Going
+pub mod Told
 pub mod Laws
 pub use Rattle.st_bits.specs.Storage
 pub use Rattle.st_fetch.specs.Planned

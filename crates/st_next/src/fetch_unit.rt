@@ -1,30 +1,38 @@
 //! The fetch unit: the entry that is prepared next, to the extent that it is known.
-ghost use Rattle.std.specs.Prelude.{◌≡◌, ℕ, ◌+◌, ◌-◌, ◌<◌, ◌≤◌, true, false, max, take, map, List, ◌++◌, Option, IfSome, is_none, is_some, get_or, if◌then◌else◌};
+ghost use Rattle.std.specs.Prelude.{◌≡◌, ℕ, ◌+◌, ◌-◌, ◌<◌, ◌≤◌, true, false, max, take, map, List, [], ◌∷◌, ◌++◌, Option, IfSome, is_none, is_some, get_or, if◌then◌else◌};
+ghost use Rattle.st_bits.specs.Indicators.{IsIndicatorIfAny};
 ghost use Rattle.st_bits.specs.Storage.{words_of_storage};
 ghost use Rattle.st_fetch.specs.Planned.{tick_of};
-ghost use Rattle.st_state.specs.Machine.{word};
+ghost use Rattle.st_state.specs.Machine.{IsMachine, word};
+ghost use Rattle.st_prep.specs.Fetch.{index_words as index_words_of, place_of as place_by};
+ghost use Rattle.st_prep.specs.Plan.{plan as plan_of, needs as needs_of, decode_context};
 ghost use Rattle.st_prep.specs.Ranges.{HasFields, IsPlace, IsFetched, IsFetching, IsPrepared};
 ghost use Rattle.st_prep.specs.Reading.{fetched_plain, is_execute};
 ghost use Rattle.st_prep.specs.declared.entries.Fetching.TheVariants.{Found};
 ghost use Rattle.st_format.specs.Formats.{decoded_entry, instruction_of, spelled_as};
-ghost use Rattle.st_rows.specs.Asked.{word_asked};
+ghost use Rattle.st_rows.specs.Asked.{word_asked, formed_asked};
 ghost use Rattle.st_rows.specs.Notes.{log_after_reads};
 ghost use Rattle.st_rows.specs.Ranges.{IsEntryInTime};
-ghost use Rattle.st_rows.specs.Rows.{wanted_from};
+ghost use Rattle.st_rows.specs.Rows.{wanted_from, tick_a, bus_a, tick_p};
+ghost use Rattle.st_rows.specs.Supplies.{told};
+ghost use Rattle.st_rows.specs.Uses.{use_of};
 ghost use Rattle.st_rows.specs.Words.{fetch_word};
+ghost use Rattle.st_rows.specs.declared.uses.Role.TheVariants.{Instruction};
 ghost use Rattle.st_segment.specs.Alone.{words_of_run};
+ghost use Rattle.st_segment.specs.Entries.{entry as entry_of, side_to_read as side_to_read_of};
 ghost use Rattle.st_next.specs.Words.{words_alone, run_with_word as with_word_of};
 ghost use Rattle.st_next.specs.Progress.{IsUnread, IsKnown, IsNextReady};
 ghost use Rattle.st_next.specs.Going.{given_so_far, IsIssueInTime, IsEarly, GoesOnTo, IsReadFurther, IsPreparedBy, IsPlanAtItsTick, as_entry, prepared_as};
+ghost use Rattle.st_next.specs.Told.{formed_told, IsToldFurther};
 
 use st_banks::Delays;
 use st_format::{Decoded, Format, FullOp, decode_as, format_of};
 use st_prep::{
     Fetched, Fetching as Given, Needs, Place, Prepared, change_by_side, fetch_on, halves_known,
-    is_execute_format, prepare_without_side, side_word,
+    is_execute_format, place_of, prepare_without_side, side_word,
 };
 use st_rows::{
-    Bus, Entry, Fetching, Formed, IssueState, Log, Nobody, TimedEntry, Timing, Wanted, WordRun,
+    Bus, Entry, Fetching, Formed, IssueState, Log, TimedEntry, Timing, Wanted, Watch, WordRun,
 };
 use st_segment::{side_to_read, words_to_read, words_to_write};
 use st_state::State;
@@ -166,7 +174,14 @@ impl FetchUnit {
 
     // Requests one of the entry's own words.
     #[inline(always)]
-    fn ask_own(&mut self, w: u32, issue: &IssueState, delays: &Delays, log: &mut Log)
+    fn ask_own<W: Watch>(
+        &mut self,
+        w: u32,
+        issue: &IssueState,
+        delays: &Delays,
+        log: &mut Log,
+        watch: &mut W,
+    )
         requires words { self.old.entry.own.len ≤ 16 }
         requires room { IsEarly issue.now self.old.words }
         requires storage { 32 ≤ w }
@@ -179,19 +194,32 @@ impl FetchUnit {
             (tick_of self.old.words.bus.held.words w) w
             (max (max (wanted_from issue.now) self.old.words.answered) self.old.words.awaited))
             self.old.words.bus log.old }
+        ensures told { let ds = delays.now.list in let past = issue.now.past in watch.new
+            ≡ W.noted (told ds past (use_of ds past self.old.words (record {
+              role = Instruction;
+              w = w;
+              from = wanted_from issue.now;
+            }) ∷ [])) watch.old }
     {
         let wanted = Wanted {
             tick: issue.wanted_from(),
             delays,
             past: &issue.past,
         };
-        self.words.word(log, &mut Nobody, &wanted, w);
+        self.words.word(log, watch, &wanted, w);
         self.entry.own = with_word(self.entry.own, w);
     }
 
     // Requests a word of the target of EX, which awaits the completion of the previous entry.
     #[inline(never)]
-    fn ask_target(&mut self, w: u32, issue: &IssueState, delays: &Delays, log: &mut Log)
+    fn ask_target<W: Watch>(
+        &mut self,
+        w: u32,
+        issue: &IssueState,
+        delays: &Delays,
+        log: &mut Log,
+        watch: &mut W,
+    )
         requires words { self.old.entry.target.len ≤ 16 }
         requires room { IsEarly issue.now self.old.words }
         requires storage { 32 ≤ w }
@@ -204,13 +232,19 @@ impl FetchUnit {
             (tick_of self.old.words.bus.held.words w) w
             (max (max (max (wanted_from issue.now) issue.now.c) self.old.words.answered)
             self.old.words.awaited)) self.old.words.bus log.old }
+        ensures told { let ds = delays.now.list in let past = issue.now.past in watch.new
+            ≡ W.noted (told ds past (use_of ds past self.old.words (record {
+              role = Instruction;
+              w = w;
+              from = max (wanted_from issue.now) issue.now.c;
+            }) ∷ [])) watch.old }
     {
         let wanted = Wanted {
             tick: issue.wanted_from().max(issue.c),
             delays,
             past: &issue.past,
         };
-        self.words.word(log, &mut Nobody, &wanted, w);
+        self.words.word(log, watch, &wanted, w);
         self.entry.target = with_word(self.entry.target, w);
     }
 
@@ -232,7 +266,13 @@ impl FetchUnit {
     /// there. Returns whether the entry is planned. For every state before the entry, known facts
     /// stay true; if the entry is not planned, nothing more can be known before `due`.
     #[inline(always)]
-    pub fn plan_before(&mut self, due: u64, context: &PlanContext<'_, '_>, log: &mut Log) -> bool
+    pub fn plan_before<W: Watch>(
+        &mut self,
+        due: u64,
+        context: &PlanContext<'_, '_>,
+        log: &mut Log,
+        watch: &mut W,
+    ) -> bool
         requires known { let b = context.now in let t = b.timing in let f = b.issue.now in
             max self.old.words.awaited (if f.serial then f.c else 0) < due →
             IsKnown t.delays.now.list t.levels (due - 1) f b.index.now b.state.now self.old }
@@ -243,6 +283,8 @@ impl FetchUnit {
             t.levels (due - 1) b.issue.now b.index.now b.state.now self.old self.new due }
         ensures further { let b = context.now in IsReadFurther
             b.timing.delays.now.list b.issue.now self.old self.new log.old log.new }
+        ensures told { let b = context.now in IsToldFurther W.noted
+            b.timing.delays.now.list b.issue.now self.old self.new watch.old watch.new }
         ensures planned { result ≡ self.new.planned }
         ensures still { let f = context.now.issue.now in
             due ≤ max self.old.words.awaited (if f.serial then f.c else 0) →
@@ -252,22 +294,71 @@ impl FetchUnit {
         if self.waits_for(issue) >= due {
             return false;
         }
-        if !self.prepare_own_before(due, context, log) {
+        if !self.prepare_own_before(due, context, log, watch) {
             return false;
         }
         let next = TimedEntry {
             entry: &self.entry,
             timing: &context.timing,
         };
-        self.formed = issue.form(&next, &mut self.words, log, &mut Nobody);
+        self.formed = issue.form(&next, &mut self.words, log, watch);
         self.planned = true;
         true
+    }
+
+    /// Plans the next entry of a state after an issue state, or the table instruction of an interrupt
+    /// by the indicator in `table`, whatever entry was known before, and completes its preparation.
+    /// The index words of `context` are those of its state.
+    pub fn plan<W: Watch>(
+        &mut self,
+        table: Option<u8>,
+        context: &PlanContext<'_, '_>,
+        log: &mut Log,
+        watch: &mut W,
+    )
+        requires indicator { IsIndicatorIfAny table }
+        requires index { context.now.index.now ≡ index_words_of context.now.state.now }
+        requires issue { IsIssueInTime context.now.issue.now }
+
+        // The entry, prepared.
+        ensures machine { IsMachine context.now.state.now }
+        ensures prepared { self.new.prepared ≡ plan_of context.now.state.now table }
+        ensures ranges { IsPrepared self.new.prepared }
+        ensures entry { self.new.entry ≡ entry_of table context.now.state.now }
+        ensures in_time { IsEntryInTime self.new.entry }
+        ensures needs { let s = context.now.state.now in
+            self.new.needs ≡ needs_of (decode_context s (place_by s table)) }
+        ensures side { self.new.entry.side ≡ side_to_read_of self.new.needs.index_read }
+
+        // Its A and P, and its reads until A.
+        ensures address { let b = context.now in self.new.formed.a
+            ≡ tick_a b.timing.delays.now.list b.issue.now (entry_of table b.state.now) }
+        ensures tick { let b = context.now in self.new.formed.p ≡ tick_p
+            b.timing.delays.now.list b.timing.levels b.issue.now (entry_of table b.state.now) }
+        ensures bus { let b = context.now in self.new.words.bus
+            ≡ bus_a b.timing.delays.now.list b.issue.now (entry_of table b.state.now) }
+        ensures log { let b = context.now in let ds = b.timing.delays.now.list in
+            log.new ≡ log_after_reads ds (formed_asked ds b.issue.now (entry_of table b.state.now))
+            b.issue.now.bus log.old }
+        ensures told { let b = context.now in let ds = b.timing.delays.now.list in watch.new
+            ≡ W.noted (formed_told ds b.issue.now (entry_of table b.state.now)) watch.old }
+    {
+        self.words.bus = context.issue.bus;
+        self.restart(place_of(context.state, table));
+        self.plan_before(u64::MAX, context, log, watch);
+        self.prepare(context.index, context.state);
     }
 
     // Prepares the entry without its index-side word, and returns whether its words are known.
     // Usually no word is requested yet, so the first request is inlined.
     #[inline(always)]
-    fn prepare_own_before(&mut self, due: u64, context: &PlanContext<'_, '_>, log: &mut Log) -> bool
+    fn prepare_own_before<W: Watch>(
+        &mut self,
+        due: u64,
+        context: &PlanContext<'_, '_>,
+        log: &mut Log,
+        watch: &mut W,
+    ) -> bool
         requires known { let b = context.now in let t = b.timing in IsKnown
             t.delays.now.list t.levels (due - 1) b.issue.now b.index.now b.state.now self.old }
         requires issue { IsIssueInTime context.now.issue.now }
@@ -279,17 +370,25 @@ impl FetchUnit {
             (if result then 0 else due) }
         ensures further { let b = context.now in IsReadFurther
             b.timing.delays.now.list b.issue.now self.old self.new log.old log.new }
+        ensures told { let b = context.now in IsToldFurther W.noted
+            b.timing.delays.now.list b.issue.now self.old self.new watch.old watch.new }
         ensures unplanned { self.new.planned ≡ false }
         ensures prepared { result ≡ true → IsPreparedBy (due - 1) context.now.index.now
             context.now.state.now self.new }
     {
-        self.begin(due, context, log);
-        self.prepare_before(due, context, log)
+        self.begin(due, context, log, watch);
+        self.prepare_before(due, context, log, watch)
     }
 
     // Requests the first word, if none is requested yet and it is one of the entry's own.
     #[inline(always)]
-    fn begin(&mut self, due: u64, context: &PlanContext<'_, '_>, log: &mut Log)
+    fn begin<W: Watch>(
+        &mut self,
+        due: u64,
+        context: &PlanContext<'_, '_>,
+        log: &mut Log,
+        watch: &mut W,
+    )
         requires known { let b = context.now in let t = b.timing in IsKnown
             t.delays.now.list t.levels (due - 1) b.issue.now b.index.now b.state.now self.old }
         requires issue { IsIssueInTime context.now.issue.now }
@@ -300,6 +399,8 @@ impl FetchUnit {
             t.levels (due - 1) b.issue.now b.index.now b.state.now self.old self.new 0 }
         ensures further { let b = context.now in IsReadFurther
             b.timing.delays.now.list b.issue.now self.old self.new log.old log.new }
+        ensures told { let b = context.now in IsToldFurther W.noted
+            b.timing.delays.now.list b.issue.now self.old self.new watch.old watch.new }
         ensures unplanned { self.new.planned ≡ false }
     {
         let _ = due;
@@ -310,7 +411,9 @@ impl FetchUnit {
             Given::Next {
                 word,
                 target: false,
-            } => self.ask_own(word, context.issue, context.timing.delays, log),
+            } => {
+                self.ask_own(word, context.issue, context.timing.delays, log, watch);
+            }
             _ => {}
         }
     }
@@ -318,7 +421,13 @@ impl FetchUnit {
     // Prepares the entry without its index-side word, from any number of words requested so far. It
     // is not inlined, and functions with no other caller are inlined in it.
     #[inline(never)]
-    fn prepare_before(&mut self, due: u64, context: &PlanContext<'_, '_>, log: &mut Log) -> bool
+    fn prepare_before<W: Watch>(
+        &mut self,
+        due: u64,
+        context: &PlanContext<'_, '_>,
+        log: &mut Log,
+        watch: &mut W,
+    ) -> bool
         requires known { let b = context.now in let t = b.timing in IsKnown
             t.delays.now.list t.levels (due - 1) b.issue.now b.index.now b.state.now self.old }
         requires issue { IsIssueInTime context.now.issue.now }
@@ -329,6 +438,8 @@ impl FetchUnit {
             (if result then 0 else due) }
         ensures further { let b = context.now in IsReadFurther
             b.timing.delays.now.list b.issue.now self.old self.new log.old log.new }
+        ensures told { let b = context.now in IsToldFurther W.noted
+            b.timing.delays.now.list b.issue.now self.old self.new watch.old watch.new }
         ensures unplanned { self.new.planned ≡ false }
         ensures prepared { result ≡ true → IsPreparedBy (due - 1) context.now.index.now
             context.now.state.now self.new }
@@ -352,12 +463,12 @@ impl FetchUnit {
                 Given::Next {
                     word,
                     target: false,
-                } => self.ask_own(word, issue, delays, log),
+                } => self.ask_own(word, issue, delays, log, watch),
                 Given::Next { word, target: true } => {
                     if issue.c >= due {
                         return false;
                     }
-                    self.ask_target(word, issue, delays, log);
+                    self.ask_target(word, issue, delays, log, watch);
                 }
                 Given::Found(fetched) => {
                     self.prepare_found(fetched, x, state);

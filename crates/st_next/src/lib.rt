@@ -4,4 +4,4 @@
 
 mod fetch_unit;
 
-pub use fetch_unit::{PlanContext, FetchUnit};
+pub use fetch_unit::{FetchUnit, PlanContext};

@@ -9,8 +9,10 @@ use Rattle.st_bits.specs.declared.register.TheConstants.{FIRST_STORAGE_WORD}
 use Rattle.st_bits.specs.Storage.{words_of_storage}
 use Rattle.st_fetch.specs.Planned.{tick_of}
 use Rattle.st_rows.specs.KeptUses.{uses_with}
-use Rattle.st_rows.specs.Rows.{wanted_from, words_tick, tick_a, bus_a, tick_p, index_uses, operands, followings}
-use Rattle.st_rows.specs.Words.{fetch_word, fetch_words, read_word, operands_read, read_words, request_inside}
+use Rattle.st_rows.specs.Ranges.{IsEntryInTime}
+use Rattle.st_rows.specs.Rows.{wanted_from, own_uses, own_fetched, target_uses, words_tick, tick_a, bus_a, tick_p, index_uses, operands, followings}
+use Rattle.st_next.specs.Told.{formed_told}
+use Rattle.st_rows.specs.Words.{operands_read, read_words, request_inside}
 use Rattle.st_rows.specs.declared.bus.Bus.{Bus}
 use Rattle.st_rows.specs.declared.entry.Entry.{Entry}
 use Rattle.st_rows.specs.declared.entry.WordRun.{WordRun}
@@ -18,13 +20,12 @@ use Rattle.st_rows.specs.declared.issue.IssueState.{IssueState}
 use Rattle.st_prep.specs.declared.entries.Words.{Words}
 use Rattle.st_rows.specs.declared.fetching.Fetching.{Fetching}
 use Rattle.st_rows.specs.declared.past.Past.{Past}
-use Rattle.st_plain.specs.Uses.{instruction_uses, fetch_uses, side_uses, register_uses, operand_uses, data_uses, inside_uses, following_uses, formed_uses, prepared_uses, side_register, uses_of_entry}
+use Rattle.st_plain.specs.Uses.{fetch_uses, side_uses, register_uses, operand_uses, data_uses, inside_uses, following_uses, formed_uses, prepared_uses, side_register, uses_of_entry}
 use Rattle.st_rows.specs.Supplies.{fetch_supply, use_told, told}
 use Rattle.st_rows.specs.declared.uses.Role.TheVariants.{Instruction, Operand, Following}
-use Rattle.st_rows.specs.declared.uses.Supply.{Supply}
 use Rattle.st_rows.specs.declared.uses.Supply.TheVariants.{Register}
 use Rattle.st_rows.specs.declared.uses.Use.{Use}
-use Rattle.st_rows.specs.Uses.{uses, wishes, words_of, wish_of, use_of, unused, behind_use}
+use Rattle.st_rows.specs.Uses.{uses, words_of, wish_of, use_of, unused, behind_use}
 use Rattle.st_rows.specs.declared.uses.Wish.{Wish}
 use Rattle.st_rows.specs.BusTimes.{bus_after_request}
 use Rattle.st_rows.proofs.Served.{wishes-length, followings-length}
@@ -37,22 +38,6 @@ turned us vs rest all u one is = rw (one, is) (append_assoc us (u ∷ []) rest)
 -- no word remains
 ended : (us rest all : List Use) → rest ≡ [] → us ++ rest ≡ all → us ≡ all
 ended us rest all none h = sym (append-nil us) ∙ ap (λ r. us ++ r) (sym none) ∙ h
-
-module _ (ds : List ℕ) (past : List Past) (from w : ℕ) where
-  pub instruction-turn : (s t : Fetching) (n : ℕ) (us vs : List Use) (u : Supply) → t ≡ fetch_word ds past s w from
-      → u ≡ fetch_supply (tick_of s.bus.held.words w) ds s.bus w (max (max from s.answered) s.awaited)
-      → vs ≡ us ++ record { role = Instruction; word = w; supply = u } ∷ [] → 1 ≤ n
-      → vs ++ instruction_uses ds past t from (w + 1) (n - 1) ≡ us ++ instruction_uses ds past s from w n
-  unfolding instruction_uses uses wishes fetch_word
-  instruction-turn s t zero us vs u is from_is one some = let no : ⊥ = omega arith in absurd no
-  instruction-turn s t (suc n) us vs u is from_is one some =
-      let e : suc n - 1 ≡ n = omega arith in
-      turned us vs _ _ _ one (rw (e, is, from_is) refl)
-
-  pub instruction-end : (s : Fetching) (n : ℕ) (us all : List Use) → n ≡ 0 → us ++ instruction_uses ds past s from w n ≡ all → us ≡ all
-  unfolding instruction_uses uses wishes fetch_word
-  instruction-end s zero us all none h = ended us [] all refl h
-  instruction-end s (suc n) us all none h = let no : ⊥ = omega arith in absurd no
 
 pub register-turn : (w n : ℕ) (us vs : List Use) → vs ≡ us ++ record { role = Operand; word = w; supply = Register } ∷ [] → 1 ≤ n
     → vs ++ register_uses (w + 1) (n - 1) ≡ us ++ register_uses w n
@@ -111,9 +96,22 @@ module _ (ds : List ℕ) (past : List Past) (s : Fetching) where
   unfolding operand_uses
   put-operands p run kept new is few = put-uses (words_of Operand p run) run.len kept new (omega (arith, wishes-length Operand p run.first run.len)) is few
 
-pub put-side : (ds : List ℕ) (f : IssueState) (e : Entry) (kept new : Items) → new ≡ uses_with (told ds f.past (index_uses ds f e)) kept → length kept.items + 1 ≤ 48
-    → (new.items ≡ kept.items ++ told ds f.past (index_uses ds f e)) × (length new.items ≤ length kept.items + 1)
-put-side ds f e kept new is few = put-uses ds f.past (unused (words_tick ds f e).bus 0) (wish_of e.side (tick_a ds f e)) 1 kept new (one-side e.side) is few
+-- its instruction words and its index-side word
+pub put-formed : (ds : List ℕ) (f : IssueState) (e d : Entry) (kept new : Items) → e ≡ d → IsEntryInTime e → new ≡ uses_with (formed_told ds f d) kept → length kept.items + 5 ≤ 48
+    → (new.items ≡ kept.items ++ formed_told ds f e) × (length new.items ≤ length kept.items + 5)
+put-formed ds f e d kept new same range is few =
+    let own = uses-count ds f.past (unused f.bus 0) (words_of Instruction (wanted_from f) e.own) in
+    let target = uses-count ds f.past (own_fetched ds f e) (words_of Instruction (max (wanted_from f) f.c) e.target) in
+    let side = uses-count ds f.past (unused (words_tick ds f e).bus 0) (wish_of e.side (tick_a ds f e)) in
+    let a = told ds f.past (own_uses ds f e) in
+    let b = told ds f.past (target_uses ds f e) in
+    let i = told ds f.past (index_uses ds f e) in
+    let counted : length (formed_told ds f e) ≤ 5 =
+    omega (arith, length-append (a ++ b) i, length-append a b, own, target, side, wishes-length Instruction (wanted_from f) e.own.first e.own.len,
+    wishes-length Instruction (max (wanted_from f) f.c) e.target.first e.target.len, one-side e.side, range.own_few, range.target_few) in
+    let all : new.items ≡ kept.items ++ formed_told ds f e =
+    ap (λ (k : Items). k.items) (is ∙ ap (λ (x : Entry). uses_with (formed_told ds f x) kept) (sym same)) ∙ put-all (formed_told ds f e) kept (omega (arith, counted, few)) in
+    (all, omega (arith, ap length all, length-append kept.items (formed_told ds f e), counted))
   where
     one-side : (o : Option ℕ) → length (wish_of o (tick_a ds f e)) ≤ 1
     one-side None = omega arith
@@ -180,31 +178,15 @@ module _ (ds : List ℕ) (b : Bus) where
       both_if e.follows (nat_lt w words_of_storage) (nat_lt (w + 1) words_of_storage) w p
 
 module _ (ds : List ℕ) (f : IssueState) (e : Entry) where
-  pub words-fetched : (s t all : Fetching) (from late : ℕ) → s ≡ record { bus = f.bus; answered = 0; awaited = 0 } → from ≡ wanted_from f → late ≡ max from f.c
-      → t ≡ fetch_words ds f.past s from e.own.first e.own.len → all ≡ fetch_words ds f.past t late e.target.first e.target.len → all ≡ words_tick ds f e
-  unfolding words_tick fetch_words
-  words-fetched s t all from late is wanted later own target = target ∙ rw (own, is, later, wanted) refl
-
-  pub fetches-used : (s t : Fetching) (from late : ℕ) (us vs ws : List Use) → s ≡ record { bus = f.bus; answered = 0; awaited = 0 }
-      → from ≡ wanted_from f → late ≡ max from f.c → t ≡ fetch_words ds f.past s from e.own.first e.own.len
-      → vs ≡ us ++ instruction_uses ds f.past s from e.own.first e.own.len
-      → ws ≡ vs ++ instruction_uses ds f.past t late e.target.first e.target.len → ws ≡ us ++ fetch_uses ds f e
-  unfolding fetch_uses instruction_uses fetch_words
-  fetches-used s t from late us vs ws is wanted later own one two =
-      let start : Fetching = record { bus = f.bus; answered = 0; awaited = 0 } in
-      let behind = fetch_words ds f.past start (wanted_from f) e.own.first e.own.len in
-      let t_is : t ≡ behind = own ∙ rw (is, wanted) refl in
-      let one_is : vs ≡ us ++ instruction_uses ds f.past start (wanted_from f) e.own.first e.own.len = one ∙ rw (is, wanted) refl in
-      let two_is : ws ≡ vs ++ instruction_uses ds f.past behind (max (wanted_from f) f.c) e.target.first e.target.len = two ∙ rw (t_is, later, wanted) refl in
-      two-noted us vs ws _ _ one_is two_is
-
   -- the index-side word is noted: first if it is read, and then if it is a register
-  pub formed-used : (side : Option ℕ) (us vs ws xs : List Use) → e.side ≡ side_to_read side → vs ≡ us ++ fetch_uses ds f e
-      → ws ≡ vs ++ told ds f.past (index_uses ds f e) → xs ≡ ws ++ side_register side → xs ≡ us ++ formed_uses ds f e side
-  formed-used side us vs ws xs is one two three =
-      two-noted us vs xs _ _ one
-      (two-noted vs ws xs _ _ two three
-      ∙ ap (λ (zs : List Use). vs ++ zs)
+  pub formed-used : (side : Option ℕ) (us vs xs : List Use) → e.side ≡ side_to_read side → vs ≡ us ++ formed_told ds f e
+      → xs ≡ vs ++ side_register side → xs ≡ us ++ formed_uses ds f e side
+  unfolding fetch_uses
+  formed-used side us vs xs is one two =
+      two-noted us vs xs (formed_told ds f e) (side_register side) one two
+      ∙ ap (λ (zs : List Use). us ++ zs)
+      (append_assoc (fetch_uses ds f e) (told ds f.past (index_uses ds f e)) (side_register side)
+      ∙ ap (λ (zs : List Use). fetch_uses ds f e ++ zs)
       (ap (λ (o : Option ℕ). told ds f.past (uses ds f.past (unused (words_tick ds f e).bus 0) (wish_of o (tick_a ds f e))) ++ side_register side) is
       ∙ sym (side-parts ds f.past (words_tick ds f e).bus side (tick_a ds f e))))
 

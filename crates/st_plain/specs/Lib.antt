@@ -1,5 +1,4 @@
 pub mod Looking
-pub mod Straight
 pub mod Uses
 pub mod Laws
 pub use Rattle.st_exec.specs.Completion

@@ -1,13 +1,17 @@
 //! The facts of an entry that its plan does not have.
 ghost use Rattle.std.specs.Prelude.{◌≡◌, None, Some, if◌then◌else◌};
-ghost use Rattle.st_format.specs.Halves.{is_full as has_ones};
-ghost use Rattle.st_format.specs.Formats.{decoded_entry};
-ghost use Rattle.st_prep.specs.Reading.{fetched_plain};
-ghost use Rattle.st_prep.specs.Ranges.{HasFields, IsFetched};
-ghost use Rattle.st_plain.specs.Looking.{code_of as code_by, code_found as code_found_of};
+ghost use Rattle.st_bits.specs.Indicators.{IsIndicatorIfAny};
+ghost use Rattle.st_prep.specs.Fetch.{index_words as index_words_of, place_of as place_by, words_fetched};
+ghost use Rattle.st_prep.specs.Plan.{needs as needs_of, decode_context, plan as plan_of};
+ghost use Rattle.st_prep.specs.Ranges.{HasFields, IsFetched, IsPrepared};
+ghost use Rattle.st_prep.specs.Reading.{is_execute as is_execute_of};
+ghost use Rattle.st_segment.specs.Entries.{entry as entry_of};
+ghost use Rattle.st_plain.specs.Looking.{code_of as code_by, code_found as code_found_of, known_at};
 
-use st_format::{Instr, encode, length_in_halves};
-use st_prep::Fetched;
+use st_format::{Instr, encode};
+use st_next::FetchUnit;
+use st_prep::{Fetched, fetch_all, is_execute, place_of};
+use st_state::State;
 
 /// The half-words of an instruction.
 #[derive(Clone, Copy, Debug, Default, PartialEq, Eq)]
@@ -30,29 +34,6 @@ pub struct Known {
     pub code: Option<Code>,
 }
 
-// The second half-word, if the first one begins a full word.
-#[inline(always)]
-fn second_of(first: u32, second: u32) -> Option<u32>
-    ensures { result ≡ (if has_ones first then Some second else None) }
-{
-    if length_in_halves(first) == 2 {
-        Some(second)
-    } else {
-        None
-    }
-}
-
-// The half-words of an instruction other than EX whose words may be fetched.
-#[inline(always)]
-pub(crate) fn code_in(first: u32, second: u32) -> Option<Code>
-    ensures { result ≡ code_found_of (fetched_plain (decoded_entry first second)) }
-{
-    Some(Code {
-        first,
-        second: second_of(first, second),
-    })
-}
-
 // The second half-word of bits that spell no instruction.
 fn second_where(full: bool, second: u32) -> Option<u32>
     ensures { result ≡ (if full then Some second else None) }
@@ -61,6 +42,7 @@ fn second_where(full: bool, second: u32) -> Option<u32>
 }
 
 // The half-words of an instruction.
+#[inline(always)]
 fn code_of(instr: &Instr) -> Code
     requires { HasFields instr.now }
     ensures { result ≡ code_by instr.now }
@@ -91,15 +73,62 @@ fn code_of(instr: &Instr) -> Code
 }
 
 // The half-words that a fetched entry executes; None if one of its words may not be fetched.
-pub(crate) fn code_found(fetched: &Fetched) -> Option<Code>
+fn code_found(fetched: &Fetched) -> Option<Code>
     requires { IsFetched fetched.now }
     ensures { result ≡ code_found_of fetched.now }
 {
     if fetched.fault.is_some() {
         return None;
     }
-    match fetched.target {
-        Some(target) => Some(code_of(&target.instr)),
-        None => Some(code_of(&fetched.instr.instr)),
+    let executed = fetched.target.unwrap_or(fetched.instr);
+    Some(code_of(&executed.instr))
+}
+
+// The facts of the next entry of a state, whose words are read again.
+#[inline(never)]
+fn known_anew(table: Option<u8>, side: Option<u32>, x: &[u64; 16], state: &State) -> Known
+    requires indicator { IsIndicatorIfAny table }
+    requires words { x.now ≡ index_words_of state.now }
+    ensures { let f = words_fetched state.now (place_by state.now table) in result ≡ record {
+      side = side;
+      execute = is_execute_of f.instr.instr;
+      code = code_found_of f;
+    } }
+{
+    let place = place_of(state, table);
+    let fetched = fetch_all(&place, x, state);
+    Known {
+        side,
+        execute: is_execute(&fetched.instr.instr),
+        code: code_found(&fetched),
+    }
+}
+
+/// The facts of the next entry of a state, which is planned and prepared. If it asks for following
+/// words, each of its words may be fetched, and it is EX if it has a target.
+#[inline(always)]
+pub(crate) fn known_of(
+    unit: &FetchUnit,
+    table: Option<u8>,
+    x: &[u64; 16],
+    state: &State,
+) -> Known
+    requires indicator { IsIndicatorIfAny table }
+    requires words { x.now ≡ index_words_of state.now }
+    requires plan { unit.now.prepared ≡ plan_of state.now table }
+    requires ranges { IsPrepared unit.now.prepared }
+    requires entry { unit.now.entry ≡ entry_of table state.now }
+    requires needs { unit.now.needs ≡ needs_of (decode_context state.now (place_by state.now table)) }
+    ensures { result ≡ known_at table state.now }
+{
+    let side = unit.needs.index_read;
+    let entry = &unit.entry;
+    if !entry.follows {
+        return known_anew(table, side, x, state);
+    }
+    Known {
+        side,
+        execute: entry.target.len > 0,
+        code: Some(code_of(&unit.prepared.instr)),
     }
 }

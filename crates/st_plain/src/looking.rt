@@ -11,13 +11,13 @@ ghost use Rattle.st_rows.specs.Rows.{done_before};
 ghost use Rattle.st_segment.specs.Ahead.{ahead as ahead_of, prepared_before};
 ghost use Rattle.st_plain.specs.Looking.{seen_ahead, first_late, reads_up_to};
 
-use crate::entries::plan_entry;
 use crate::known::Known;
-use crate::rows::{Begun, NextEntry, begin, finish};
+use crate::rows::{Before, begin, finish};
 use arrayvec::ArrayVec;
 use st_back::{keep, undo};
 use st_exec::complete_in;
-use st_prep::Prepared;
+use st_next::FetchUnit;
+use st_prep::{Prepared, place_of};
 use st_rows::{EntryTicks, IssueState, Log, Timing, Uses};
 use st_state::State;
 
@@ -107,34 +107,34 @@ pub fn look(
         issue.new.bus ≡ bus_after_reads ds (reads_up_to ds t.levels r.tick
         (ahead_of ds t.levels (suc r.more) None state.old issue.old)) issue.old.bus }
 {
-    let mut p = Prepared::default();
-    let planned = plan_entry(None, state, &mut p);
-    let next = NextEntry {
-        plan: &p,
-        planned: &planned,
+    let place = place_of(state, None);
+    let mut unit = FetchUnit::new(place, issue.bus);
+    let mut uses = Uses::new();
+    let before = Before {
+        state,
+        issue,
         timing: reach.timing,
     };
-    let mut uses = Uses::new();
-    let mut begun = Begun::default();
-    begin(&mut begun, issue, &next, log, &mut uses);
+    let begun = begin(&mut unit, None, &before, log, &mut uses);
+    let p = unit.prepared;
     if begun.formed.p >= reach.tick {
         let mut scratch = Log::new();
-        let bus = begun.words.bus;
-        let ticks = finish(issue, &next, &mut begun, &mut scratch, &mut uses);
+        let bus = unit.words.bus;
+        let ticks = finish(issue, &mut unit, reach.timing, &mut scratch, &mut uses);
         ahead.late = Ahead {
             plan: p,
             row: ticks,
-            known: planned.known,
+            known: begun.known,
             uses,
         };
         issue.bus = bus;
         return;
     }
-    let row = finish(issue, &next, &mut begun, log, &mut uses);
+    let row = finish(issue, &mut unit, reach.timing, log, &mut uses);
     ahead.found.push(Ahead {
         plan: p,
         row,
-        known: planned.known,
+        known: begun.known,
         uses,
     });
     let further = Reach {

@@ -1,16 +1,16 @@
 //! Notes the registers that an entry uses, in the list of the words that are read for it.
 ghost use Rattle.std.specs.Prelude.{◌≡◌, ◌+◌, ◌-◌, ◌<◌, ◌≤◌, ◌^◌, ◌∷◌, ◌++◌, [], length};
 ghost use Rattle.st_prep.specs.Ranges.{IsRuns};
-ghost use Rattle.st_rows.specs.Ranges.{IsBusWithin, IsReadingWithin, ArePastWithin, IsReadable, IsEntryInTime};
+ghost use Rattle.st_rows.specs.Ranges.{IsBusWithin, IsReadingWithin, ArePastWithin, IsReadable};
 ghost use Rattle.st_rows.specs.Asked.{operands_asked, runs_asked};
 ghost use Rattle.st_rows.specs.Notes.{log_after_reads};
 ghost use Rattle.st_rows.specs.Words.{read_words, operands_read};
 ghost use Rattle.st_rows.specs.declared.uses.Supply.TheVariants.{Register};
 ghost use Rattle.st_plain.specs.Uses.{side_register, register_uses, run_uses, data_uses};
 
-use crate::rows::NextEntry;
 use st_bits::register::FIRST_STORAGE_WORD;
-use st_rows::{Fetching, Log, Role, Supply, Use, Uses, Wanted, WordRun};
+use st_prep::Words;
+use st_rows::{Fetching, Log, Role, Supply, Use, Uses, Wanted, WordRun, WordRuns};
 
 // Notes a register that is used.
 #[inline(always)]
@@ -97,6 +97,13 @@ fn use_run(
     words.read_on(log, uses, wanted, read);
 }
 
+/// The operand words of an entry, and those of them that are read from storage.
+#[derive(Clone, Copy)]
+pub(crate) struct DataWords {
+    pub all: Words,
+    pub read: WordRuns,
+}
+
 /// Notes the operand words of the next entry, which is prepared at the tick, and reads those that
 /// are not registers.
 #[inline(always)]
@@ -105,11 +112,14 @@ pub(crate) fn use_data(
     words: &mut Fetching,
     log: &mut Log,
     wanted: &Wanted<'_>,
-    next: &NextEntry<'_>,
+    data: DataWords,
 )
     requires space { length uses.old.items + 32 ≤ 48 }
-    requires runs { IsRuns next.now.plan.now.reads }
-    requires entry { IsEntryInTime next.now.planned.now.entry }
+    requires runs { IsRuns data.all }
+    requires one { IsReadable data.read.one }
+    requires one_few { data.read.one.len ≤ 16 }
+    requires two { IsReadable data.read.two }
+    requires two_few { data.read.two.len ≤ 16 }
     requires room { IsBusWithin (2 ^ 64 - 2 ^ 17) words.old.bus }
     requires before { ArePastWithin (2 ^ 64 - 2 ^ 17) wanted.now.past.now }
     requires early { wanted.now.tick ≤ 2 ^ 64 - 2 ^ 17 }
@@ -117,19 +127,14 @@ pub(crate) fn use_data(
         ≡ record { bus = words.old.bus; answered = wanted.now.tick; awaited = 0 } }
 
     ensures after { let x = wanted.now in words.new
-        ≡ operands_read x.delays.now.list x.past.now words.old
-        next.now.planned.now.entry.reads x.tick }
+        ≡ operands_read x.delays.now.list x.past.now words.old data.read x.tick }
     ensures log { let x = wanted.now in log.new ≡ log_after_reads x.delays.now.list
-        (runs_asked x.past.now next.now.planned.now.entry.reads x.tick) words.old.bus log.old }
+        (runs_asked x.past.now data.read x.tick) words.old.bus log.old }
     ensures items { let x = wanted.now in uses.new.items ≡ uses.old.items
-        ++ data_uses x.delays.now.list x.past.now words.old.bus x.tick
-        next.now.plan.now.reads next.now.planned.now.entry.reads }
+        ++ data_uses x.delays.now.list x.past.now words.old.bus x.tick data.all data.read }
     ensures room { length uses.new.items ≤ length uses.old.items + 32 }
 {
-    let plan = next.plan;
-    let all = plan.reads;
-    let planned = next.planned;
-    let read = planned.entry.reads;
+    let DataWords { all, read } = data;
     let one = OperandRun {
         all: WordRun {
             first: all.first,

@@ -1,30 +1,31 @@
-use Rattle.std.proofs.Common.{◌+◌, arith}
-use Rattle.st_plain.proofs.RowLemmas.{noted-formed}
-use Rattle.st_plain.proofs.UseLemmas.{formed-used, put-side}
+use Rattle.std.proofs.Common.{◌∙◌, sym, ap, arith}
+use Rattle.st_prep.specs.declared.entries.Needs.{Needs}
+use Rattle.st_segment.specs.Entries.{side_to_read}
+use Rattle.st_plain.specs.Looking.{side_at}
+use Rattle.st_plain.specs.declared.known.Known.{Known}
+use Rattle.st_plain.proofs.UseLemmas.{put-formed, formed-used}
 use Rattle.st_plain.proofs.rows.begin.Goals as goal
 
 pub use_side_register-requires : goal.use_side_register-requires
 use_side_register-requires c =
-    let told = put-side c.args.next.now.timing.now.delays.now.list c.args.issue.now c.args.next.now.planned.now.entry c.fetch_all.new.uses c.form-formed.new.watch c.form-formed.ensures.told
-    (omega (arith, c.fetch_all.ensures.noted, c.requires.space)) in
-    omega (arith, told.1, c.fetch_all.ensures.noted, c.requires.space)
-
-pub returns-clause-log : goal.returns-clause-log
-returns-clause-log c =
-    noted-formed c.args.next.now.timing.now.delays.now.list c.args.issue.now c.args.next.now.planned.now.entry c.fetch_all.new.words c.form-formed.result.a c.args.log.now c.fetch_all.new.log
-    c.form-formed.new.log c.fetch_all.ensures.words c.form-formed.ensures.address c.fetch_all.ensures.log c.form-formed.ensures.log
+    let told = put-formed c.args.before.now.timing.now.delays.now.list c.args.before.now.issue.now _ _ c.args.uses.now c.plan.new.watch c.plan.ensures.entry
+    c.plan.ensures.in_time c.plan.ensures.told (omega (arith, c.requires.space)) in
+    omega (arith, told.1, c.requires.space)
 
 pub returns-clause-uses : goal.returns-clause-uses
+unfolding side_at
 returns-clause-uses c =
-    let ds = c.args.next.now.timing.now.delays.now.list in
-    let f = c.args.issue.now in
-    let e = c.args.next.now.planned.now.entry in
-    let told = put-side ds f e c.fetch_all.new.uses c.form-formed.new.watch c.form-formed.ensures.told (omega (arith, c.fetch_all.ensures.noted, c.requires.space)) in
-    formed-used ds f e c.args.next.now.planned.now.known.side c.args.uses.now.items c.fetch_all.new.uses.items c.form-formed.new.watch.items c.use_side_register.new.uses.items c.requires.side
-    c.fetch_all.ensures.uses told.0 c.use_side_register.ensures.items
+    let ds = c.args.before.now.timing.now.delays.now.list in
+    let f = c.args.before.now.issue.now in
+    let e = c.plan.new.self.entry in
+    let told = put-formed ds f e _ c.args.uses.now c.plan.new.watch c.plan.ensures.entry c.plan.ensures.in_time
+    c.plan.ensures.told (omega (arith, c.requires.space)) in
+    let side = ap (λ (n : Needs). n.index_read) c.plan.ensures.needs ∙ sym (ap (λ (k : Known). k.side) c.known_of-known.ensures) in
+    formed-used ds f e c.known_of-known.result.side c.args.uses.now.items c.plan.new.watch.items c.use_side_register.new.uses.items
+    (c.plan.ensures.side ∙ ap side_to_read side) told.0 c.use_side_register.ensures.items
 
 pub returns-clause-noted : goal.returns-clause-noted
 returns-clause-noted c =
-    let told = put-side c.args.next.now.timing.now.delays.now.list c.args.issue.now c.args.next.now.planned.now.entry c.fetch_all.new.uses c.form-formed.new.watch c.form-formed.ensures.told
-    (omega (arith, c.fetch_all.ensures.noted, c.requires.space)) in
-    omega (arith, told.1, c.fetch_all.ensures.noted, c.use_side_register.ensures.room)
+    let told = put-formed c.args.before.now.timing.now.delays.now.list c.args.before.now.issue.now _ _ c.args.uses.now c.plan.new.watch c.plan.ensures.entry
+    c.plan.ensures.in_time c.plan.ensures.told (omega (arith, c.requires.space)) in
+    omega (arith, told.1, c.use_side_register.ensures.room)

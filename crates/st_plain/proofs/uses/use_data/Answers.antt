@@ -14,9 +14,9 @@ use_run-requires-2-clause-room c =
     subst (λ (s : Fetching). IsReadingWithin (2 ^ 64 - 2 ^ 16) s) (sym c.use_run.ensures.after)
     (reading-weaker (m + 16 * 256) (2 ^ 64 - 2 ^ 16) _ (omega arith)
     (read_sixteen-within 255 c.args.wanted.now.delays.now.list (delays-are c.args.wanted.now.delays.now) c.args.wanted.now.past.now c.args.wanted.now.tick
-    c.args.next.now.planned.now.entry.reads.one.first c.args.next.now.planned.now.entry.reads.one.len m _ c.requires.entry.one_few start c.requires.early))
+    c.args.data.read.one.first c.args.data.read.one.len m _ c.requires.one_few start c.requires.early))
 
 pub returns-clause-log : goal.returns-clause-log
 returns-clause-log c =
-    runs-noted c.args.wanted.now.delays.now.list c.args.wanted.now.past.now c.args.wanted.now.tick c.args.next.now.planned.now.entry.reads c.args.words.now c.use_run.new.words c.args.log.now
+    runs-noted c.args.wanted.now.delays.now.list c.args.wanted.now.past.now c.args.wanted.now.tick c.args.data.read c.args.words.now c.use_run.new.words c.args.log.now
     c.use_run.new.log c.use_run-2.new.log c.use_run.ensures.after c.use_run.ensures.log c.use_run-2.ensures.log

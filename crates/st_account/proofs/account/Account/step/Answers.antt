@@ -35,7 +35,7 @@ returns-clause-lines c p end some is =
     (ap (λ (l : Last). l.done.row.level_wait) rest ∙ c.count_on.ensures.wait)
     (ap (λ (l : Last). l.done.n) rest ∙ c.count_on.ensures.number ∙ c.row_number-self.ensures.number)
     (ap (λ (l : Last). l.mispredicted) rest)
-    (ap (λ (l : Last). l.plan) rest ∙ c.count_on.ensures.plan)
+    (ap (λ (l : Last). l.unit.prepared) rest ∙ c.count_on.ensures.plan)
     (ap (λ (l : Last). l.done.known) rest ∙ c.count_on.ensures.known)
     (ap (λ (l : Last). l.done.before) rest ∙ c.count_on.ensures.before)
     (ap (λ (l : Last). l.done.start) rest ∙ c.count_on.ensures.start)
@@ -119,5 +119,5 @@ returns-clause-prediction c =
 
 pub returns-clause-left : goal.returns-clause-left
 returns-clause-left c w above among =
-    entry-left c.args.self.now.state _ c.interrupt-taken.result c.count_on.new.last.plan c.row_number-self.ensures.machine c.count_on.ensures.prepared
-    c.count_on.ensures.plan c.execute.ensures.state w above (subst (λ (l : Last). IsNotAmong w l.plan.writes) c.execute.ensures.rest among)
+    entry-left c.args.self.now.state _ c.interrupt-taken.result c.count_on.new.last.unit.prepared c.row_number-self.ensures.machine c.count_on.ensures.prepared
+    c.count_on.ensures.plan c.execute.ensures.state w above (subst (λ (l : Last). IsNotAmong w l.unit.prepared.writes) c.execute.ensures.rest among)
