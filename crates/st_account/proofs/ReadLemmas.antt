@@ -27,7 +27,7 @@ use Rattle.st_rows.proofs.Tight.{tight-after}
 use Rattle.st_segment.specs.Entries.{entry}
 use Rattle.st_segment.specs.Ahead.{ahead, reads_before}
 use Rattle.st_segment.proofs.EntryRanges.{entry-ranges}
-use Rattle.st_segment.proofs.GuessLemmas.{prediction-machine}
+use Rattle.st_segment.proofs.PredictionLemmas.{prediction-machine}
 use Rattle.st_plain.specs.Looking.{reads_up_to}
 use Rattle.st_plain.proofs.LookLemmas.{row-p}
 use Rattle.st_account.specs.Standing.{HasReads}

@@ -23,9 +23,9 @@ use Rattle.st_rows.proofs.Tight.{tight-after}
 use Rattle.st_ring.specs.declared.level.Level.{Level}
 use Rattle.st_segment.specs.Ahead.{ahead, issue_behind}
 use Rattle.st_segment.specs.Entries.{entry}
-use Rattle.st_segment.specs.Guesses.{guesses, table_behind}
+use Rattle.st_segment.specs.Predictions.{predictions, table_behind}
 use Rattle.st_segment.proofs.EntryRanges.{entry-ranges}
-use Rattle.st_segment.proofs.GuessLemmas.{prediction-machine, behind-none}
+use Rattle.st_segment.proofs.PredictionLemmas.{prediction-machine, behind-none}
 use Rattle.st_segment.proofs.StepLemmas.{prediction-alone}
 use Rattle.st_ring.specs.Levels.{LevelsView, AreLevels, AreAhead, AreFull}
 use Rattle.st_ring.specs.declared.plans.PlannedRow.{PlannedRow}
@@ -50,12 +50,12 @@ NextAt false ds n now t u f next =
     × (next.words ≡ record { bus = f.bus; answered = 0; awaited = 0 })
 
 next-at : (b : Bool) (ds : List ℕ) (n now : ℕ) (t : Option ℕ) (s : Machine) (v : LookaheadView) → IsNextIf b ds n now t s v
-    → NextAt b ds n now (table_behind (count v) t) (guesses (count v) t s) v.issue v.next
+    → NextAt b ds n now (table_behind (count v) t) (predictions (count v) t s) v.issue v.next
 next-at true ds n now t s v h = h
 next-at false ds n now t s v h = h
 
 next-if : (b : Bool) (ds : List ℕ) (n now : ℕ) (t : Option ℕ) (s : Machine) (v : LookaheadView)
-    → NextAt b ds n now (table_behind (count v) t) (guesses (count v) t s) v.issue v.next → IsNextIf b ds n now t s v
+    → NextAt b ds n now (table_behind (count v) t) (predictions (count v) t s) v.issue v.next → IsNextIf b ds n now t s v
 next-if true ds n now t s v h = h
 next-if false ds n now t s v h = h
 
@@ -65,7 +65,7 @@ next-same : (ds : List ℕ) (n now : ℕ) (t : Option ℕ) (s : Machine) (v : Lo
     → let w = record v { levels = levels } in IsNextIf (is_open w) ds n now t s w
 next-same ds n now t s v levels same h =
     let w = record v { levels = levels } in
-    let P : ℕ → Type 0 = λ k. NextAt ((k == 0) || not v.issue.serial) ds n now (table_behind k t) (guesses k t s) v.issue v.next in
+    let P : ℕ → Type 0 = λ k. NextAt ((k == 0) || not v.issue.serial) ds n now (table_behind k t) (predictions k t s) v.issue v.next in
     next-if (is_open w) ds n now t s w (subst P (sym same) (next-at (is_open v) ds n now t s v h))
 
 -- ---- slots are filled
@@ -171,12 +171,12 @@ closed-issue false ds n now t u f next e h = absurd (cc e)
 module _ (ds : List ℕ) (n now : ℕ) (t : Option ℕ) (s u : Machine) (v : LookaheadView) where
   -- the fetch unit is at the entry after the k levels that remain
   abbrev At : Bool → ℕ → FetchUnit → Type 0
-  At b k next = NextAt b ds n now None (guesses k None (prediction t s)) v.issue next
+  At b k next = NextAt b ds n now None (predictions k None (prediction t s)) v.issue next
 
   next-done : (b : Bool) (k : ℕ) → b ≡ ((k == 0) && v.issue.serial) → At (not v.issue.serial) k v.next
       → (k ≡ 0 → now ≤ v.issue.c) → (k ≡ 0 → v.issue.serial ≡ true → place_of u None ≡ place_of (prediction t s) None)
       → At ((k == 0) || not v.issue.serial) k (next_behind u v b)
-  unfolding guesses
+  unfolding predictions
   next-done false k e h late place = subst (λ b. At b k v.next) (sym (open-behind (k == 0) v.issue.serial e)) h
   next-done true k e h late place =
       let parts = and_parts (k == 0) v.issue.serial (sym e) in
@@ -191,17 +191,17 @@ module _ (ds : List ℕ) (n now : ℕ) (t : Option ℕ) (s u : Machine) (v : Loo
   next-kept : (b : Bool) (levels : LevelsView) → b ≡ is_alone v levels → count v ≡ suc (length levels.ring) → IsNextIf (is_open v) ds n now t s v
       → (length levels.ring ≡ 0 → now ≤ v.issue.c) → (length levels.ring ≡ 0 → v.issue.serial ≡ true → place_of u None ≡ place_of (prediction t s) None)
       → let w = record v { levels = levels; next = next_behind u v b } in IsNextIf (is_open w) ds n now None (prediction t s) w
-  unfolding guesses
+  unfolding predictions
   next-kept b levels e same h late place =
       let w = record v { levels = levels; next = next_behind u v b } in
       let k = length levels.ring in
-      let P : ℕ → Type 0 = λ i. NextAt ((i == 0) || not v.issue.serial) ds n now (table_behind i t) (guesses i t s) v.issue v.next in
+      let P : ℕ → Type 0 = λ i. NextAt ((i == 0) || not v.issue.serial) ds n now (table_behind i t) (predictions i t s) v.issue v.next in
       let before : At (not v.issue.serial) k v.next =
       subst (λ b. At b k v.next) (or-second (suc k == 0) (not v.issue.serial) (ne_eqb (suc k) 0 (λ same. absurd (omega (arith, same)))))
       (subst P same (next-at (is_open v) ds n now t s v h)) in
       let behind = next-done b k e before late place in
       next-if (is_open w) ds n now None (prediction t s) w
-      (subst (λ (i : Option ℕ). NextAt (is_open w) ds n now i (guesses k None (prediction t s)) v.issue w.next) (sym (behind-none k)) behind)
+      (subst (λ (i : Option ℕ). NextAt (is_open w) ds n now i (predictions k None (prediction t s)) v.issue w.next) (sym (behind-none k)) behind)
 
 -- the remaining levels
 levels-left : (ds : List ℕ) (n tick now : ℕ) (t : Option ℕ) (s : Machine) (f last : IssueState) (ring more : List Level) (plans rows : List PlannedRow)

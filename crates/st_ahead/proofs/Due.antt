@@ -15,10 +15,10 @@ use Rattle.st_rows.specs.declared.past.Past.{Past}
 use Rattle.st_rows.proofs.MadeLemmas.{before-cases}
 use Rattle.st_ring.specs.declared.level.Level.{Level}
 use Rattle.st_segment.specs.Entries.{entry}
-use Rattle.st_segment.specs.Guesses.{guesses, table_behind}
+use Rattle.st_segment.specs.Predictions.{predictions, table_behind}
 use Rattle.st_segment.specs.Alone.{RunAhead}
 use Rattle.st_segment.proofs.EntryRanges.{entry-ranges}
-use Rattle.st_segment.proofs.GuessLemmas.{behind-indicator}
+use Rattle.st_segment.proofs.PredictionLemmas.{behind-indicator}
 use Rattle.st_ring.specs.Levels.{AreLevels}
 use Rattle.st_ring.specs.declared.plans.PlannedRow.{PlannedRow}
 use Rattle.st_next.specs.Known.{IsStateBefore}
@@ -114,17 +114,17 @@ pub planned-open : (b : Bool) (ds : List ℕ) (n rest : ℕ) (t : Option ℕ) (s
 planned-open true ds n rest t s v is planned = refl
 planned-open false ds n rest t s v is planned = let unplanned : v.next.planned ≡ false = is.0 in absurd (cc (planned, unplanned))
 
-none-predicted : (k : ℕ) (t : Option ℕ) (s : Machine) → k ≡ 0 → guesses k t s ≡ s
-unfolding guesses
+none-predicted : (k : ℕ) (t : Option ℕ) (s : Machine) → k ≡ 0 → predictions k t s ≡ s
+unfolding predictions
 none-predicted zero t s none = refl
 none-predicted (suc k) t s none = absurd (cc none)
 
 pub becomes-level : (ds : List ℕ) (n now : ℕ) (t : Option ℕ) (s : Machine) (f : IssueState) (v : LookaheadView) → 1 ≤ n → n ≤ 8 → AreDelaysUpTo 255 ds
     → count v ≤ n → now < 2 ^ 63 → IsGoing ds n now (now + 1) t s f v → v.next.planned ≡ true → v.next.formed.p ≡ now
-    → RunAhead (count v) t s → IsStateBefore now v.issue.past v.levels.x s (guesses (count v) t s) → BecomesLevel ds n now t s f v
+    → RunAhead (count v) t s → IsStateBefore now v.issue.past v.levels.x s (predictions (count v) t s) → BecomesLevel ds n now t s f v
 becomes-level ds n now t s f v some most are few early is planned due run before =
     let k = table_behind (count v) t in
-    let u = guesses (count v) t s in
+    let u = predictions (count v) t s in
     let e = entry k u in
     let opened : is_open v ≡ true = planned-open (is_open v) ds n (now + 1) t s v is.next planned in
     let next = (next-known ds n now (now + 1) t s f v is opened).0 in

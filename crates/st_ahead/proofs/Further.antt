@@ -17,9 +17,9 @@ use Rattle.st_rows.proofs.LogLaws.{logged-noted}
 use Rattle.st_rows.proofs.Parts.{a-p}
 use Rattle.st_rows.proofs.Served.{served-append}
 use Rattle.st_segment.specs.Entries.{entry}
-use Rattle.st_segment.specs.Guesses.{guesses, table_behind}
+use Rattle.st_segment.specs.Predictions.{predictions, table_behind}
 use Rattle.st_segment.proofs.EntryRanges.{entry-ranges}
-use Rattle.st_segment.proofs.GuessLemmas.{behind-indicator}
+use Rattle.st_segment.proofs.PredictionLemmas.{behind-indicator}
 use Rattle.st_ring.specs.Levels.{AreAhead}
 use Rattle.st_ring.specs.declared.plans.PlannedRow.{PlannedRow}
 use Rattle.st_ring.proofs.LevelLemmas.{levels-beside}
@@ -46,7 +46,7 @@ rests-sooner now sooner t u f next early rests = λ un. elim (rests un) [
 pub next-sooner : (b : Bool) (ds : List ℕ) (n now sooner : ℕ) (t : Option ℕ) (s : Machine) (v : LookaheadView) → sooner ≤ now
     → IsNextIf b ds n now t s v → IsNextIf b ds n sooner t s v
 next-sooner true ds n now sooner t s v early is =
-    (is.0, rests-sooner now sooner (table_behind (count v) t) (guesses (count v) t s) v.issue v.next early is.1)
+    (is.0, rests-sooner now sooner (table_behind (count v) t) (predictions (count v) t s) v.issue v.next early is.1)
 next-sooner false ds n now sooner t s v early is = is
 
 -- ---- the entry is already planned
@@ -110,16 +110,16 @@ going-late ds n now rest later t s f v is some =
     youngest-late now f v.issue v.levels.plans is.not_done order (omega (arith, beside, some))
 
 pub next-known : (ds : List ℕ) (n now rest : ℕ) (t : Option ℕ) (s : Machine) (f : IssueState) (v : LookaheadView) → IsGoing ds n now rest t s f v
-    → is_open v ≡ true → IsNext ds n (table_behind (count v) t) (guesses (count v) t s) v.issue v.next
-    × Rests rest (table_behind (count v) t) (guesses (count v) t s) v.issue v.next
+    → is_open v ≡ true → IsNext ds n (table_behind (count v) t) (predictions (count v) t s) v.issue v.next
+    × Rests rest (table_behind (count v) t) (predictions (count v) t s) v.issue v.next
 next-known ds n now rest t s f v is opened = subst (λ (b : Bool). IsNextIf b ds n rest t s v) opened is.next
 
 pub known : (ds : List ℕ) (n now rest done : ℕ) (t : Option ℕ) (s : Machine) (f : IssueState) (v : LookaheadView) → IsGoing ds n now rest t s f v
-    → is_open v ≡ true → IsStateBefore done v.issue.past v.levels.x s (guesses (count v) t s)
+    → is_open v ≡ true → IsStateBefore done v.issue.past v.levels.x s (predictions (count v) t s)
     → IsKnown ds n done v.issue v.levels.x s v.next
 known ds n now rest done t s f v is opened before = record {
   table = table_behind (count v) t;
-  state = guesses (count v) t s;
+  state = predictions (count v) t s;
   indicator = behind-indicator (count v) t is.indicator;
   before = before;
   is_next = (next-known ds n now rest t s f v is opened).0;
@@ -136,7 +136,7 @@ going-issue ds n now rest t s f v is most few early =
 bus-next : (b : Bool) (ds : List ℕ) (n now : ℕ) (t : Option ℕ) (s : Machine) (v : LookaheadView) → IsNextIf b ds n now t s v
     → bus_after_reads ds (reads_so_far ds v.issue v.next) v.issue.bus ≡ v.next.words.bus
 unfolding bus_after_reads
-bus-next true ds n now t s v is = served-so-far ds n (table_behind (count v) t) (guesses (count v) t s) v.issue v.next is.0
+bus-next true ds n now t s v is = served-so-far ds n (table_behind (count v) t) (predictions (count v) t s) v.issue v.next is.0
 bus-next false ds n now t s v is =
     ap (λ reads. bus_after_reads ds reads v.issue.bus) (new-reads ds v.issue v.next is.1 is.2 is.0) ∙ ap (λ (w : Fetching). w.bus) (sym is.3)
 
@@ -161,13 +161,13 @@ logged-more ds now before so_far after added b d log new is bus kept h =
 -- ---- more of the entry is known
 
 pub known-further : (ds : List ℕ) (n now later : ℕ) (t : Option ℕ) (s : Machine) (f : IssueState) (v : LookaheadView) (next : FetchUnit) (log : List Made)
-    → is_open v ≡ true → v.next.planned ≡ false → IsStateBefore (later - 1) v.issue.past v.levels.x s (guesses (count v) t s)
+    → is_open v ≡ true → v.next.planned ≡ false → IsStateBefore (later - 1) v.issue.past v.levels.x s (predictions (count v) t s)
     → GoesOnTo ds n (later - 1) v.issue v.levels.x s v.next next later → IsReadFurther ds v.issue v.next next v.log log
     → IsGoing ds n now now t s f v
     → IsGoing ds n now later t s f (record { levels = v.levels; issue = v.issue; log = log; next = next })
 known-further ds n now later t s f v next log opened un before goes more is =
     let k = table_behind (count v) t in
-    let u = guesses (count v) t s in
+    let u = predictions (count v) t s in
     let old = next-known ds n now now t s f v is opened in
     let new = goes.each k u (behind-indicator (count v) t is.indicator) before old.0 in
     let a : now < tick_a ds v.issue (entry k u) = address-late ds now k u v.issue v.next old.0.read_on un old.1 in

@@ -6,9 +6,9 @@ use Rattle.st_ahead.proofs.OpenLevels.{levels-run}
 use Rattle.st_ahead.specs.Forecast.{count, is_open, IsNextIf}
 use Rattle.st_ahead.proofs.Due.{becomes-level, planned-open}
 use Rattle.st_segment.specs.Entries.{entry}
-use Rattle.st_segment.specs.Guesses.{guesses, table_behind}
+use Rattle.st_segment.specs.Predictions.{predictions, table_behind}
 use Rattle.st_segment.proofs.EntryRanges.{entry-ranges}
-use Rattle.st_segment.proofs.GuessLemmas.{behind-indicator, guesses-machine}
+use Rattle.st_segment.proofs.PredictionLemmas.{behind-indicator, predictions-machine}
 use Rattle.st_next.proofs.Contents.{words-entry, contents-same}
 use Rattle.st_ahead.proofs.Further.{next-known}
 use Rattle.st_ahead.proofs.Settling.{lookahead-goes}
@@ -19,7 +19,7 @@ use Rattle.st_ahead.proofs.Gone.{outlook-of}
 use Rattle.st_ahead.proofs.Later.{AreOrdered, lookahead-later, banks-left, made-soon}
 use Rattle.st_ahead.specs.Laws.{OpenLevelsRunAhead, NextEntriesAreKnown, PlannedEntriesBecomeLevels, InstructionWordsAreThoseOfTheRun, OpeningsLookAhead, SignalsLeaveLookaheads, LookaheadsAreLevels, TheBanksAreLeft}
 use Rattle.st_ring.proofs.Laws.{levels_are_the_entries_ahead, levels_come_in_order, levels_that_are_not_done_run_ahead, writers_are_seen}
-use Rattle.st_segment.proofs.Laws.{entries_are_in_range, guesses_go_on, guesses_leave_the_rest, index_words_run_ahead}
+use Rattle.st_segment.proofs.Laws.{entries_are_in_range, predictions_go_on, predictions_leave_the_rest, index_words_run_ahead}
 use Rattle.st_rows.proofs.Laws.{buses_are_free_in_time, reads_are_wanted_in_time, rows_are_in_order}
 
 pub open_levels_run_ahead : OpenLevelsRunAhead
@@ -30,11 +30,11 @@ open_levels_run_ahead = λ ds n now t s f v is early late opened.
 
 pub next_entries_are_known : NextEntriesAreKnown
 next_entries_are_known = λ ds n tick now t s f v m i is late few run. record {
-  machine = guesses_go_on.machine (count v) t s m i;
+  machine = predictions_go_on.machine (count v) t s m i;
   index = index_words_run_ahead.state (count v) t s m i run ∙ sym is.index;
-  origin = guesses_leave_the_rest.low (count v) t s 2 m i run (omega arith);
-  bounds = guesses_leave_the_rest.low (count v) t s 3 m i run (omega arith);
-  enabled = guesses_leave_the_rest.enabled (count v) t s m i run;
+  origin = predictions_leave_the_rest.low (count v) t s 2 m i run (omega arith);
+  bounds = predictions_leave_the_rest.low (count v) t s 3 m i run (omega arith);
+  enabled = predictions_leave_the_rest.enabled (count v) t s m i run;
   storage = λ w above done. writers_are_seen.words ds n tick now w t s f v.issue v.levels m i is late few above done;
 }
 
@@ -58,7 +58,7 @@ instruction_words_are_those_of_the_run = record {
       let before = next_entries_are_known ds n now now t s f v is.machine is.indicator is.ahead is.not_done few run in
       let next = (next-known ds n now now t s f v is opened).0 in
       let k = table_behind (count v) t in
-      let u = guesses (count v) t s in
+      let u = predictions (count v) t s in
       let words = words-entry v.next.entry.own v.next.entry.target (entry k u) next.read_on.first
       (entry-ranges k u before.machine (behind-indicator (count v) t is.indicator)) in
       contents-same ds now v.issue v.levels.x s u v.next.entry.own v.next.entry.target before words
@@ -109,7 +109,7 @@ the_banks_are_left = λ ds n tick now t s f v some most are next few first is do
     let free : f.bus.free ≤ tick_c ds n f (entry t s) =
     (buses_are_free_in_time.done 255 n ds f (entry t s) are range is.oldest).0 in
     let c_is : tick_c ds n f (entry t s) ≡ now = done in
-    let opened = entries_are_in_range.ranges (table_behind (count v) t) (guesses (count v) t s) (guesses-machine (count v) t s is.machine is.indicator)
+    let opened = entries_are_in_range.ranges (table_behind (count v) t) (predictions (count v) t s) (predictions-machine (count v) t s is.machine is.indicator)
     (behind-indicator (count v) t is.indicator) in
     let left = banks-left ds n tick now t s f v ordered are (omega arith) few first is order (omega arith) opened in
     (left, subst (λ (l : List ℕ). All (λ b. b ≤ now + 255) l) left (made-soon 255 now ds _ f.bus are is.oldest.near (omega arith)))

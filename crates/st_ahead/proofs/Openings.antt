@@ -23,7 +23,7 @@ use Rattle.st_rows.specs.declared.entry.WordRun.{WordRun}
 use Rattle.st_rows.proofs.NoteLemmas.{opened-log}
 use Rattle.st_segment.specs.Ahead.{ahead}
 use Rattle.st_segment.specs.Entries.{entry}
-use Rattle.st_segment.specs.Guesses.{guesses, split_words}
+use Rattle.st_segment.specs.Predictions.{predictions, split_words}
 use Rattle.st_segment.specs.Alone.{RunAhead}
 use Rattle.st_ring.specs.Levels.{LevelsView, AreLevels, AreAhead, AreFull}
 use Rattle.st_next.specs.Words.{words_so_far, asked_so_far, IsStart, AreFirstWords}
@@ -133,7 +133,7 @@ pub opening-lookahead : (ds : List ℕ) (n tick now start : ℕ) (t : Option ℕ
     → IsOpened t s (opening_issue banks start) v → IsMachine s → IfSome t (λ i. i < 64)
     → All (λ b. b ≤ start + 255) banks.ticks → now ≤ start → start ≤ now + 9
     → IsLookahead ds n tick now t s (opening_issue banks start) v
-unfolding guesses ahead
+unfolding predictions ahead
 opening-lookahead ds n tick now start t s banks v is machine some early before soon =
     let f = opening_issue banks start in
     let tight = opening-tight start banks early in

@@ -18,7 +18,7 @@ use Rattle.st_rows.specs.declared.issue.IssueState.{IssueState}
 use Rattle.st_rows.proofs.Parts.{two-parts}
 use Rattle.st_ring.specs.declared.level.Level.{Level}
 use Rattle.st_segment.specs.Entries.{entry}
-use Rattle.st_segment.specs.Guesses.{guesses, table_behind}
+use Rattle.st_segment.specs.Predictions.{predictions, table_behind}
 use Rattle.st_ring.specs.Levels.{AreAhead, AreNotDone}
 use Rattle.st_next.specs.Progress.{reads_so_far}
 use Rattle.st_next.proofs.Starting.{new-next, new-rests, new-reads}
@@ -51,13 +51,13 @@ module _ (ds : List ℕ) (n now : ℕ) (t : Option ℕ) (s : Machine) (f : Issue
   k = table_behind (count v) t
 
   abbrev u : Machine
-  u = guesses (count v) t s
+  u = predictions (count v) t s
 
   next-pushed : (p : Prepared) → p ≡ plan u k → count w ≡ suc (count v) → w.issue.serial ≡ p.serial → w.issue.p ≡ now
       → w.next.place ≡ record { counter = p.following; address = p.following; table = None }
       → w.next.planned ≡ false → w.next.entry.own ≡ record { first = 0; len = 0 } → w.next.entry.target ≡ record { first = 0; len = 0 }
       → w.next.words ≡ record { bus = w.issue.bus; answered = 0; awaited = 0 }
-      → ((plan u k).serial ≡ false → (guesses (suc (count v)) t s).ic ≡ (plan u k).following)
+      → ((plan u k).serial ≡ false → (predictions (suc (count v)) t s).ic ≡ (plan u k).following)
       → IsNextIf (is_open w) ds n now t s w
   next-pushed p is counted serial ticked place unplanned own target words counter = by-open (is_open w) refl
     where
@@ -68,12 +68,12 @@ module _ (ds : List ℕ) (n now : ℕ) (t : Option ℕ) (s : Machine) (f : Issue
           open-pushed (count w == 0) w.issue.serial true (differs (count w) 0 (λ none. omega (arith, none, counted))) opened in
           let free : (plan u k).serial ≡ false = sym (ap (λ (x : Prepared). x.serial) is) ∙ sym serial ∙ alone in
           let table : table_behind (count w) t ≡ None = ap (λ j. table_behind j t) counted in
-          let ic : (guesses (count w) t s).ic ≡ p.following =
-          ap (λ j. (guesses j t s).ic) counted ∙ counter free ∙ sym (ap (λ (x : Prepared). x.following) is) in
+          let ic : (predictions (count w) t s).ic ≡ p.following =
+          ap (λ j. (predictions j t s).ic) counted ∙ counter free ∙ sym (ap (λ (x : Prepared). x.following) is) in
           let from : wanted_from w.issue ≡ w.issue.p = wanted-alone w.issue.serial w.issue.p w.issue.c alone in (
-            new-next ds n (table_behind (count w) t) (guesses (count w) t s) w.issue w.next
-                (place ∙ place-behind (table_behind (count w) t) (guesses (count w) t s) p.following table ic) own target words unplanned,
-            new-rests now (table_behind (count w) t) (guesses (count w) t s) w.issue w.next unplanned (omega (arith, from, ticked)),
+            new-next ds n (table_behind (count w) t) (predictions (count w) t s) w.issue w.next
+                (place ∙ place-behind (table_behind (count w) t) (predictions (count w) t s) p.following table ic) own target words unplanned,
+            new-rests now (table_behind (count w) t) (predictions (count w) t s) w.issue w.next unplanned (omega (arith, from, ticked)),
           )
 
   -- ---- the look-ahead
@@ -109,7 +109,7 @@ module _ (ds : List ℕ) (n now : ℕ) (t : Option ℕ) (s : Machine) (f : Issue
       → w.next.planned ≡ false → w.next.entry.own ≡ record { first = 0; len = 0 } → w.next.entry.target ≡ record { first = 0; len = 0 }
       → w.next.words ≡ record { bus = w.issue.bus; answered = 0; awaited = 0 }
       → w.log ≡ log_after_reads ds (prepared_asked ds n v.issue v.next.entry) v.next.words.bus v.log
-      → ((plan u k).serial ≡ false → (guesses (suc (count v)) t s).ic ≡ (plan u k).following)
+      → ((plan u k).serial ≡ false → (predictions (suc (count v)) t s).ic ≡ (plan u k).following)
       → IsGoing ds n now now t s f w
   unfolding issue_after_entry entry
   going-pushed level p is becomes planned due ring level_p not_done ahead issue tight bound plan_is place unplanned own target words kept counter =

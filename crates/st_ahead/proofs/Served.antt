@@ -11,8 +11,8 @@ use Rattle.st_rows.proofs.Served.{served-append, served-asked}
 use Rattle.st_ring.specs.declared.level.Level.{Level}
 use Rattle.st_segment.specs.Ahead.{ahead}
 use Rattle.st_segment.specs.Entries.{entry}
-use Rattle.st_segment.specs.Guesses.{guesses, table_behind}
-use Rattle.st_segment.proofs.GuessLemmas.{behind-none}
+use Rattle.st_segment.specs.Predictions.{predictions, table_behind}
+use Rattle.st_segment.proofs.PredictionLemmas.{behind-none}
 use Rattle.st_ring.specs.Levels.{AreLevels}
 use Rattle.st_ring.specs.declared.plans.PlannedRow.{PlannedRow}
 use Rattle.st_ahead.specs.Forecast.{asked_ahead}
@@ -31,9 +31,9 @@ module _ (ds : List ℕ) (n tick : ℕ) where
       ∙ served-ahead None (prediction t s) (issue_after_entry ds n f (entry t s)) last levels qs h.1
 
   pub asked-more : (t k : Option ℕ) (s u : Machine) (f last : IssueState) (ring : List Level) (plans : List PlannedRow)
-      → k ≡ table_behind (length ring) t → u ≡ guesses (length ring) t s → AreLevels ds n tick t s f last ring plans
+      → k ≡ table_behind (length ring) t → u ≡ predictions (length ring) t s → AreLevels ds n tick t s f last ring plans
       → asked_ahead ds n (suc (length ring)) t s f ≡ asked_ahead ds n (length ring) t s f ++ reads_of_entry ds n last (entry k u)
-  unfolding AreLevels guesses ahead
+  unfolding AreLevels predictions ahead
   asked-more t k s u f last [] [] table state h =
       append-nil (reads_of_entry ds n f (entry t s)) ∙ ap₂ (λ g e. reads_of_entry ds n g e) (sym h) (sym (ap₂ entry table state))
   asked-more t k s u f last [] (q ∷ qs) table state h = absurd h

@@ -9,7 +9,7 @@ use Rattle.st_rows.specs.declared.issue.IssueState.{IssueState}
 use Rattle.st_ring.specs.declared.level.Level.{Level}
 use Rattle.st_segment.specs.Entries.{entry}
 use Rattle.st_segment.specs.Ahead.{Ahead, ahead, prepared_before}
-use Rattle.st_segment.specs.Guesses.{split_words}
+use Rattle.st_segment.specs.Predictions.{split_words}
 use Rattle.st_ring.specs.Levels.{oldest_issue, AreLevels, AreFull}
 use Rattle.st_ring.specs.declared.plans.PlannedRow.{PlannedRow}
 use Rattle.st_ring.proofs.LevelLemmas.{length-ahead}

@@ -12,7 +12,7 @@ use Rattle.st_rows.specs.BusTimes.{Read}
 use Rattle.st_rows.specs.declared.issue.IssueState.{IssueState}
 use Rattle.st_rows.specs.declared.log.Made.{Made}
 use Rattle.st_segment.specs.Ahead.{Ahead, ahead}
-use Rattle.st_segment.specs.Guesses.{guesses, table_behind}
+use Rattle.st_segment.specs.Predictions.{predictions, table_behind}
 use Rattle.st_ring.specs.Levels.{LevelsView, AreAhead, AreFull, AreNotDone}
 use Rattle.st_next.specs.Progress.{IsUnread, IsNext, Rests, reads_so_far}
 use Rattle.st_next.specs.declared.fetch_unit.FetchUnit.{FetchUnit}
@@ -40,8 +40,8 @@ count v = length v.levels.ring
 -- the fetch unit is at the entry after the levels; after a serializing level nothing is known of it
 abbrev pub IsNextIf : Bool → List ℕ → ℕ → ℕ → Option ℕ → Machine → LookaheadView → Type 0
 IsNextIf true ds n now t s v =
-    IsNext ds n (table_behind (count v) t) (guesses (count v) t s) v.issue v.next
-    × Rests now (table_behind (count v) t) (guesses (count v) t s) v.issue v.next
+    IsNext ds n (table_behind (count v) t) (predictions (count v) t s) v.issue v.next
+    × Rests now (table_behind (count v) t) (predictions (count v) t s) v.issue v.next
 IsNextIf false ds n now t s v = IsUnread v.issue.bus v.next
 
 -- the reads from the issue state f on: those of the levels, and those requested so far for the next

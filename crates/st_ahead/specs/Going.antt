@@ -6,7 +6,7 @@ use Rattle.st_rows.specs.Ranges.{IsEntryInTime}
 use Rattle.st_rows.specs.Rows.{row_of_entry}
 use Rattle.st_rows.specs.declared.issue.IssueState.{IssueState}
 use Rattle.st_segment.specs.Entries.{entry}
-use Rattle.st_segment.specs.Guesses.{guesses, table_behind}
+use Rattle.st_segment.specs.Predictions.{predictions, table_behind}
 use Rattle.st_segment.specs.Alone.{RunAhead}
 use Rattle.st_next.specs.Known.{IsStateBefore}
 use Rattle.st_next.specs.Progress.{IsNext}
@@ -61,10 +61,10 @@ module _ (ds : List ℕ) (n : ℕ) where
   pub record BecomesLevel (now : ℕ) (t : Option ℕ) (s : Machine) (f : IssueState)
       (v : LookaheadView) : Type 0 where
     pub run : RunAhead (count v) t s
-    pub before : IsStateBefore now v.issue.past v.levels.x s (guesses (count v) t s)
-    pub is_next : IsNext ds n (table_behind (count v) t) (guesses (count v) t s) v.issue v.next
+    pub before : IsStateBefore now v.issue.past v.levels.x s (predictions (count v) t s)
+    pub is_next : IsNext ds n (table_behind (count v) t) (predictions (count v) t s) v.issue v.next
     pub indicator : IsIndicatorIfAny (table_behind (count v) t)
     pub range : IsEntryInTime v.next.entry
-    pub alone : v.next.entry.serial ≡ true → guesses (count v) t s ≡ s
+    pub alone : v.next.entry.serial ≡ true → predictions (count v) t s ≡ s
     pub room : count v < n
     pub early : v.issue.c ≤ 2 ^ 63 + 2 ^ 18

@@ -5,7 +5,7 @@ use Rattle.st_prep.specs.declared.entries.IndexChange.{IndexChange}
 use Rattle.st_rows.specs.Words.{fills}
 use Rattle.st_ring.specs.declared.level.Level.{Level}
 use Rattle.st_segment.specs.Ahead.{Ahead, plan_of}
-use Rattle.st_segment.specs.Guesses.{split_words}
+use Rattle.st_segment.specs.Predictions.{split_words}
 use Rattle.st_ring.specs.Slots.{slots_of}
 use Rattle.st_ahead.specs.Overlap.{Overlap, state_ahead, levels_of, last_tick_made}
 use Rattle.st_ahead.specs.declared.events.LevelView.{LevelView}

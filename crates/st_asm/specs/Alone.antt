@@ -8,7 +8,7 @@ use Rattle.st_asm.specs.Values.{values_of}
 use Rattle.st_asm.specs.Places.{placing_of, length_in}
 use Rattle.st_asm.specs.Naming.{naming_at_start}
 use Rattle.st_asm.specs.Checks.{value_fault}
-use Rattle.st_asm.specs.Laying.{bits_of}
+use Rattle.st_asm.specs.Emitting.{bits_of}
 use Rattle.st_asm.specs.declared.values.Values.{Values}
 use Rattle.st_asm.specs.declared.alone.EmittedBits.{EmittedBits}
 

@@ -7,7 +7,7 @@ pub mod Naming
 pub mod Values
 pub mod Numbers
 pub mod Checks
-pub mod Laying
+pub mod Emitting
 pub mod Valuing
 pub mod Alone
 pub mod Assembly

@@ -10,7 +10,7 @@ use Rattle.st_asm.specs.Forming.{is_end}
 use Rattle.st_asm.specs.Values.{values_of}
 use Rattle.st_asm.specs.Places.{placing_of, length_in}
 use Rattle.st_asm.specs.Checks.{value_fault}
-use Rattle.st_asm.specs.Laying.{half_word_bits, bits_of}
+use Rattle.st_asm.specs.Emitting.{half_word_bits, bits_of}
 use Rattle.st_asm.specs.declared.line.ReadCard.{ReadCard}
 use Rattle.st_asm.specs.declared.values.Values.{Values}
 use Rattle.st_asm.specs.declared.valuing.Listed.{Listed}

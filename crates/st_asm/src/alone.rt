@@ -5,7 +5,7 @@ ghost use Rattle.st_asm.specs.Alone as spec;
 ghost use Rattle.st_strap.specs.WellFormed.{IsWellFormed};
 
 use crate::checks::value_fault;
-use crate::laying::bits_of;
+use crate::emitting::bits_of;
 use crate::naming::FIRST_LOCATION;
 use crate::places::placing_of;
 use crate::symbols::knows_all;

@@ -5,7 +5,7 @@ ghost use Rattle.st_asm.specs.Answers.{Stops, Explains};
 ghost use Rattle.st_asm.specs.Checks.{value_fault, in_storage};
 ghost use Rattle.st_asm.specs.Valuing as spec;
 ghost use Rattle.st_asm.specs.Forming.{is_end};
-ghost use Rattle.st_asm.specs.Laying.{half_word_bits};
+ghost use Rattle.st_asm.specs.Emitting.{half_word_bits};
 ghost use Rattle.st_bits.specs.Storage.{IsImage};
 ghost use Rattle.st_asm.specs.Sound.{IsRow, IsLocation};
 ghost use Rattle.st_asm.specs.Kept.{IsSoundLayout};
@@ -13,7 +13,7 @@ ghost use Rattle.st_strap.specs.WellFormed.{IsWellFormed, IsWellFormedIfAny};
 
 use crate::checks::value_fault;
 use crate::forming::is_end;
-use crate::laying::{bits_of, half_word};
+use crate::emitting::{bits_of, half_word};
 use crate::line::ReadCard;
 use crate::places::placing_of;
 use crate::stop::{AsmError, PassStop};

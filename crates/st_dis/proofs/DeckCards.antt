@@ -23,7 +23,7 @@ use Rattle.st_asm.specs.Values.{values_of}
 use Rattle.st_asm.specs.Places.{placing_of, length_in}
 use Rattle.st_asm.specs.Naming.{naming_at_start}
 use Rattle.st_asm.specs.Checks.{value_fault}
-use Rattle.st_asm.specs.Laying.{bits_of}
+use Rattle.st_asm.specs.Emitting.{bits_of}
 use Rattle.st_asm.specs.Forming.{form_pass}
 use Rattle.st_asm.specs.Alone.{emitted_alone, emitted_if_read, emitted_by}
 use Rattle.st_asm.specs.declared.alone.EmittedBits.{EmittedBits}

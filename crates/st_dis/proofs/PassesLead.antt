@@ -13,7 +13,7 @@ use Rattle.st_asm.specs.Values.{values_of}
 use Rattle.st_asm.specs.Places.{placing_of, length_in, needs_earlier}
 use Rattle.st_asm.specs.Naming.{Named, naming_at_start, is_statement_earlier, name_fault, name_step, name_card, name_pass}
 use Rattle.st_asm.specs.Forming.{is_end}
-use Rattle.st_asm.specs.Laying.{half_word_bits, bits_of}
+use Rattle.st_asm.specs.Emitting.{half_word_bits, bits_of}
 use Rattle.st_asm.specs.Valuing.{Emitted, with_emitted, value_statement, value_card, value_pass}
 use Rattle.st_asm.specs.declared.valuing.Listed.{Listed}
 use Rattle.st_dis.proofs.Said.{ReadCard, deck_statements, AreRead, spoken_lines, silent_lines}

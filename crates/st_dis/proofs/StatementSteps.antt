@@ -16,7 +16,7 @@ use Rattle.st_asm.specs.Values.{values_of, value_modulo}
 use Rattle.st_asm.specs.Places.{placing_of, length_in, next_multiple, place_in, behind_in}
 use Rattle.st_asm.specs.Naming.{naming_at_start, place_of_statement, behind_statement}
 use Rattle.st_asm.specs.Checks.{in_range, fits, on_boundary, extent, in_storage, value_fault}
-use Rattle.st_asm.specs.Laying.{half_word_bits, bits_of}
+use Rattle.st_asm.specs.Emitting.{half_word_bits, bits_of}
 use Rattle.st_asm.specs.Valuing.{image_with}
 use Rattle.st_asm.specs.Alone.{emitted_if_read, emitted_by, emitted_alone}
 use Rattle.st_asm.specs.declared.alone.EmittedBits.{EmittedBits}
@@ -48,7 +48,7 @@ pub record Steps (s : Statement) (here there : Stand) : Type 0 where
   pub start : (if is_end s then half_word_bits (values_of [] s).first else here.start) ≡ there.start
 
 -- the properties of a statement that assembles to bits by itself
-record LaysAlone (s : Statement) (wanted : EmittedBits) : Type 0 where
+record EmitsAlone (s : Statement) (wanted : EmittedBits) : Type 0 where
   known : accepts_all (is_defined []) s ≡ true
   faultless : value_fault s (values_of [] s) naming_at_start.location ≡ None
   emitted : record { length = length_in (placing_of s); bits = bits_of s (values_of [] s) } ≡ wanted
@@ -64,7 +64,7 @@ is-none None h = refl
 is-none (Some f) h = let no : ⊥ = cc in absurd no
 
 emits-alone : (t : List ℕ) (s : Statement) (wanted : EmittedBits) → statement_of [] t ≡ Ok s → emitted_alone [] t ≡ Some wanted →
-    LaysAlone s wanted
+    EmitsAlone s wanted
 unfolding emitted_alone emitted_by
 emits-alone t s wanted read emits =
     let here : emitted_by [] s ≡ Some wanted = sym (ap (λ r. emitted_if_read [] r) read) ∙ emits in

@@ -8,7 +8,7 @@ use Rattle.st_asm.specs.Values.{values_of}
 use Rattle.st_asm.specs.Numbers.{holds, field_bits_of}
 use Rattle.st_asm.specs.Naming.{naming_at_start}
 use Rattle.st_asm.specs.Checks.{value_fault, in_range, fits, on_boundary, in_storage}
-use Rattle.st_asm.specs.Laying.{bits_of}
+use Rattle.st_asm.specs.Emitting.{bits_of}
 use Rattle.st_asm.specs.Alone.{emitted_alone, emitted_if_read, emitted_by}
 use Rattle.st_asm.specs.declared.alone.EmittedBits.{EmittedBits}
 use Rattle.st_dis.specs.Spelling.{is_emitted, says, number_text, statements_of}

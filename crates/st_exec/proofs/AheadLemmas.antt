@@ -21,7 +21,7 @@ use Rattle.st_prep.specs.Plan.{state_at_entry}
 use Rattle.st_prep.specs.Ranges.{IsChange, AreAbove, IsPrepared}
 use Rattle.st_prep.proofs.IndexWords.{are_index_words}
 use Rattle.st_exec.specs.Effect.{effect, carried_out}
-use Rattle.st_exec.specs.Completion.{with_change, state_with_early_changes, is_taken, counter, state_counted_on, state_after_effect, state_after_completion, predicted_state, is_mispredicted}
+use Rattle.st_exec.specs.Completion.{with_change, state_with_speculative_changes, is_taken, counter, state_counted_on, state_after_effect, state_after_completion, predicted_state, is_mispredicted}
 use Rattle.st_exec.specs.Ahead.{IsNotAmong, IsPast, is_indicator_branch}
 use Rattle.st_exec.proofs.Unchanged.{stored-other, early-above, early-done, done-done}
 use Rattle.st_exec.proofs.SparedLemmas.{HasMarks, marks-same, marks-then, marks-words, marks-done, quiet-effect, spares-effect, IsKept, kept-below, kept-above, kept-mask, Stands, done-keeps}
@@ -32,18 +32,18 @@ pub change-marks : (c : Option IndexChange) (s : Machine) → HasMarks s (with_c
 change-marks None s = marks-same s
 change-marks (Some c) s = marks-words s _ (length-set s.words (16 + c.number) (register_word (16 + c.number) c.word))
 
-pub early-marks : (p : Prepared) (s : Machine) → HasMarks s (state_with_early_changes p s)
-unfolding state_with_early_changes
+pub early-marks : (p : Prepared) (s : Machine) → HasMarks s (state_with_speculative_changes p s)
+unfolding state_with_speculative_changes
 early-marks p s =
     let u = with_change p.index s in
-    marks-then s u (state_with_early_changes p s) (change-marks p.index s) (marks-words u _ (length-set u.words 11 _))
+    marks-then s u (state_with_speculative_changes p s) (change-marks p.index s) (marks-words u _ (length-set u.words 11 _))
 
 pub change-low : (c : Option IndexChange) (s : Machine) (i : ℕ) → i < 16 → word (with_change c s) i ≡ word s i
 change-low None s i h = refl
 change-low (Some c) s i h = stored-other s (16 + c.number) c.word i (omega arith)
 
-early-low : (p : Prepared) (s : Machine) (i : ℕ) → i < 16 → i ≢ 11 → word (state_with_early_changes p s) i ≡ word s i
-unfolding state_with_early_changes
+early-low : (p : Prepared) (s : Machine) (i : ℕ) → i < 16 → i ≢ 11 → word (state_with_speculative_changes p s) i ≡ word s i
+unfolding state_with_speculative_changes
 early-low p s i h other =
     get_or-set_other (with_change p.index s).words 11 i _ 0 other ∙ change-low p.index s i h
 
@@ -83,8 +83,8 @@ change-index (Some c) s k long few h =
     ]
 
 pub early-index : (p : Prepared) (s : Machine) (k : ℕ) → 32 ≤ length s.words → k < 16 → IfSome p.index IsChange
-    → word (state_with_early_changes p s) (16 + k) ≡ get_or (words_after (index_words s) p.index) k 0
-unfolding state_with_early_changes
+    → word (state_with_speculative_changes p s) (16 + k) ≡ get_or (words_after (index_words s) p.index) k 0
+unfolding state_with_speculative_changes
 early-index p s k long few h =
     get_or-set_other (with_change p.index s).words 11 (16 + k) _ 0 (omega arith) ∙ change-index p.index s k long few h
 
@@ -107,17 +107,17 @@ index-below (Some c) s k m few h =
 
 -- ---- the words of a state after the speculative change, by address
 
-stands-low : (p : Prepared) (s : Machine) (i : ℕ) → IsMachine s → i < 16 → i ≢ 11 → Stands (state_with_early_changes p s) i (word s i)
+stands-low : (p : Prepared) (s : Machine) (i : ℕ) → IsMachine s → i < 16 → i ≢ 11 → Stands (state_with_speculative_changes p s) i (word s i)
 stands-low p s i m h other =
     record { is = early-low p s i h other; below = m.below i; fits = fixed-word s i m }
 
 stands-above : (p : Prepared) (s : Machine) (i : ℕ) → IsMachine s → IfSome p.index IsChange → 32 ≤ i
-    → Stands (state_with_early_changes p s) i (word s i)
+    → Stands (state_with_speculative_changes p s) i (word s i)
 stands-above p s i m h above =
     record { is = early-above p s i h above; below = m.below i; fits = fixed-word s i m }
 
 stands-index : (p : Prepared) (s : Machine) (k : ℕ) → IsMachine s → IfSome p.index IsChange → k < 16
-    → Stands (state_with_early_changes p s) (16 + k) (get_or (words_after (index_words s) p.index) k 0)
+    → Stands (state_with_speculative_changes p s) (16 + k) (get_or (words_after (index_words s) p.index) k 0)
 stands-index p s k m h few = record {
   is = early-index p s k (omega (arith, m.size, words_of_storage_is)) few h;
   below = index-below p.index s k m few h;
@@ -160,10 +160,10 @@ finished-late true p t = refl
 finished-late false p t = refl
 
 pub completed-late : (p : Prepared) (s : Machine) → p.place.table ≡ None
-    → state_after_completion p s ≡ state_counted_on (late p.suppressed p (state_with_early_changes p s)) (if p.suppressed then p.following else counter p (state_with_early_changes p s))
+    → state_after_completion p s ≡ state_counted_on (late p.suppressed p (state_with_speculative_changes p s)) (if p.suppressed then p.following else counter p (state_with_speculative_changes p s))
 unfolding state_after_completion state_after_effect
 completed-late p s e =
-    ap (λ table. state_after_effect p (state_with_early_changes p (state_at_entry table s))) e ∙ finished-late p.suppressed p (state_with_early_changes p s)
+    ap (λ table. state_after_effect p (state_with_speculative_changes p (state_at_entry table s))) e ∙ finished-late p.suppressed p (state_with_speculative_changes p s)
 
 -- ---- the whole entry
 
@@ -185,12 +185,12 @@ above-apart w i h low =
     record { first = apart-low w.first w.len i h.above low; second = apart-low w.first2 w.len2 i h.above2 low }
 
 -- the state after the update of the counter satisfies `IsPast`
-past : (p : Prepared) (s u : Machine) (c : ℕ) → IsMachine s → IsPrepared p → p.serial ≡ false → Late p (state_with_early_changes p s) u
+past : (p : Prepared) (s u : Machine) (c : ℕ) → IsMachine s → IsPrepared p → p.serial ≡ false → Late p (state_with_speculative_changes p s) u
     → IsPast p s (state_counted_on u c)
 past p s u c m h free k =
     let size : length s.words ≡ words_of_storage = m.size in
     let long : 32 ≤ length s.words = omega (arith, words_of_storage_is) in
-    let marks = marks-then s (state_with_early_changes p s) u (early-marks p s) k.marks in
+    let marks = marks-then s (state_with_speculative_changes p s) u (early-marks p s) k.marks in
     let above : AreAbove p.writes = (h.ahead free).writes in
     let x = words_after (index_words s) p.index in
     let low : (i : ℕ) → i < 7 → word u i ≡ word s i =
@@ -222,7 +222,7 @@ past p s u c m h free k =
 pub completed-past : (p : Prepared) (s : Machine) → IsPrepared p → IsMachine s → p.serial ≡ false
     → IsPast p s (state_after_completion p s)
 completed-past p s h m free =
-    let t = state_with_early_changes p s in
+    let t = state_with_speculative_changes p s in
     let size : length t.words ≡ words_of_storage = (early-marks p s).size ∙ m.size in
     let k = late-kept p.suppressed p t refl h free size in
     subst (IsPast p s) (sym (completed-late p s (h.ahead free).table))
@@ -268,15 +268,15 @@ following-unless true p t e h = refl
 following-unless false p t e h = counter-not_taken false p t h refl
 
 right-prediction : (b : Bool) (p : Prepared) (s : Machine) → p.serial ≡ b → IsPrepared p
-    → (not b && not p.suppressed && is_taken p.instr p.e (state_with_early_changes p (state_at_entry p.place.table s))) ≡ false
+    → (not b && not p.suppressed && is_taken p.instr p.e (state_with_speculative_changes p (state_at_entry p.place.table s))) ≡ false
     → (if b then state_after_completion p s else record (state_after_completion p s) { ic = p.following }) ≡ state_after_completion p s
 right-prediction true p s e h mispredicted = refl
 right-prediction false p s e h mispredicted =
     let table : p.place.table ≡ None = (h.ahead e).table in
-    let test : (not p.suppressed && is_taken p.instr p.e (state_with_early_changes p s)) ≡ false =
-    ap (λ k. not p.suppressed && is_taken p.instr p.e (state_with_early_changes p (state_at_entry k s))) (sym table) ∙ mispredicted in
+    let test : (not p.suppressed && is_taken p.instr p.e (state_with_speculative_changes p s)) ≡ false =
+    ap (λ k. not p.suppressed && is_taken p.instr p.e (state_with_speculative_changes p (state_at_entry k s))) (sym table) ∙ mispredicted in
     let same : (state_after_completion p s).ic ≡ p.following =
-    ap (λ (u : Machine). u.ic) (completed-late p s table) ∙ following-unless p.suppressed p (state_with_early_changes p s) refl test in
+    ap (λ (u : Machine). u.ic) (completed-late p s table) ∙ following-unless p.suppressed p (state_with_speculative_changes p s) refl test in
     ap (λ c. record (state_after_completion p s) { ic = c }) (sym same)
 
 pub predicted-right : (p : Prepared) (s : Machine) → IsPrepared p → is_mispredicted p s ≡ false → predicted_state p s ≡ state_after_completion p s

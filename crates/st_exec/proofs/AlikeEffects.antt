@@ -36,7 +36,7 @@ use Rattle.st_conn.specs.Connection.{connection}
 use Rattle.st_exec.specs.Outcome.{bits_taken, result_by, operation_outcome, connects, with_register, with_accumulator, with_registers, with_field, with_result, shape_of}
 use Rattle.st_field.specs.declared.outcome.Done.{Done}
 use Rattle.st_exec.specs.Effect.{index_effect, branch_effect, indicator_effect, effect_of, carried_out}
-use Rattle.st_exec.specs.Completion.{with_change, state_with_early_changes, state_counted_on, state_after_completion, predicted_state, is_mispredicted, counter}
+use Rattle.st_exec.specs.Completion.{with_change, state_with_speculative_changes, state_counted_on, state_after_completion, predicted_state, is_mispredicted, counter}
 use Rattle.st_exec.proofs.AlikeStates.{alike-stored, alike-indicators, alike-placed, alike-field_at, alike-accumulator}
 use Rattle.st_exec.proofs.FieldLemmas.{result-field, connection-field}
 use Rattle.st_exec.proofs.InsideLemmas.{some_words, inside-field, inside-field_if}
@@ -231,8 +231,8 @@ alike-change : (c : Option IndexChange) (s t : Machine) → AreAlike s t → Are
 alike-change None s t h = h
 alike-change (Some c) s t h = alike-stored s t (16 + c.number) c.word h
 
-alike-early : (p : Prepared) (s t : Machine) → AreAlike s t → AreAlike (state_with_early_changes p s) (state_with_early_changes p t)
-unfolding state_with_early_changes
+alike-early : (p : Prepared) (s t : Machine) → AreAlike s t → AreAlike (state_with_speculative_changes p s) (state_with_speculative_changes p t)
+unfolding state_with_speculative_changes
 alike-early p s t h = alike-indicators _ _ _ _ (alike-change p.index s t h)
 
 alike-late : (b : Bool) (p : Prepared) (s t : Machine) → p.suppressed ≡ b → IsPrepared p → p.serial ≡ false
@@ -264,7 +264,7 @@ predicted-ahead false p s e = refl
 
 pub predicted-late : (p : Prepared) (s : Machine) → IsPrepared p → p.serial ≡ false
     → predicted_state p s
-    ≡ record (state_counted_on (late p.suppressed p (state_with_early_changes p s)) (if p.suppressed then p.following else counter p (state_with_early_changes p s))) {
+    ≡ record (state_counted_on (late p.suppressed p (state_with_speculative_changes p s)) (if p.suppressed then p.following else counter p (state_with_speculative_changes p s))) {
       ic = p.following;
     }
 unfolding predicted_state
@@ -275,12 +275,12 @@ predicted-late p s h free =
 pub predicted-alike : (p : Prepared) (s t : Machine) → IsPrepared p → IsMachine s → AreAlike s t → p.serial ≡ false
     → AreAlike (predicted_state p s) (predicted_state p t)
 predicted-alike p s t h m k free =
-    let size : length (state_with_early_changes p s).words ≡ words_of_storage = (early-marks p s).size ∙ m.size in
-    let after = alike-late p.suppressed p (state_with_early_changes p s) (state_with_early_changes p t) refl h free size (alike-early p s t k) in
-    let c : ℕ = if p.suppressed then p.following else counter p (state_with_early_changes p s) in
-    let d : ℕ = if p.suppressed then p.following else counter p (state_with_early_changes p t) in
-    let u = late p.suppressed p (state_with_early_changes p s) in
-    let v = late p.suppressed p (state_with_early_changes p t) in
+    let size : length (state_with_speculative_changes p s).words ≡ words_of_storage = (early-marks p s).size ∙ m.size in
+    let after = alike-late p.suppressed p (state_with_speculative_changes p s) (state_with_speculative_changes p t) refl h free size (alike-early p s t k) in
+    let c : ℕ = if p.suppressed then p.following else counter p (state_with_speculative_changes p s) in
+    let d : ℕ = if p.suppressed then p.following else counter p (state_with_speculative_changes p t) in
+    let u = late p.suppressed p (state_with_speculative_changes p s) in
+    let v = late p.suppressed p (state_with_speculative_changes p t) in
     subst (λ (y : Machine). AreAlike (predicted_state p s) y) (sym (predicted-late p t h free))
     (subst (λ (y : Machine). AreAlike y (record (state_counted_on v d) { ic = p.following })) (sym (predicted-late p s h free))
     (alike-counted u v c d p.following after))

@@ -18,7 +18,7 @@ use Rattle.st_field.specs.declared.outcome.Done.{Done}
 use Rattle.st_exec.specs.Effect.{effect_of, effect, carried_out}
 use Rattle.st_exec.specs.declared.effects.Effect.{Effect}
 use Rattle.st_exec.specs.declared.effects.Effect.TheVariants.{Rest, Put, Copy, Exchange, TurnOff, Enable, Wait, Give, Leave}
-use Rattle.st_exec.specs.Completion.{with_change, state_with_early_changes, counter, state_counted_on, predicted_state}
+use Rattle.st_exec.specs.Completion.{with_change, state_with_speculative_changes, counter, state_counted_on, predicted_state}
 use Rattle.st_exec.specs.Transfer.{read_in, printed_out}
 use Rattle.st_exec.proofs.SparedLemmas.{IsQuiet, quiet-effect}
 use Rattle.st_exec.proofs.AheadLemmas.{late}
@@ -32,8 +32,8 @@ change-orders r q None s = refl
 change-orders r q (Some c) s = refl
 
 early-orders : (r q : Option Order) (p : Prepared) (s : Machine)
-    → state_with_early_changes p (with_orders r q s) ≡ with_orders r q (state_with_early_changes p s)
-unfolding state_with_early_changes
+    → state_with_speculative_changes p (with_orders r q s) ≡ with_orders r q (state_with_speculative_changes p s)
+unfolding state_with_speculative_changes
 early-orders r q p s = ap (state_with_indicators p.ind) (change-orders r q p.index s)
 
 register-orders : (r q : Option Order) (w : ℕ) (x : Option ℕ) (t : Machine)
@@ -113,10 +113,10 @@ predicted-orders : (r q : Option Order) (p : Prepared) (s : Machine) → IsPrepa
     → predicted_state p (with_orders r q s) ≡ with_orders r q (predicted_state p s)
 predicted-orders r q p s h free =
     let u = with_orders r q s in
-    let t = state_with_early_changes p s in
-    let c : ℕ = if p.suppressed then p.following else counter p (state_with_early_changes p u) in
+    let t = state_with_speculative_changes p s in
+    let c : ℕ = if p.suppressed then p.following else counter p (state_with_speculative_changes p u) in
     let d : ℕ = if p.suppressed then p.following else counter p t in
-    let same : late p.suppressed p (state_with_early_changes p u) ≡ with_orders r q (late p.suppressed p t) =
+    let same : late p.suppressed p (state_with_speculative_changes p u) ≡ with_orders r q (late p.suppressed p t) =
     ap (late p.suppressed p) (early-orders r q p s) ∙ late-orders r q p.suppressed p t refl h free in
     predicted-late p u h free
     ∙ ap (λ y. record (state_counted_on y c) { ic = p.following }) same

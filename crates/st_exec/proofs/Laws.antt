@@ -6,7 +6,7 @@ use Rattle.st_exec.proofs.MachineKept.{kept-completed}
 use Rattle.st_exec.proofs.UnwrittenLemmas.{early-index_words, completed-unwritten, predicted-unwritten, predicted-machine, predicted-following, predicted-alone, predicted-rest, predicted-done, predicted-past}
 use Rattle.st_exec.proofs.BesideEntries.{predicted-beside, beside-printed, beside-no_card, beside-signalled, beside-same, beside-then}
 use Rattle.std.proofs.Common.{rules}
-use Rattle.st_exec.specs.Laws.{EntriesAreBounded, EntriesCountAsOne, EntriesAheadLeaveTheRest, OnlyIndicatorBranchesAreMispredicted, IndicatorsArePassedOver, EntriesLeaveStates, EarlyChangesLeaveTheirIndexWords, EntriesLeaveWhatTheyDoNotWrite, GuessesLeaveStates, OrdersArePassedOver}
+use Rattle.st_exec.specs.Laws.{EntriesAreBounded, EntriesCountAsOne, EntriesAheadLeaveTheRest, OnlyIndicatorBranchesAreMispredicted, IndicatorsArePassedOver, EntriesLeaveStates, SpeculativeChangesLeaveTheirIndexWords, EntriesLeaveWhatTheyDoNotWrite, PredictionsLeaveStates, OrdersArePassedOver}
 
 pub entries_are_bounded : EntriesAreBounded
 entries_are_bounded = record {
@@ -33,14 +33,14 @@ indicators_are_passed_over = record { predicted = predicted-alike; completed = c
 pub entries_leave_states : EntriesLeaveStates
 entries_leave_states = kept-completed
 
-pub early_changes_leave_their_index_words : EarlyChangesLeaveTheirIndexWords
-early_changes_leave_their_index_words = early-index_words
+pub speculative_changes_leave_their_index_words : SpeculativeChangesLeaveTheirIndexWords
+speculative_changes_leave_their_index_words = early-index_words
 
 pub entries_leave_what_they_do_not_write : EntriesLeaveWhatTheyDoNotWrite
 entries_leave_what_they_do_not_write = record { completed = completed-unwritten; predicted = predicted-unwritten }
 
-pub guesses_leave_states : GuessesLeaveStates
-guesses_leave_states = record {
+pub predictions_leave_states : PredictionsLeaveStates
+predictions_leave_states = record {
   machine = predicted-machine;
   following = predicted-following;
   alone = predicted-alone;

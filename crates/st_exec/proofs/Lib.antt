@@ -16,5 +16,5 @@ pub mod ResultBounds
 pub mod MachineKept
 pub mod UnwrittenLemmas
 pub mod BesideEntries
-pub mod MissedLemmas
+pub mod MispredictionLemmas
 pub mod Laws

@@ -32,7 +32,7 @@ use Rattle.st_exec.specs.Operand.{field_at, operand_bits, accumulator}
 use Rattle.st_exec.specs.Outcome.{bits_taken, operation_outcome, connects, shape_of, with_accumulator, with_register, with_registers, with_field, with_result}
 use Rattle.st_field.specs.declared.outcome.Done.{Done}
 use Rattle.st_exec.specs.Effect.{AreRuns, state_with_copy, state_with_exchange, index_effect, branch_effect, bit_effect, indicator_effect, move_effect, order_standing, machine_with_order, state_with_order, effect_of, effect, carried_out}
-use Rattle.st_exec.specs.Completion.{with_change, state_with_early_changes, is_taken, target, counter, state_counted_on, state_after_effect, state_after_completion}
+use Rattle.st_exec.specs.Completion.{with_change, state_with_speculative_changes, is_taken, target, counter, state_counted_on, state_after_effect, state_after_completion}
 use Rattle.st_exec.specs.declared.effects.Effect.{Effect}
 use Rattle.st_exec.specs.declared.effects.Effect.TheVariants.{Rest, Put, Copy, Exchange, TurnOff, Enable, Wait, Give, Leave}
 use Rattle.st_exec.proofs.ApartLemmas.{length-placed, word-placed_by}
@@ -280,8 +280,8 @@ kept-change (Some c) s m h =
     let number : c.number < 16 = h.number in
     kept-word s (16 + c.number) c.word m (omega arith) h.word
 
-pub kept-early : (p : Prepared) (s : Machine) → IsMachine s → IfSome p.index IsChange → IsMachine (state_with_early_changes p s)
-unfolding state_with_early_changes
+pub kept-early : (p : Prepared) (s : Machine) → IsMachine s → IfSome p.index IsChange → IsMachine (state_with_speculative_changes p s)
+unfolding state_with_speculative_changes
 kept-early p s m h = kept-applied (with_change p.index s) p.ind.on p.ind.off (kept-change p.index s m h)
 
 target-below : (instr : Instr) (following : ℕ) → HasFields instr → following < 2 ^ 19 → target instr following < 2 ^ 19
@@ -321,5 +321,5 @@ kept-finished false p s e h m =
 pub kept-completed : (p : Prepared) (s : Machine) → IsPrepared p → IsMachine s → IsMachine (state_after_completion p s)
 unfolding state_after_completion state_after_effect
 kept-completed p s h m =
-    kept-finished p.suppressed p (state_with_early_changes p (state_at_entry p.place.table s)) refl h
+    kept-finished p.suppressed p (state_with_speculative_changes p (state_at_entry p.place.table s)) refl h
     (kept-early p (state_at_entry p.place.table s) (is_machine-opened p.place.table s m) h.change)

@@ -14,7 +14,7 @@ use Rattle.st_exec.specs.Operand.{AreFirstOperands, AreRead}
 use Rattle.st_exec.specs.Outcome.{with_register, with_registers, with_field, with_result}
 use Rattle.st_field.specs.declared.outcome.Done.{Done}
 use Rattle.st_exec.specs.Effect.{state_with_copy, state_with_exchange, machine_with_order, state_with_order, effect, carried_out}
-use Rattle.st_exec.specs.Completion.{with_change, state_with_early_changes, counter, state_counted_on, state_after_effect, state_after_completion}
+use Rattle.st_exec.specs.Completion.{with_change, state_with_speculative_changes, counter, state_counted_on, state_after_effect, state_after_completion}
 use Rattle.st_exec.specs.declared.effects.Effect.{Effect}
 use Rattle.st_exec.specs.declared.effects.Effect.TheVariants.{Rest, Put, Copy, Exchange, TurnOff, Enable, Wait, Give, Leave}
 
@@ -28,8 +28,8 @@ with_change-done : (c : Option IndexChange) (s : Machine) → (with_change c s).
 with_change-done None s = refl
 with_change-done (Some c) s = refl
 
-pub early-done : (p : Prepared) (s : Machine) → (state_with_early_changes p s).done ≡ s.done
-unfolding state_with_early_changes
+pub early-done : (p : Prepared) (s : Machine) → (state_with_speculative_changes p s).done ≡ s.done
+unfolding state_with_speculative_changes
 early-done p s = with_change-done p.index s
 
 copied-done : (from to n : ℕ) (t : Machine) → (state_with_copy from to n t).done ≡ t.done
@@ -91,7 +91,7 @@ finished-done false p t = ap (λ n. n + 1) (done-done (effect p t) t)
 pub completed-done : (p : Prepared) (s : Machine) → (state_after_completion p s).done ≡ s.done + 1
 unfolding state_after_completion state_after_effect
 completed-done p s =
-    finished-done p.suppressed p (state_with_early_changes p (state_at_entry p.place.table s))
+    finished-done p.suppressed p (state_with_speculative_changes p (state_at_entry p.place.table s))
     ∙ ap (λ n. n + 1) (early-done p (state_at_entry p.place.table s) ∙ opened-done p.place.table s)
 
 -- ---- words above the registers, before the operands are read
@@ -110,15 +110,15 @@ with_change-above (Some c) s i h above =
     let number : c.number < 16 = h.number in stored-other s (16 + c.number) c.word i (omega arith)
 
 pub early-above : (p : Prepared) (s : Machine) (i : ℕ) → IfSome p.index IsChange → 32 ≤ i
-    → word (state_with_early_changes p s) i ≡ word s i
-unfolding state_with_early_changes
+    → word (state_with_speculative_changes p s) i ≡ word s i
+unfolding state_with_speculative_changes
 early-above p s i h above =
     get_or-set_other (with_change p.index s).words 11 i _ 0 (omega arith) ∙ with_change-above p.index s i h above
 
 -- the operands are the words of the state after the speculative change, except registers
 pub operands-read : (p : Prepared) (operands : List ℕ) (s : Machine) → IsPrepared p → AreFirstOperands p.reads operands s
-    → AreRead p.reads operands (state_with_early_changes p (state_at_entry p.place.table s))
+    → AreRead p.reads operands (state_with_speculative_changes p (state_at_entry p.place.table s))
 operands-read p operands s h r =
-    let same : (i : ℕ) → 32 ≤ i → word s i ≡ word (state_with_early_changes p (state_at_entry p.place.table s)) i =
+    let same : (i : ℕ) → 32 ≤ i → word s i ≡ word (state_with_speculative_changes p (state_at_entry p.place.table s)) i =
     λ i above. sym (early-above p (state_at_entry p.place.table s) i h.change above ∙ opened-above p.place.table s i above) in
     record { first = λ k few some above. r.first k few some ∙ same (p.reads.first + k) above }

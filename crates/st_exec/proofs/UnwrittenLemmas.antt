@@ -20,7 +20,7 @@ use Rattle.st_prep.proofs.Choices.{of_choice}
 use Rattle.st_prep.proofs.IndexWords.{are_index_words}
 use Rattle.st_prep.proofs.PlanLemmas.{is_machine-opened}
 use Rattle.st_exec.specs.Effect.{state_with_copy, state_with_exchange, order_standing, machine_with_order, state_with_order, branch_effect, bit_effect, move_effect, effect_of, effect, carried_out}
-use Rattle.st_exec.specs.Completion.{state_with_early_changes, counter, state_counted_on, state_after_effect, state_after_completion, predicted_state}
+use Rattle.st_exec.specs.Completion.{state_with_speculative_changes, counter, state_counted_on, state_after_effect, state_after_completion, predicted_state}
 use Rattle.st_exec.specs.Ahead.{IsNotAmong, IsPast}
 use Rattle.st_exec.specs.declared.effects.Effect.{Effect}
 use Rattle.st_exec.specs.declared.effects.Effect.TheVariants.{Rest, Put, Copy, Exchange, TurnOff, Enable, Wait, Give, Leave}
@@ -165,7 +165,7 @@ pub completed-unwritten : (p : Prepared) (s : Machine) (w : ℕ) → IsPrepared 
 unfolding state_after_completion state_after_effect
 completed-unwritten p s w h m above k =
     let u = state_at_entry p.place.table s in
-    let t = state_with_early_changes p u in
+    let t = state_with_speculative_changes p u in
     let size : length t.words ≡ words_of_storage =
     (kept-early p u (is_machine-opened p.place.table s m) h.change).size in
     finished-unwritten p.suppressed p t w (word s w) refl h size above k
@@ -182,19 +182,19 @@ opened-other None s i other = refl
 opened-other (Some k) s i other = get_or-set_other s.words 11 i _ 0 other
 
 pub early-index_words : (p : Prepared) (s : Machine) (table : Option ℕ) → IsPrepared p → IsMachine s
-    → index_words (state_with_early_changes p (state_at_entry table s)) ≡ words_after (index_words s) p.index
+    → index_words (state_with_speculative_changes p (state_at_entry table s)) ≡ words_after (index_words s) p.index
 early-index_words p s table h m =
     let u = state_at_entry table s in
     let x = index_words u in
     let n = is_machine-opened table s m in
     let long : 32 ≤ length s.words = omega (arith, m.size, words_of_storage_is) in
     let long' : 32 ≤ length u.words = omega (arith, n.size, words_of_storage_is) in
-    let size : length (state_with_early_changes p u).words ≡ length u.words = (early-marks p u).size in
+    let size : length (state_with_speculative_changes p u).words ≡ length u.words = (early-marks p u).size in
     let same : index_words s ≡ x =
     are_index_words u (index_words s) long' (length-index_words s long)
     (λ k few. index-at s k few ∙ sym (opened-other table s (16 + k) (omega arith))) in
-    let after : words_after x p.index ≡ index_words (state_with_early_changes p u) =
-    are_index_words (state_with_early_changes p u) (words_after x p.index) (omega arith)
+    let after : words_after x p.index ≡ index_words (state_with_speculative_changes p u) =
+    are_index_words (state_with_speculative_changes p u) (words_after x p.index) (omega arith)
     (length-words_after x p.index ∙ length-index_words u long')
     (λ k few. sym (early-index p u k long' few h.change)) in
     sym after ∙ ap (λ y. words_after y p.index) (sym same)

@@ -23,8 +23,8 @@ with_change (Some c) s = state_with_store s (FIRST_INDEX_WORD + c.number) c.word
 
 -- the state after the speculative changes of an entry: the index word, and then the indicators or
 -- the one indicator of a fault
-unfoldable pub state_with_early_changes : Prepared → Machine → Machine
-state_with_early_changes p s = state_with_indicators p.ind (with_change p.index s)
+unfoldable pub state_with_speculative_changes : Prepared → Machine → Machine
+state_with_speculative_changes p s = state_with_indicators p.ind (with_change p.index s)
 
 -- ---- the program counter
 
@@ -61,7 +61,7 @@ state_after_effect p t =
 
 -- the state after the completion of an entry; the interrupt of a table instruction is taken first
 unfoldable pub state_after_completion : Prepared → Machine → Machine
-state_after_completion p s = state_after_effect p (state_with_early_changes p
+state_after_completion p s = state_after_effect p (state_with_speculative_changes p
     (state_at_entry p.place.table s))
 
 -- the state after the execution of the next entry, or of the table instruction of an interrupt
@@ -86,4 +86,4 @@ prediction table s = predicted_state (plan s table) s
 unfoldable pub is_mispredicted : Prepared → Machine → Bool
 is_mispredicted p s =
     not p.serial && not p.suppressed && is_taken p.instr p.e
-    (state_with_early_changes p (state_at_entry p.place.table s))
+    (state_with_speculative_changes p (state_at_entry p.place.table s))

@@ -4,7 +4,7 @@ use Rattle.st_state.specs.Machine.{Machine, IsMachine, word}
 use Rattle.st_prep.specs.declared.entries.Prepared.{Prepared}
 use Rattle.st_prep.specs.Alike.{AreAlike}
 use Rattle.st_prep.specs.Ranges.{IsPrepared}
-use Rattle.st_exec.specs.Completion.{state_after_completion, predicted_state, is_mispredicted, state_with_early_changes}
+use Rattle.st_exec.specs.Completion.{state_after_completion, predicted_state, is_mispredicted, state_with_speculative_changes}
 use Rattle.st_exec.specs.Ahead.{IsPast, is_indicator_branch, IsNotAmong}
 use Rattle.st_state.specs.Interrupts.{state_with_signal}
 use Rattle.st_prep.specs.BesideOrders.{AreAlikeBesideOrders}
@@ -58,10 +58,10 @@ EntriesLeaveStates = (p : Prepared) (s : Machine) → IsPrepared p → IsMachine
 
 -- The index words after the speculative change of an entry are the result of that change. This
 -- includes serializing entries and table instructions, whose interrupt is taken first.
-abbrev pub EarlyChangesLeaveTheirIndexWords : Type 0
-EarlyChangesLeaveTheirIndexWords = (p : Prepared) (s : Machine) (t : Option ℕ) → IsPrepared p →
+abbrev pub SpeculativeChangesLeaveTheirIndexWords : Type 0
+SpeculativeChangesLeaveTheirIndexWords = (p : Prepared) (s : Machine) (t : Option ℕ) → IsPrepared p →
     IsMachine s
-    → index_words (state_with_early_changes p (state_at_entry t s))
+    → index_words (state_with_speculative_changes p (state_at_entry t s))
     ≡ words_after (index_words s) p.index
 
 -- An entry, serializing or not, leaves each word from 32 that it does not write unchanged, in its
@@ -74,7 +74,7 @@ pub record EntriesLeaveWhatTheyDoNotWrite : Type 0 where
 
 -- The predicted state of an entry keeps the invariant. It is the completed state with the following
 -- address as program counter; for a serializing entry it is the completed state.
-pub record GuessesLeaveStates : Type 0 where
+pub record PredictionsLeaveStates : Type 0 where
   pub machine : (p : Prepared) (s : Machine) → IsPrepared p → IsMachine s
       → IsMachine (predicted_state p s)
   pub following : (p : Prepared) (s : Machine) → p.serial ≡ false

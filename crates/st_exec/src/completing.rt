@@ -7,7 +7,7 @@ ghost use Rattle.st_exec.specs.Operand.{AreOperands, AreFirstOperands, AreRead};
 ghost use Rattle.st_exec.specs.Completion.{is_taken as is_taken_of, target as target_of, counter as counter_of, state_counted_on, state_after_effect, state_after_completion, state_after_execution};
 
 use crate::carrying::carry_out;
-use crate::early::{change_early, take};
+use crate::speculative::{change_speculatively, take};
 use crate::effects::effect_by;
 use crate::operands::{first_operands, operand_field};
 use st_bits::part;
@@ -98,7 +98,7 @@ pub fn complete_with(p: &Prepared, operands: &[u64; 2], state: &mut State)
     ensures { state.new ≡ state_after_completion p.now state.old }
 {
     take(p.place.table, state);
-    change_early(p, state);
+    change_speculatively(p, state);
     finish(p, operands, state);
 }
 

@@ -7,7 +7,7 @@ use Rattle.std.proofs.Common.{refl, rules}
 use Rattle.st_laws.specs.Laws.{LimitsInFigures, ControlsInFigures, RegistersInFigures, IndicatorsInFigures, DigitsAgree, CountsAgree, SymbolsAgree, SizesOfStorageAgree, NumbersAgree, MadeDecksAreNotRefused, EmittedNumbersAreRead, BanksInFigures, FormatsInFigures, ExpressionsInFigures, StatementsInFigures, DrawnWordsInFigures}
 use Rattle.st_laws.proofs.AgreementLemmas.{value-bytes, digits-joined, zeros-counted, ones-counted, counts-kept, shown-in, emitted-in, spelled-agree}
 use Rattle.st_laws.proofs.MadeDecks.{made-assembled}
-use Rattle.st_laws.proofs.LaidFields.{binary-read, decimal-read, digits-read}
+use Rattle.st_laws.proofs.EmittedFields.{binary-read, decimal-read, digits-read}
 
 pub limits_in_figures : LimitsInFigures
 limits_in_figures = record {

@@ -1,6 +1,6 @@
-pub mod LaidParts
-pub mod LaidDigits
-pub mod LaidFields
+pub mod EmittedParts
+pub mod EmittedDigits
+pub mod EmittedFields
 pub mod AgreementLemmas
 pub mod MadeStatements
 pub mod MadeDecks

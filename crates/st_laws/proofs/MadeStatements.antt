@@ -22,7 +22,7 @@ use Rattle.st_asm.specs.Symbols.{accepts_all, is_defined}
 use Rattle.st_asm.specs.Values.{values_of}
 use Rattle.st_asm.specs.Places.{placing_of, length_in, next_multiple, place_in, behind_in}
 use Rattle.st_asm.specs.Checks.{in_range, fits, on_boundary, extent, in_storage, value_fault}
-use Rattle.st_asm.specs.Laying.{half_word_bits, bits_of}
+use Rattle.st_asm.specs.Emitting.{half_word_bits, bits_of}
 use Rattle.st_asm.specs.Valuing.{image_with}
 use Rattle.st_dis.proofs.Said.{AreRead}
 use Rattle.st_dis.proofs.FormPass.{IsOpen}
@@ -32,7 +32,7 @@ use Rattle.st_gen.specs.Deck.{draw, index, word_text, bit_text, small_value, fie
 use Rattle.st_gen.proofs.Drawn.{drawn-cases}
 
 -- a statement without names that assembles to one or two half-words, and is not END
-pub record LaysHalves (s : Statement) (count : ℕ) : Type 0 where
+pub record EmitsHalves (s : Statement) (count : ℕ) : Type 0 where
   pub few : count ≤ 64
   pub halves : count % 32 ≡ 0
   pub going : is_end s ≡ false
@@ -48,7 +48,7 @@ pub record IsGood (text : List ℕ) : Type 0 where
   pub statement : Statement
   pub count : ℕ
   pub read : statement_of [] text ≡ Ok statement
-  pub emits : LaysHalves statement count
+  pub emits : EmitsHalves statement count
 
 -- ---- operations on an index word
 
@@ -65,7 +65,7 @@ half-known : (op : HalfOp) (j a : ℕ) → accepts_all (is_defined []) (Half op 
 unfolding accepts_all
 half-known op j a = refl
 
-half-emits : (op : HalfOp) (j a : ℕ) → a < 2 ^ 24 → a % 32 ≡ 0 → LaysHalves (Half op j (number_spot a 0)) 32
+half-emits : (op : HalfOp) (j a : ℕ) → a < 2 ^ 24 → a % 32 ≡ 0 → EmitsHalves (Half op j (number_spot a 0)) 32
 half-emits op j a small even = record {
   few = omega arith;
   halves = omega arith;
@@ -100,7 +100,7 @@ field-known : (op : VflOp) (f : FieldForm) (a i o : ℕ) → accepts_all (is_def
 unfolding accepts_all
 field-known op f a i o = refl
 
-field-emits : (op : VflOp) (f : FieldForm) (a i o : ℕ) → a < 2 ^ 24 → o ≤ 127 → LaysHalves (Vfl op false f (number_spot a i) o) 64
+field-emits : (op : VflOp) (f : FieldForm) (a i o : ℕ) → a < 2 ^ 24 → o ≤ 127 → EmitsHalves (Vfl op false f (number_spot a i) o) 64
 field-emits op f a i o small short = record {
   few = omega arith;
   halves = omega arith;
@@ -135,7 +135,7 @@ connect-known : (f : FieldForm) (a o : ℕ) → accepts_all (is_defined []) (Con
 unfolding accepts_all
 connect-known f a o = refl
 
-connect-emits : (f : FieldForm) (a o : ℕ) → a < 2 ^ 24 → o ≤ 127 → LaysHalves (Connect C 6 f (number_spot a 0) o) 64
+connect-emits : (f : FieldForm) (a o : ℕ) → a < 2 ^ 24 → o ≤ 127 → EmitsHalves (Connect C 6 f (number_spot a 0) o) 64
 connect-emits f a o small short = record {
   few = omega arith;
   halves = omega arith;
@@ -257,7 +257,7 @@ made-good y x = drawn-cases IsGood (record {
 -- ---- sequences of statements
 
 -- a location that is a multiple of 32, with room for the bits
-halves-steps : (s : Statement) (count a start : ℕ) (image : List ℕ) → LaysHalves s count → a % 32 ≡ 0 → 2048 ≤ a → a + count ≤ 6291456 →
+halves-steps : (s : Statement) (count a start : ℕ) (image : List ℕ) → EmitsHalves s count → a % 32 ≡ 0 → 2048 ≤ a → a + count ≤ 6291456 →
     Steps s (stand a image start) (stand (a + count) (image_with image a count (bits_of s (values_of [] s))) start)
 halves-steps s count a start image emits even above room =
     let v = (values_of [] s).first in

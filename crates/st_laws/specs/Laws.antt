@@ -26,7 +26,7 @@ use Rattle.st_gen.specs.Deck.{made_deck}
 use Rattle.st_gen.specs.declared.statement.TheConstants.{FIRST_DRAWN_WORD, DRAWN_WORDS}
 use Rattle.st_mnemonic.specs.declared.form.Form.{Form}
 use Rattle.st_dec.specs.DecimalOperand.{field_value, digit_bytes, digit_count}
-use Rattle.st_laws.specs.LaidNumbers.{IsHeld, IsRead, emitted_shape, field_of_number}
+use Rattle.st_laws.specs.EmittedNumbers.{IsHeld, IsRead, emitted_shape, field_of_number}
 use Rattle.st_banks.specs.declared.answers.TheConstants.{BANKS, LOW_WORDS}
 use Rattle.st_format.specs.declared.operations.TheConstants.{FLOATING_GROUP, BRANCH_GROUP, UNUSED}
 use Rattle.st_expr.specs.declared.terms.TheConstants.{LAST_ADDRESS, LAST_BIT}

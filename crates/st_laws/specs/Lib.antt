@@ -1,4 +1,4 @@
-pub mod LaidNumbers
+pub mod EmittedNumbers
 pub mod Laws
 pub use Rattle.st_asm.specs.Assembly
 pub use Rattle.st_asm.specs.Checks

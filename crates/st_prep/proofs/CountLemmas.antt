@@ -14,7 +14,7 @@ use Rattle.st_prep.specs.Ranges.{HasFields}
 use Rattle.st_prep.specs.Reading.{words_read as instruction_words, reading_at_place, index_side_words}
 use Rattle.st_prep.proofs.Choices.{of_choice}
 use Rattle.st_prep.proofs.PlanLemmas.{decode_context-fits}
-use Rattle.st_prep.proofs.PreparedLemmas.{IsSight, executed-shape}
+use Rattle.st_prep.proofs.PreparedLemmas.{IsDecodeContext, executed-shape}
 use Rattle.st_prep.proofs.ReadingLemmas.{reading-few}
 
 -- at most this number of operand words
@@ -60,7 +60,7 @@ few-read x (StoreCounter a i second) e s = omega arith
 few-read x (Transfer w a i n) e s = omega arith
 few-read x (Invalid first second full) e s = omega arith
 
-few-by_fault : (f : Option ℕ) (s : DecodeContext) (r : Option ℕ) → IsSight s
+few-by_fault : (f : Option ℕ) (s : DecodeContext) (r : Option ℕ) → IsDecodeContext s
     → (prepared_by f s.place (resolved s) s.x r).reads.len + (prepared_by f s.place (resolved s) s.x r).reads.len2
     + index_side_words (needs_by f (resolved s)).index_read
     ≤ 32
@@ -69,7 +69,7 @@ few-by_fault None s r k =
     few-read s.x (effective_instr s.fetched) (effective s.x (effective_instr s.fetched)) (executed-shape s.fetched k.fetched)
 few-by_fault (Some i) s r k = omega arith
 
-few-prepared : (s : DecodeContext) (r : Option ℕ) → IsSight s
+few-prepared : (s : DecodeContext) (r : Option ℕ) → IsDecodeContext s
     → (prepared_entry s r).reads.len + (prepared_entry s r).reads.len2 + index_side_words (needs s).index_read ≤ 32
 unfolding prepared_entry needs resolved
 few-prepared s r k = few-by_fault (resolved s).fault s r k

@@ -23,7 +23,7 @@ use Rattle.st_prep.specs.Plan.{DecodeContext, needs, prepared_entry, decode_cont
 use Rattle.st_prep.specs.Ranges.{IsPlace, IsPrepared}
 use Rattle.st_prep.proofs.Choices.{of_choice}
 use Rattle.st_prep.proofs.FetchLemmas.{fetched-fits}
-use Rattle.st_prep.proofs.PreparedLemmas.{IsSight, is_prepared, alone-serial}
+use Rattle.st_prep.proofs.PreparedLemmas.{IsDecodeContext, is_prepared, alone-serial}
 
 -- ---- indicators
 
@@ -80,7 +80,7 @@ place-fits : (s : Machine) (t : Option ℕ) → IsMachine s → IfSome t (λ i. 
 unfolding place_of
 place-fits s t m some = record { counter = m.counter; address = address-below t s m; table = some }
 
-pub decode_context-fits : (s : Machine) (t : Option ℕ) → IsMachine s → IfSome t (λ i. i < 64) → IsSight (decode_context s (place_of s t))
+pub decode_context-fits : (s : Machine) (t : Option ℕ) → IsMachine s → IfSome t (λ i. i < 64) → IsDecodeContext (decode_context s (place_of s t))
 unfolding decode_context
 decode_context-fits s t m some = record {
   place = place-fits s t m some;

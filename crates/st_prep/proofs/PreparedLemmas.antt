@@ -26,7 +26,7 @@ use Rattle.st_prep.proofs.ChangeLemmas.{change-fits}
 use Rattle.st_prep.proofs.OutcomeLemmas.{next-below, after-below, value-fits, zero-fits, cost-fits}
 
 -- a decode context in its ranges
-pub record IsSight (s : DecodeContext) : Type 0 where
+pub record IsDecodeContext (s : DecodeContext) : Type 0 where
   pub place : IsPlace s.place
   pub fetched : IsFetched s.fetched
   pub words : (j : ℕ) → get_or s.x j 0 < 2 ^ 64
@@ -108,7 +108,7 @@ not_table place f h = no_table place.table (or-left (is_some place.table) (is_ex
 
 -- ---- all entries
 
-entry-prepared : (s : DecodeContext) (r : Option ℕ) → IsSight s → IfSome r (λ w. w < 2 ^ 64)
+entry-prepared : (s : DecodeContext) (r : Option ℕ) → IsDecodeContext s → IfSome r (λ w. w < 2 ^ 64)
     → Passes (resolved_at s.place s.fetched s.x) s.bounds s.enabled → IsPrepared (entry_at s.place (resolved s) s.x r)
 unfolding entry_at resolved resolved_at
 entry-prepared s r k some p =
@@ -147,7 +147,7 @@ entry-prepared s r k some p =
       };
     }
 
-suppressed-prepared : (s : DecodeContext) (i : ℕ) → IsSight s → IsPrepared (suppressed_entry s.place (resolved s) i)
+suppressed-prepared : (s : DecodeContext) (i : ℕ) → IsDecodeContext s → IsPrepared (suppressed_entry s.place (resolved s) i)
 unfolding suppressed_entry resolved resolved_at
 suppressed-prepared s i k = record {
   place = k.place;
@@ -176,13 +176,13 @@ passes_by : (s : DecodeContext) → (resolved s).fault ≡ None → Passes (reso
 unfolding resolved
 passes_by s h = passes (resolved_at s.place s.fetched s.x) s.bounds s.enabled h
 
-by_fault : (f : Option ℕ) (s : DecodeContext) (r : Option ℕ) → (resolved s).fault ≡ f → IsSight s → IfSome r (λ w. w < 2 ^ 64)
+by_fault : (f : Option ℕ) (s : DecodeContext) (r : Option ℕ) → (resolved s).fault ≡ f → IsDecodeContext s → IfSome r (λ w. w < 2 ^ 64)
     → IsPrepared (prepared_by f s.place (resolved s) s.x r)
 by_fault None s r e k some = entry-prepared s r k some (passes_by s e)
 by_fault (Some i) s r e k some = suppressed-prepared s i k
 
 -- each prepared entry is in its ranges
-pub is_prepared : (s : DecodeContext) (r : Option ℕ) → IsSight s → IfSome r (λ w. w < 2 ^ 64) → IsPrepared (prepared_entry s r)
+pub is_prepared : (s : DecodeContext) (r : Option ℕ) → IsDecodeContext s → IfSome r (λ w. w < 2 ^ 64) → IsPrepared (prepared_entry s r)
 unfolding prepared_entry resolved
 is_prepared s r k some = by_fault (resolved s).fault s r refl k some
 
@@ -307,7 +307,7 @@ pub fill-prepared : (a : ResolvedEntry) (v : DecodeContext) (p : Prepared) (r : 
 unfolding prepared_entry
 fill-prepared a v p r e h = e ∙ ap (λ b. prepared_by b.fault v.place b v.x r) h
 
-pub filled-fits : (v : DecodeContext) (p : Prepared) (r : Option ℕ) → p ≡ prepared_entry v r → IsSight v → IfSome r (λ w. w < 2 ^ 64)
+pub filled-fits : (v : DecodeContext) (p : Prepared) (r : Option ℕ) → p ≡ prepared_entry v r → IsDecodeContext v → IfSome r (λ w. w < 2 ^ 64)
     → IsPrepared p
 filled-fits v p r e k some = subst IsPrepared (sym e) (is_prepared v r k some)
 

@@ -61,7 +61,7 @@ pub record IsRuns (w : Words) : Type 0 where
   pub few2 : w.len2 ≤ 16
 
 -- the fields, addresses, runs and fault of an entry are in range
-pub record IsAim (a : ResolvedEntry) : Type 0 where
+pub record IsResolvedEntry (a : ResolvedEntry) : Type 0 where
   pub shape : HasFields a.instr
   pub address : a.e < 2 ^ 24
   pub reads : IsRuns a.reads

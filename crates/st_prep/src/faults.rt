@@ -3,7 +3,7 @@ ghost use Rattle.std.specs.Prelude.{◌≡◌, ◌<◌, ◌^◌};
 ghost use Rattle.std.specs.Option.{option_or};
 ghost use Rattle.st_bits.specs.Indicators.{IsIndicatorIfAny};
 ghost use Rattle.st_state.specs.Machine.{word, word as word_of};
-ghost use Rattle.st_prep.specs.Ranges.{HasFields, IsAim, IsFetched, IsRuns};
+ghost use Rattle.st_prep.specs.Ranges.{HasFields, IsResolvedEntry, IsFetched, IsRuns};
 ghost use Rattle.st_bits.specs.declared.register.TheConstants.{BOUNDS};
 ghost use Rattle.st_state.specs.Boundary.{indicator_of_access};
 ghost use Rattle.st_prep.specs.Checks.{effective_instr as effective_instr_of, forbidden_run as forbidden_run_of, forbidden_words as forbidden_words_of, forbidden_side as forbidden_side_of, forbidden_area as forbidden_area_of, area_access as area_access_of, operation_invalid, execute_exception, fault as fault_of};
@@ -129,7 +129,7 @@ fn operation_fault(instr: &Instr) -> Option<u8>
 /// The indicator of the first check that an entry fails. The fault of its words comes first.
 #[inline(always)]
 pub fn fault(resolved: &ResolvedEntry, state: &State) -> Option<u8>
-    requires { IsAim resolved.now }
+    requires { IsResolvedEntry resolved.now }
     ensures value { result ≡ fault_of resolved.now (word state.now BOUNDS) state.now.enabled }
     ensures bound { IsIndicatorIfAny result }
 {

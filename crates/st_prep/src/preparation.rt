@@ -9,7 +9,7 @@ ghost use Rattle.st_prep.specs.Plan.{DecodeContext, decode_context_of, is_alone 
 ghost use Rattle.st_prep.specs.Fetch.{place_of as place_by};
 ghost use Rattle.st_format.specs.Formats.{spelled_as};
 ghost use Rattle.st_prep.specs.Reading.{is_execute as is_execute_of};
-ghost use Rattle.st_prep.specs.Ranges.{IsPlace, IsFetched, IsAim, IsNeeds, IsChange, IsPrepared};
+ghost use Rattle.st_prep.specs.Ranges.{IsPlace, IsFetched, IsResolvedEntry, IsNeeds, IsChange, IsPrepared};
 
 use crate::addresses::effective_address;
 use crate::speculative::{change, side};
@@ -36,7 +36,7 @@ fn is_alone(place: &Place, fetched: &Fetched) -> bool
 fn aimed(place: &Place, fetched: &Fetched, x: &[u64; 16]) -> ResolvedEntry
     requires { IsFetched fetched.now }
     ensures value { result ≡ aimed_of place.now fetched.now x.now }
-    ensures ranges { IsAim result }
+    ensures ranges { IsResolvedEntry result }
 {
     let instr = effective_instr(fetched);
     let e = effective_address(instr, x);
@@ -57,7 +57,7 @@ fn aimed(place: &Place, fetched: &Fetched, x: &[u64; 16]) -> ResolvedEntry
 fn resolved(place: &Place, fetched: &Fetched, x: &[u64; 16], state: &State) -> ResolvedEntry
     requires { IsFetched fetched.now }
     ensures value { result ≡ resolved_of (decode_context_of place.now fetched.now x.now state.now) }
-    ensures ranges { IsAim result }
+    ensures ranges { IsResolvedEntry result }
 {
     let mut resolved = aimed(place, fetched, x);
     resolved.fault = fault(&resolved, state);
@@ -135,7 +135,7 @@ fn suppress(resolved: &ResolvedEntry, i: u8, p: &mut Prepared)
 fn enter(resolved: &ResolvedEntry, x: &[u64; 16], read: Option<u64>, serial: bool, p: &mut Prepared)
     requires serial { serial ≡ is_serial_of resolved.now }
     requires place { p.old.place.counter < 2 ^ 19 }
-    requires resolved { IsAim resolved.now }
+    requires resolved { IsResolvedEntry resolved.now }
     ensures { p.new ≡ entry_of p.old.place resolved.now x.now read }
 {
     let following = next(&p.place, resolved.halves);
@@ -158,7 +158,7 @@ fn enter(resolved: &ResolvedEntry, x: &[u64; 16], read: Option<u64>, serial: boo
 fn fill(resolved: &ResolvedEntry, x: &[u64; 16], read: Option<u64>, serial: bool, p: &mut Prepared)
     requires serial { serial ≡ (needs_by resolved.now.fault resolved.now).serial }
     requires place { p.old.place.counter < 2 ^ 19 }
-    requires resolved { IsAim resolved.now }
+    requires resolved { IsResolvedEntry resolved.now }
     ensures { p.new ≡ prepared_by resolved.now.fault p.old.place resolved.now x.now read }
 {
     match resolved.fault {

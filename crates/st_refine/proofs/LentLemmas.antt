@@ -20,9 +20,9 @@ use Rattle.st_ring.specs.declared.level.Level.{Level}
 use Rattle.st_ring.proofs.Unwindings.{made-undone}
 use Rattle.st_segment.specs.Entries.{entry}
 use Rattle.st_segment.specs.Alone.{RunAhead}
-use Rattle.st_segment.specs.Guesses.{guesses, table_behind, split_words}
+use Rattle.st_segment.specs.Predictions.{predictions, table_behind, split_words}
 use Rattle.st_segment.specs.Ahead.{Ahead, next_ahead, ahead, issue_behind}
-use Rattle.st_segment.proofs.GuessLemmas.{behind-none}
+use Rattle.st_segment.proofs.PredictionLemmas.{behind-none}
 use Rattle.st_ring.specs.Slots.{fill_tick, is_there, slot_of, slots_of, IsKeptSlot as IsSlotKept}
 use Rattle.st_ring.specs.Levels.{AreLevels}
 use Rattle.st_ring.specs.declared.plans.PlannedRow.{PlannedRow}
@@ -48,8 +48,8 @@ ring-are m ring are =
 
 level-at : (ds : List ℕ) (n tick k j : ℕ) (t : Option ℕ) (s : Machine) (f : IssueState) (ring : List Level) (level : Level)
     → AllZip (IsLevelOf ds n tick) ring (ahead ds n j t s f) → slice_get ring k ≡ Some level
-    → IsLevelOf ds n tick level (next_ahead ds n (table_behind k t) (guesses k t s) (issue_behind ds n k t s f))
-unfolding ahead guesses issue_behind
+    → IsLevelOf ds n tick level (next_ahead ds n (table_behind k t) (predictions k t s) (issue_behind ds n k t s f))
+unfolding ahead predictions issue_behind
 level-at ds n tick k zero t s f [] level are there = absurd (cc there)
 level-at ds n tick k zero t s f (x ∷ xs) level are there = absurd are
 level-at ds n tick k (suc j) t s f [] level are there = absurd are
@@ -57,7 +57,7 @@ level-at ds n tick zero (suc j) t s f (x ∷ xs) level are there = let same : x 
 level-at ds n tick (suc k) (suc j) t s f (x ∷ xs) level are there =
     let u = prediction t s in
     let g = issue_after_entry ds n f (entry t s) in
-    subst (λ i. IsLevelOf ds n tick level (next_ahead ds n i (guesses k None u) (issue_behind ds n k None u g))) (behind-none k)
+    subst (λ i. IsLevelOf ds n tick level (next_ahead ds n i (predictions k None u) (issue_behind ds n k None u g))) (behind-none k)
     (level-at ds n tick k j None u g xs level are.1 there)
 
 pub ring-level : (m : Overlap) (ring : List Level) (level : Level) (k : ℕ) → AreLevelsOf m ring → slice_get ring k ≡ Some level

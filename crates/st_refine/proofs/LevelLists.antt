@@ -13,11 +13,11 @@ use Rattle.st_rows.specs.declared.past.Past.{Past}
 use Rattle.st_rows.specs.declared.issue.IssueState.{IssueState}
 use Rattle.st_rows.proofs.Awaited.{ready-after}
 use Rattle.st_segment.specs.Entries.{entry}
-use Rattle.st_segment.specs.Guesses.{guesses, table_behind}
+use Rattle.st_segment.specs.Predictions.{predictions, table_behind}
 use Rattle.st_segment.specs.Alone.{RunAhead}
 use Rattle.st_segment.specs.Ahead.{Ahead, next_ahead, ahead, issue_behind, prepared_before}
 use Rattle.st_segment.proofs.EntryRanges.{entry-ranges}
-use Rattle.st_segment.proofs.GuessLemmas.{prediction-machine, ahead-next, behind-none}
+use Rattle.st_segment.proofs.PredictionLemmas.{prediction-machine, ahead-next, behind-none}
 use Rattle.st_rows.proofs.MadeLemmas.{before-cases}
 use Rattle.st_refine.specs.Refined.{AddsOneAtMost}
 use Rattle.st_ring.proofs.OrderLemmas.{after-c}
@@ -240,8 +240,8 @@ module _ (ds : List ℕ) (n : ℕ) where
       let g = issue_after_entry ds n f e in
       let u = prediction t s in
       let early : (row_of_entry ds n f e).p < now = omega (arith, due, prepared-first ds n t s f m some) in
-      let last = next_ahead ds n (table_behind k None) (guesses k None u) (issue_behind ds n k None u g) in
-      let late : now ≤ last.row.p = omega (arith, due, full-late k now t None s u f (entry (table_behind k None) (guesses k None u)) more few (omega (arith, due))) in
+      let last = next_ahead ds n (table_behind k None) (predictions k None u) (issue_behind ds n k None u g) in
+      let late : now ≤ last.row.p = omega (arith, due, full-late k now t None s u f (entry (table_behind k None) (predictions k None u)) more few (omega (arith, due))) in
       with-first k now t s f early
       ∙ ap (λ zs. next_ahead ds n t s f ∷ zs)
       (sym (behind-if now (ahead ds n k None u g) last late) ∙ ap (prepared_before now) (sym (ahead-next ds n k None u g)))
@@ -260,19 +260,19 @@ module _ (ds : List ℕ) (n : ℕ) where
   -- ---- the rows of the levels and of the entry after them
 
   pub level-early : (k now m : ℕ) (t : Option ℕ) (s : Machine) (f : IssueState) → k < length (prepared_before now (ahead ds n m t s f))
-      → (row_of_entry ds n (issue_behind ds n k t s f) (entry (table_behind k t) (guesses k t s))).p < now
-  unfolding ahead prepared_before issue_behind guesses
+      → (row_of_entry ds n (issue_behind ds n k t s f) (entry (table_behind k t) (predictions k t s))).p < now
+  unfolding ahead prepared_before issue_behind predictions
   level-early zero now m t s f few = first-early now m t s f (omega (arith, few))
   level-early (suc k) now zero t s f few = absurd (omega (arith, few))
   level-early (suc k) now (suc m) t s f few =
       let g = issue_after_entry ds n f (entry t s) in
       let u = prediction t s in
-      subst (λ i. (row_of_entry ds n (issue_behind ds n k None u g) (entry i (guesses k None u))).p < now) (behind-none k)
+      subst (λ i. (row_of_entry ds n (issue_behind ds n k None u g) (entry i (predictions k None u))).p < now) (behind-none k)
       (level-early k now m None u g (more-if (next_ahead ds n t s f) (prepared_before now (ahead ds n m None u g)) k (nat_lt (row_of_entry ds n f (entry t s)).p now) few))
 
   next-late : (k now m : ℕ) (t : Option ℕ) (s : Machine) (f : IssueState) → length (prepared_before now (ahead ds n m t s f)) ≡ k → k < m
-      → now ≤ (row_of_entry ds n (issue_behind ds n k t s f) (entry (table_behind k t) (guesses k t s))).p
-  unfolding ahead prepared_before issue_behind guesses
+      → now ≤ (row_of_entry ds n (issue_behind ds n k t s f) (entry (table_behind k t) (predictions k t s))).p
+  unfolding ahead prepared_before issue_behind predictions
   next-late k now zero t s f many few = absurd (omega (arith, few))
   next-late zero now (suc m) t s f many few = elim (before-cases (row_of_entry ds n f (entry t s)).p now) [
     | inl early ↦ absurd (first-some (next_ahead ds n t s f) (prepared_before now (ahead ds n m None (prediction t s) (issue_after_entry ds n f (entry t s)))) (nat_lt (row_of_entry ds n f (entry t s)).p now) early.0 many)
@@ -281,35 +281,35 @@ module _ (ds : List ℕ) (n : ℕ) where
   next-late (suc k) now (suc m) t s f many few =
       let g = issue_after_entry ds n f (entry t s) in
       let u = prediction t s in
-      subst (λ i. now ≤ (row_of_entry ds n (issue_behind ds n k None u g) (entry i (guesses k None u))).p) (behind-none k)
+      subst (λ i. now ≤ (row_of_entry ds n (issue_behind ds n k None u g) (entry i (predictions k None u))).p) (behind-none k)
       (next-late k now m None u g (rest-if (next_ahead ds n t s f) (prepared_before now (ahead ds n m None u g)) k (nat_lt (row_of_entry ds n f (entry t s)).p now) many)
       (omega (arith, few)))
 
   full-next : (k now : ℕ) (t : Option ℕ) (s : Machine) (f : IssueState) → n ≡ suc k → n ≤ 8 → now ≤ (row_of_entry ds n f (entry t s)).c
-      → now ≤ (row_of_entry ds n (issue_behind ds n (suc k) t s f) (entry (table_behind (suc k) t) (guesses (suc k) t s))).p
+      → now ≤ (row_of_entry ds n (issue_behind ds n (suc k) t s f) (entry (table_behind (suc k) t) (predictions (suc k) t s))).p
   unfolding issue_behind
   full-next k now t s f more few late =
-      omega (arith, full-late k now t None s s f (entry (table_behind (suc k) t) (guesses (suc k) t s)) more few late)
+      omega (arith, full-late k now t None s s f (entry (table_behind (suc k) t) (predictions (suc k) t s)) more few late)
 
   pub behind-late : (k now : ℕ) (t : Option ℕ) (s : Machine) (f : IssueState) → 1 ≤ n → n ≤ 8 → now ≤ (row_of_entry ds n f (entry t s)).c
       → length (prepared_before now (ahead ds n n t s f)) ≡ k
-      → now ≤ (row_of_entry ds n (issue_behind ds n k t s f) (entry (table_behind k t) (guesses k t s))).p
+      → now ≤ (row_of_entry ds n (issue_behind ds n k t s f) (entry (table_behind k t) (predictions k t s))).p
   behind-late k now t s f some few late many = elim (before-cases k n) [
     | inl room ↦ next-late k now n t s f many room.1
     | inr full ↦
         let all : k ≡ suc (n - 1) = omega (arith, full.1, many, few-before now n t s f) in
         let more : n ≡ suc (n - 1) = omega arith in
-        subst (λ i. now ≤ (row_of_entry ds n (issue_behind ds n i t s f) (entry (table_behind i t) (guesses i t s))).p) (sym all)
+        subst (λ i. now ≤ (row_of_entry ds n (issue_behind ds n i t s f) (entry (table_behind i t) (predictions i t s))).p) (sym all)
         (full-next (n - 1) now t s f more few late)
   ]
 
   pub level-later : (k tick : ℕ) (t : Option ℕ) (s : Machine) (f : IssueState) → IsMachine s → IfSome t (λ i. i < 64) → tick < (row_of_entry ds n f (entry t s)).c
-      → tick < (row_of_entry ds n (issue_behind ds n k t s f) (entry (table_behind k t) (guesses k t s))).c
-  unfolding issue_behind guesses
+      → tick < (row_of_entry ds n (issue_behind ds n k t s f) (entry (table_behind k t) (predictions k t s))).c
+  unfolding issue_behind predictions
   level-later zero tick t s f m some late = late
   level-later (suc k) tick t s f m some late =
       let g = issue_after_entry ds n f (entry t s) in
       let u = prediction t s in
       let machine = prediction-machine t s m some in
-      subst (λ i. tick < (row_of_entry ds n (issue_behind ds n k None u g) (entry i (guesses k None u))).c) (behind-none k)
+      subst (λ i. tick < (row_of_entry ds n (issue_behind ds n k None u g) (entry i (predictions k None u))).c) (behind-none k)
       (level-later k tick None u g machine tt (omega (arith, late, after-c ds n f (entry t s), done-behind ds n None u g machine tt)))

@@ -19,7 +19,7 @@ use Rattle.st_rows.proofs.Awaited.{ready-after}
 use Rattle.st_rows.proofs.Served.{served-append, served-asked}
 use Rattle.st_rows.proofs.MadeLemmas.{made-behind}
 use Rattle.st_segment.specs.Entries.{entry}
-use Rattle.st_segment.specs.Guesses.{table_behind}
+use Rattle.st_segment.specs.Predictions.{table_behind}
 use Rattle.st_segment.specs.Ahead.{ahead, reads_before}
 use Rattle.st_ahead.specs.Overlap.{Overlap, machine_at_start, state_ahead, oldest_entry, oldest_row, levels_of, banks_at_its_end, interrupt_due}
 use Rattle.st_ahead.specs.Calls.{is_done, machine_after_completion, machine_after_tick, banks_left, machine_after_segment, machine_after_pass, machine_after_settling, answer, read_in_by, MayServe}

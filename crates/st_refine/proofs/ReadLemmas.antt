@@ -18,7 +18,7 @@ use Rattle.st_rows.proofs.Each.{each-fetch, each-side, each-operand, each-follow
 use Rattle.st_rows.proofs.MadeLemmas.{before-cases, free-one, made-more}
 use Rattle.st_rows.proofs.Parts.{a-p, asked-parts}
 use Rattle.st_segment.specs.Entries.{entry}
-use Rattle.st_segment.specs.Guesses.{table_behind}
+use Rattle.st_segment.specs.Predictions.{table_behind}
 use Rattle.st_segment.specs.Ahead.{ahead, reads_before}
 use Rattle.st_ahead.specs.Forecast.{asked_ahead}
 use Rattle.st_ahead.specs.Overlap.{Overlap}

@@ -11,7 +11,7 @@ use Rattle.st_exec.specs.Transfer.{read_in}
 use Rattle.st_exec.proofs.StepLemmas.{step-done}
 use Rattle.st_rows.specs.Rows.{row_of_entry, opening_issue, issue_after_entry}
 use Rattle.st_segment.specs.Entries.{entry}
-use Rattle.st_segment.specs.Guesses.{guesses}
+use Rattle.st_segment.specs.Predictions.{predictions}
 use Rattle.st_segment.specs.Ahead.{next_ahead, ahead, prepared_before, issue_behind}
 use Rattle.st_segment.proofs.StepLemmas.{prediction-right, prediction-mispredicted}
 use Rattle.st_ahead.specs.Overlap.{Overlap, machine_at_start, state_ahead, with_counter, oldest_row, levels_of, interrupt_due}
@@ -98,7 +98,7 @@ tick-row m made since from may done = (
 
 pub tick-times : (m : Overlap) → is_done m ≡ true
     → ((row_done m).p ≡ (row_before 0 m).p) × ((row_done m).r ≡ (row_before 0 m).r) × ((row_done m).c ≡ (row_before 0 m).c)
-unfolding oldest_row issue_behind guesses
+unfolding oldest_row issue_behind predictions
 tick-times m done = (refl, refl, sym (eqb-true (oldest_row m).c m.now done))
 
 pub tick-mispredicted : (m : Overlap) → is_done m ≡ true → (machine_after_tick m).mispredicted ≡ mispredicted_counter m

@@ -7,7 +7,7 @@ use Rattle.st_rows.specs.declared.entry.Entry.{Entry}
 use Rattle.st_rows.specs.declared.issue.IssueState.{IssueState}
 use Rattle.st_segment.specs.Entries.{entry}
 use Rattle.st_segment.specs.Ahead.{ahead, prepared_before}
-use Rattle.st_segment.specs.Guesses.{table_behind}
+use Rattle.st_segment.specs.Predictions.{table_behind}
 use Rattle.st_rows.proofs.MadeLemmas.{before-cases}
 use Rattle.st_ahead.specs.Overlap.{Overlap, state_ahead, oldest_row, levels_of, last_tick_made}
 use Rattle.st_refine.specs.Reached.{IsReached}

@@ -17,9 +17,9 @@ use Rattle.st_rows.specs.Rows.{issue_after_entry}
 use Rattle.st_rows.specs.declared.issue.IssueState.{IssueState}
 use Rattle.st_ring.specs.Unwinding.{ChangeKeeps}
 use Rattle.st_segment.specs.Entries.{entry}
-use Rattle.st_segment.specs.Guesses.{guesses, table_behind, split_words}
+use Rattle.st_segment.specs.Predictions.{predictions, table_behind, split_words}
 use Rattle.st_segment.specs.Ahead.{Ahead, next_ahead, ahead, issue_behind}
-use Rattle.st_segment.proofs.GuessLemmas.{guesses-machine, behind-none, behind-indicator}
+use Rattle.st_segment.proofs.PredictionLemmas.{predictions-machine, behind-none, behind-indicator}
 use Rattle.st_ring.proofs.UndoLemmas.{plan-keeps}
 use Rattle.st_ahead.specs.Overlap.{Overlap, state_ahead, with_counter, levels_of, last_tick_made}
 use Rattle.st_ahead.specs.Shown.{word_before_change, level_shown, view_at_tick, lent_index_words}
@@ -108,15 +108,15 @@ shows tick xs = map (λ a. Some (level_shown tick a)) xs
 
 at-place : (ds : List ℕ) (n tick k j : ℕ) (t : Option ℕ) (s : Machine) (f : IssueState) (rest : List (Option LevelView)) → k < j
     → get_or (shows tick (ahead ds n j t s f) ++ rest) k None
-    ≡ Some (level_shown tick (next_ahead ds n (table_behind k t) (guesses k t s) (issue_behind ds n k t s f)))
-unfolding ahead guesses issue_behind
+    ≡ Some (level_shown tick (next_ahead ds n (table_behind k t) (predictions k t s) (issue_behind ds n k t s f)))
+unfolding ahead predictions issue_behind
 at-place ds n tick k zero t s f rest few = absurd (omega (arith, few))
 at-place ds n tick zero (suc j) t s f rest few = refl
 at-place ds n tick (suc k) (suc j) t s f rest few =
     let u = prediction t s in
     let g = issue_after_entry ds n f (entry t s) in
     at-place ds n tick k j None u g rest (omega (arith, few))
-    ∙ ap (λ i. Some (level_shown tick (next_ahead ds n i (guesses k None u) (issue_behind ds n k None u g)))) (behind-none k)
+    ∙ ap (λ i. Some (level_shown tick (next_ahead ds n i (predictions k None u) (issue_behind ds n k None u g)))) (behind-none k)
 
 past-place : (tick m k : ℕ) (xs : List Ahead) → length xs ≤ k → get_or (shows tick xs ++ replicate m None) k None ≡ None
 past-place tick zero k [] few = refl
@@ -177,7 +177,7 @@ shown-level m made since k from few =
     let is = kept from in
     let s = state_before k m in
     let t = table_before k m in
-    let machine : IsMachine s = guesses-machine k m.taken (state_ahead m) (seen-machine m is) is.indicator in
+    let machine : IsMachine s = predictions-machine k m.taken (state_ahead m) (seen-machine m is) is.indicator in
     let p = plan-prepared s t machine (behind-indicator k m.taken is.indicator) in
     let left = replicate (8 - length (levels_of m)) None in
     ap (λ (xs : List Ahead). get_or (shows (last_tick_made m) xs ++ left) k None) (levels-are m)

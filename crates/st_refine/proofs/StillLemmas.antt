@@ -18,9 +18,9 @@ use Rattle.st_rows.specs.declared.issue.IssueState.{IssueState}
 use Rattle.st_rows.specs.declared.issue.EntryTicks.{EntryTicks}
 use Rattle.st_segment.specs.Entries.{entry}
 use Rattle.st_segment.specs.Alone.{RunAhead}
-use Rattle.st_segment.specs.Guesses.{split_words}
+use Rattle.st_segment.specs.Predictions.{split_words}
 use Rattle.st_segment.specs.Ahead.{Ahead, next_ahead, ahead, prepared_before}
-use Rattle.st_segment.proofs.GuessLemmas.{prediction-machine}
+use Rattle.st_segment.proofs.PredictionLemmas.{prediction-machine}
 use Rattle.st_segment.proofs.SameReading.{same-index}
 use Rattle.st_segment.proofs.PassedOver.{entry-same, passed-over}
 use Rattle.st_ahead.specs.Overlap.{Overlap, state_ahead, with_counter, levels_of, last_tick_made}

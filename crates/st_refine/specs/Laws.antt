@@ -23,7 +23,7 @@ use Rattle.st_ring.specs.Slots.{fill_tick}
 use Rattle.st_ahead.specs.Shown.{AreLevelsOf, lent_index_words, view_at_tick}
 use Rattle.st_refine.specs.Refined.{state_before, table_before, row_before as row_of, fills_at, IsUnwound, AddsOneAtMost, level_seen, IsStill}
 use Rattle.st_segment.specs.Ahead.{ahead, prepared_before, next_ahead}
-use Rattle.st_segment.specs.Guesses.{table_behind, split_words}
+use Rattle.st_segment.specs.Predictions.{table_behind, split_words}
 use Rattle.st_ahead.specs.Calls.{is_done, machine_after_tick, machine_after_segment, run_ended, machine_after_settling, answer, signalled_by, read_in_by, printed_by, MayServe, IsEvent, drop_count, dropped_by, MaySignal}
 use Rattle.st_ahead.specs.declared.events.Settled.TheVariants.{Goes, Interrupt, Mispredicted, Waits}
 use Rattle.st_exec.specs.Step.{interrupt, rests, step, address}

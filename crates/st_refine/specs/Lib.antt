@@ -22,6 +22,6 @@ pub use Rattle.st_rows.specs.Ranges
 pub use Rattle.st_rows.specs.Rows
 pub use Rattle.st_segment.specs.Ahead
 pub use Rattle.st_segment.specs.Entries
-pub use Rattle.st_segment.specs.Guesses
+pub use Rattle.st_segment.specs.Predictions
 pub use Rattle.st_state.specs.Interrupts
 pub use Rattle.st_state.specs.Machine

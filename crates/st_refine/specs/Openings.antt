@@ -11,7 +11,7 @@ use Rattle.st_rows.specs.Rows.{opening_issue, issue_after_entry, reads_of_entry}
 use Rattle.st_rows.specs.BusTimes.{Read}
 use Rattle.st_rows.specs.declared.issue.IssueState.{IssueState}
 use Rattle.st_segment.specs.Entries.{entry}
-use Rattle.st_segment.specs.Guesses.{table_behind}
+use Rattle.st_segment.specs.Predictions.{table_behind}
 use Rattle.st_segment.specs.Ahead.{next_ahead, reads_to_end, banks_at_end, issue_behind_end}
 use Rattle.st_ahead.specs.Forecast.{asked_ahead}
 use Rattle.st_ahead.specs.Overlap.{Overlap, last_tick_made}

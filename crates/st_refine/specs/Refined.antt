@@ -9,7 +9,7 @@ use Rattle.st_rows.specs.Words.{fills}
 use Rattle.st_rows.specs.declared.issue.IssueState.{IssueState}
 use Rattle.st_rows.specs.declared.issue.EntryTicks.{EntryTicks}
 use Rattle.st_segment.specs.Entries.{entry}
-use Rattle.st_segment.specs.Guesses.{guesses, table_behind}
+use Rattle.st_segment.specs.Predictions.{predictions, table_behind}
 use Rattle.st_segment.specs.Ahead.{Ahead, issue_behind}
 use Rattle.st_ahead.specs.Overlap.{Overlap, state_ahead, levels_of}
 use Rattle.st_ahead.specs.Shown.{view_at_tick}
@@ -20,7 +20,7 @@ use Rattle.st_ahead.specs.declared.events.LevelView.{LevelView}
 module _ (k : ℕ) (m : Overlap) where
   -- the state before the step of entry k in flight
   abbrev pub state_before : Machine
-  state_before = guesses k m.taken (state_ahead m)
+  state_before = predictions k m.taken (state_ahead m)
 
   -- the interrupt whose table instruction entry k in flight is, if it is one
   abbrev pub table_before : Option ℕ

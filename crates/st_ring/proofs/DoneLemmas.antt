@@ -9,20 +9,20 @@ use Rattle.st_rows.specs.Rows.{issue_after_entry}
 use Rattle.st_rows.specs.declared.issue.IssueState.{IssueState}
 use Rattle.st_ring.specs.declared.level.Level.{Level}
 use Rattle.st_segment.specs.Entries.{entry}
-use Rattle.st_segment.specs.Guesses.{guesses, after_early_change, split_words}
+use Rattle.st_segment.specs.Predictions.{predictions, after_speculative_change, split_words}
 use Rattle.st_segment.specs.Alone.{RunAhead}
-use Rattle.st_segment.proofs.GuessLemmas.{behind-none}
+use Rattle.st_segment.proofs.PredictionLemmas.{behind-none}
 use Rattle.st_segment.proofs.IndexLemmas.{prediction-past, split-change}
 use Rattle.st_ring.specs.Levels.{IsLevel, AreLevels, AreAhead, AreFull}
 use Rattle.st_ring.specs.declared.plans.PlannedRow.{PlannedRow}
 
 pub split-behind : (k : ℕ) (t : Option ℕ) (s : Machine) → split_words (suc (suc k)) t s ≡ split_words (suc k) None (prediction t s)
-unfolding split_words guesses
-split-behind k t s = ap (λ i. index_words (after_early_change i (guesses k None (prediction t s)))) (sym (behind-none k))
+unfolding split_words predictions
+split-behind k t s = ap (λ i. index_words (after_speculative_change i (predictions k None (prediction t s)))) (sym (behind-none k))
 
 index-behind : (b : Bool) (t : Option ℕ) (s : Machine) (x y : List ℕ) → (plan s t).serial ≡ b → IsMachine s → IfSome t (λ i. i < 64)
     → x ≡ split_words 1 t s → (b ≡ false → y ≡ x) → (b ≡ true → y ≡ index_words (prediction t s)) → y ≡ index_words (prediction t s)
-unfolding guesses
+unfolding predictions
 index-behind true t s x y e m some before stays new = new refl
 index-behind false t s x y e m some before stays new =
     stays refl ∙ (before ∙ (split-change 0 t s m some ∙ sym (prediction-past t s m some e).index))

@@ -22,9 +22,9 @@ use Rattle.st_rows.specs.declared.past.Past.{Past}
 use Rattle.st_rows.proofs.Within.{delay-bounds}
 use Rattle.st_ring.specs.declared.level.Level.{Level}
 use Rattle.st_segment.specs.Entries.{entry, above_registers, words_to_read}
-use Rattle.st_segment.specs.Guesses.{guesses}
+use Rattle.st_segment.specs.Predictions.{predictions}
 use Rattle.st_segment.specs.Alone.{RunAhead, is_word_written}
-use Rattle.st_segment.proofs.GuessLemmas.{prediction-machine}
+use Rattle.st_segment.proofs.PredictionLemmas.{prediction-machine}
 use Rattle.st_segment.proofs.RestLemmas.{storage-kept}
 use Rattle.st_ring.specs.Levels.{have_of, IsLevel, AreLevels, AreFull}
 use Rattle.st_ring.specs.Slots.{fill_tick, is_there, slot_of, IsKeptSlot, put_of, coming, came_at, level_with_slot, level_with_words}
@@ -196,7 +196,7 @@ low-first m t u same = ((λ alone w low. same w), tt)
 
 prediction-leaves : (t : Option ℕ) (s : Machine) (w : ℕ) → IsMachine s → IfSome t (λ i. i < 64) → 32 ≤ w
     → is_among w (entry t s).writes ≡ false → word (prediction t s) w ≡ word s w
-unfolding guesses is_word_written
+unfolding predictions is_word_written
 prediction-leaves t s w m some above h = storage-kept 1 t s w m some above (ap (λ b. b || false) h)
 
 -- a register that a serializing entry reads

@@ -15,7 +15,7 @@ use Rattle.st_ring.proofs.OrderLemmas.{prepared-order, done-order, not-done, sti
 use Rattle.st_ring.proofs.NoLevels.{none-ahead, none-last}
 use Rattle.st_ring.specs.Laws.{LevelsAreTheEntriesAhead, LevelsThatAreNotDoneRunAhead, WritersAreSeen, LevelsPassSignalsOver, LevelsComeInOrder, NothingIsAheadWithoutLevels}
 use Rattle.st_rows.proofs.Laws.{rows_are_in_order}
-use Rattle.st_segment.proofs.Laws.{entries_are_in_range, guesses_leave_the_rest}
+use Rattle.st_segment.proofs.Laws.{entries_are_in_range, predictions_leave_the_rest}
 
 pub levels_are_the_entries_ahead : LevelsAreTheEntriesAhead
 levels_are_the_entries_ahead = record {
@@ -52,7 +52,7 @@ writers_are_seen = record {
   written = written-seen;
   last = last-seen;
   words = λ ds n tick now w t s f last v m some h open_c few above early.
-      guesses_leave_the_rest.storage (length v.ring) t s w m some above (last-seen ds n tick now w t s f last v h open_c few early);
+      predictions_leave_the_rest.storage (length v.ring) t s w m some above (last-seen ds n tick now w t s f last v h open_c few early);
 }
 
 pub levels_pass_signals_over : LevelsPassSignalsOver

@@ -9,9 +9,9 @@ use Rattle.st_rows.specs.Rows.{row_of_entry, issue_after_entry}
 use Rattle.st_rows.specs.declared.issue.IssueState.{IssueState}
 use Rattle.st_ring.specs.declared.level.Level.{Level}
 use Rattle.st_segment.specs.Entries.{entry}
-use Rattle.st_segment.specs.Guesses.{guesses, table_behind}
+use Rattle.st_segment.specs.Predictions.{predictions, table_behind}
 use Rattle.st_segment.specs.Ahead.{ahead, issue_behind, next_ahead, prepared_before}
-use Rattle.st_segment.proofs.GuessLemmas.{behind-none}
+use Rattle.st_segment.proofs.PredictionLemmas.{behind-none}
 use Rattle.st_ring.specs.Levels.{IsLevel, AreLevels, oldest_issue}
 use Rattle.st_ring.specs.declared.plans.PlannedRow.{PlannedRow}
 
@@ -47,10 +47,10 @@ first-level ds n tick t k s u f last level q table state issue h =
     (subst (λ (g : IssueState). IsLevel ds n tick k u g level q) issue h))
 
 pub levels-append : (ds : List ℕ) (n tick : ℕ) (t k : Option ℕ) (s u : Machine) (f last : IssueState) (ring : List Level) (plans : List PlannedRow)
-    (level : Level) (q : PlannedRow) → k ≡ table_behind (length ring) t → u ≡ guesses (length ring) t s
+    (level : Level) (q : PlannedRow) → k ≡ table_behind (length ring) t → u ≡ predictions (length ring) t s
     → AreLevels ds n tick t s f last ring plans → IsLevel ds n tick k u last level q
     → AreLevels ds n tick t s f (issue_after_entry ds n last (entry k u)) (ring ++ level ∷ []) (plans ++ q ∷ [])
-unfolding AreLevels guesses
+unfolding AreLevels predictions
 levels-append ds n tick t k s u f last [] [] level q table state h new =
     let issue : last ≡ f = h in (
       first-level ds n tick t k s u f last level q table state issue new,
@@ -69,9 +69,9 @@ levels-append ds n tick t k s u f last (first ∷ levels) (r ∷ rs) level q tab
 
 pub levels-prepared : (ds : List ℕ) (n tick now m : ℕ) (t k : Option ℕ) (s u : Machine) (f last : IssueState) (ring : List Level)
     (plans : List PlannedRow) → AreLevels ds n tick t s f last ring plans → All (λ level. level.p < now) ring
-    → k ≡ table_behind (length ring) t → u ≡ guesses (length ring) t s → now ≤ (row_of_entry ds n last (entry k u)).p → length ring ≤ m
+    → k ≡ table_behind (length ring) t → u ≡ predictions (length ring) t s → now ≤ (row_of_entry ds n last (entry k u)).p → length ring ≤ m
     → prepared_before now (ahead ds n m t s f) ≡ ahead ds n (length ring) t s f
-unfolding AreLevels guesses ahead prepared_before
+unfolding AreLevels predictions ahead prepared_before
 levels-prepared ds n tick now zero t k s u f last [] [] h each table state late more = refl
 levels-prepared ds n tick now (suc m) t k s u f last [] [] h each table state late more =
     let issue : last ≡ f = h in

@@ -4,7 +4,7 @@ use Rattle.st_state.specs.Machine.{Machine}
 use Rattle.st_prep.specs.Fetch.{index_words}
 use Rattle.st_rows.specs.declared.issue.IssueState.{IssueState}
 use Rattle.st_ring.specs.declared.level.Level.{Level}
-use Rattle.st_segment.specs.Guesses.{split_words}
+use Rattle.st_segment.specs.Predictions.{split_words}
 use Rattle.st_segment.specs.Alone.{RunAhead}
 use Rattle.st_ring.specs.Levels.{AreLevels, AreAhead}
 use Rattle.st_ring.specs.declared.plans.PlannedRow.{PlannedRow}

@@ -11,7 +11,7 @@ use Rattle.st_rows.specs.declared.entry.Entry.{Entry}
 use Rattle.st_rows.specs.declared.issue.IssueState.{IssueState}
 use Rattle.st_ring.specs.declared.level.Level.{Level}
 use Rattle.st_segment.specs.Entries.{entry}
-use Rattle.st_segment.proofs.GuessLemmas.{prediction-machine}
+use Rattle.st_segment.proofs.PredictionLemmas.{prediction-machine}
 use Rattle.st_ring.specs.Levels.{AreLevels, is_oldest_due}
 use Rattle.st_ring.specs.declared.plans.PlannedRow.{PlannedRow}
 

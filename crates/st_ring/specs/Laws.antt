@@ -8,7 +8,7 @@ use Rattle.st_rows.specs.Entries.{latest_done}
 use Rattle.st_rows.specs.Rows.{row_of_entry, issue_after_entry}
 use Rattle.st_rows.specs.declared.issue.IssueState.{IssueState}
 use Rattle.st_segment.specs.Entries.{entry}
-use Rattle.st_segment.specs.Guesses.{guesses, table_behind}
+use Rattle.st_segment.specs.Predictions.{predictions, table_behind}
 use Rattle.st_segment.specs.Ahead.{ahead, issue_behind, prepared_before}
 use Rattle.st_segment.specs.Alone.{RunAhead, is_word_written}
 use Rattle.st_ring.specs.Levels.{LevelsView, AreAhead, AreNotDone, is_oldest_due, oldest_issue}
@@ -27,7 +27,7 @@ pub record LevelsAreTheEntriesAhead : Type 0 where
       (f last : IssueState) (v : LevelsView) →
       AreAhead ds n tick t s f last v → All (λ level. level.p < now) v.ring →
       let k = length v.ring in
-      now ≤ (row_of_entry ds n last (entry (table_behind k t) (guesses k t s))).p → k ≤ m →
+      now ≤ (row_of_entry ds n last (entry (table_behind k t) (predictions k t s))).p → k ≤ m →
       (prepared_before now (ahead ds n m t s f) ≡ ahead ds n k t s f)
       × (length (prepared_before now (ahead ds n m t s f)) ≡ k)
 
@@ -57,7 +57,7 @@ pub record WritersAreSeen : Type 0 where
       (v : LevelsView) →
       IsMachine s → IsIndicatorIfAny t →
       AreAhead ds n tick t s f last v → AreNotDone now v → length v.ring ≤ 8 → 32 ≤ w →
-      latest_done last.past w ≤ now → word (guesses (length v.ring) t s) w ≡ word s w
+      latest_done last.past w ≤ now → word (predictions (length v.ring) t s) w ≡ word s w
 
 -- After a signal, or an order without a card, levels that are not serializing are still the entries
 -- in flight.

@@ -9,7 +9,7 @@ use Rattle.st_rows.specs.Words.{fills}
 use Rattle.st_rows.specs.declared.issue.IssueState.{IssueState}
 use Rattle.st_ring.specs.declared.level.Level.{Level}
 use Rattle.st_segment.specs.Entries.{entry}
-use Rattle.st_segment.specs.Guesses.{split_words}
+use Rattle.st_segment.specs.Predictions.{split_words}
 use Rattle.st_segment.specs.Alone.{RunAhead}
 use Rattle.st_ring.specs.Slots.{slot_of, slots_of, AreKept}
 use Rattle.st_ring.specs.declared.plans.PlannedRow.{PlannedRow}

@@ -15,5 +15,5 @@ pub use Rattle.st_prep.specs.Plan
 pub use Rattle.st_rows.specs.Rows
 pub use Rattle.st_segment.specs.Ahead
 pub use Rattle.st_segment.specs.Alone
-pub use Rattle.st_segment.specs.Guesses
+pub use Rattle.st_segment.specs.Predictions
 pub use Rattle.st_state.specs.Machine

@@ -12,7 +12,7 @@ ghost use Rattle.st_rows.specs.Rows.{row_of_entry, issue_after_entry};
 ghost use Rattle.st_rows.specs.Words.{fills};
 ghost use Rattle.st_rows.specs.declared.issue.IssueState.{IssueState as IssueStateOf};
 ghost use Rattle.st_segment.specs.Entries.{entry};
-ghost use Rattle.st_segment.specs.Guesses.{guesses, table_behind};
+ghost use Rattle.st_segment.specs.Predictions.{predictions, table_behind};
 ghost use Rattle.st_segment.specs.Alone.{RunAhead};
 ghost use Rattle.st_ring.specs.Levels.{LevelsView, AreLevelsSound, AreAhead, AreFull, AreNotDone, IsCompleted, due_of, is_oldest_due as is_due_of};
 ghost use Rattle.st_ring.specs.PlannedRows.{planned_row};
@@ -127,7 +127,7 @@ impl<const N: usize> Levels<N> {
         // entry, they are still the entries in flight after the call.
         ensures ahead { (ds : List ℕ) (n tick : ℕ) (t : Option ℕ) (s : Machine)
             (f last : IssueStateOf) →
-            let k = length self.old.ring in let u = guesses k t s in let i = table_behind k t in
+            let k = length self.old.ring in let u = predictions k t s in let i = table_behind k t in
             IsMachine s → IsIndicatorIfAny t →
             AreAhead ds n tick t s f last self.old → RunAhead k t s →
             issue.now ≡ last → prepared.now ≡ plan_of u i →

@@ -10,10 +10,10 @@ use Rattle.st_rows.specs.Rows.{opening_issue, row_of_entry, issue_after_entry, a
 use Rattle.st_rows.specs.declared.entry.Entry.{Entry}
 use Rattle.st_rows.specs.declared.issue.IssueState.{IssueState}
 use Rattle.st_segment.specs.Entries.{entry}
-use Rattle.st_segment.specs.Guesses.{guesses}
+use Rattle.st_segment.specs.Predictions.{predictions}
 use Rattle.st_segment.specs.Alone.{RunAhead}
 use Rattle.st_segment.specs.Ahead.{Ahead, ahead, prepared_before}
-use Rattle.st_segment.proofs.GuessLemmas.{prediction-machine}
+use Rattle.st_segment.proofs.PredictionLemmas.{prediction-machine}
 use Rattle.st_segment.proofs.PassedOver.{entry-same, passed-over}
 use Rattle.st_ahead.specs.Overlap.{Overlap, state_ahead, with_counter, levels_of}
 use Rattle.st_ahead.specs.Calls.{machine_after_segment, banks_left, MayServe}
@@ -41,7 +41,7 @@ not-alone ds n now f e late early = false_from_ne_true e.serial (λ alone. absur
 
 prediction-alike : (s u : Machine) → IsMachine s → AreAlikeBesideOrders s u → (entry None s).serial ≡ false
     → AreAlikeBesideOrders (prediction None s) (prediction None u)
-unfolding entry guesses RunAhead
+unfolding entry predictions RunAhead
 prediction-alike s u m alike free = (passed-over 1 s u m alike (free, tt)).1
 
 count-alike : (ds : List ℕ) (n now k : ℕ) (s u : Machine) (f : IssueState) → IsMachine s → AreAlikeBesideOrders s u → now ≤ f.c

@@ -9,7 +9,7 @@ use Rattle.st_run.proofs.ShownLemmas.{timed-shown, tick-same}
 use Rattle.st_run.proofs.CourseLemmas.{last-same}
 use Rattle.st_run.proofs.Turns.{nothing-ahead, snapshot-none}
 use Rattle.st_run.proofs.PrintLemmas.{settled-one}
-use Rattle.st_run.proofs.GuessLemmas.{behind-right, behind-mispredicted}
+use Rattle.st_run.proofs.PredictionLemmas.{behind-right, behind-mispredicted}
 use Rattle.st_run.proofs.SceneLemmas.{settled-scene, stepped-scene}
 use Rattle.st_run.specs.Laws.{TheTimedRunIsTheRun, DelaysChangeNothingButTicks, RunsAreInTime, TheLastMomentEndsTheRun, EventsComeInOrder, SnapshotsAreShownUpToTheEnd, NothingIsAheadBehindAnEnd, PrintsComeOneAtATime, DroppedEntriesFollowThePrediction, ScenesAreKept}
 use Rattle.st_refine.proofs.Kept.{interrupt-below}

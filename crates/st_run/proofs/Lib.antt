@@ -9,7 +9,7 @@ pub mod EventLemmas
 pub mod ShownLemmas
 pub mod SignalLemmas
 pub mod PrintLemmas
-pub mod GuessLemmas
+pub mod PredictionLemmas
 pub mod EndLemmas
 pub mod SceneLemmas
 pub mod DoneLemmas

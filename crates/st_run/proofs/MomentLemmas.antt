@@ -20,7 +20,7 @@ use Rattle.st_run.specs.Moments.{Moment, Standing, next_row, issue_after, entrie
 use Rattle.st_run.specs.Together.{Together, scene_of, IsBeforeEntry, IsBehindEntry, standing_of, moment_of, IsMachineReady}
 use Rattle.st_run.specs.Ticking.{at_completion}
 use Rattle.st_run.proofs.SceneLemmas.{stepped-scene}
-use Rattle.st_run.proofs.GuessLemmas.{behind-right, behind-mispredicted}
+use Rattle.st_run.proofs.PredictionLemmas.{behind-right, behind-mispredicted}
 use Rattle.st_refine.proofs.Kept.{interrupt-below}
 
 -- a machine between two ticks

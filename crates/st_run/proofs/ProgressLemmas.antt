@@ -9,7 +9,7 @@ use Rattle.st_exec.specs.Step.{interrupt, rests}
 use Rattle.st_run.specs.Run.{Scene}
 use Rattle.st_rows.specs.declared.issue.IssueState.{IssueState}
 use Rattle.st_segment.specs.Ahead.{Ahead, prepared_before}
-use Rattle.st_segment.specs.Guesses.{split_words}
+use Rattle.st_segment.specs.Predictions.{split_words}
 use Rattle.st_ahead.specs.Overlap.{Overlap, state_ahead, oldest_row, levels_of, with_counter, last_tick_made}
 use Rattle.st_ahead.specs.Shown.{lent_index_words}
 use Rattle.st_run.specs.Events.{Level, snapshot, level_at, with_index_words}

@@ -9,7 +9,7 @@ use Rattle.st_banks.specs.declared.answers.LastAnswers.{LastAnswers}
 use Rattle.st_rows.specs.Rows.{opening_issue, row_of_entry, address_tick, preparation_tick, tick_a, tick_p}
 use Rattle.st_segment.specs.Entries.{entry}
 use Rattle.st_segment.specs.Ahead.{ahead, prepared_before}
-use Rattle.st_segment.specs.Guesses.{split_words}
+use Rattle.st_segment.specs.Predictions.{split_words}
 use Rattle.st_run.specs.Events.{Timed, Shows, with_index_words, snapshot}
 use Rattle.st_run.specs.Moments.{Moment, Standing, next_state, ends_segment, next_segment, next_issue, standing_at, entries_at_moment, next_moment}
 use Rattle.st_run.specs.TimedRun.{ticks_before, snapshots_from, snapshot_at, events_between, completion, until_done, last_events, timed_from, timed_behind}

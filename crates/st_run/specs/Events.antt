@@ -6,7 +6,7 @@ use Rattle.st_state.specs.Machine.{Machine, word}
 use Rattle.st_run.specs.Run.{PlainEvent, Executes}
 use Rattle.st_rows.specs.declared.issue.EntryTicks.{EntryTicks}
 use Rattle.st_segment.specs.Ahead.{Ahead, plan_of}
-use Rattle.st_segment.specs.Guesses.{split_words}
+use Rattle.st_segment.specs.Predictions.{split_words}
 
 -- ---- the entries in flight as snapshots show them
 

@@ -9,9 +9,9 @@ use Rattle.st_prep.proofs.PlanLemmas.{plan-prepared}
 use Rattle.st_exec.specs.Ahead.{IsPast}
 use Rattle.st_exec.specs.Completion.{prediction}
 use Rattle.st_exec.proofs.UnwrittenLemmas.{early-index_words, predicted-past}
-use Rattle.st_segment.specs.Guesses.{guesses, table_behind, split_words}
+use Rattle.st_segment.specs.Predictions.{predictions, table_behind, split_words}
 use Rattle.st_segment.specs.Alone.{RunAhead}
-use Rattle.st_segment.proofs.GuessLemmas.{behind-none, behind-indicator, guesses-machine, guesses-next}
+use Rattle.st_segment.proofs.PredictionLemmas.{behind-none, behind-indicator, predictions-machine, predictions-next}
 
 -- the predicted state after an entry that is not serializing
 pub prediction-past : (t : Option ℕ) (s : Machine) → IsMachine s → IfSome t (λ i. i < 64) → (plan s t).serial ≡ false
@@ -20,31 +20,31 @@ prediction-past t s m some free = predicted-past (plan s t) s (plan-prepared s t
 
 -- of k + 1 entries that are not serializing, the last one
 pub last-ahead : (k : ℕ) (t : Option ℕ) (s : Machine) → RunAhead (suc k) t s
-    → (plan (guesses k t s) (table_behind k t)).serial ≡ false
-unfolding RunAhead guesses
+    → (plan (predictions k t s) (table_behind k t)).serial ≡ false
+unfolding RunAhead predictions
 last-ahead zero t s free = free.0
 last-ahead (suc k) t s free =
-    let u = guesses k None (prediction t s) in
+    let u = predictions k None (prediction t s) in
     ap (λ i. (plan u i).serial) (sym (behind-none k)) ∙ last-ahead k None (prediction t s) free.1
 
 pub split-change : (k : ℕ) (t : Option ℕ) (s : Machine) → IsMachine s → IfSome t (λ i. i < 64)
     → split_words (suc k) t s
-    ≡ words_after (index_words (guesses k t s)) (plan (guesses k t s) (table_behind k t)).index
+    ≡ words_after (index_words (predictions k t s)) (plan (predictions k t s) (table_behind k t)).index
 unfolding split_words
 split-change k t s m some =
-    let u = guesses k t s in
+    let u = predictions k t s in
     let i = table_behind k t in
-    let n = guesses-machine k t s m some in
+    let n = predictions-machine k t s m some in
     early-index_words (plan u i) u i (plan-prepared u i n (behind-indicator k t some)) n
 
 pub index-split : (k : ℕ) (t : Option ℕ) (s : Machine) → IsMachine s → IfSome t (λ i. i < 64) → RunAhead k t s
-    → index_words (guesses k t s) ≡ split_words k t s
-unfolding guesses split_words
+    → index_words (predictions k t s) ≡ split_words k t s
+unfolding predictions split_words
 index-split zero t s m some free = refl
 index-split (suc k) t s m some free =
-    let u = guesses k t s in
+    let u = predictions k t s in
     let i = table_behind k t in
-    let n = guesses-machine k t s m some in
-    ap index_words (guesses-next k t s)
+    let n = predictions-machine k t s m some in
+    ap index_words (predictions-next k t s)
     ∙ (prediction-past i u n (behind-indicator k t some) (last-ahead k t s free)).index
     ∙ sym (split-change k t s m some)

@@ -1,21 +1,21 @@
 -- Proofs of the laws of the entries in flight.
 use Rattle.st_segment.proofs.EntryRanges.{entry-ranges, entry-reads, entry-words, entry-own}
-use Rattle.st_segment.proofs.GuessLemmas.{guesses-machine, guesses-next, ahead-next, issue-next}
+use Rattle.st_segment.proofs.PredictionLemmas.{predictions-machine, predictions-next, ahead-next, issue-next}
 use Rattle.st_segment.proofs.IndexLemmas.{split-change, index-split}
 use Rattle.st_segment.proofs.RestLemmas.{low-kept, enabled-kept, storage-kept, counter-behind}
 use Rattle.st_segment.proofs.SeenLemmas.{reading-behind, seen-behind}
 use Rattle.st_segment.proofs.KnownEarly.{known-early}
 use Rattle.st_segment.proofs.StepLemmas.{prediction-right, prediction-mispredicted, prediction-alone}
 use Rattle.st_segment.proofs.PassedOver.{entry-same, passed-over, rows-same, plan-same}
-use Rattle.st_segment.specs.Laws.{EntriesAreInRange, GuessesGoOn, IndexWordsRunAhead, GuessesLeaveTheRest, EntriesBehindAreSeen, EntriesAreKnownEarly, StepsAreGuesses, SignalsArePassedOver}
+use Rattle.st_segment.specs.Laws.{EntriesAreInRange, PredictionsGoOn, IndexWordsRunAhead, PredictionsLeaveTheRest, EntriesBehindAreSeen, EntriesAreKnownEarly, StepsArePredictions, SignalsArePassedOver}
 
 pub entries_are_in_range : EntriesAreInRange
 entries_are_in_range = record { ranges = entry-ranges; reads = entry-reads; words = entry-words; own = entry-own }
 
-pub guesses_go_on : GuessesGoOn
-guesses_go_on = record {
-  machine = guesses-machine;
-  state = guesses-next;
+pub predictions_go_on : PredictionsGoOn
+predictions_go_on = record {
+  machine = predictions-machine;
+  state = predictions-next;
   next = ahead-next;
   issue = issue-next;
 }
@@ -26,8 +26,8 @@ index_words_run_ahead = record {
   state = index-split;
 }
 
-pub guesses_leave_the_rest : GuessesLeaveTheRest
-guesses_leave_the_rest = record {
+pub predictions_leave_the_rest : PredictionsLeaveTheRest
+predictions_leave_the_rest = record {
   low = low-kept;
   enabled = enabled-kept;
   storage = storage-kept;
@@ -43,8 +43,8 @@ entries_behind_are_seen = record {
 pub entries_are_known_early : EntriesAreKnownEarly
 entries_are_known_early = known-early
 
-pub steps_are_guesses : StepsAreGuesses
-steps_are_guesses = record {
+pub steps_are_predictions : StepsArePredictions
+steps_are_predictions = record {
   right = prediction-right;
   mispredicted = prediction-mispredicted;
   alone = prediction-alone;

@@ -1,4 +1,4 @@
-pub mod GuessLemmas
+pub mod PredictionLemmas
 pub mod StepLemmas
 pub mod IndexLemmas
 pub mod RestLemmas

@@ -11,7 +11,7 @@ use Rattle.st_prep.specs.Fetch.{index_words}
 use Rattle.st_prep.specs.Plan.{plan}
 use Rattle.st_prep.proofs.BesideLemmas.{plan-beside_ahead}
 use Rattle.st_prep.proofs.PlanLemmas.{plan-prepared}
-use Rattle.st_exec.specs.Completion.{with_change, state_with_early_changes, predicted_state, prediction}
+use Rattle.st_exec.specs.Completion.{with_change, state_with_speculative_changes, predicted_state, prediction}
 use Rattle.st_exec.proofs.AlikeStates.{same-set}
 use Rattle.st_exec.proofs.BesideEntries.{predicted-beside}
 use Rattle.st_exec.proofs.UnwrittenLemmas.{predicted-machine}
@@ -19,7 +19,7 @@ use Rattle.st_rows.specs.Rows.{row_of_entry, issue_after_entry}
 use Rattle.st_rows.specs.declared.entry.Entry.{Entry}
 use Rattle.st_rows.specs.declared.issue.IssueState.{IssueState}
 use Rattle.st_segment.specs.Entries.{entry}
-use Rattle.st_segment.specs.Guesses.{guesses, table_behind, after_early_change, split_words}
+use Rattle.st_segment.specs.Predictions.{predictions, table_behind, after_speculative_change, split_words}
 use Rattle.st_segment.specs.Ahead.{next_ahead, ahead}
 use Rattle.st_segment.specs.Alone.{RunAhead, IsSameAhead}
 use Rattle.st_segment.proofs.KnownEarly.{entry-seen}
@@ -67,8 +67,8 @@ change-same : (c : Option IndexChange) (s u : Machine) → AreAlikeBesideOrders 
 change-same None s u h = h
 change-same (Some c) s u h = stored-same s u (16 + c.number) c.word h
 
-early-same : (p : Prepared) (s u : Machine) → AreAlikeBesideOrders s u → AreAlikeBesideOrders (state_with_early_changes p s) (state_with_early_changes p u)
-unfolding state_with_early_changes
+early-same : (p : Prepared) (s u : Machine) → AreAlikeBesideOrders s u → AreAlikeBesideOrders (state_with_speculative_changes p s) (state_with_speculative_changes p u)
+unfolding state_with_speculative_changes
 early-same p s u h = indicators-same _ _ _ _ (change-same p.index s u h)
 
 -- ---- predictions
@@ -82,12 +82,12 @@ prediction-same s u m h free =
     subst (λ (p : Prepared). AreAlikeBesideOrders (prediction None s) (predicted_state p u)) (sym (plan-same s u h free))
     (predicted-beside (plan s None) s u (plan-prepared s None m tt) m h free)
 
-guesses-same : (k : ℕ) (s u : Machine) → IsMachine s → AreAlikeBesideOrders s u → RunAhead k None s
-    → AreAlikeBesideOrders (guesses k None s) (guesses k None u)
-unfolding guesses RunAhead
-guesses-same zero s u m h run = h
-guesses-same (suc k) s u m h run =
-    guesses-same k (prediction None s) (prediction None u) (prediction-machine s m) (prediction-same s u m h run.0) run.1
+predictions-same : (k : ℕ) (s u : Machine) → IsMachine s → AreAlikeBesideOrders s u → RunAhead k None s
+    → AreAlikeBesideOrders (predictions k None s) (predictions k None u)
+unfolding predictions RunAhead
+predictions-same zero s u m h run = h
+predictions-same (suc k) s u m h run =
+    predictions-same k (prediction None s) (prediction None u) (prediction-machine s m) (prediction-same s u m h run.0) run.1
 
 run-same : (k : ℕ) (s u : Machine) → IsMachine s → AreAlikeBesideOrders s u → RunAhead k None s → RunAhead k None u
 unfolding RunAhead
@@ -99,8 +99,8 @@ run-same (suc k) s u m h run = (
 
 -- the last of k + 1 entries that are not serializing
 run-last : (k : ℕ) (s : Machine) → RunAhead (suc k) None s
-    → RunAhead k None s × ((plan (guesses k None s) None).serial ≡ false)
-unfolding guesses RunAhead
+    → RunAhead k None s × ((plan (predictions k None s) None).serial ≡ false)
+unfolding predictions RunAhead
 run-last zero s run = (tt, run.0)
 run-last (suc k) s run = let rest = run-last k (prediction None s) run.1 in ((run.0, rest.0), rest.1)
 
@@ -111,9 +111,9 @@ none-behind zero = refl
 none-behind (suc k) = refl
 
 split-last : (k : ℕ) (s : Machine)
-    → split_words (suc k) None s ≡ index_words (state_with_early_changes (plan (guesses k None s) None) (guesses k None s))
+    → split_words (suc k) None s ≡ index_words (state_with_speculative_changes (plan (predictions k None s) None) (predictions k None s))
 unfolding split_words
-split-last k s = ap (λ t. index_words (after_early_change t (guesses k None s))) (none-behind k)
+split-last k s = ap (λ t. index_words (after_speculative_change t (predictions k None s))) (none-behind k)
 
 split-same : (k : ℕ) (s u : Machine) → IsMachine s → AreAlikeBesideOrders s u → RunAhead k None s
     → split_words k None u ≡ split_words k None s
@@ -121,19 +121,19 @@ unfolding split_words
 split-same zero s u m h run = same-index s u h
 split-same (suc k) s u m h run =
     let last = run-last k s run in
-    let v = guesses k None s in
-    let w = guesses k None u in
-    let same : AreAlikeBesideOrders v w = guesses-same k s u m h last.0 in
+    let v = predictions k None s in
+    let w = predictions k None u in
+    let same : AreAlikeBesideOrders v w = predictions-same k s u m h last.0 in
     let planned : plan w None ≡ plan v None = plan-same v w same last.1 in
     split-last k u
-    ∙ ap (λ (p : Prepared). index_words (state_with_early_changes p w)) planned
-    ∙ same-index (state_with_early_changes (plan v None) v) (state_with_early_changes (plan v None) w) (early-same (plan v None) v w same)
+    ∙ ap (λ (p : Prepared). index_words (state_with_speculative_changes p w)) planned
+    ∙ same-index (state_with_speculative_changes (plan v None) v) (state_with_speculative_changes (plan v None) w) (early-same (plan v None) v w same)
     ∙ sym (split-last k s)
 
 pub passed-over : (k : ℕ) (s u : Machine) → IsMachine s → AreAlikeBesideOrders s u → RunAhead k None s
-    → RunAhead k None u × AreAlikeBesideOrders (guesses k None s) (guesses k None u)
+    → RunAhead k None u × AreAlikeBesideOrders (predictions k None s) (predictions k None u)
     × (split_words k None u ≡ split_words k None s)
-passed-over k s u m h run = (run-same k s u m h run, guesses-same k s u m h run, split-same k s u m h run)
+passed-over k s u m h run = (run-same k s u m h run, predictions-same k s u m h run, split-same k s u m h run)
 
 -- ---- rows
 

@@ -11,24 +11,24 @@ use Rattle.st_exec.specs.Completion.{prediction}
 use Rattle.st_exec.proofs.UnwrittenLemmas.{predicted-unwritten, predicted-following}
 use Rattle.st_rows.specs.Entries.{is_in, is_among}
 use Rattle.st_segment.specs.Entries.{words_to_write, entry}
-use Rattle.st_segment.specs.Guesses.{guesses, table_behind}
+use Rattle.st_segment.specs.Predictions.{predictions, table_behind}
 use Rattle.st_segment.specs.Alone.{RunAhead, is_word_written}
-use Rattle.st_segment.proofs.GuessLemmas.{prediction-machine, guesses-next}
+use Rattle.st_segment.proofs.PredictionLemmas.{prediction-machine, predictions-next}
 use Rattle.st_segment.proofs.IndexLemmas.{prediction-past}
 
 -- ---- low registers and the flag for interrupts
 
 pub low-kept : (k : ℕ) (t : Option ℕ) (s : Machine) (w : ℕ) → IsMachine s → IfSome t (λ i. i < 64) → RunAhead k t s
-    → w < 7 → word (guesses k t s) w ≡ word s w
-unfolding guesses RunAhead
+    → w < 7 → word (predictions k t s) w ≡ word s w
+unfolding predictions RunAhead
 low-kept zero t s w m some free low = refl
 low-kept (suc k) t s w m some free low =
     low-kept k None (prediction t s) w (prediction-machine t s m some) tt free.1 low
     ∙ (prediction-past t s m some free.0).low w low
 
 pub enabled-kept : (k : ℕ) (t : Option ℕ) (s : Machine) → IsMachine s → IfSome t (λ i. i < 64) → RunAhead k t s
-    → (guesses k t s).enabled ≡ s.enabled
-unfolding guesses RunAhead
+    → (predictions k t s).enabled ≡ s.enabled
+unfolding predictions RunAhead
 enabled-kept zero t s m some free = refl
 enabled-kept (suc k) t s m some free =
     enabled-kept k None (prediction t s) (prediction-machine t s m some) tt free.1 ∙ (prediction-past t s m some free.0).enabled
@@ -56,8 +56,8 @@ unwritten-entry t s w m some above h =
     predicted-unwritten (plan s t) s w (plan-prepared s t m some) m above (not-among w (plan s t).writes h)
 
 pub storage-kept : (k : ℕ) (t : Option ℕ) (s : Machine) (w : ℕ) → IsMachine s → IfSome t (λ i. i < 64) → 32 ≤ w
-    → is_word_written k t s w ≡ false → word (guesses k t s) w ≡ word s w
-unfolding guesses is_word_written
+    → is_word_written k t s w ≡ false → word (predictions k t s) w ≡ word s w
+unfolding predictions is_word_written
 storage-kept zero t s w m some above h = refl
 storage-kept (suc k) t s w m some above h =
     let both = or_parts (is_among w (entry t s).writes) (is_word_written k None (prediction t s) w) h in
@@ -66,8 +66,8 @@ storage-kept (suc k) t s w m some above h =
 
 -- ---- the counter
 
-pub counter-behind : (k : ℕ) (t : Option ℕ) (s : Machine) → (plan (guesses k t s) (table_behind k t)).serial ≡ false
-    → (guesses (suc k) t s).ic ≡ (plan (guesses k t s) (table_behind k t)).following
+pub counter-behind : (k : ℕ) (t : Option ℕ) (s : Machine) → (plan (predictions k t s) (table_behind k t)).serial ≡ false
+    → (predictions (suc k) t s).ic ≡ (plan (predictions k t s) (table_behind k t)).following
 counter-behind k t s free =
-    let u = guesses k t s in
-    ap (λ (v : Machine). v.ic) (guesses-next k t s) ∙ predicted-following (plan u (table_behind k t)) u free
+    let u = predictions k t s in
+    ap (λ (v : Machine). v.ic) (predictions-next k t s) ∙ predicted-following (plan u (table_behind k t)) u free

@@ -6,15 +6,15 @@ use Rattle.st_prep.specs.declared.entries.Place.{Place}
 use Rattle.st_prep.specs.Reading.{reading_at_place}
 use Rattle.st_prep.specs.Fetch.{index_words, place_of, reading_of, words_fetched}
 use Rattle.st_prep.specs.Plan.{decode_context_of, decode_context, IsSeen}
-use Rattle.st_segment.specs.Guesses.{guesses, table_behind, split_words}
+use Rattle.st_segment.specs.Predictions.{predictions, table_behind, split_words}
 use Rattle.st_segment.specs.Alone.{RunAhead}
 use Rattle.st_segment.proofs.IndexLemmas.{index-split}
 use Rattle.st_segment.proofs.RestLemmas.{low-kept, enabled-kept}
 
 pub reading-behind : (k : ℕ) (t : Option ℕ) (s : Machine) (p : Place) → IsMachine s → IfSome t (λ i. i < 64)
-    → RunAhead k t s → reading_of (guesses k t s) p ≡ reading_at_place (split_words k t s) (word s 3) s.enabled p
+    → RunAhead k t s → reading_of (predictions k t s) p ≡ reading_at_place (split_words k t s) (word s 3) s.enabled p
 reading-behind k t s p m some free =
-    let u = guesses k t s in
+    let u = predictions k t s in
     ap (λ x. reading_at_place x (word u 3) u.enabled p) (index-split k t s m some free)
     ∙ ap (λ b. reading_at_place (split_words k t s) b u.enabled p) (low-kept k t s 3 m some free (omega arith))
     ∙ ap (λ on. reading_at_place (split_words k t s) (word s 3) on p) (enabled-kept k t s m some free)
@@ -32,10 +32,10 @@ seen-by u s t x index bounds enabled =
     record { place = refl; fetched = refl; words = index; bounds = bounds; enabled = enabled }
 
 pub seen-behind : (k : ℕ) (t : Option ℕ) (s : Machine) → IsMachine s → IfSome t (λ i. i < 64) → RunAhead k t s
-    → let u = guesses k t s in let p = place_of u (table_behind k t) in
+    → let u = predictions k t s in let p = place_of u (table_behind k t) in
     (decode_context u p ≡ decode_context_of p (words_fetched u p) (split_words k t s) s) × IsSeen u (decode_context_of p (words_fetched u p) (split_words k t s) s)
 seen-behind k t s m some free =
-    let u = guesses k t s in
+    let u = predictions k t s in
     let index = index-split k t s m some free in
     let bounds = low-kept k t s 3 m some free (omega arith) in
     let enabled = enabled-kept k t s m some free in (

@@ -5,7 +5,7 @@ use Rattle.st_state.specs.Machine.{Machine, IsMachine}
 use Rattle.st_prep.specs.declared.entries.Prepared.{Prepared}
 use Rattle.st_prep.specs.Plan.{state_at_entry, plan}
 use Rattle.st_prep.proofs.PlanLemmas.{plan-prepared}
-use Rattle.st_exec.specs.Completion.{state_with_early_changes, is_taken, state_after_completion, state_after_execution, predicted_state, prediction, is_mispredicted}
+use Rattle.st_exec.specs.Completion.{state_with_speculative_changes, is_taken, state_after_completion, state_after_execution, predicted_state, prediction, is_mispredicted}
 use Rattle.st_exec.proofs.AheadLemmas.{predicted-right}
 use Rattle.st_exec.proofs.UnwrittenLemmas.{predicted-alone}
 
@@ -22,7 +22,7 @@ mispredicted-ahead p s h = first-false p.serial p.suppressed _ h
 alone-right : (p : Prepared) (s : Machine) → p.serial ≡ true → is_mispredicted p s ≡ false
 unfolding is_mispredicted
 alone-right p s e =
-    ap (λ b. not b && not p.suppressed && is_taken p.instr p.e (state_with_early_changes p (state_at_entry p.place.table s))) e
+    ap (λ b. not b && not p.suppressed && is_taken p.instr p.e (state_with_speculative_changes p (state_at_entry p.place.table s))) e
 
 predicted-mispredicted : (p : Prepared) (s : Machine) → p.serial ≡ false
     → predicted_state p s ≡ record (state_after_completion p s) { ic = p.following }

@@ -13,7 +13,7 @@ use Rattle.st_rows.specs.Ranges.{IsEntryInTime}
 use Rattle.st_rows.specs.Asked.{own_reads}
 use Rattle.st_rows.specs.declared.issue.IssueState.{IssueState}
 use Rattle.st_segment.specs.Entries.{instruction_words, own_count, side_to_read, words_to_read, words_to_write, entry}
-use Rattle.st_segment.specs.Guesses.{guesses, table_behind, split_words}
+use Rattle.st_segment.specs.Predictions.{predictions, table_behind, split_words}
 use Rattle.st_segment.specs.Ahead.{next_ahead, ahead, issue_behind}
 use Rattle.st_segment.specs.Alone.{RunAhead, is_word_written, words_of_run, IsSameAhead}
 
@@ -29,17 +29,17 @@ pub record EntriesAreInRange : Type 0 where
   pub own : (t : Option ℕ) (s : Machine) → own_count t s ≡ (entry t s).own.len
 
 -- Predicted steps lead to valid states, and each one continues from the state before it.
-pub record GuessesGoOn : Type 0 where
+pub record PredictionsGoOn : Type 0 where
   pub machine : (k : ℕ) (t : Option ℕ) (s : Machine) → IsMachine s → IsIndicatorIfAny t →
-      IsMachine (guesses k t s)
+      IsMachine (predictions k t s)
   pub state : (k : ℕ) (t : Option ℕ) (s : Machine) →
-      guesses (suc k) t s ≡ prediction (table_behind k t) (guesses k t s)
+      predictions (suc k) t s ≡ prediction (table_behind k t) (predictions k t s)
   pub next : (ds : List ℕ) (n k : ℕ) (t : Option ℕ) (s : Machine) (f : IssueState) →
       ahead ds n (suc k) t s f
-      ≡ ahead ds n k t s f ++ next_ahead ds n (table_behind k t) (guesses k t s)
+      ≡ ahead ds n k t s f ++ next_ahead ds n (table_behind k t) (predictions k t s)
       (issue_behind ds n k t s f) ∷ []
   pub issue : (ds : List ℕ) (n k : ℕ) (t : Option ℕ) (s : Machine) (f : IssueState) →
-      issue_behind ds n (suc k) t s f ≡ issue_behind ds n 1 (table_behind k t) (guesses k t s)
+      issue_behind ds n (suc k) t s f ≡ issue_behind ds n 1 (table_behind k t) (predictions k t s)
       (issue_behind ds n k t s f)
 
 -- The index words with k + 1 early changes are those of the k-th predicted state with the last
@@ -47,23 +47,23 @@ pub record GuessesGoOn : Type 0 where
 pub record IndexWordsRunAhead : Type 0 where
   pub change : (k : ℕ) (t : Option ℕ) (s : Machine) → IsMachine s → IsIndicatorIfAny t →
       split_words (suc k) t s
-      ≡ words_after (index_words (guesses k t s)) (plan (guesses k t s) (table_behind k t)).index
+      ≡ words_after (index_words (predictions k t s)) (plan (predictions k t s) (table_behind k t)).index
   pub state : (k : ℕ) (t : Option ℕ) (s : Machine) → IsMachine s → IsIndicatorIfAny t →
-      RunAhead k t s → index_words (guesses k t s) ≡ split_words k t s
+      RunAhead k t s → index_words (predictions k t s) ≡ split_words k t s
 
 -- Entries that are not serializing leave words 0 to 6, the flag for interrupts, and each word from
 -- 32 up that none of them writes. The counter after such an entry is its following address.
-pub record GuessesLeaveTheRest : Type 0 where
+pub record PredictionsLeaveTheRest : Type 0 where
   pub low : (k : ℕ) (t : Option ℕ) (s : Machine) (w : ℕ) → IsMachine s → IsIndicatorIfAny t →
-      RunAhead k t s → w < 7 → word (guesses k t s) w ≡ word s w
+      RunAhead k t s → w < 7 → word (predictions k t s) w ≡ word s w
   pub enabled : (k : ℕ) (t : Option ℕ) (s : Machine) → IsMachine s → IsIndicatorIfAny t →
-      RunAhead k t s → (guesses k t s).enabled ≡ s.enabled
+      RunAhead k t s → (predictions k t s).enabled ≡ s.enabled
   pub storage : (k : ℕ) (t : Option ℕ) (s : Machine) (w : ℕ) → IsMachine s →
       IsIndicatorIfAny t →
-      32 ≤ w → is_word_written k t s w ≡ false → word (guesses k t s) w ≡ word s w
+      32 ≤ w → is_word_written k t s w ≡ false → word (predictions k t s) w ≡ word s w
   pub counter : (k : ℕ) (t : Option ℕ) (s : Machine) →
-      (plan (guesses k t s) (table_behind k t)).serial ≡ false →
-      (guesses (suc k) t s).ic ≡ (plan (guesses k t s) (table_behind k t)).following
+      (plan (predictions k t s) (table_behind k t)).serial ≡ false →
+      (predictions (suc k) t s).ic ≡ (plan (predictions k t s) (table_behind k t)).following
 
 -- The entry after k entries that are not serializing is fetched by the index words with their early
 -- changes, and by the bounds and the flag of the state; its decode context has these.
@@ -71,9 +71,9 @@ pub record EntriesBehindAreSeen : Type 0 where
   pub reading : (k : ℕ) (t : Option ℕ) (s : Machine) (p : Place) → IsMachine s →
       IsIndicatorIfAny t →
       RunAhead k t s →
-      reading_of (guesses k t s) p ≡ reading_by (split_words k t s) s p
+      reading_of (predictions k t s) p ≡ reading_by (split_words k t s) s p
   pub seen : (k : ℕ) (t : Option ℕ) (s : Machine) → IsMachine s → IsIndicatorIfAny t →
-      RunAhead k t s → let u = guesses k t s in let p = place_of u (table_behind k t) in
+      RunAhead k t s → let u = predictions k t s in let p = place_of u (table_behind k t) in
       (decode_context u p ≡ decode_context_of p (words_fetched u p) (split_words k t s) s)
       × IsSeen u (decode_context_of p (words_fetched u p) (split_words k t s) s)
 
@@ -88,7 +88,7 @@ EntriesAreKnownEarly = (t : Option ℕ) (s : Machine) (q : Option ℕ) → let v
     × ((plan s t).instr ≡ p.instr)
 
 -- A step is the predicted one, except for the counter after a mispredicted branch.
-pub record StepsAreGuesses : Type 0 where
+pub record StepsArePredictions : Type 0 where
   pub right : (t : Option ℕ) (s : Machine) → IsMachine s → IsIndicatorIfAny t →
       is_mispredicted (plan s t) s ≡ false → prediction t s ≡ state_after_execution t s
   pub mispredicted : (t : Option ℕ) (s : Machine) → IsMachine s → IsIndicatorIfAny t →
@@ -102,7 +102,7 @@ pub record StepsAreGuesses : Type 0 where
 pub record SignalsArePassedOver : Type 0 where
   pub entry : (t : Option ℕ) (s u : Machine) → AreAlikeBesideOrders s u → entry t u ≡ entry t s
   pub same : (k : ℕ) (s u : Machine) → IsMachine s → AreAlikeBesideOrders s u → RunAhead k None s →
-      RunAhead k None u × AreAlikeBesideOrders (guesses k None s) (guesses k None u)
+      RunAhead k None u × AreAlikeBesideOrders (predictions k None s) (predictions k None u)
       × (split_words k None u ≡ split_words k None s)
   pub rows : (ds : List ℕ) (n k : ℕ) (s u : Machine) (f : IssueState) → IsMachine s →
       AreAlikeBesideOrders s u →

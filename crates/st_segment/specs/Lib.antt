@@ -1,5 +1,5 @@
 pub mod Entries
-pub mod Guesses
+pub mod Predictions
 pub mod Ahead
 pub mod Alone
 pub mod Laws

@@ -13,7 +13,7 @@ use Rattle.st_rows.specs.declared.issue.EntryTicks.{EntryTicks}
 use Rattle.st_rows.specs.declared.issue.Formed.{Formed}
 use Rattle.st_rows.proofs.Within.{delays-are}
 use Rattle.st_segment.specs.Entries.{entry}
-use Rattle.st_segment.specs.Guesses.{guesses, table_behind}
+use Rattle.st_segment.specs.Predictions.{predictions, table_behind}
 use Rattle.st_ring.specs.Levels.{AreAhead}
 use Rattle.st_next.specs.Known.{IsStateBefore}
 use Rattle.st_next.specs.declared.fetch_unit.FetchUnit.{FetchUnit}
@@ -25,7 +25,7 @@ use Rattle.st_ahead.proofs.Pushed.{going-pushed}
 use Rattle.st_ahead.proofs.lookahead.Lookahead.push.Goals as goal
 use Rattle.st_ahead.proofs.Laws.{planned_entries_become_levels}
 use Rattle.st_rows.proofs.Laws.{completions_are_bounded, rows_are_in_order}
-use Rattle.st_segment.proofs.Laws.{guesses_leave_the_rest}
+use Rattle.st_segment.proofs.Laws.{predictions_leave_the_rest}
 
 -- no word is fetched yet
 abbrev begun : Bus → Fetching
@@ -45,7 +45,7 @@ prepare-requires-clause-ready g c =
     let due : view.next.formed.p ≡ now = ap (λ (w : LookaheadView). w.next.formed.p) c.self.view_is ∙ c.requires.due in
     let becomes = planned_entries_become_levels ds n now t s f view c.requires.some c.requires.few
     (delays-are c.args.delays.now) c.index.ensures.few c.requires.early is planned due in
-    let u = guesses (count view) t s in
+    let u = predictions (count view) t s in
     record {
       delays = ds;
       levels = n;
@@ -76,7 +76,7 @@ fill-filled-requires g c =
     let becomes = planned_entries_become_levels ds n now t s f view c.requires.some c.requires.few
     (delays-are c.args.delays.now) c.index.ensures.few c.requires.early is planned due in
     let entry_is : c.prepare.new.self.entry ≡ view.next.entry = ap (λ (next : FetchUnit). next.entry) c.prepare.ensures.rest in
-    let same : c.prepare.new.self.entry ≡ entry (table_behind (count view) t) (guesses (count view) t s) = entry_is ∙ (becomes.is_next.planned planned).entry in
+    let same : c.prepare.new.self.entry ≡ entry (table_behind (count view) t) (predictions (count view) t s) = entry_is ∙ (becomes.is_next.planned planned).entry in
     let formed_is : c.prepare.new.self.formed ≡ view.next.formed = ap (λ (next : FetchUnit). next.formed) c.prepare.ensures.rest in
     let words_are : c.prepare.new.self.words ≡ view.next.words = ap (λ (next : FetchUnit). next.words) c.prepare.ensures.rest in
     record {
@@ -117,7 +117,7 @@ returns-clause-going g c = λ t f given.
     let becomes = planned_entries_become_levels ds n now t s f view c.requires.some c.requires.few
     are c.index.ensures.few c.requires.early is planned due in
     let k = table_behind (count view) t in
-    let u = guesses (count view) t s in
+    let u = predictions (count view) t s in
     let x = view.next.entry in
     let new : LookaheadView = record { levels = c.push.new.self; issue = c.pass.new.self; log = c.fill-filled.new.log; next = c.restart.new.self } in
     let filled = c.fill-filled.result in
@@ -147,7 +147,7 @@ returns-clause-going g c = λ t f given.
     (c.fill-filled.ensures.log
     ∙ ap (λ (e : Entry). log_after_reads ds (prepared_asked ds n view.issue e) c.prepare.new.self.words.bus view.log) entry_is
     ∙ ap (λ (w : Fetching). log_after_reads ds (prepared_asked ds n view.issue x) w.bus view.log) (ap (λ (next : FetchUnit). next.words) c.prepare.ensures.rest))
-    (guesses_leave_the_rest.counter (count view) t s)
+    (predictions_leave_the_rest.counter (count view) t s)
 
 pub returns-clause-count : goal.returns-clause-count
 returns-clause-count g c =

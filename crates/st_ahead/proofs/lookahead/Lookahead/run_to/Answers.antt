@@ -9,7 +9,7 @@ use Rattle.st_exec.specs.Step.{interrupt, rests}
 use Rattle.st_rows.specs.Rows.{row_of_entry, issue_after_entry}
 use Rattle.st_rows.proofs.Within.{delays-are}
 use Rattle.st_segment.specs.Entries.{entry}
-use Rattle.st_segment.proofs.GuessLemmas.{prediction-machine}
+use Rattle.st_segment.proofs.PredictionLemmas.{prediction-machine}
 use Rattle.st_next.specs.declared.fetch_unit.FetchUnit.{FetchUnit}
 use Rattle.st_ahead.specs.RunTo.{may_come_from_outside}
 use Rattle.st_ahead.specs.Inside.{answers_before}
@@ -23,7 +23,7 @@ use Rattle.st_ahead.proofs.Standing.{answers-same}
 use Rattle.st_ahead.proofs.TickCases.{prediction-words}
 use Rattle.st_ahead.proofs.lookahead.Lookahead.run_to.Goals as goal
 use Rattle.st_ahead.proofs.Laws.{lookaheads_are_levels, the_banks_are_left}
-use Rattle.st_segment.proofs.Laws.{steps_are_guesses}
+use Rattle.st_segment.proofs.Laws.{steps_are_predictions}
 use Rattle.st_exec.proofs.Laws.{entries_count_as_one}
 use Rattle.st_ring.proofs.OrderLemmas.{after-c}
 
@@ -102,7 +102,7 @@ entries-preserved g c =
           let counted = ap (λ (m : Machine). m.done) all.0 ∙ entries_count_as_one (plan u k) u in
           noting-on ds n c.args.limits.count c.args.limits.last now due c.args.committed.now.taken k c.args.committed.now.state u c.complete-done.new.state f c.entries.self c.go_to.new.self
           c.complete-done.new.self c.complete-done.result c.args.rows.now c.entries.rows noting at all.0 all.1 all.2 goes.0 goes.1 goes.2 goes.3
-          (steps_are_guesses.right k u at.lookahead.machine at.lookahead.indicator) counted _ c.put.ensures c.row_of.ensures;
+          (steps_are_predictions.right k u at.lookahead.machine at.lookahead.indicator) counted _ c.put.ensures c.row_of.ensures;
       done =
           omega (
             arith,

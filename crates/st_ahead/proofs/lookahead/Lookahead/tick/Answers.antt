@@ -4,7 +4,7 @@ use Rattle.st_exec.specs.Completion.{prediction}
 use Rattle.st_rows.specs.Rows.{row_of_entry, issue_after_entry}
 use Rattle.st_segment.specs.Entries.{entry}
 use Rattle.st_segment.proofs.EntryRanges.{entry-ranges}
-use Rattle.st_segment.proofs.GuessLemmas.{prediction-machine}
+use Rattle.st_segment.proofs.PredictionLemmas.{prediction-machine}
 use Rattle.st_ring.proofs.OrderLemmas.{due-row}
 use Rattle.st_ahead.specs.Forecast.{LookaheadView, IsLookahead, count}
 use Rattle.st_next.specs.declared.fetch_unit.FetchUnit.{FetchUnit}

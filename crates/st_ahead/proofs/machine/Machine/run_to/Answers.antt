@@ -18,7 +18,7 @@ use Rattle.st_ahead.proofs.Standing.{prediction-seen, told as told_row}
 use Rattle.st_ahead.proofs.Stopping.{start-inside, settled-between, passed-machine, stopped-machine}
 use Rattle.st_ahead.proofs.machine.Machine.run_to.Goals as goal
 use Rattle.st_ring.proofs.Laws.{levels_are_the_entries_ahead}
-use Rattle.st_segment.proofs.Laws.{steps_are_guesses}
+use Rattle.st_segment.proofs.Laws.{steps_are_predictions}
 use Rattle.st_exec.proofs.Laws.{entries_count_as_one}
 
 pub returns-then-now-last-clause-runs : goal.returns-then-now-last-clause-runs
@@ -91,7 +91,7 @@ invariant_of-self-2 g c =
     let issue = levels_are_the_entries_ahead.oldest i.delays.list n stop.tick None (prediction by.table by.state) (issue_after_entry i.delays.list n by.issue (entry by.table by.state)) w.issue w.levels
     told.lookahead.outlook.ahead in
     let predicted = prediction-seen by.table by.state c.run_to-stop.new.committed.state (is_mispredicted (plan by.state by.table) by.state) stop.done.mispredicted refl told.state told.told.mispredicted
-    (steps_are_guesses.right by.table by.state by.machine by.indicator) (steps_are_guesses.mispredicted by.table by.state by.machine by.indicator) in
+    (steps_are_predictions.right by.table by.state by.machine by.indicator) (steps_are_predictions.mispredicted by.table by.state by.machine by.indicator) in
     let counted = c.done_in-number.ensures ∙ ap (λ (m : Machine). m.done) told.state ∙ entries_count_as_one (plan by.state by.table) by.state in
     let all = stopped-machine i.stopped n i.delays.list i.committed.state c.run_to-stop.new.committed.state i.committed.taken c.run_to-stop.new.committed.taken i.mispredicted i.now c.args.last c.args.count stop.tick c.done_in-number.result
     i.owed i.ended i.fresh v w stop.done c.self.invariant owes c.requires.last by issue predicted counted in
@@ -113,7 +113,7 @@ returns-clause-runs g c =
     let issue = levels_are_the_entries_ahead.oldest i.delays.list n stop.tick None (prediction by.table by.state) (issue_after_entry i.delays.list n by.issue (entry by.table by.state)) w.issue w.levels
     told.lookahead.outlook.ahead in
     let predicted = prediction-seen by.table by.state c.run_to-stop.new.committed.state (is_mispredicted (plan by.state by.table) by.state) stop.done.mispredicted refl told.state told.told.mispredicted
-    (steps_are_guesses.right by.table by.state by.machine by.indicator) (steps_are_guesses.mispredicted by.table by.state by.machine by.indicator) in
+    (steps_are_predictions.right by.table by.state by.machine by.indicator) (steps_are_predictions.mispredicted by.table by.state by.machine by.indicator) in
     let counted = c.done_in-number.ensures ∙ ap (λ (m : Machine). m.done) told.state ∙ entries_count_as_one (plan by.state by.table) by.state in
     let all = stopped-machine i.stopped n i.delays.list i.committed.state c.run_to-stop.new.committed.state i.committed.taken c.run_to-stop.new.committed.taken i.mispredicted i.now c.args.last c.args.count stop.tick c.done_in-number.result
     i.owed i.ended i.fresh v w stop.done c.self.invariant owes c.requires.last by issue predicted counted in

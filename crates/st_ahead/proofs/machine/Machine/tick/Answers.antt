@@ -17,7 +17,7 @@ use Rattle.st_ahead.proofs.TickCases.{unprepared}
 use Rattle.st_ahead.proofs.machine.Machine.tick.Goals as goal
 use Rattle.st_ring.proofs.Laws.{levels_are_the_entries_ahead}
 use Rattle.st_ahead.proofs.Laws.{lookaheads_are_levels, the_banks_are_left}
-use Rattle.st_segment.proofs.Laws.{entries_are_in_range, steps_are_guesses}
+use Rattle.st_segment.proofs.Laws.{entries_are_in_range, steps_are_predictions}
 use Rattle.st_exec.proofs.Laws.{entries_count_as_one}
 
 pub tick-done-requires : goal.tick-done-requires
@@ -105,7 +105,7 @@ invariant_of-self-2 g c =
     c.self.invariant.some c.self.invariant.few are next most some (outlook-of i.delays.list n (i.now - 1) i.now i.committed.taken i.committed.state f v at.lookahead) by.due in
     let banks = banks-at i.stopped n i.delays.list i.committed.state i.committed.taken i.now v left.0 in
     let predicted = prediction-seen i.committed.taken i.committed.state u (is_mispredicted (plan i.committed.state i.committed.taken) i.committed.state) done.mispredicted refl by.state by.told.mispredicted
-    (steps_are_guesses.right i.committed.taken i.committed.state m t) (steps_are_guesses.mispredicted i.committed.taken i.committed.state m t) in
+    (steps_are_predictions.right i.committed.taken i.committed.state m t) (steps_are_predictions.mispredicted i.committed.taken i.committed.state m t) in
     let issue = levels_are_the_entries_ahead.oldest i.delays.list n i.now None (prediction i.committed.taken i.committed.state) (issue_after_entry i.delays.list n f (entry i.committed.taken i.committed.state)) w.issue w.levels by.lookahead.outlook.ahead in
     let all = done-tick i.stopped n i.delays.list i.committed.state u i.committed.taken i.mispredicted i.now i.owed i.ended i.fresh v w done c.self.invariant owes early by issue banks left.1 predicted in
     all.0
@@ -137,7 +137,7 @@ returns-clause-event g c =
     c.self.invariant.some c.self.invariant.few are next most some (outlook-of i.delays.list n (i.now - 1) i.now i.committed.taken i.committed.state f v at.lookahead) by.due in
     let banks = banks-at i.stopped n i.delays.list i.committed.state i.committed.taken i.now v left.0 in
     let predicted = prediction-seen i.committed.taken i.committed.state u (is_mispredicted (plan i.committed.state i.committed.taken) i.committed.state) done.mispredicted refl by.state by.told.mispredicted
-    (steps_are_guesses.right i.committed.taken i.committed.state m t) (steps_are_guesses.mispredicted i.committed.taken i.committed.state m t) in
+    (steps_are_predictions.right i.committed.taken i.committed.state m t) (steps_are_predictions.mispredicted i.committed.taken i.committed.state m t) in
     let issue = levels_are_the_entries_ahead.oldest i.delays.list n i.now None (prediction i.committed.taken i.committed.state) (issue_after_entry i.delays.list n f (entry i.committed.taken i.committed.state)) w.issue w.levels by.lookahead.outlook.ahead in
     let all = done-tick i.stopped n i.delays.list i.committed.state u i.committed.taken i.mispredicted i.now i.owed i.ended i.fresh v w done c.self.invariant owes early by issue banks left.1 predicted in
     let row = row-tick i.stopped n i.delays.list i.committed.state u i.committed.taken i.mispredicted i.now i.owed i.ended i.fresh v w done c.self.invariant owes by
@@ -171,7 +171,7 @@ returns-clause-after g c =
     c.self.invariant.some c.self.invariant.few are next most some (outlook-of i.delays.list n (i.now - 1) i.now i.committed.taken i.committed.state f v at.lookahead) by.due in
     let banks = banks-at i.stopped n i.delays.list i.committed.state i.committed.taken i.now v left.0 in
     let predicted = prediction-seen i.committed.taken i.committed.state u (is_mispredicted (plan i.committed.state i.committed.taken) i.committed.state) done.mispredicted refl by.state by.told.mispredicted
-    (steps_are_guesses.right i.committed.taken i.committed.state m t) (steps_are_guesses.mispredicted i.committed.taken i.committed.state m t) in
+    (steps_are_predictions.right i.committed.taken i.committed.state m t) (steps_are_predictions.mispredicted i.committed.taken i.committed.state m t) in
     let issue = levels_are_the_entries_ahead.oldest i.delays.list n i.now None (prediction i.committed.taken i.committed.state) (issue_after_entry i.delays.list n f (entry i.committed.taken i.committed.state)) w.issue w.levels by.lookahead.outlook.ahead in
     let all = done-tick i.stopped n i.delays.list i.committed.state u i.committed.taken i.mispredicted i.now i.owed i.ended i.fresh v w done c.self.invariant owes early by issue banks left.1 predicted in
     subst (λ (m : Overlap). overlap_of n i.delays.list u None done.mispredicted i.now true i.ended i.stopped true w ≡ machine_after_tick m) c.self.view_is all.2

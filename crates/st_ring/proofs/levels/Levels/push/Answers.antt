@@ -3,7 +3,7 @@ use Rattle.std.proofs.lemmas.List.Elements.{All-push}
 use Rattle.st_prep.specs.SpeculativeChanges.{words_after}
 use Rattle.st_prep.specs.Ranges.{IsPrepared}
 use Rattle.st_ring.specs.declared.level.Level.{Level}
-use Rattle.st_segment.specs.Guesses.{guesses, table_behind}
+use Rattle.st_segment.specs.Predictions.{predictions, table_behind}
 use Rattle.st_ring.specs.Levels.{LevelsView}
 use Rattle.st_ring.specs.PlannedRows.{planned_row}
 use Rattle.st_ring.specs.declared.plans.PlannedRow.{PlannedRow}
@@ -26,7 +26,7 @@ invariant_of-self g c =
 pub returns-clause-ahead : goal.returns-clause-ahead
 returns-clause-ahead g c = λ ds n tick t s f last m some h free issue form numbers ticks.
     let v = c.args.self.now in
-    let u = guesses (length v.ring) t s in
+    let u = predictions (length v.ring) t s in
     let i = table_behind (length v.ring) t in
     let p = c.args.prepared.now in
     let filled = c.args.filled.now in

@@ -12,12 +12,12 @@ use Rattle.st_prep.specs.Entry.{is_serial_operation}
 use Rattle.st_prep.specs.Plan.{state_at_entry}
 use Rattle.st_prep.specs.Ranges.{IsPrepared}
 use Rattle.st_exec.specs.Ahead.{is_indicator_branch}
-use Rattle.st_exec.specs.Completion.{with_change, state_with_early_changes, is_taken, is_mispredicted}
+use Rattle.st_exec.specs.Completion.{with_change, state_with_speculative_changes, is_taken, is_mispredicted}
 use Rattle.st_exec.proofs.AheadLemmas.{change-low, change-marks}
 
 -- the indicator register after the speculative change
-early-indicators : (p : Prepared) (s : Machine) → IsMachine s → word (state_with_early_changes p s) 11 ≡ indicator_word 64 p.ind.on p.ind.off (word s 11)
-unfolding state_with_early_changes
+early-indicators : (p : Prepared) (s : Machine) → IsMachine s → word (state_with_speculative_changes p s) 11 ≡ indicator_word 64 p.ind.on p.ind.off (word s 11)
+unfolding state_with_speculative_changes
 early-indicators p s m =
     let u = with_change p.index s in
     get_or-set_same u.words 11 _ 0 (omega (arith, (change-marks p.index s).size, m.size, words_of_storage_is))
@@ -25,12 +25,12 @@ early-indicators p s m =
 
 -- a non-serializing entry that is not suppressed is mispredicted if and only if it is taken
 mispredicted-taken : (p : Prepared) (s : Machine) → IsPrepared p → p.serial ≡ false → p.suppressed ≡ false
-    → is_mispredicted p s ≡ is_taken p.instr p.e (state_with_early_changes p s)
+    → is_mispredicted p s ≡ is_taken p.instr p.e (state_with_speculative_changes p s)
 unfolding is_mispredicted
 mispredicted-taken p s h free whole =
-    ap (λ b. not b && not p.suppressed && is_taken p.instr p.e (state_with_early_changes p (state_at_entry p.place.table s))) free
-    ∙ ap (λ b. not b && is_taken p.instr p.e (state_with_early_changes p (state_at_entry p.place.table s))) whole
-    ∙ ap (λ k. is_taken p.instr p.e (state_with_early_changes p (state_at_entry k s))) (h.ahead free).table
+    ap (λ b. not b && not p.suppressed && is_taken p.instr p.e (state_with_speculative_changes p (state_at_entry p.place.table s))) free
+    ∙ ap (λ b. not b && is_taken p.instr p.e (state_with_speculative_changes p (state_at_entry p.place.table s))) whole
+    ∙ ap (λ k. is_taken p.instr p.e (state_with_speculative_changes p (state_at_entry k s))) (h.ahead free).table
 
 pub mispredicted-branch : (p : Prepared) (s : Machine) (sense off : Bool) (address i second : ℕ) → IsPrepared p → IsMachine s
     → p.serial ≡ false → p.suppressed ≡ false → p.instr ≡ IndBranch sense off address i second
@@ -38,7 +38,7 @@ pub mispredicted-branch : (p : Prepared) (s : Machine) (sense off : Bool) (addre
 unfolding is_taken
 mispredicted-branch p s sense off address i second h m free whole is =
     mispredicted-taken p s h free whole
-    ∙ ap (λ (instr : Instr). is_taken instr p.e (state_with_early_changes p s)) is
+    ∙ ap (λ (instr : Instr). is_taken instr p.e (state_with_speculative_changes p s)) is
     ∙ ap (λ x. part x (p.e % 64) 1 == bit_of sense) (early-indicators p s m)
 
 -- a non-serializing entry other than BI is not a taken branch
@@ -52,7 +52,7 @@ not-taken _ e t free other = refl
 pub mispredicted-not : (p : Prepared) (s : Machine) → IsPrepared p → p.serial ≡ false → p.suppressed ≡ false
     → is_indicator_branch p.instr ≡ false → is_mispredicted p s ≡ false
 mispredicted-not p s h free whole other =
-    mispredicted-taken p s h free whole ∙ not-taken p.instr p.e (state_with_early_changes p s) ((h.ahead free).operation whole) other
+    mispredicted-taken p s h free whole ∙ not-taken p.instr p.e (state_with_speculative_changes p s) ((h.ahead free).operation whole) other
 
 pub no-branch : (instr : Instr)
     → ((sense off : Bool) (address i second : ℕ) → instr ≡ IndBranch sense off address i second → ⊥)

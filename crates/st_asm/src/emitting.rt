@@ -3,7 +3,7 @@
 ghost use Rattle.std.specs.Prelude.{◌≡◌, ◌<◌, ◌^◌, unsigned_abs, IsTrue, None};
 ghost use Rattle.st_format.specs.Formats.{IsShape, second_half};
 ghost use Rattle.st_asm.specs.Checks.{fits};
-ghost use Rattle.st_asm.specs.Laying as spec;
+ghost use Rattle.st_asm.specs.Emitting as spec;
 ghost use Rattle.st_asm.specs.Places.{placing_of, length_in};
 ghost use Rattle.st_strap.specs.WellFormed.{IsWellFormed, IsSpotOrNone};
 

@@ -3,13 +3,13 @@ use Rattle.std.specs.Prelude.{ℕ, zero, suc, List, Option, None}
 use Rattle.st_state.specs.Machine.{Machine}
 use Rattle.st_prep.specs.Fetch.{index_words}
 use Rattle.st_prep.specs.Plan.{plan, state_at_entry}
-use Rattle.st_exec.specs.Completion.{state_with_early_changes, prediction}
+use Rattle.st_exec.specs.Completion.{state_with_speculative_changes, prediction}
 
 -- the state after k predicted steps; the first step is the table instruction of an interrupt, if
 -- one was taken
-unfoldable pub guesses : ℕ → Option ℕ → Machine → Machine
-guesses zero table s = s
-guesses (suc k) table s = guesses k None (prediction table s)
+unfoldable pub predictions : ℕ → Option ℕ → Machine → Machine
+predictions zero table s = s
+predictions (suc k) table s = predictions k None (prediction table s)
 
 -- the interrupt of the entry after k others: only the first entry is a table instruction
 abbrev pub table_behind : ℕ → Option ℕ → Option ℕ
@@ -17,12 +17,12 @@ table_behind zero table = table
 table_behind (suc k) table = None
 
 -- the state with the early change of its next entry: an index word and indicators
-abbrev pub after_early_change : Option ℕ → Machine → Machine
-after_early_change table s = state_with_early_changes (plan s table) (state_at_entry table s)
+abbrev pub after_speculative_change : Option ℕ → Machine → Machine
+after_speculative_change table s = state_with_speculative_changes (plan s table) (state_at_entry table s)
 
 -- the index words of a state with k entries in flight: those after the early changes of all k
 -- entries
 unfoldable pub split_words : ℕ → Option ℕ → Machine → List ℕ
 split_words zero table s = index_words s
 split_words (suc k) table s =
-    index_words (after_early_change (table_behind k table) (guesses k table s))
+    index_words (after_speculative_change (table_behind k table) (predictions k table s))

@@ -8,9 +8,9 @@ use Rattle.st_asm.specs.Numbers.{holds, capacity, digits_of_form, magnitude, pac
 use Rattle.st_asm.proofs.FieldLemmas.{holds-below}
 use Rattle.st_dec.specs.DigitLists.{bytes, codes_value, decimal as digits}
 use Rattle.st_dec.specs.DecimalOperand.{field_value, digit_bytes}
-use Rattle.st_laws.specs.LaidNumbers.{IsHeld, IsRead, emitted_shape, field_of_number}
-use Rattle.st_laws.proofs.LaidDigits.{bytes-packed, value-packed}
-use Rattle.st_laws.proofs.LaidParts.{parts-read}
+use Rattle.st_laws.specs.EmittedNumbers.{IsHeld, IsRead, emitted_shape, field_of_number}
+use Rattle.st_laws.proofs.EmittedDigits.{bytes-packed, value-packed}
+use Rattle.st_laws.proofs.EmittedParts.{parts-read}
 
 -- an unsigned field has no minus
 first_part : (a b : Bool) → (not a && b) ≡ true → a ≡ false

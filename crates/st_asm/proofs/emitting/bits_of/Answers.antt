@@ -2,7 +2,7 @@ use Rattle.std.proofs.Common.{subst}
 use Rattle.std.specs.Bool.{IsTrue}
 use Rattle.st_asm.specs.Checks.{fits}
 use Rattle.st_asm.proofs.FieldLemmas.{holds-below}
-use Rattle.st_asm.proofs.laying.bits_of.Goals as goal
+use Rattle.st_asm.proofs.emitting.bits_of.Goals as goal
 
 pub field_of-requires-clause-few : goal.field_of-requires-clause-few
 unfolding fits

@@ -3,7 +3,7 @@ ghost use Rattle.std.specs.Prelude.{◌≡◌, ◌<◌, IfSome};
 ghost use Rattle.st_bits.specs.Indicators.{IsIndicatorIfAny};
 ghost use Rattle.st_prep.specs.Plan.{state_at_entry};
 ghost use Rattle.st_prep.specs.Ranges.{IsPrepared};
-ghost use Rattle.st_exec.specs.Completion.{with_change, state_with_early_changes as early_of};
+ghost use Rattle.st_exec.specs.Completion.{with_change, state_with_speculative_changes as early_of};
 
 use st_bits::register::FIRST_INDEX_WORD;
 use st_bits::{Ind, indicator};
@@ -36,7 +36,7 @@ fn change_index(index: Option<IndexChange>, state: &mut State)
 }
 
 /// Applies the speculative change of an entry.
-pub fn change_early(p: &Prepared, state: &mut State)
+pub fn change_speculatively(p: &Prepared, state: &mut State)
     requires { IsPrepared p.now }
     ensures { state.new ≡ early_of p.now state.old }
 {

@@ -6,7 +6,7 @@ use Rattle.st_asm.specs.Numbers.{sign_byte_of}
 use Rattle.st_field.proofs.FieldLemmas.{each_byte}
 use Rattle.st_field.specs.declared.fields.Shape.{Shape}
 use Rattle.st_field.specs.Fields.{field_of, last_byte, sign_of, flags_of, zone_of}
-use Rattle.st_laws.specs.LaidNumbers.{IsRead}
+use Rattle.st_laws.specs.EmittedNumbers.{IsRead}
 
 -- a minus fits in its byte
 minus-below : (b : ℕ) → 1 ≤ b → b ≤ 8 → sign_byte_of b true < 2 ^ b
