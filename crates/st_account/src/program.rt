@@ -264,12 +264,7 @@ fn run_job<K: Sink>(alloc: Global, asked: Asked, job: &[u8], out: &mut K) -> Sta
 }
 
 // Reads a job and writes what is requested of it, or returns why it does not.
-fn run_asked<S: Source, K: Sink>(
-    alloc: Global,
-    asked: Asked,
-    job: &mut S,
-    out: &mut K,
-) -> Status
+fn run_asked<S: Source, K: Sink>(alloc: Global, asked: Asked, job: &mut S, out: &mut K) -> Status
     requires levels { (1 ≤ asked.levels) × (asked.levels ≤ 8) }
     ensures { Did asked result
         (S.input job.old) (S.input job.new) (K.output out.old) (K.output out.new) }

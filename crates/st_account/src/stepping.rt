@@ -38,7 +38,13 @@ pub(crate) fn why_of(first: bool, taken: Option<u8>, mispredicted: bool) -> Why
     }
     match taken {
         Some(i) => Why::Interrupt(i),
-        None => { if mispredicted { Why::Mispredicted } else { Why::Card } }
+        None => {
+            if mispredicted {
+                Why::Mispredicted
+            } else {
+                Why::Card
+            }
+        }
     }
 }
 

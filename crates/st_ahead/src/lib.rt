@@ -2,6 +2,7 @@
 //! with the results of sequential execution. The rules are in `docs/timetable.md`.
 #![tactic(auto, using(st_bits::specs::Storage::words_of_storage_is))]
 
+mod committed;
 mod events;
 mod lookahead;
 mod lookahead_going;
@@ -10,7 +11,6 @@ mod lookahead_shown;
 mod lookahead_steps;
 mod lookahead_tick;
 mod machine;
-mod committed;
 mod row_queue;
 
 pub use events::{Event, LevelView, Row, Settled, View};

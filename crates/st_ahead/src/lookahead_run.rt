@@ -4,9 +4,9 @@ ghost use Rattle.st_exec.specs.Step.{interrupt as interrupt_of, rests};
 ghost use Rattle.st_rows.specs.declared.issue.IssueState.{IssueState as IssueStateOf};
 ghost use Rattle.st_ahead.specs.RunTo.{may_come_from_outside};
 
+use crate::committed::CommittedState;
 use crate::events::Row;
 use crate::lookahead::Lookahead;
-use crate::committed::CommittedState;
 use crate::row_queue::RowQueue;
 use st_banks::Delays;
 use st_exec::{interrupt, is_at_rest};

@@ -2,10 +2,10 @@
 ghost use Rattle.std.specs.Prelude.{◌≡◌, ◌<◌, ◌≤◌, ◌^◌, true, false, is_some, IsSome, IfSome, None, Some, option_map, get_or, length, ◌||◌};
 ghost use Rattle.st_bits.specs.Indicators.{IsIndicatorIfAny};
 
+use crate::committed::CommittedState;
 use crate::events::{Event, LevelView, Row, Settled, View};
 use crate::lookahead::Lookahead;
 use crate::lookahead_run::Limits;
-use crate::committed::CommittedState;
 use crate::row_queue::RowQueue;
 use st_banks::{Delays, LastAnswers};
 use st_exec::is_at_rest;
@@ -201,7 +201,8 @@ impl<const N: usize> Machine<N> {
             return;
         }
         let now = self.now;
-        self.lookahead.go_on(now, &self.committed.state, &self.delays);
+        self.lookahead
+            .go_on(now, &self.committed.state, &self.delays);
         self.owed = false;
         self.fresh = false;
         self.now += 1;

@@ -5,8 +5,8 @@
 mod alone;
 mod assembling;
 mod checks;
-mod forming;
 mod emitting;
+mod forming;
 mod line;
 mod naming;
 mod numbers;

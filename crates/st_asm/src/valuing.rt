@@ -12,8 +12,8 @@ ghost use Rattle.st_asm.specs.Kept.{IsSoundLayout};
 ghost use Rattle.st_strap.specs.WellFormed.{IsWellFormed, IsWellFormedIfAny};
 
 use crate::checks::value_fault;
-use crate::forming::is_end;
 use crate::emitting::{bits_of, half_word};
+use crate::forming::is_end;
 use crate::line::ReadCard;
 use crate::places::placing_of;
 use crate::stop::{AsmError, PassStop};

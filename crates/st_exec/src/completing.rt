@@ -7,9 +7,9 @@ ghost use Rattle.st_exec.specs.Operand.{AreOperands, AreFirstOperands, AreRead};
 ghost use Rattle.st_exec.specs.Completion.{is_taken as is_taken_of, target as target_of, counter as counter_of, state_counted_on, state_after_effect, state_after_completion, state_after_execution};
 
 use crate::carrying::carry_out;
-use crate::speculative::{change_speculatively, take};
 use crate::effects::effect_by;
 use crate::operands::{first_operands, operand_field};
+use crate::speculative::{change_speculatively, take};
 use st_bits::part;
 use st_bits::register::INDICATORS;
 use st_format::Instr;

@@ -3,13 +3,13 @@
 
 mod carrying;
 mod completing;
-mod speculative;
 mod effects;
 mod execution;
 mod fields;
 mod kept;
 mod mispredicted;
 mod operands;
+mod speculative;
 mod step;
 mod transfers;
 mod transmission;

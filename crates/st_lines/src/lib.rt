@@ -18,6 +18,6 @@ pub use origins::{Origin, Origins};
 pub use uses::FactLine;
 pub use waits::{RowTelling, add_waits, write_because, write_charged, write_wait_sums};
 pub use writing::{
-    Between, Border, Dropped, Printed, copy_changed, either, write_border, write_end, write_machine,
-    write_marks, write_totals,
+    Between, Border, Dropped, Printed, copy_changed, either, write_border, write_end,
+    write_machine, write_marks, write_totals,
 };

@@ -6,7 +6,8 @@ ghost use Rattle.st_lines.specs.Lines.{ledger_levels_line, numbers_text, delays_
 
 use st_rows::EntryTicks;
 use st_text::{
-    Line, open_line, close_line, push_decimal, push_flag, push_half_address, push_hex, push_short_decimal,
+    Line, close_line, open_line, push_decimal, push_flag, push_half_address, push_hex,
+    push_short_decimal,
 };
 
 /// Why a segment begins.

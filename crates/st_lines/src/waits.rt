@@ -15,7 +15,7 @@ use crate::uses::{FactLine, put_bank};
 use st_io::{Failed, Sink, write_line};
 use st_ledger::{Charge, RowLine, StagePart, fill_charge, later, parts, put_stage};
 use st_reasons::{
-    StallCause, Cause, Prefetched, Reason, Stall, Wait, WaitSum, WaitTotals, Waits, fill_waits,
+    Cause, Prefetched, Reason, Stall, StallCause, Wait, WaitSum, WaitTotals, Waits, fill_waits,
     wait_sums,
 };
 use st_report::LineFromEnd;
@@ -177,13 +177,7 @@ pub fn write_charged<K: Sink>(
 }
 
 // Adds the waits of the charge of a stage after tick `from` to the totals, if the stage ends later.
-fn add_part(
-    from: u64,
-    part: StagePart,
-    uses: &[Use],
-    before: &[Use],
-    waiting: &mut RowTelling,
-)
+fn add_part(from: u64, part: StagePart, uses: &[Use], before: &[Use], waiting: &mut RowTelling)
     requires { AreWaitsReady uses.now before.now from waiting.old.totals }
     ensures { AddsWaits uses.now before.now from (part_charges from part) waiting.old.totals
         waiting.new.totals }

@@ -107,8 +107,19 @@ put-formed ds f e d kept new same range is few =
     let b = told ds f.past (target_uses ds f e) in
     let i = told ds f.past (index_uses ds f e) in
     let counted : length (formed_told ds f e) ≤ 5 =
-    omega (arith, length-append (a ++ b) i, length-append a b, own, target, side, wishes-length Instruction (wanted_from f) e.own.first e.own.len,
-    wishes-length Instruction (max (wanted_from f) f.c) e.target.first e.target.len, one-side e.side, range.own_few, range.target_few) in
+    omega (
+      arith,
+      length-append (a ++ b) i,
+      length-append a b,
+      own,
+      target,
+      side,
+      wishes-length Instruction (wanted_from f) e.own.first e.own.len,
+      wishes-length Instruction (max (wanted_from f) f.c) e.target.first e.target.len,
+      one-side e.side,
+      range.own_few,
+      range.target_few,
+    ) in
     let all : new.items ≡ kept.items ++ formed_told ds f e =
     ap (λ (k : Items). k.items) (is ∙ ap (λ (x : Entry). uses_with (formed_told ds f x) kept) (sym same)) ∙ put-all (formed_told ds f e) kept (omega (arith, counted, few)) in
     (all, omega (arith, ap length all, length-append kept.items (formed_told ds f e), counted))

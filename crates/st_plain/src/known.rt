@@ -107,12 +107,7 @@ fn known_anew(table: Option<u8>, side: Option<u32>, x: &[u64; 16], state: &State
 /// The facts of the next entry of a state, which is planned and prepared. If it asks for following
 /// words, each of its words may be fetched, and it is EX if it has a target.
 #[inline(always)]
-pub(crate) fn known_of(
-    unit: &FetchUnit,
-    table: Option<u8>,
-    x: &[u64; 16],
-    state: &State,
-) -> Known
+pub(crate) fn known_of(unit: &FetchUnit, table: Option<u8>, x: &[u64; 16], state: &State) -> Known
     requires indicator { IsIndicatorIfAny table }
     requires words { x.now ≡ index_words_of state.now }
     requires plan { unit.now.prepared ≡ plan_of state.now table }

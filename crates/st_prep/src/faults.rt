@@ -8,7 +8,7 @@ ghost use Rattle.st_bits.specs.declared.register.TheConstants.{BOUNDS};
 ghost use Rattle.st_state.specs.Boundary.{indicator_of_access};
 ghost use Rattle.st_prep.specs.Checks.{effective_instr as effective_instr_of, forbidden_run as forbidden_run_of, forbidden_words as forbidden_words_of, forbidden_side as forbidden_side_of, forbidden_area as forbidden_area_of, area_access as area_access_of, operation_invalid, execute_exception, fault as fault_of};
 
-use crate::entries::{ResolvedEntry, Fetched, Words};
+use crate::entries::{Fetched, ResolvedEntry, Words};
 use crate::fetching::is_execute;
 use st_bits::indicators::{ADDRESS_INVALID, EXECUTE_EXCEPTION, OPERATION_INVALID};
 use st_bits::register::FIRST_STORAGE_WORD;
@@ -133,7 +133,8 @@ pub fn fault(resolved: &ResolvedEntry, state: &State) -> Option<u8>
     ensures value { result ≡ fault_of resolved.now (word state.now BOUNDS) state.now.enabled }
     ensures bound { IsIndicatorIfAny result }
 {
-    resolved.fault
+    resolved
+        .fault
         .or(operation_fault(&resolved.instr))
         .or(forbidden_side(state, resolved.side))
         .or(forbidden_words(state, Access::Read, resolved.reads))

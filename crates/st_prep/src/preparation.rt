@@ -12,12 +12,12 @@ ghost use Rattle.st_prep.specs.Reading.{is_execute as is_execute_of};
 ghost use Rattle.st_prep.specs.Ranges.{IsPlace, IsFetched, IsResolvedEntry, IsNeeds, IsChange, IsPrepared};
 
 use crate::addresses::effective_address;
-use crate::speculative::{change, side};
-use crate::entries::{ResolvedEntry, Fetched, IndexChange, Needs, Place, Prepared};
+use crate::entries::{Fetched, IndexChange, Needs, Place, Prepared, ResolvedEntry};
 use crate::faults::{effective_instr, fault};
 use crate::fetching::{fetch_all, index_words, is_execute, place_of};
-use crate::outcome::{is_serial_operation, after, cost, next, value};
+use crate::outcome::{after, cost, is_serial_operation, next, value};
 use crate::runs::{has_register, is_register, none, reads, writes};
+use crate::speculative::{change, side};
 use st_bits::register::INDICATORS;
 use st_bits::{HalfOp, Ind, indicator};
 use st_format::Format;

@@ -218,7 +218,13 @@ fn of_words(issue: &IssueState, own: u8, t: u64, words: &[Use], before: &[Use]) 
 }
 
 // The cause for which the address was not formed earlier; it is formed at the tick after `t`.
-fn of_address(issue: &IssueState, entry: &Entry, t: u64, words: &[Use], before: &[Use]) -> StallCause
+fn of_address(
+    issue: &IssueState,
+    entry: &Entry,
+    t: u64,
+    words: &[Use],
+    before: &[Use],
+) -> StallCause
     ensures { result ≡ reason_of_address issue.now entry.now t (reverse before.now)
         (reverse words.now) }
 {

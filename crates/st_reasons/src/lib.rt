@@ -7,6 +7,6 @@ mod sums;
 mod uses;
 mod waits;
 
-pub use because::{StallCause, Cause, Prefetched, Reason, find_reason};
+pub use because::{Cause, Prefetched, Reason, StallCause, find_reason};
 pub use sums::{Shares, WaitSum, WaitTotals, wait_sums};
 pub use waits::{Accepted, Stall, Wait, Waits, fill_waits};

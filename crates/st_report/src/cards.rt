@@ -7,7 +7,8 @@ ghost use Rattle.st_report.specs.Listing.{blanks, filling, right_in, left_in, em
 use crate::Line;
 use itoa::Buffer;
 use st_text::{
-    open_line, drop_end_blanks, close_line, filled_len, push_bit_address, push_hex, push_short_decimal,
+    close_line, drop_end_blanks, filled_len, open_line, push_bit_address, push_hex,
+    push_short_decimal,
 };
 use std::str;
 

@@ -5,7 +5,7 @@ ghost use Rattle.st_report.specs.Line.{fault_line, soak_line};
 
 use crate::Line;
 use arrayvec::ArrayString;
-use st_text::{open_line, close_line, push_decimal, push_short_decimal};
+use st_text::{close_line, open_line, push_decimal, push_short_decimal};
 
 /// `SOAK number cards`: the seed of a made deck, and the number of its drawn cards.
 pub fn line_soak(number: u64, cards: u32) -> Line

@@ -6,7 +6,7 @@ ghost use Rattle.st_report.specs.Line.{row_line, drop_line, snap_line, change_te
 
 use crate::{EntryLine, Line};
 use st_text::{
-    open_line, close_line, push_decimal, push_flag, push_half_address, push_hex, push_short_decimal,
+    close_line, open_line, push_decimal, push_flag, push_half_address, push_hex, push_short_decimal,
 };
 
 /// A row of the timetable: a completed instruction.

@@ -5,7 +5,7 @@ ghost use Rattle.st_report.specs.Line.{trc_line, prt_line, int_line, time_line, 
 
 use crate::{EntryLine, Line};
 use arrayvec::ArrayString;
-use st_text::{open_line, close_line, push_decimal, push_half_address, push_short_decimal};
+use st_text::{close_line, open_line, push_decimal, push_half_address, push_short_decimal};
 
 /// `TRC n a`: the n-th instruction completed. The address is a half-word address.
 pub fn line_trc(n: u64, address: u32) -> Line

@@ -5,7 +5,7 @@ ghost use Rattle.st_report.specs.Line.{ic_line, en_line, reg_line, dump_line, me
 
 use crate::Line;
 use crate::pieces::push_two_digits;
-use st_text::{open_line, close_line, push_flag, push_half_address, push_hex, push_short_decimal};
+use st_text::{close_line, open_line, push_flag, push_half_address, push_hex, push_short_decimal};
 
 /// `IC a`: the program counter, a half-word address, as word.bit.
 pub fn line_ic(ic: u32) -> Line

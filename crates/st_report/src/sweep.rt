@@ -4,7 +4,7 @@ ghost use Rattle.std.specs.Prelude.{◌≡◌};
 ghost use Rattle.st_report.specs.Line.{levels_line, calm_line};
 
 use crate::Line;
-use st_text::{open_line, close_line, push_decimal, push_flag, push_short_decimal};
+use st_text::{close_line, open_line, push_decimal, push_flag, push_short_decimal};
 
 /// `LEVELS n TICKS t`: the number of levels, and the tick of the last completion.
 pub fn line_levels(levels: u8, ticks: u64) -> Line

@@ -7,8 +7,8 @@ ghost use Rattle.st_exec.specs.Step.{rests};
 ghost use Rattle.st_run.specs.Run as run;
 ghost use Rattle.st_run.specs.ExternalEvents.{HasHappened, scene_at, joined_of};
 
-use crate::pending::PendingEvents;
 use crate::external_events::ExternalEvents;
+use crate::pending::PendingEvents;
 use crate::plain::is_due_at;
 use st_exec::is_at_rest;
 use st_state::{Device, done_in};
@@ -71,7 +71,11 @@ fn print_line<M: ExternalEvents>(machine: &mut M, pending: &PendingEvents) -> In
 }
 
 // The order of a device takes effect.
-fn serve<M: ExternalEvents>(machine: &mut M, pending: &mut PendingEvents, device: Device) -> Interlude
+fn serve<M: ExternalEvents>(
+    machine: &mut M,
+    pending: &mut PendingEvents,
+    device: Device,
+) -> Interlude
     requires order { IsSome (run.order_of device (M.state machine.old)) }
     requires turn { M.is_open machine.old }
     ensures { HasHappened M.state M.leaves
@@ -86,7 +90,11 @@ fn serve<M: ExternalEvents>(machine: &mut M, pending: &mut PendingEvents, device
 }
 
 // The order of a device takes effect, if it is due.
-fn serve_if_due<M: ExternalEvents>(machine: &mut M, pending: &mut PendingEvents, device: Device) -> Interlude
+fn serve_if_due<M: ExternalEvents>(
+    machine: &mut M,
+    pending: &mut PendingEvents,
+    device: Device,
+) -> Interlude
     requires { M.is_open machine.old }
     ensures { HasHappened M.state M.leaves
         (run.with_due_order device (scene_at (M.state machine.old) pending.old))

@@ -7,8 +7,8 @@ ghost use Rattle.st_ahead.specs.Calls.{MaySignal};
 ghost use Rattle.st_ahead.specs.Shown.{view_at_tick};
 ghost use Rattle.st_refine.specs.Reached.{IsCard};
 
-use crate::pending::PendingEvents;
 use crate::external_events::ExternalEvents;
+use crate::pending::PendingEvents;
 use st_ahead::{Machine, View};
 use st_card::Signal;
 use st_state::State;

@@ -4,24 +4,24 @@
 
 mod beginning;
 pub mod between;
-mod pending;
 mod driven;
-mod leaving;
 mod external_events;
+mod leaving;
+mod output_queue;
+mod pending;
 pub mod plain;
 mod progress;
 mod run;
 mod run_events;
+mod run_phase;
 mod seen;
 mod serving;
 mod teller;
 mod ticking;
-mod run_phase;
-mod output_queue;
 
 pub use beginning::{delays_asked, reader_of_job};
-pub use pending::PendingEvents;
 pub use external_events::ExternalEvents;
+pub use pending::PendingEvents;
 pub use run::{Run, RunControls};
 pub use run_events::{RunEvent, TimedRunEvent};
 pub use seen::StateView;

@@ -10,10 +10,10 @@ ghost use Rattle.st_run.specs.declared.run_phase.RunPhase.TheVariants as turns;
 
 use crate::driven::Driven;
 use crate::leaving::{leave, levels_ahead, pass_on};
-use crate::run_events::{RunEvent, TimedRunEvent};
-use crate::ticking::{run_many, run_until};
-use crate::run_phase::RunPhase;
 use crate::output_queue::OutputQueue;
+use crate::run_events::{RunEvent, TimedRunEvent};
+use crate::run_phase::RunPhase;
+use crate::ticking::{run_many, run_until};
 use arrayvec::{ArrayString, ArrayVec};
 use st_ahead::{Row, RowQueue};
 use st_card::Signal;

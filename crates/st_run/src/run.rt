@@ -11,14 +11,14 @@ ghost use Rattle.st_run.specs.ReportedEvents.{reported_events};
 ghost use Rattle.st_run.specs.TimedRun.{timed_run};
 ghost use Rattle.st_run.specs.Telling.{state_told, told_as, row_told, AreLeftOut, AreLevelsShown};
 
-use crate::pending::PendingEvents;
 use crate::driven::{Driven, due_signals, view_of};
+use crate::output_queue::OutputQueue;
+use crate::pending::PendingEvents;
 use crate::progress::Progress;
 use crate::run_events::TimedRunEvent;
+use crate::run_phase::RunPhase;
 use crate::seen::StateView;
 use crate::teller::{Teller, next_of, next_row_of, pass_over};
-use crate::run_phase::RunPhase;
-use crate::output_queue::OutputQueue;
 use arrayvec::ArrayString;
 use st_ahead::{Machine, Row, RowQueue, View};
 use st_banks::Delays;

@@ -6,9 +6,10 @@ ghost use Rattle.st_mnemonic.specs.Text.{fields_of};
 ghost use Rattle.st_strap.specs.Saying as spec;
 
 use crate::saying::{
-    parse_bare, parse_bit_branch, parse_branch, parse_connect, parse_data, parse_end, parse_execute,
-    parse_floating, parse_half, parse_ind_branch, parse_index_word, parse_move, parse_refill, parse_reserve,
-    parse_set_location, parse_store_counter, parse_sum, parse_synonym, parse_transfer, parse_vfl,
+    parse_bare, parse_bit_branch, parse_branch, parse_connect, parse_data, parse_end,
+    parse_execute, parse_floating, parse_half, parse_ind_branch, parse_index_word, parse_move,
+    parse_refill, parse_reserve, parse_set_location, parse_store_counter, parse_sum, parse_synonym,
+    parse_transfer, parse_vfl,
 };
 use crate::statement::{CompactStatement, Statement};
 use crate::terms::statement_terms;

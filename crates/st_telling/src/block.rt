@@ -51,7 +51,12 @@ fn write_memory<K: Sink>(out: &mut K, seen: &StateView<'_>, w: u32) -> Result<()
 }
 
 // Writes the lines of the nonzero words from `first` to `last`.
-fn write_words<K: Sink>(out: &mut K, seen: &StateView<'_>, first: u32, last: u32) -> Result<(), Failed>
+fn write_words<K: Sink>(
+    out: &mut K,
+    seen: &StateView<'_>,
+    first: u32,
+    last: u32,
+) -> Result<(), Failed>
     requires order { first ≤ last }
     requires within { last < WORDS }
     ensures { WritesLines (K.output out.old) (K.output out.new)
@@ -71,7 +76,12 @@ fn write_range<K: Sink>(out: &mut K, first: u32, last: u32) -> Result<(), Failed
 }
 
 // Writes a dump: its range, and the nonzero words from `first` to `last`.
-fn write_dump<K: Sink>(out: &mut K, seen: &StateView<'_>, first: u32, last: u32) -> Result<(), Failed>
+fn write_dump<K: Sink>(
+    out: &mut K,
+    seen: &StateView<'_>,
+    first: u32,
+    last: u32,
+) -> Result<(), Failed>
     requires order { first ≤ last }
     requires within { last < WORDS }
     ensures { WritesLines (K.output out.old) (K.output out.new)
@@ -82,7 +92,11 @@ fn write_dump<K: Sink>(out: &mut K, seen: &StateView<'_>, first: u32, last: u32)
 }
 
 // Writes dumps, in order.
-fn write_dumps<K: Sink>(out: &mut K, seen: &StateView<'_>, dumps: &[(u32, u32)]) -> Result<(), Failed>
+fn write_dumps<K: Sink>(
+    out: &mut K,
+    seen: &StateView<'_>,
+    dumps: &[(u32, u32)],
+) -> Result<(), Failed>
     requires { AllPass is_part dumps.now }
     ensures { WritesLines (K.output out.old) (K.output out.new)
         (dumps_lines seen.now dumps.now) result }

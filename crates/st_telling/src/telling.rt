@@ -25,7 +25,11 @@ use st_run::{Run, RunEvent, StateView, TimedRunEvent};
 use st_time::{fill_chart, level_line, snap_line};
 
 /// Writes the state block, with the requested dumps, line by line.
-pub fn write_state<K: Sink>(out: &mut K, seen: &StateView<'_>, controls: &Controls) -> Result<(), Failed>
+pub fn write_state<K: Sink>(
+    out: &mut K,
+    seen: &StateView<'_>,
+    controls: &Controls,
+) -> Result<(), Failed>
     requires { AllPass is_part controls.now.dumps }
     ensures { WritesLines (K.output out.old) (K.output out.new)
         (block controls.now.dumps seen.now) result }

@@ -13,7 +13,7 @@ mod words;
 pub use blanks::{filled_len, without_end_blanks, without_front_blanks};
 pub use bytes::is_printable_byte;
 pub use lines::{
-    Line, open_line, drop_end_blanks, close_line, push_bit_address, push_decimal, push_flag,
+    Line, close_line, drop_end_blanks, open_line, push_bit_address, push_decimal, push_flag,
     push_half_address, push_hex, push_short_decimal,
 };
 pub use numbers::{Reading, number_up_to, read_number};
