@@ -87,10 +87,7 @@ class App {
     this.live = new Live(new Runner(this.programs), new Runner(this.programs), this.names);
     this.stepper = new Stepper(this.names, {
       levels: (levels, next) => { if (this.view === 'step') this.editor.setLevels(levels, next); },
-      card: (card) => {
-        this.editor.card = card;
-        this.editor.later();
-      },
+      card: (card) => this.editor.choose(card),
       addressOf: (name) => this.views.symbols?.get(name), wordOf: (name) => registerOf(name)
         ?? this.views.wordOf(name), nameOf: (word) => this.views.nameOf(word),
     });
