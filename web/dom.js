@@ -46,6 +46,13 @@ export function put(box, children) {
   while (box.childNodes.length > made.length) box.lastChild.remove();
 }
 
+// Makes a box have these nodes in this order. One that stands there already is not touched.
+export function place(box, nodes) {
+  const wanted = new Set(nodes);
+  for (const old of [...box.childNodes]) if (!wanted.has(old)) old.remove();
+  nodes.forEach((node, k) => { if (box.childNodes[k] !== node) box.insertBefore(node, box.childNodes[k] ?? null); });
+}
+
 // A table with a caption and heads, which is scrolled where it is wider than its room.
 export function wideTable(kind, caption, names, rows) {
   const head = h('thead', {}, h('tr', {}, names.map((name) => h('th', { scope: 'col' }, name))));

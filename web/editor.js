@@ -3,16 +3,15 @@
 // the same text in colours, of which only the lines that are seen are drawn, and beside it a gutter. A deck of very
 // many cards is put into an
 // element that the browser edits in blocks (longtext.js).
-import { h } from './dom.js';
+import { h, place } from './dom.js';
+import { Line } from './line.js';
 import { LongText, editsPlainText } from './longtext.js';
-import { piecesOf } from './columns.js';
 import { STATEMENT, READ, endOf, sameEnds } from './decks.js';
 
 const LINE = 20;            // pixels, as in the style sheet
 const TAB = 8;
 const SHOWN = 400;          // characters of a line that are drawn
 const BEYOND = 3;           // lines that are drawn above and below what is seen
-const HEAT = 38;            // pixels of the longest bar
 const MANY = 3000;          // from so many lines on a text that is put in stands in blocks
 
 // Puts text in the place of what is marked, so that the browser's undo knows of it.
@@ -32,7 +31,8 @@ export class Editor {
   constructor(box, on) {
     Object.assign(this, { box, on, lines: [''], end: 1, wrong: null, card: null, marks: new Map(), heat: new Map(),
       hottest: 1, capitals: true, leaves: false });
-    Object.assign(this, { height: 400, letter: 8, at: 0, column: 0, asked: false, heard: new Set() });
+    Object.assign(this, { height: 400, letter: 8, at: 0, column: 0, asked: null, heard: new Set(), drawn: [],
+      ruled: '' });
     this.attributes = {
       id: 'deck', class: 'area', spellcheck: 'false', autocapitalize: 'off', autocomplete: 'off', autocorrect: 'off',
       wrap: 'off',
@@ -45,6 +45,7 @@ export class Editor {
     this.colours = h('div', { class: 'colours', 'aria-hidden': 'true' });
     this.gutter = h('div', { class: 'gutter', 'aria-hidden': 'true' });
     this.ruler = h('div', { class: 'ruler', 'aria-hidden': 'true' });
+    this.grounds = ['names', 'edge', 'past'].map((kind) => h('div', { class: kind }));
     this.probe = h('span', { class: 'probe', 'aria-hidden': 'true' }, '0'.repeat(100));
     box.replaceChildren(this.ruler, this.gutter, h('div', { class: 'paper' }, this.colours, this.area), this.probe);
     this.listen();
@@ -238,14 +239,20 @@ export class Editor {
     const put = (card, mark) => { if (card) this.marks.set(card, [...(this.marks.get(card) ?? []), mark]); };
     levels.forEach((entry, k) => put(entry.card, String(k + 1)));
     if (next) put(next.card, '▸');
-    this.later();
+    this.later('mark');
   }
 
   // How many ticks each card took.
   setHeat(heat) {
     this.heat = heat;
     this.hottest = Math.max(1, ...heat.values());
-    this.later();
+    this.later('mark');
+  }
+
+  // A card is chosen, or none.
+  choose(card) {
+    this.card = card;
+    this.later('mark');
   }
 
   measure() {
@@ -254,12 +261,15 @@ export class Editor {
     this.draw();
   }
 
-  later() {
-    if (this.asked) return;
-    this.asked = true;
+  // Draws with the next frame, or where the lines stay as they are marks them alone.
+  later(what = 'draw') {
+    const isAsked = this.asked !== null;
+    if (this.asked !== 'draw') this.asked = what;
+    if (isAsked) return;
     requestAnimationFrame(() => {
-      this.asked = false;
-      this.draw();
+      const asked = this.asked;
+      this.asked = null;
+      this[asked]();
     });
   }
 
@@ -267,22 +277,27 @@ export class Editor {
     const { scrollTop, scrollLeft } = this.area;
     const from = Math.max(0, Math.floor(scrollTop / LINE) - BEYOND);
     const to = Math.min(this.lines.length, Math.ceil((scrollTop + this.height) / LINE) + BEYOND);
-    const x = (column) => (column - 1) * this.letter - scrollLeft;
-    const texts = [];
-    const numbers = [];
+    const before = new Map(this.drawn.map((line) => [line.card, line]));
+    this.drawn = [];
     for (let k = from; k < to; k += 1) {
-      const kind = this.kindOf(k + 1);
-      const style = `transform:translateY(${k * LINE - scrollTop}px)`;
-      texts.push(h('div', { class: kind, style }, h('span', { class: 'text', style: `margin-left:${-scrollLeft}px` },
-        this.piecesOf(k))));
-      numbers.push(h('div', { class: kind, style }, this.numberOf(k + 1)));
+      const text = this.lines[k].slice(0, SHOWN);
+      const known = [k + 1, text, k > this.end && text[0] !== '/'];
+      const old = before.get(k + 1);
+      const line = old?.isOf(...known) ? old : new Line(...known);
+      line.stand(k * LINE - scrollTop, scrollLeft);
+      this.drawn.push(line);
     }
-    this.colours.replaceChildren(
-      h('div', { class: 'names', style: `left:${x(2)}px;width:${STATEMENT * this.letter - this.letter}px` }),
-      h('div', { class: 'edge', style: `left:${x(STATEMENT + 1)}px` }),
-      h('div', { class: 'past', style: `left:${x(READ + 1)}px` }), ...texts);
-    this.gutter.replaceChildren(...numbers);
-    this.ruler.replaceChildren(h('div', { class: 'scale' }, this.columnsOf(x)));
+    this.mark();
+    place(this.colours, [...this.grounds, ...this.drawn.map((line) => line.colours)]);
+    place(this.gutter, this.drawn.map((line) => line.beside));
+    this.rule((column) => (column - 1) * this.letter - scrollLeft);
+  }
+
+  // Marks the lines that are drawn; no place is asked for, so a step that needs no more lays out nothing here.
+  mark() {
+    const { hottest } = this;
+    for (const line of this.drawn) line.show({ kind: this.kindOf(line.card), hottest,
+      marks: (this.marks.get(line.card) ?? []).join(''), ticks: this.heat.get(line.card) });
   }
 
   kindOf(card) {
@@ -291,22 +306,16 @@ export class Editor {
     return ['line', ...Object.keys(kinds).filter((kind) => kinds[kind])].join(' ');
   }
 
-  piecesOf(k) {
-    const text = this.lines[k].slice(0, SHOWN);
-    if (k > this.end && text[0] !== '/') return h('span', { class: 'p-comment' }, text);         // a card of the reader
-    return piecesOf(text).map(([kind, piece]) => h('span', { class: `p-${kind}` }, piece));
-  }
-
-  numberOf(card) {
-    const ticks = this.heat.get(card);
-    const heat = h('span', { class: 'heat' });
-    if (ticks !== undefined) {
-      heat.title = `${ticks} ticks`;
-      heat.append(h('i', { style: `width:${Math.max(2, (HEAT * ticks) / this.hottest)}px` }),
-        h('b', {}, ticks > 9999 ? `${Math.round(ticks / 1000)}k` : String(ticks)));
-    }
-    return [h('span', { class: 'marks' }, (this.marks.get(card) ?? []).join('')),
-      h('span', { class: 'number' }, String(card)), heat];
+  // The ruler and the grounds of the columns, where they are not as they stand.
+  rule(x) {
+    const ruled = `${x(1)} ${this.letter} ${this.column}`;
+    if (ruled === this.ruled) return;
+    this.ruled = ruled;
+    const [names, edge, past] = this.grounds;
+    names.style.cssText = `left:${x(2)}px;width:${STATEMENT * this.letter - this.letter}px`;
+    edge.style.left = `${x(STATEMENT + 1)}px`;
+    past.style.left = `${x(READ + 1)}px`;
+    this.ruler.replaceChildren(h('div', { class: 'scale' }, this.columnsOf(x)));
   }
 
   columnsOf(x) {

@@ -6,7 +6,7 @@ import { addressWith } from './links.js';
 
 export class Lessons {
   // `book` has pages {id, title, lesson, html, decks}, exercises and pictures. `on` is asked: `open(deck, title,
-  // view)`, `close()`,
+  // view)`, `close()`, `print()` of the page that is open,
   // `run(deck)` for a report, `text()` for the deck in the editor.
   constructor(box, { pages, exercises, pictures }, on) {
     Object.assign(this, { exercises, pictures, on, at: null, urls: new Map(), left: new Map(),
@@ -19,7 +19,8 @@ export class Lessons {
     this.content = h('article', { class: 'prose', tabindex: '0', 'aria-label': 'the page' });
     const close = h('button', { class: 'quiet', 'aria-label': 'close the lessons', title: 'close',
       onclick: () => on.close() }, '✕');
-    box.replaceChildren(h('div', { class: 'lesson-head' }, this.choice, close), this.content);
+    const paper = h('button', { id: 'print-lesson', title: 'print this page alone', onclick: () => on.print() }, 'Print');
+    box.replaceChildren(h('div', { class: 'lesson-head' }, this.choice, paper, close), this.content);
     this.content.addEventListener('click', (event) => this.click(event));
   }
 

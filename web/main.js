@@ -87,10 +87,7 @@ class App {
     this.live = new Live(new Runner(this.programs), new Runner(this.programs), this.names);
     this.stepper = new Stepper(this.names, {
       levels: (levels, next) => { if (this.view === 'step') this.editor.setLevels(levels, next); },
-      card: (card) => {
-        this.editor.card = card;
-        this.editor.later();
-      },
+      card: (card) => this.editor.choose(card),
       addressOf: (name) => this.views.symbols?.get(name), wordOf: (name) => registerOf(name)
         ?? this.views.wordOf(name), nameOf: (word) => this.views.nameOf(word),
     });
@@ -111,7 +108,8 @@ class App {
         if (levels) this.setLevels(levels);
         this.open(deck, title, { view });
       },
-      close: () => this.lesson(null), text: () => this.editor.text, shown: (id) => store.set(KEYS.lesson, id),
+      close: () => this.lesson(null), print: () => this.printLesson(), text: () => this.editor.text,
+      shown: (id) => store.set(KEYS.lesson, id),
       run: (text, program, words) => this.live.reportOf(text, this.exam, program, words),
     });
     this.build();
@@ -151,6 +149,7 @@ class App {
     addEventListener('popstate', ({ state }) => this.back(state));
     addEventListener('pagehide', () => this.leave());
     addEventListener('beforeprint', () => this.paper());
+    addEventListener('afterprint', () => document.body.classList.remove('prints-lesson'));
   }
 
   escape() {
@@ -634,7 +633,15 @@ class App {
       + 'Change a card, and it runs; or begin with ', first));
   }
 
+  // Prints the page of the lessons that is open; print.css then leaves out all else.
+  printLesson() {
+    document.body.classList.add('prints-lesson');
+    print();
+  }
+
+  // What is printed of the run.
   paper() {
+    if (document.body.classList.contains('prints-lesson')) return;
     const made = this.live.isCurrent ? this.live.made : null;
     const runs = made ? this.stepper.runs : [];
     fillPaper(byId('paper'), { title: titleOf(linesOf(this.editor.text)), runs, stepper: this.stepper,

@@ -1,6 +1,7 @@
 // The timetable: a line a row, with the entry's life in its level above and its charges below. Only what is seen is
-// drawn.
-import { h, s } from './dom.js';
+// drawn, and what was drawn stays where nothing of it is another: a step without scrolling moves the cursor and marks
+// alone.
+import { h, place, put, s } from './dom.js';
 import { countWhile } from './read.js';
 import { REASONS, causeName, plural } from './words.js';
 
@@ -38,7 +39,8 @@ export class Timetable {
   constructor(run, app, last) {
     Object.assign(this, { run, app, first: run.first, last });
     this.lines = linesOf(run);
-    this.svg = s('svg', { class: 'rows', 'aria-hidden': 'true' });
+    this.build();
+    this.svg = s('svg', { class: 'rows', 'aria-hidden': 'true' }, this.parts, this.cursor);
     this.size = h('div', { class: 'size' });
     // What the drawing shows, in words: the rows in view.
     this.heard = h('ul', { class: 'heard', 'aria-label': 'rows in view' });
@@ -48,6 +50,17 @@ export class Timetable {
       h('div', { class: 'stick' }, this.svg, this.heard), this.size);
     Object.assign(this, { asked: false, told: '', telling: null });
     this.listen();
+  }
+
+  // The parts of the drawing, each above those before it.
+  build() {
+    const part = (kind) => s('g', { class: kind });
+    const ground = (more) => s('rect', { class: 'ground', x: 0, y: 0, ...more });
+    const [grid, bars, below, marks, labels, above, axis] = [part('grid'), part(), ground(), part(), part('labels'),
+      ground({ height: AXIS }), part('axis')];
+    this.parts = [grid, bars, below, marks, labels, above, axis];
+    Object.assign(this, { grid, bars, below, marks, labels, above, axis, drawn: new Map(), sized: '', placed: '' });
+    this.cursor = s('path', { class: 'cursor' });
   }
 
   listen() {
@@ -149,11 +162,9 @@ export class Timetable {
     const from = Math.floor(scrollTop / LINE);
     const to = Math.min(this.lines.length, Math.ceil((scrollTop + height - AXIS) / LINE));
     const cursor = this.x(this.app.tickOf(this.run));
-    const mark = cursor >= this.app.left - 1 ? s('path', { class: 'cursor',
-      d: `M${cursor - 1} ${AXIS - 4}h2V${height}h-2z M${cursor - 5} ${AXIS - 9}h10l-5 6z` }) : null;
-    for (const [name, value] of [['width', width], ['height', height],
-      ['viewBox', `0 0 ${width} ${height}`]]) this.svg.setAttribute(name, value);
-    this.svg.replaceChildren(...[...this.drawn(from, to), mark].filter(Boolean));
+    this.cursor.setAttribute('d', cursor >= this.app.left - 1
+      ? `M${cursor - 1} ${AXIS - 4}h2V${height}h-2z M${cursor - 5} ${AXIS - 9}h10l-5 6z` : '');
+    this.fill(from, to);
     this.tell(from, to);
   }
 
@@ -167,25 +178,61 @@ export class Timetable {
       .map((line) => h('li', {}, spoken(this.run, line)))), TELL);
   }
 
-  // The lines from one up to another as they stand in a box of this size, with grid and axis.
-  drawn(from, to) {
-    const { width, height, scrollTop } = this;
-    const bars = [];
-    const labels = [];
-    for (let n = from; n < to; n += 1) {
-      const y = AXIS + n * LINE - scrollTop;
-      const line = this.lines[n];
-      if (line.entry) this.entry(line.entry, y, bars, labels);
-      else this.interrupt(line.interrupt, y, bars, labels);
+  // Draws the lines from one up to another as they stand in a box of this size, with grid and axis.
+  fill(from, to) {
+    const { width, height, scrollLeft, scale } = this;
+    const { left } = this.app;
+    const sized = `${width} ${height} ${left}`;
+    const placed = `${sized} ${scrollLeft} ${scale}`;
+    if (sized !== this.sized) this.resize();
+    if (placed !== this.placed) {
+      this.grid.replaceChildren(...this.gridLines());
+      this.axis.replaceChildren(...this.axisTexts());
     }
-    return [
-      s('g', { class: 'grid' }, this.grid(height)),
-      s('g', {}, bars),
-      s('rect', { class: 'ground', x: 0, y: 0, width: this.app.left, height }),
-      s('g', { class: 'labels' }, labels),
-      s('rect', { class: 'ground', x: 0, y: 0, width, height: AXIS }),
-      s('g', { class: 'axis' }, this.axis()),
-    ];
+    Object.assign(this, { sized, placed });
+    const numbers = Array.from({ length: Math.max(0, to - from) }, (_, k) => from + k);
+    this.drawn = new Map(numbers.map((n) => [n, this.line(n)]));
+    const all = [...this.drawn.values()];
+    place(this.bars, all.map((one) => one.bars));
+    place(this.labels, all.map((one) => one.label));
+    put(this.marks, numbers.map((n) => this.markOf(n)));
+  }
+
+  // The box has another size, or the labels have.
+  resize() {
+    const { width, height } = this;
+    for (const [name, value] of [['width', width], ['height', height],
+      ['viewBox', `0 0 ${width} ${height}`]]) this.svg.setAttribute(name, value);
+    this.below.setAttribute('width', this.app.left);
+    this.below.setAttribute('height', height);
+    this.above.setAttribute('width', width);
+    this.drawn = new Map();
+  }
+
+  // The drawing of a line, of which what was drawn for the same place on the axis stays.
+  line(n) {
+    const line = this.lines[n];
+    const one = this.drawn.get(n) ?? { bars: s('g'), label: s('g', {}, this.label(line)) };
+    if (one.placed !== this.placed) one.bars.replaceChildren(...this.barsOf(line).filter(Boolean));
+    one.placed = this.placed;
+    const y = this.y(n);
+    if (one.y === y) return one;
+    one.y = y;
+    for (const part of [one.bars, one.label]) part.setAttribute('transform', `translate(0 ${y})`);
+    return one;
+  }
+
+  y(n) {
+    return AXIS + n * LINE - this.scrollTop;
+  }
+
+  // What marks a line: it is at a level, or its card is chosen.
+  markOf(n) {
+    const { entry } = this.lines[n];
+    const isHere = entry && this.app.isLevel(this.run, entry);
+    if (!isHere && (!entry || this.app.card === null || entry.card !== this.app.card)) return null;
+    return s('rect', { class: isHere ? 'here' : 'marked', x: 0, y: this.y(n), width: this.app.left - 4,
+      height: LINE });
   }
 
   // The step between two numbers of the axis.
@@ -201,13 +248,14 @@ export class Timetable {
     for (let t = first; t <= this.last && this.x(t) < this.width; t += step) yield t;
   }
 
-  grid(height) {
+  gridLines() {
+    const { height } = this;
     const lines = [...this.shown()].map((t) => s('path', { d: `M${this.x(t)} ${AXIS}V${height}` }));
     const snaps = this.app.snaps.filter((t) => this.x(t) >= this.app.left && this.x(t) < this.width);
     return [...lines, ...snaps.map((t) => s('path', { class: 'snap', d: `M${this.x(t)} ${AXIS}V${height}` }))];
   }
 
-  axis() {
+  axisTexts() {
     return [...this.shown()].map((t) => s('text', { x: this.x(t), y: 16, 'text-anchor': 'middle' }, String(t)));
   }
 
@@ -218,41 +266,35 @@ export class Timetable {
     return right > left ? s('rect', { x: left, y, width: right - left, height, class: kind, ...more }) : null;
   }
 
-  entry(entry, y, bars, labels) {
+  // The bars of a line, from its upper edge on.
+  barsOf({ entry, interrupt }) {
+    if (!entry) return [s('path', { class: 'event line',
+      d: `M${this.app.left} 10H${this.x(interrupt.tick)}m-5 -4l5 4l-5 4` })];
     const before = this.run.before(entry);
     const start = this.run.segments[entry.place].start;
     const earlier = before && before.place === entry.place ? before.p : start;
-    bars.push(this.piece(earlier, entry.p, y + 9, 1.5, 'ready'));
-    if (entry.dropped) bars.push(this.piece(entry.p, entry.end, y + 4, BAR, 'drop'));
-    else {
-      const begins = entry.c - entry.cost;
-      bars.push(this.piece(entry.p, entry.r, y + 3, BAR, 'f-operand_storage'));
-      bars.push(this.piece(entry.r, begins, y + 3.5, BAR - 1, 'turn'));
-      bars.push(this.piece(begins, entry.c, y + 3, BAR, 'f-executing'));
-      for (const charge of entry.charges) {
-        bars.push(this.piece(charge.from, charge.to, y + 16, 4, `f-${charge.cause}`, { 'data-cause': charge.cause }));
-      }
-      if (entry.missed && this.x(entry.c) >= this.app.left) bars.push(
-        s('text', { class: 'event', x: this.x(entry.c) + 6, y: y + 14 }, 'guessed wrongly'));
-    }
-    const { left } = this.app;
-    const here = this.app.isLevel(this.run, entry);
-    const marked = this.app.card !== null && entry.card === this.app.card;
-    if (here || marked) labels.push(s('rect', { class: here ? 'here' : 'marked', x: 0, y, width: left - 4,
-      height: LINE }));
-    const x = 96;
-    const text = (entry.text || '').replace(/\s+/g, ' ').slice(0, Math.floor((left - x - 12) / LETTER));
-    labels.push(s('text', { x: 40, y: y + 15, 'text-anchor': 'end' }, entry.dropped ? 'drop' : String(entry.row)),
-      s('text', { x, y: y + 15, 'text-anchor': 'end' }, entry.address),
-      s('text', { x: x + 8, y: y + 15 }, text));
+    const ready = this.piece(earlier, entry.p, 9, 1.5, 'ready');
+    if (entry.dropped) return [ready, this.piece(entry.p, entry.end, 4, BAR, 'drop')];
+    const begins = entry.c - entry.cost;
+    return [ready, this.piece(entry.p, entry.r, 3, BAR, 'f-operand_storage'),
+      this.piece(entry.r, begins, 3.5, BAR - 1, 'turn'), this.piece(begins, entry.c, 3, BAR, 'f-executing'),
+      ...entry.charges.map(({ from, to, cause }) => this.piece(from, to, 16, 4, `f-${cause}`, { 'data-cause': cause })),
+      entry.missed && this.x(entry.c) >= this.app.left
+        ? s('text', { class: 'event', x: this.x(entry.c) + 6, y: 14 }, 'guessed wrongly') : null];
   }
 
-  interrupt(interrupt, y, bars, labels) {
-    const x = this.x(interrupt.tick);
-    bars.push(s('path', { class: 'event line', d: `M${this.app.left} ${y + 10}H${x}m-5 -4l5 4l-5 4` }));
-    const name = interrupt.name ? ` (${interrupt.name})` : '';
-    labels.push(s('text', { class: 'event', x: 8, y: y + 15 },
-      `interrupt ${interrupt.indicator}${this.app.left > 250 ? `${name} at ${interrupt.tick}` : name}`));
+  // What stands at the left of a line, from its upper edge on.
+  label({ entry, interrupt }) {
+    const { left } = this.app;
+    if (!entry) {
+      const name = interrupt.name ? ` (${interrupt.name})` : '';
+      return s('text', { class: 'event', x: 8, y: 15 },
+        `interrupt ${interrupt.indicator}${left > 250 ? `${name} at ${interrupt.tick}` : name}`);
+    }
+    const x = 96;
+    const text = (entry.text || '').replace(/\s+/g, ' ').slice(0, Math.floor((left - x - 12) / LETTER));
+    return [s('text', { x: 40, y: 15, 'text-anchor': 'end' }, entry.dropped ? 'drop' : String(entry.row)),
+      s('text', { x, y: 15, 'text-anchor': 'end' }, entry.address), s('text', { x: x + 8, y: 15 }, text)];
   }
 }
 
@@ -282,8 +324,9 @@ export function sheets(run, app, tick) {
     const table = new Timetable(run, { ...PLAIN, snaps: app.snaps, left: SHEET.left }, last);
     Object.assign(table, { first, scale, width: SHEET.width, height: AXIS + shown.length * LINE + 4, scrollLeft: 0,
       scrollTop: k * LINE });
+    table.fill(k, k + shown.length);
     pictures.push(s('svg', { class: 'rows', viewBox: `0 0 ${table.width} ${table.height}`, role: 'img',
-      'aria-label': 'timetable' }, table.drawn(k, k + shown.length)));
+      'aria-label': 'timetable' }, table.parts));
   }
   return pictures;
 }
