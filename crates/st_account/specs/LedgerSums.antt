@@ -1,5 +1,5 @@
--- The totals of a run: the ledger without the lines of rows and of what comes between them. The
--- machine has the delays ds and n levels.
+-- The totals of a run: of its ledger the lines of the machine, of the end of the run, and of the
+-- sums. The machine has the delays ds and n levels.
 use Rattle.std.specs.Prelude.{ℕ, zero, suc, if◌then◌else◌, List, [], ◌∷◌}
 use Rattle.st_exec.specs.Step.{rests}
 use Rattle.st_report.specs.Line.{end_line, done_line, ticks_line}

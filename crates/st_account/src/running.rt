@@ -160,9 +160,9 @@ fn add_run<K: Sink>(
 }
 
 /// Writes the totals of a run, which ends or uses up the requested budget, at most 10,000,000
-/// instructions: its ledger without the lines of rows and of what comes between them. The delays
-/// must be the requested ones. Each line is written with a call of its own. `docs/ledger.md` has
-/// the rules.
+/// instructions: of its ledger the lines of the machine, of the end of the run, and of the sums.
+/// The delays must be the requested ones. Each line is written with a call of its own.
+/// `docs/ledger.md` has the rules.
 pub fn write_ledger_sums<K: Sink>(
     out: &mut K,
     ready: Ready,

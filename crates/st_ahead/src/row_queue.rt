@@ -1,4 +1,5 @@
-//! A queue of the rows of completed entries.
+//! A queue of rows: the executed instructions, with their ticks, that a run has passed over and
+//! nobody has taken yet.
 ghost use Rattle.std.specs.Prelude.{◌≡◌, ◌==◌, [], ◌∷◌, length, MatchOption};
 ghost use Rattle.st_ahead.specs.RowsDone.{queue_with};
 
@@ -8,10 +9,11 @@ use std::marker::Model;
 // The capacity of the queue.
 const ROOM: usize = 64;
 
-/// A queue of rows, in order of completion, with room for more; at most 64 in all.
+/// A queue of rows, in order of completion, with room for more: at most 64 between two calls of
+/// `open`. A row that is taken gives no room back.
 #[derive(Debug, Drop)]
 pub struct RowQueue {
-    // The rows are at `first` up to `end`, and there is room up to `limit`.
+    // `rows[first..end]` are the rows, and `rows[end..limit]` is the room.
     rows: [Row; ROOM],
     first: usize,
     end: usize,
@@ -72,7 +74,7 @@ impl RowQueue {
         self.first == self.end
     }
 
-    /// Appends a row, if there is room.
+    /// Appends a row, if there is room; otherwise the row is dropped.
     #[inline(always)]
     pub fn put(&mut self, row: Row)
         ensures { self.new ≡ queue_with (row ∷ []) self.old }

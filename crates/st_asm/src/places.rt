@@ -18,17 +18,17 @@ const WORD: u32 = 64;
 pub(crate) enum Placing {
     // The statement assembles to `bits` bits, from the next multiple of `unit` on.
     Emits { unit: u32, bits: u32 },
-    // The statement skips the number of bits in its field, from the next word on.
+    // `DR`: the statement goes to the next word, and skips as many bits as its field says.
     Passes,
-    // The location counter is set to the field's value.
+    // `SLC`: the location counter is set to the field's value.
     Sets,
-    // The card's name is defined as the field's value.
+    // `SYN`: the card's name is defined as the field's value.
     Names,
     // The statement is END.
     Ends,
 }
 
-// The effect of a statement on the location counter.
+// Classifies a statement by its effect; a unit and a number of bits are at most 64.
 pub(crate) fn placing_of(statement: &CompactStatement) -> Placing
     requires { IsWellFormed statement.now }
     ensures placing { result ≡ spec.placing_of statement.now }
@@ -81,7 +81,8 @@ impl Placing {
         }
     }
 
-    // The location of the statement, given the location counter, if it has one.
+    // The location of the statement, given the location counter and the value of its field; `None`
+    // for END, which has no location.
     pub(crate) fn place(self, location: u32, value: i64) -> Option<u32>
         requires placing { IsPlacing self }
         requires location { location < 2 ^ 24 }
@@ -96,7 +97,7 @@ impl Placing {
         }
     }
 
-    // The location counter after the statement.
+    // The location counter after the statement; `value` is the value of its field.
     pub(crate) fn behind(self, location: u32, value: i64) -> u32
         requires placing { IsPlacing self }
         requires location { location < 2 ^ 24 }

@@ -1,9 +1,10 @@
-//! The operations by name. The number of a variant is the operation's number in the instruction.
+//! The operations by name. The number of a variant is the operation's number in the instruction, as
+//! the table in `st_format` has it.
 
 /// An operation of the half-word format outside the branch group.
 ///
-/// The index word is the one in the instruction's J field. The effective address is the sum of its
-/// address and the value of the index word in its I field.
+/// The index word is the one in the instruction's J field. The effective address is the sum of the
+/// instruction's address and the value of the index word in its I field.
 #[derive(Clone, Copy, Debug, PartialEq, Eq)]
 pub enum HalfOp {
     /// Load index: the index word is replaced by a word of storage.
@@ -89,7 +90,8 @@ pub enum VflOp {
     L = 1,
     /// Load with flag: as `L`, and also loads the zone and the flags of the field's sign byte.
     Lwf = 2,
-    /// Load transit and set: the field is loaded into the transit register.
+    /// Load transit and set: the field is loaded into the transit register, and its indicator is
+    /// turned on.
     Ltrs = 3,
     /// Load factor: the field is loaded into the factor register.
     Lft = 4,
@@ -97,7 +99,8 @@ pub enum VflOp {
     St = 5,
     /// Add the field to the accumulator.
     Add = 7,
-    /// Add to magnitude: as `Add`, but the sign of the accumulator does not change.
+    /// Add to magnitude: the field, with its sign, is added to the magnitude of the accumulator,
+    /// which keeps its sign. A sum below 0 counts as 0.
     AddMg = 8,
     /// Add to memory: the accumulator is added to the field.
     MAdd = 9,
@@ -120,11 +123,12 @@ pub enum VflOp {
     /// Compare field for range: as `Kr`, with as many bits or digits as the field's magnitude has.
     /// Has an effect only if AL is off.
     Kfr = 17,
-    /// Multiply.
+    /// Multiply. In decimal only the field is loaded, as by `Ltrs`.
     Mul = 18,
-    /// Multiply and add: the product of the field and the factor is added to the accumulator.
+    /// Multiply and add: the product of the field and the factor is added to the accumulator. In
+    /// decimal only the field is loaded, as by `Ltrs`.
     MulAdd = 19,
-    /// Divide.
+    /// Divide. In decimal only the field is loaded, as by `Ltrs`.
     Div = 20,
     /// Load converted: the field is converted to the other radix and loaded.
     Lcv = 21,

@@ -55,8 +55,8 @@ pub record IsWithoutLines (whole part first : List (List ℕ)) : Type 0 where
   pub whole_is : whole ≡ first ++ between ++ last
   pub part_is : part ≡ first ++ last
 
--- The totals are the ledger without the lines of its rows and of what comes between rows: both
--- begin with the lines of the machine, and end alike.
+-- The totals are the ledger without all lines between LEVELS or DELAYS and END: both begin with the
+-- lines of the machine, and end alike.
 abbrev pub TotalsAreTheLedgerWithoutRows : Type 0
 TotalsAreTheLedgerWithoutRows = (o : Machine → ℕ → Option Origin) (ds : List ℕ) (n left : ℕ)
     (c : Scene) →

@@ -1,4 +1,5 @@
-//! The effect of an operation, given its operands.
+//! The effect of an operation, given its operands, apart from the change of an index word, which
+//! preparation makes, and from the counter, which completion sets.
 ghost use Rattle.std.specs.Prelude.{◌≡◌, ◌+◌, ◌*◌, ◌/◌, ◌<◌, ◌≤◌, ◌^◌, true};
 ghost use Rattle.st_bits.specs.Storage.{words_of_storage};
 ghost use Rattle.st_state.specs.declared.devices.Order.{Order};
@@ -15,10 +16,11 @@ use st_field::{Done, Shape};
 use st_format::Instr;
 use st_state::{Order, State};
 
-/// The effect of an operation, given its operands.
+/// The effect of an operation, given its operands: what it writes to storage, registers and
+/// indicators, and its orders.
 #[derive(Clone, Copy, Debug, PartialEq, Eq)]
 pub enum Effect {
-    /// No effect.
+    /// Nothing is left to do.
     Rest,
     /// The number `bits`, below 2^length, is written to the `length` bits, 1 to 64, from the bit
     /// address `at`.
@@ -67,7 +69,8 @@ fn index_effect(op: HalfOp, e: u32, value: u64) -> Effect
     }
 }
 
-// The effect of a branch instruction: it enables or disables interrupts, or waits.
+// The effect of a branch instruction, apart from the jump: it enables or disables interrupts, or
+// waits.
 fn branch_effect(op: BranchOp) -> Effect
     ensures value { result ≡ branch_effect_of op }
     ensures can { CanBeDone result }
@@ -148,9 +151,9 @@ fn order_effect(write: bool, e: u32, count: u32, done: u64) -> Effect
     }
 }
 
-/// The effect of an instruction with the effective address `e`, where `value` is what an index
-/// store or SIC stores. The operands are the words that it reads; a register among them is read
-/// from the state instead.
+/// The effect of an instruction with the effective address `e`, where `value` is the word that an
+/// index store or SIC stores, and 0 for all others. The operands are the words that it reads; a
+/// register among them is read from the state instead.
 pub fn effect_by(instr: &Instr, e: u32, value: u64, operands: &[u64; 2], state: &State) -> Effect
     requires fields { HasFields instr.now }
     requires address { e < 2 ^ 24 }

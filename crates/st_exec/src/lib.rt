@@ -1,4 +1,4 @@
-//! One step of the machine, and the definition of a whole run. `docs/machine.md` has the rules.
+//! One step of the machine. `docs/machine.md` has the rules.
 #![tactic(auto, using(st_bits::specs::Storage::words_of_storage_is), unfolding(crate::specs::Completion::is_mispredicted, crate::specs::Completion::is_taken, crate::specs::Completion::state_after_completion, crate::specs::Completion::state_after_effect, crate::specs::Completion::state_with_speculative_changes, crate::specs::Completion::target, crate::specs::Effect::carried_out, crate::specs::Effect::effect_of, crate::specs::Outcome::connects, crate::specs::Outcome::operation_outcome, crate::specs::Outcome::with_registers, crate::specs::Outcome::with_result, crate::specs::Step::address, crate::specs::Step::step, st_prep::specs::Fetch::place_of))]
 
 mod carrying;

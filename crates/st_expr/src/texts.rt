@@ -31,7 +31,8 @@ impl Model for ExprText {
 }
 
 impl ExprText {
-    /// Parses a text of at most 63 bytes as an expression, by the rules of `read_expr`.
+    /// Parses a text of at most 63 bytes as an expression, by the rules of `read_expr`
+    /// (`expressions.rt`).
     pub fn read(text: &[u8]) -> Result<ExprText, Fault>
         requires { length text.now ≤ 63 }
         ensures { result ≡ spec.expr_of text.now }
@@ -97,7 +98,8 @@ fn sum_of(minus: bool, text: &[u8], symbols: &Symbols) -> Option<i64>
     }
 }
 
-// The value of the term in one part, with its sign; 0 for a part that is not a term.
+// The value of the term in one part, with its sign; 0 for a part that is not a term. Put in front
+// of any parts, this part adds it to their sum.
 fn part_value(minus: bool, word: &[u8], symbols: &Symbols) -> Option<i64>
     ensures value { (parts : List (Bool × List ℕ)) → plus result
         (sum_by symbols.now (spec.terms_of parts))

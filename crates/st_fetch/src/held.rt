@@ -1,4 +1,5 @@
-//! The held instruction words with their contents.
+//! The held instruction words with their contents: an instruction buffer that can be used by
+//! itself. The machine of the programs has `HeldWords`, without contents.
 ghost use Rattle.std.specs.Prelude.{◌≡◌, ◌≤◌, [], length, false, true, if◌then◌else◌, ◌==◌, Some};
 ghost use Rattle.st_fetch.specs.HeldWords.{is_held, words_after_request, words_after_answer, answer_of, found, words_after_store};
 ghost use Rattle.st_fetch.specs.Planned.{with_its_content};
@@ -87,7 +88,8 @@ impl Hold {
         self.find(w)?.answer
     }
 
-    // The held word `w`, None if it is not held.
+    // The held word `w`, None if it is not held. Place 0 has the newest request, and places from
+    // `len` on do not count.
     fn find(&self, w: u32) -> Option<Held>
         ensures value { result ≡ found self.now w }
         ensures few { length self.now ≤ 4 }
@@ -117,7 +119,7 @@ impl Hold {
     }
 }
 
-// The word combined with its contents if it is the word `w`, otherwise the previous find.
+// The word combined with its contents if it is the word `w`, otherwise `before`.
 fn found_next(
     w: u32,
     fetched: AskedWord,

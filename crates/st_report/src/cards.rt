@@ -94,7 +94,7 @@ fn shown_bits(bits: u64, length: u8) -> Line
 /// location, a bit address, as word.bit right-aligned in 9; the bits that it assembles to in
 /// hexadecimal, left-aligned in 16 and padded with zeros on the right to whole digits; and its
 /// text. The columns are separated by one blank, and trailing blanks are dropped. `bits` are these
-/// bits as one number, and `length` is their number.
+/// bits as one number, and `length` says how many they are.
 pub fn line_listed(card: u32, location: Option<u32>, bits: u64, length: u8, text: &[u8]) -> Line
     requires whole { length ≤ 64 }
     requires fits { bits < 2 ^ length }
@@ -113,8 +113,8 @@ pub fn line_listed(card: u32, location: Option<u32>, bits: u64, length: u8, text
     close_line(line)
 }
 
-/// `SYM name word.bit`: the line of a symbol. The name is padded with blanks to eight bytes, and
-/// the value is a bit address.
+/// `SYM name word.bit`: the line of a symbol. `name` comes padded with blanks to eight bytes, and
+/// the line has it without them; the value is a bit address.
 pub fn line_symbol(name: [u8; 8], value: u32) -> Line
     requires { IsAscii name }
     ensures { result.bytes ≡ symbol_line name value }

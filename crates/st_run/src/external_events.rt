@@ -1,4 +1,5 @@
-//! The interface of a machine that takes external events.
+//! The interface of a machine that takes external events, so that one driver serves several
+//! machines: the plain state, the overlapped machine, and a machine that notes its events.
 ghost use Rattle.std.specs.Prelude.{◌≡◌, ◌≤◌, ◌||◌, Bool, true, false, is_some, IfSome, IsSome};
 ghost use Rattle.st_state.specs.Machine.{Machine as MachineOf};
 ghost use Rattle.st_state.specs.Interrupts.{state_with_signal};
@@ -7,8 +8,7 @@ ghost use Rattle.st_exec.specs.Transfer.{printed_out, words_from, read_in as rea
 
 use st_state::State;
 
-/// A machine with a plain state, to which signals, cards and prints of its orders occur between two
-/// steps.
+/// A machine with a plain state, which takes signals and cards, and prints, between two steps.
 pub trait ExternalEvents {
     // The plain state of the machine.
     ghost state: { Self → MachineOf };
@@ -16,7 +16,8 @@ pub trait ExternalEvents {
     // Whether the machine can take an external event.
     ghost is_open: { Self → Type 0 };
 
-    // The effect of an external event on the rest of the machine, by whether it ends the segment.
+    // `leaves over old new`: what an event changes of the machine outside its plain state, where
+    // `over` says whether the event ends the segment.
     ghost leaves: { Bool → Self → Self → Type 0 };
 
     /// The plain state of the machine.
@@ -47,17 +48,21 @@ pub trait ExternalEvents {
         ensures state { state self.new ≡ printed_out (state self.old) }
         ensures rest { leaves false self.old self.new };
 
-    /// Records that the machine is at rest and waits for an external event.
+    /// Tells the machine that it is at rest and waits for an external event. The segment of an
+    /// overlapped machine ends here; other machines do nothing.
     fn rest(&mut self)
         requires rests { rests (state self.old) ≡ true }
         requires turn { is_open self.old }
         ensures state { state self.new ≡ state self.old }
         ensures rest { leaves true self.old self.new };
 
+    // No event changes nothing.
     ghost leaves_same: { (m : Self) → leaves false m m };
 
+    // An event keeps the machine open.
     ghost stays_open: { (b : Bool) (m n : Self) → leaves b m n → is_open m → is_open n };
 
+    // Two events in turn are one, which ends the segment if one of them does.
     ghost leaves_both: { (a b c : Bool) (m n o : Self) → leaves a m n → leaves b n o → c
         ≡ (a || b) → leaves c m o };
 }

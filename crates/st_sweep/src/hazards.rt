@@ -1,4 +1,4 @@
-//! The test whether a run is hazard-free, made on the plain run.
+//! The test whether a run is hazard-free (`CALM` in a report), made on the plain run.
 ghost use Rattle.std.specs.Prelude.{◌≡◌, ◌==◌, ◌+◌, ◌≤◌, ◌<◌, ◌^◌, ◌&&◌, not, List, [], ◌∷◌, false, is_none};
 ghost use Rattle.std.specs.List.{AllPass, list_all};
 ghost use Rattle.st_bits.specs.declared.limits.TheConstants.{MOST_INSTRUCTIONS};
@@ -45,16 +45,16 @@ fn goes_straight(taken: Option<u8>, p: &Prepared, state: &State) -> bool
     taken.is_none() && !mispredicted
 }
 
-// Whether an entry is hazard-free: it takes no interrupt and is not mispredicted, and neither its
-// index-side word nor an operand word was written.
+// Whether an entry is hazard-free: it takes no interrupt and is not mispredicted, and no earlier
+// entry of the run writes its index-side word or one of its operand words.
 fn is_hazard_free(straight: bool, side: bool, words: bool) -> bool
     ensures { result ≡ (straight && not side && not words) }
 {
     straight && !side && !words
 }
 
-// Makes the next step and marks the words that it writes. Returns whether it is a hazard-free
-// entry.
+// Makes the next step, and marks the words that it writes beside those of `earlier` entries.
+// Returns whether it is a hazard-free entry after these.
 fn step(state: &mut State, written: &mut WrittenWords) -> bool
     requires going { rests state.old ≡ false }
     requires few { state.old.done < 2 ^ 63 }
@@ -74,7 +74,7 @@ fn step(state: &mut State, written: &mut WrittenWords) -> bool
     is_hazard_free(straight, side, words)
 }
 
-// The conjunction.
+// Whether both hold; a function of its own, since proofs cite its clause.
 pub(crate) fn both(one: bool, two: bool) -> bool
     ensures { result ≡ (one && two) }
 {

@@ -164,9 +164,9 @@ fn read_arguments(alloc: Global, words: &[String]) -> Result<Option<Command>, No
     }
 }
 
-/// The command that the words give; `None` if they are invalid. The only error is that memory ran
-/// out. It does not occur if a word is empty or begins with `-`, if there are no words, or if there
-/// are more than three.
+/// The command that the words give; `None` if they are invalid. The only error is `NoMemory`; no
+/// clause says that memory ran out then. It does not occur if a word is empty or begins with `-`,
+/// if there are no words, or if there are more than three.
 pub fn read_words(alloc: Global, words: &[String]) -> Result<Option<Command>, NoMemory>
     ensures ok { IfOk result (λ command. command ≡ command_of (map string_bytes words.now)) }
     ensures plain { list_all is_plain_of (map string_bytes words.now) ≡ false → result ≡ Ok None }
