@@ -279,8 +279,15 @@ export class Timetable {
     return [ready, this.piece(entry.p, entry.r, 3, BAR, 'f-operand_storage'),
       this.piece(entry.r, begins, 3.5, BAR - 1, 'turn'), this.piece(begins, entry.c, 3, BAR, 'f-executing'),
       ...entry.charges.map(({ from, to, cause }) => this.piece(from, to, 16, 4, `f-${cause}`, { 'data-cause': cause })),
-      entry.missed && this.x(entry.c) >= this.app.left
-        ? s('text', { class: 'event', x: this.x(entry.c) + 6, y: 14 }, 'guessed wrongly') : null];
+      entry.missed && this.x(entry.c) >= this.app.left ? this.missed(entry) : null];
+  }
+
+  // What is said of a wrong guess: after its bar, or before it where the drawing ends.
+  missed(entry) {
+    const x = this.x(entry.c);
+    const fits = x + 6 + 'guessed wrongly'.length * LETTER <= this.width;
+    return s('text', { class: 'event', x: fits ? x + 6 : this.x(entry.p) - 6, y: 14, 'text-anchor': fits ? 'start' : 'end' },
+      'guessed wrongly');
   }
 
   // What stands at the left of a line, from its upper edge on.

@@ -12,6 +12,8 @@ import { whereView } from './where.js';
 const PICTURE_ROWS = 200;
 const LONG = 20000;
 const LATIN = new TextDecoder('latin1');
+// A picture has its mark for text that is cut in UTF-8; its other characters are of one byte.
+const PICTURE = new TextDecoder();
 
 // What of the picture of ./chart has which colour of the timetable: a part, what is coloured, and the colour's name in
 // the style sheet.
@@ -151,7 +153,7 @@ export class Views {
     const { deck } = this.made;
     const short = budgetOf(linesOf(deck)) > LONG ? withCards(deck, ['BUDGET'], ['/BUDGET 1000']) : deck;
     const { bytes } = await this.app.side.run('stretch', ['run'], bytesOf(asking(short, ['CHART', 'LIST'])));
-    return LATIN.decode((await this.app.side.run('chart', [], bytes)).bytes);
+    return PICTURE.decode((await this.app.side.run('chart', [], bytes)).bytes);
   }
 
   // ---- names
