@@ -286,8 +286,8 @@ export class Timetable {
   missed(entry) {
     const x = this.x(entry.c);
     const fits = x + 6 + 'guessed wrongly'.length * LETTER <= this.width;
-    return s('text', { class: 'event', x: fits ? x + 6 : this.x(entry.p) - 6, y: 14, 'text-anchor': fits ? 'start' : 'end' },
-      'guessed wrongly');
+    const place = fits ? { x: x + 6 } : { x: this.x(entry.p) - 6, 'text-anchor': 'end' };
+    return s('text', { class: 'event', y: 14, ...place }, 'guessed wrongly');
   }
 
   // What stands at the left of a line, from its upper edge on.
