@@ -2,6 +2,7 @@
 use Rattle.std.specs.Prelude.{Bool, if◌then◌else◌, nat_eq, ◌||◌, is_some, map}
 use Rattle.std.proofs.Common.{◌≡◌, ◌≢◌, ℕ, zero, suc, ◌+◌, true, false, List, [], ◌∷◌, ◌++◌, length, Option, None, Some, refl, sym, ◌∙◌, ap, arith}
 use Rattle.std.proofs.lemmas.List.{length-map}
+use Rattle.st_bits.specs.Storage.{words_of_storage}
 use Rattle.st_banks.specs.declared.answers.LastAnswers.{LastAnswers}
 use Rattle.st_state.specs.Machine.{Machine}
 use Rattle.st_exec.specs.Step.{rests, interrupt}
@@ -28,7 +29,8 @@ use Rattle.st_lines.specs.Lines.{start_line}
 use Rattle.st_account.specs.Standing.{kept_lines, IsBehindMoment}
 use Rattle.st_lines.proofs.LineLemmas.{end-same}
 use Rattle.st_lines.specs.BorderLines.{segment_end_lines, taken_by, en_lines, prints_lines, words_lines, marks_lines, state_lines}
-use Rattle.st_account.specs.Text.{run_ends, segment_ends, segment_end_at, begun_at, state_lines_at, words_behind, why_by, why, segment_lines, segment_after, words_before, last_lines}
+use Rattle.st_account.specs.LedgerTables.{why_after, dropped_at_end}
+use Rattle.st_account.specs.Text.{begins_segment, run_ends, segment_ends, segment_end_at, begun_at, state_lines_at, words_behind, why_by, why, segment_lines, segment_after, words_before, last_lines}
 
 choice-lines : (b : Bool) (xs ys : List (List ℕ)) → (b ≡ true → xs ≡ ys) → (if b then xs else []) ≡ (if b then ys else [])
 choice-lines true xs ys same = same refl
@@ -86,7 +88,7 @@ border-of ds n left b m a xs cards h = record {
 
 module _ (ds : List ℕ) (levels : ℕ) (m : Moment) (s : Machine) (l : Last) (found : List Ahead) (banks : LastAnswers) (card waited : Bool)
     (is : IsBorder ds levels m s l found banks card waited) where
-  ends-is : (taken : Option ℕ) (ends : Bool) → taken ≡ interrupt s → ends ≡ (l.mispredicted || card || waited || is_some taken) → ends ≡ ends_segment m
+  pub ends-is : (taken : Option ℕ) (ends : Bool) → taken ≡ interrupt s → ends ≡ (l.mispredicted || card || waited || is_some taken) → ends ≡ ends_segment m
   unfolding ends_segment
   ends-is taken ends is_taken is_ends =
       is_ends
@@ -188,6 +190,28 @@ module _ (ds : List ℕ) (n left : ℕ) (b : Machine) (m : Moment) (a : Account)
       is_number
       ∙ after-is ds n m a.state a.last a.behind.ahead.found.items a.behind.banks a.behind.card a.behind.waited at (interrupt a.state) x.ends refl ends a.k x.begins begins
 
+  -- why the segment of the next entry begins
+  pub why-is : (w y : Why) → y ≡ (if x.begins then x.why else w) → y ≡ why_after a.k w m
+  unfolding why
+  why-is w y is_why =
+      is_why
+      ∙ ap (λ (z : Border). if x.begins then z.why else w) border
+      ∙ ap (λ q. if q then (if nat_eq a.k 0 then Run else why_by (interrupt a.state) a.last.mispredicted) else w)
+      (begins ∙ ap (λ q. nat_eq a.k 0 || q) here)
+      ∙ ap (λ s. if begins_segment a.k m then (if nat_eq a.k 0 then Run else why_by (interrupt s) a.last.mispredicted) else w) (sym at.state)
+      ∙ ap (λ q. if begins_segment a.k m then (if nat_eq a.k 0 then Run else why_by (interrupt (next_state m)) q) else w) (sym at.mispredicted)
+
+  -- the number of entries that are dropped, if a segment ends
+  pub dropped-counted : (old new j : ℕ) → j ≡ length a.behind.ahead.found.items → new ≡ old + (if x.ends then j else 0) → new ≡ old + dropped_at_end m
+  dropped-counted old new j is_j is_new =
+      is_new
+      ∙ ap (λ q. old + (if q then j else 0)) here
+      ∙ ap (λ v. old + v) (choice (ends_segment m) (λ yes. is_j ∙ ap length (at.dropped yes) ∙ length-map m.dropped (seen_ahead ds n)))
+    where
+      choice : {x y : ℕ} (b : Bool) → (b ≡ true → x ≡ y) → (if b then x else 0) ≡ (if b then y else 0)
+      choice true same = same refl
+      choice false same = refl
+
   pub issue-after : o.last.issue ≡ (if x.ends then opening_issue a.behind.banks (a.last.tick + 1 + length a.behind.ahead.found.items) else a.last.issue)
       → o.last.issue ≡ next_issue m
   issue-after is_issue =
@@ -196,7 +220,7 @@ module _ (ds : List ℕ) (n left : ℕ) (b : Machine) (m : Moment) (a : Account)
   module _ (last : o.last ≡ record a.last { issue = o.last.issue; past = o.last.past }) where
     -- the lines of the last entry
     module _ (going : run_ends left m ≡ false) (end : Option ℕ) (is_end : end ≡ (if x.ends then Some o.last.tick else None)) where
-      until-same : end ≡ segment_end_at left m
+      pub until-same : end ≡ segment_end_at left m
       unfolding segment_end_at
       until-same =
           is_end
@@ -210,10 +234,10 @@ module _ (ds : List ℕ) (n left : ℕ) (b : Machine) (m : Moment) (a : Account)
           ∙ ap (kept_lines a.k a.last) until-same
 
     -- the lines of the border
-    pub crossed : (i : ℕ) (found : List Ahead) (printed : List (List ℕ)) → i ≡ o.state.done + 1 → found ≡ o.behind.ahead.found.items → printed ≡ o.behind.printed.items
+    pub crossed : length a.words.items ≡ words_of_storage → (i : ℕ) (found : List Ahead) (printed : List (List ℕ)) → i ≡ o.state.done + 1 → found ≡ o.behind.ahead.found.items → printed ≡ o.behind.printed.items
         → o.last.issue ≡ next_issue m
         → border_text o.origins x a.k o.last.tick i printed o.last.enabled o.words.items o.state found (o.behind.ahead.late ∷ []) ≡ segment_lines (origin_at a.origins) ds n a.k b m
-    crossed i found printed is_i is_found is_printed issue =
+    crossed size i found printed is_i is_found is_printed issue =
         let opening : Border = record {
           ends = x.ends;
           begins = x.begins;
@@ -229,7 +253,7 @@ module _ (ds : List ℕ) (n left : ℕ) (b : Machine) (m : Moment) (a : Account)
         ∙ ap (λ (y : Account). border_text y.origins opening a.k a.last.tick i printed a.last.enabled y.words.items y.state y.behind.ahead.found.items (y.behind.ahead.late ∷ [])) opened
         ∙ border-lines ds n m a.state a.last a.behind.ahead.found.items a.behind.banks a.behind.card a.behind.waited at (interrupt a.state) x.ends refl ends (origin_at a.origins) b a.last.enabled
         a.words.items printed (a.behind.ahead.late ∷ []) is.was (is_printed ∙ ap (λ (y : Account). y.behind.printed.items) opened ∙ is.printed) a.k i o.last.issue.c x.begins
-        (if nat_eq a.k 0 then Run else why_by (interrupt a.state) a.last.mispredicted) is.words (λ on some. is.begun (ends-by left m on) some) begins
+        (if nat_eq a.k 0 then Run else why_by (interrupt a.state) a.last.mispredicted) (λ some. is.words some size) (λ on some. is.begun (ends-by left m on) some) begins
         (is_i ∙ ap (λ (y : Account). y.state.done + 1) opened) (ap (λ (f : IssueState). f.c) issue) refl
 
 -- ---- the end of the run
@@ -264,17 +288,23 @@ module _ (ds : List ℕ) (n left : ℕ) (b : Machine) (m : Moment) (a : Account)
   ends-there : segment_ends left m ≡ true
   ends-there = ap (λ y. y || ends_segment m) over
 
+  pub last-until : (end : Option ℕ) → end ≡ Some a.last.tick → end ≡ segment_end_at left m
+  unfolding segment_end_at
+  last-until end is_end = is_end ∙ ap Some (sym is.tick) ∙ ap (λ (y : Bool). if y then Some m.tick else None) (sym ends-there)
+
+  pub last-dropped : length a.behind.ahead.found.items ≡ length m.dropped
+  last-dropped = ap length (is.dropped ends-there) ∙ length-map m.dropped (seen_ahead ds n)
+
   pub last-row : (end : Option ℕ) → end ≡ Some a.last.tick → kept_lines a.k a.last end ≡ kept_lines a.k a.last (segment_end_at left m)
   unfolding segment_end_at
-  last-row end is_end =
-      ap (kept_lines a.k a.last) (is_end ∙ ap Some (sym is.tick) ∙ ap (λ (y : Bool). if y then Some m.tick else None) (sym ends-there))
+  last-row end is_end = ap (kept_lines a.k a.last) (last-until end is_end)
 
-  pub last-lines : (i : ℕ) (found : List Ahead) (printed : List (List ℕ)) → i ≡ a.state.done + 1 → found ≡ a.behind.ahead.found.items → printed ≡ a.behind.printed.items
+  pub last-lines : length a.words.items ≡ words_of_storage → (i : ℕ) (found : List Ahead) (printed : List (List ℕ)) → i ≡ a.state.done + 1 → found ≡ a.behind.ahead.found.items → printed ≡ a.behind.printed.items
       → ((segment_end_lines (origin_at a.origins a.state) a.k a.last.tick i found (a.behind.ahead.late ∷ []) ++ marks_lines printed a.k a.last.enabled a.words.items a.state)
       ++ run_end_line (rests a.state) ∷ done_line a.state.done ∷ ticks_line a.last.tick ∷ []) ≡ last_lines (origin_at a.origins) ds n a.k b m
-  last-lines i found printed number is_found is_printed =
+  last-lines size i found printed number is_found is_printed =
       last-is (origin_at a.origins) ds n b a.last.enabled is.was m printed (is_printed ∙ is.printed) a.state a.k a.last.tick i found (a.behind.ahead.late ∷ []) is.tick
-      (ap (λ (c : Scene). c.machine) is.scene) (is_found ∙ is.dropped ends-there) (is.begun ends-there) number a.words.items is.words
+      (ap (λ (c : Scene). c.machine) is.scene) (is_found ∙ is.dropped ends-there) (is.begun ends-there) number a.words.items (λ some. is.words some size)
 
 -- the words of the last entry; none if a segment ends
 pub words-left : (ds : List ℕ) (n left : ℕ) (b : Machine) (m : Moment) (a : Account) (xs : List Signal) (cards : List (List ℕ)) → IsBehindMoment ds n left b m a xs cards

@@ -1,7 +1,7 @@
 -- Lemmas on a completed entry and its lines.
 use Rattle.std.specs.Prelude.{Bool, nat_eq}
 use Rattle.std.proofs.lemmas.Bool.Decides.{nat_tests}
-use Rattle.std.proofs.Common.{◌≡◌, ◌≢◌, ℕ, zero, suc, false, refl, arith, ◌+◌, ◌<◌, ◌≤◌, ◌^◌, List, [], Option, sym, ◌∙◌, ap, subst}
+use Rattle.std.proofs.Common.{◌≡◌, ◌≢◌, ℕ, zero, suc, false, refl, arith, ◌+◌, ◌<◌, ◌≤◌, ◌^◌, List, [], ◌∷◌, Option, sym, ◌∙◌, ap, subst}
 use Rattle.st_state.specs.Machine.{Machine}
 use Rattle.st_prep.specs.Plan.{plan}
 use Rattle.st_prep.specs.declared.entries.Prepared.{Prepared}
@@ -29,11 +29,14 @@ use Rattle.st_plain.specs.declared.rows.WaitedRow.{WaitedRow}
 use Rattle.st_account.specs.declared.last.Last.{Last}
 use Rattle.st_account.specs.Standing.{predicting, kept_lines, IsLast, IsStanding}
 use Rattle.st_lines.specs.EntryLines.{done_entry_lines}
+use Rattle.st_lines.specs.declared.facts.EntryDone.{EntryDone}
+use Rattle.st_lines.specs.declared.lines.Why.{Why}
 use Rattle.st_lines.specs.declared.origins.Origin.{Origin}
 use Rattle.st_rows.specs.declared.entry.Entry.{Entry}
 use Rattle.st_reasons.specs.Reasons.{because}
 use Rattle.st_reasons.specs.declared.because.StallCause.{StallCause}
-use Rattle.st_account.specs.Text.{formed_at, uses_at, lines_of_entry}
+use Rattle.st_account.specs.LedgerTables.{row_at}
+use Rattle.st_account.specs.Text.{formed_at, uses_at, done_at, lines_of_entry}
 use Rattle.st_account.proofs.LastLemmas.{next-last}
 
 pub entry-step : (s u : Machine) (taken : Option ℕ) → taken ≡ interrupt s → u ≡ state_after_execution taken s → u ≡ step s
@@ -138,6 +141,37 @@ because-is ds n p s l taken r us bs why is is_taken is_row is_wait is_uses is_wh
     ∙ ap (λ f. why_of f (entry (interrupt p.scene.machine) p.scene.machine) (next_row ds n p)
     (level_wait ds n p.issue (entry (interrupt p.scene.machine) p.scene.machine)) (formed_at ds p) bs) (sym is.issue)
 
+-- a completed entry, part by part
+abbrev told_done : ℕ → ℕ → Option Origin → EntryTicks → ℕ → Bool → ℕ → ℕ → Option ℕ → StallCause → EntryDone
+told_done i a origin ticks wait mispredicted before start end why =
+    record { n = i; address = a; origin = origin; row = record { ticks = ticks; level_wait = wait }; mispredicted = mispredicted; before = before; start = start; end = end; because = why }
+
+entry-done : (o : Machine → ℕ → Option Origin) (ds : List ℕ) (n : ℕ) (p : Standing) (end : Option ℕ) (s : Machine) (l : Last) (taken : Option ℕ) (a : ℕ)
+    (origin : Option Origin) (r : WaitedRow) (i : ℕ) (mispredicted : Bool) (t start : ℕ) (why : StallCause) (ws bs : List Use) → IsStanding p s l → taken ≡ interrupt s → a ≡ address s
+    → origin ≡ o s (address s)
+    → r.ticks ≡ row_of_entry ds n l.issue (entry taken s) → r.level_wait ≡ level_wait ds n l.issue (entry taken s) → i ≡ s.done + 1
+    → mispredicted ≡ is_mispredicted (plan s taken) s → t ≡ l.tick → start ≡ l.issue.c
+    → ws ≡ formed_uses ds l.issue (entry taken s) (side_at taken s)
+    → why ≡ because l.issue (entry taken s) r.ticks.a r.ticks.p r.level_wait ws bs
+    → told_done i a origin r.ticks r.level_wait mispredicted t start end why ≡ done_at o ds n end bs p
+entry-done o ds n p end s l taken a origin r i mispredicted t start why ws bs is is_taken is_address is_origin is_row is_wait number predicted at since is_words is_why =
+    let m = p.scene.machine in
+    let e = plan m (interrupt m) in
+    let d = level_wait ds n p.issue (entry (interrupt m) m) in
+    let w = why_of p.issue (entry (interrupt m) m) (next_row ds n p) d (formed_at ds p) bs in
+    let g = o m (address m) in
+    ap (λ y. told_done i a origin r.ticks r.level_wait mispredicted t start end y)
+    (because-is ds n p s l taken r ws bs why is is_taken is_row is_wait is_words is_why)
+    ∙ ap (λ y. told_done i a y r.ticks r.level_wait mispredicted t start end w) (is_origin ∙ ap (λ u. o u (address u)) (sym is.machine))
+    ∙ ap (λ y. told_done i a g y r.level_wait mispredicted t start end w) (row-is ds n p s l taken r.ticks is is_taken is_row)
+    ∙ ap (λ y. told_done i a g (next_row ds n p) y mispredicted t start end w) (wait-is ds n p s l taken r.level_wait is is_taken is_wait)
+    ∙ ap (λ y. told_done y a g (next_row ds n p) d mispredicted t start end w) (number ∙ ap (λ (m : Machine). m.done + 1) (sym is.machine))
+    ∙ ap (λ y. told_done (m.done + 1) y g (next_row ds n p) d mispredicted t start end w) (is_address ∙ ap address (sym is.machine))
+    ∙ ap (λ b. told_done (m.done + 1) (address m) g (next_row ds n p) d b t start end w)
+    (predicted ∙ ap (λ t. is_mispredicted (plan s t) s) is_taken ∙ ap (λ u. is_mispredicted (plan u (interrupt u)) u) (sym is.machine))
+    ∙ ap (λ y. told_done (m.done + 1) (address m) g (next_row ds n p) d (is_mispredicted e m) y start end w) (at ∙ sym is.tick)
+    ∙ ap (λ y. told_done (m.done + 1) (address m) g (next_row ds n p) d (is_mispredicted e m) p.tick y end w) (since ∙ ap (λ (f : IssueState). f.c) (sym is.issue))
+
 pub entry-lines : (o : Machine → ℕ → Option Origin) (ds : List ℕ) (n : ℕ) (p : Standing) (end : Option ℕ) (s : Machine) (l : Last) (taken : Option ℕ) (a : ℕ)
     (origin : Option Origin) (r : WaitedRow) (i : ℕ)
     (mispredicted : Bool) (q : Prepared) (known : Known) (t start : ℕ) (why : StallCause) (us ws bs : List Use) → IsStanding p s l → taken ≡ interrupt s → a ≡ address s
@@ -151,27 +185,30 @@ pub entry-lines : (o : Machine → ℕ → Option Origin) (ds : List ℕ) (n : �
 unfolding lines_of_entry
 entry-lines o ds n p end s l taken a origin r i mispredicted q known t start why us ws bs is is_taken is_address is_origin is_row is_wait number predicted planned is_known at since is_uses is_words is_why =
     let m = p.scene.machine in
-    let e = plan m (interrupt m) in
-    let k = known_at (interrupt m) m in
-    let d = level_wait ds n p.issue (entry (interrupt m) m) in
-    let w = why_of p.issue (entry (interrupt m) m) (next_row ds n p) d (formed_at ds p) bs in
-    let g = o m (address m) in
-    ap (λ y. told_lines i a origin r.ticks r.level_wait mispredicted q known t start end y us bs)
-    (because-is ds n p s l taken r ws bs why is is_taken is_row is_wait is_words is_why)
-    ∙ ap (λ y. told_lines i a y r.ticks r.level_wait mispredicted q known t start end w us bs) (is_origin ∙ ap (λ u. o u (address u)) (sym is.machine))
-    ∙ ap (λ y. told_lines i a g y r.level_wait mispredicted q known t start end w us bs) (row-is ds n p s l taken r.ticks is is_taken is_row)
-    ∙ ap (λ y. told_lines i a g (next_row ds n p) y mispredicted q known t start end w us bs) (wait-is ds n p s l taken r.level_wait is is_taken is_wait)
-    ∙ ap (λ y. told_lines y a g (next_row ds n p) d mispredicted q known t start end w us bs) (number ∙ ap (λ (m : Machine). m.done + 1) (sym is.machine))
-    ∙ ap (λ y. told_lines (m.done + 1) y g (next_row ds n p) d mispredicted q known t start end w us bs) (is_address ∙ ap address (sym is.machine))
-    ∙ ap (λ b. told_lines (m.done + 1) (address m) g (next_row ds n p) d b q known t start end w us bs)
-    (predicted ∙ ap (λ t. is_mispredicted (plan s t) s) is_taken ∙ ap (λ u. is_mispredicted (plan u (interrupt u)) u) (sym is.machine))
-    ∙ ap (λ y. told_lines (m.done + 1) (address m) g (next_row ds n p) d (is_mispredicted e m) y known t start end w us bs)
-    (planned ∙ ap (plan s) is_taken ∙ ap (λ u. plan u (interrupt u)) (sym is.machine))
-    ∙ ap (λ y. told_lines (m.done + 1) (address m) g (next_row ds n p) d (is_mispredicted e m) e y t start end w us bs)
-    (is_known ∙ ap (λ t. known_at t s) is_taken ∙ ap (λ u. known_at (interrupt u) u) (sym is.machine))
-    ∙ ap (λ y. told_lines (m.done + 1) (address m) g (next_row ds n p) d (is_mispredicted e m) e k y start end w us bs) (at ∙ sym is.tick)
-    ∙ ap (λ y. told_lines (m.done + 1) (address m) g (next_row ds n p) d (is_mispredicted e m) e k p.tick y end w us bs) (since ∙ ap (λ (f : IssueState). f.c) (sym is.issue))
-    ∙ ap (λ y. told_lines (m.done + 1) (address m) g (next_row ds n p) d (is_mispredicted e m) e k p.tick p.issue.c end w y bs) (uses-is ds n p s l taken us is is_taken is_uses)
+    let d = done_at o ds n end bs p in
+    ap (λ y. done_entry_lines y q known us bs)
+    (entry-done o ds n p end s l taken a origin r i mispredicted t start why ws bs is is_taken is_address is_origin is_row is_wait number predicted at since is_words is_why)
+    ∙ ap (λ y. done_entry_lines d y known us bs) (planned ∙ ap (plan s) is_taken ∙ ap (λ u. plan u (interrupt u)) (sym is.machine))
+    ∙ ap (λ y. done_entry_lines d (plan m (interrupt m)) y us bs) (is_known ∙ ap (λ t. known_at t s) is_taken ∙ ap (λ u. known_at (interrupt u) u) (sym is.machine))
+    ∙ ap (λ y. done_entry_lines d (plan m (interrupt m)) (known_at (interrupt m) m) y bs) (uses-is ds n p s l taken us is is_taken is_uses)
+
+-- the same entry as a row of the tables
+pub entry-row : (o : Machine → ℕ → Option Origin) (ds : List ℕ) (n : ℕ) (p : Standing) (end : Option ℕ) (v : Why) (s : Machine) (l : Last) (taken : Option ℕ) (a : ℕ)
+    (origin : Option Origin) (r : WaitedRow) (i : ℕ)
+    (mispredicted : Bool) (t start : ℕ) (why : StallCause) (us ws bs old : List Use) → IsStanding p s l → taken ≡ interrupt s → a ≡ address s
+    → origin ≡ o s (address s)
+    → r.ticks ≡ row_of_entry ds n l.issue (entry taken s) → r.level_wait ≡ level_wait ds n l.issue (entry taken s) → i ≡ s.done + 1
+    → mispredicted ≡ is_mispredicted (plan s taken) s → t ≡ l.tick → start ≡ l.issue.c
+    → us ≡ uses_of_entry ds n l.issue (entry taken s) (side_at taken s) (plan s taken).reads
+    → ws ≡ formed_uses ds l.issue (entry taken s) (side_at taken s)
+    → why ≡ because l.issue (entry taken s) r.ticks.a r.ticks.p r.level_wait ws bs → bs ≡ old
+    → (record { done = told_done i a origin r.ticks r.level_wait mispredicted t start end why; why = v; uses = us; before = bs } ∷ []) ≡ (row_at o ds n end v old p ∷ [])
+unfolding row_at
+entry-row o ds n p end v s l taken a origin r i mispredicted t start why us ws bs old is is_taken is_address is_origin is_row is_wait number predicted at since is_uses is_words is_why earlier =
+    ap (λ y. record { done = y; why = v; uses = us; before = bs } ∷ [])
+    (entry-done o ds n p end s l taken a origin r i mispredicted t start why ws bs is is_taken is_address is_origin is_row is_wait number predicted at since is_words is_why)
+    ∙ ap (λ y. record { done = done_at o ds n end bs p; why = v; uses = y; before = bs } ∷ []) (uses-is ds n p s l taken us is is_taken is_uses)
+    ∙ ap (λ y. record { done = done_at o ds n end y p; why = v; uses = uses_at ds n p; before = y } ∷ []) earlier
 
 pub entry-sums : (ds : List ℕ) (n : ℕ) (p : Standing) (s : Machine) (l : Last) (taken : Option ℕ) (r : EntryTicks) (stage : Stage) (old new : ℕ)
     → IsStanding p s l → taken ≡ interrupt s → r ≡ row_of_entry ds n l.issue (entry taken s)

@@ -34,7 +34,7 @@ use Rattle.st_plain.specs.Uses.{formed_uses}
 use Rattle.st_rows.specs.declared.uses.Use.{Use}
 use Rattle.st_reasons.specs.Reasons.{because}
 use Rattle.st_reasons.specs.declared.because.StallCause.{StallCause}
-use Rattle.st_plain.specs.declared.looking.Ahead.{Ahead as Seen}
+use Rattle.st_plain.specs.declared.looking.Ahead.{Ahead as SeenAhead}
 use Rattle.st_account.specs.declared.last.Last.{Last}
 use Rattle.st_account.specs.Standing.{predicting, HasReads, IsLast, IsStanding}
 use Rattle.st_account.proofs.ReadLemmas.{few-prepared}
@@ -175,7 +175,7 @@ prepared-few t (a ∷ rest) =
     let few = prepared-few t rest in
     of_choice (λ xs. length xs ≤ suc (length rest)) (nat_lt a.row.p t) (a ∷ prepared_before t rest) [] (omega arith) (omega arith)
 
-pub few-found : (ds : List ℕ) (n t k : ℕ) (s : Machine) (f : IssueState) (old new : List Seen) → length old ≡ 0 → k ≤ 8
+pub few-found : (ds : List ℕ) (n t k : ℕ) (s : Machine) (f : IssueState) (old new : List SeenAhead) → length old ≡ 0 → k ≤ 8
     → new ≡ old ++ map (seen_ahead ds n) (prepared_before t (ahead ds n k None s f)) → length new ≤ 8
 few-found ds n t k s f old new none few is =
     let found = prepared_before t (ahead ds n k None s f) in

@@ -22,7 +22,9 @@ use Rattle.st_ledger.specs.Totals.{sum_at, stages, sums_by, sum_lines}
 use Rattle.st_ledger.proofs.Added.{sums-same}
 use Rattle.st_lines.specs.BorderLines.{machine_lines}
 use Rattle.st_lines.specs.declared.origins.Origin.{Origin}
-use Rattle.st_account.specs.LedgerSums.{end_from, ledger_sums}
+use Rattle.st_account.specs.LedgerSums.{end_from, ledger_totals, ledger_sums}
+use Rattle.st_account.specs.LedgerTables.{tallied_of, dropped_of}
+use Rattle.st_tally.specs.TallyLines.{table_lines}
 use Rattle.st_account.specs.Text.{lines_from, totals_lines, stalled_from, wait_totals_lines, with_totals, ledger}
 
 wait-sums-same : (f g : Stage → Stall → ℕ) → ((r : Stage) (s : Stall) → is_parted r ≡ true → f r s ≡ g r s) → wait_sums_by f ≡ wait_sums_by g
@@ -43,9 +45,16 @@ pub ledger-is : (origin : Machine → ℕ → Option Origin) (ds : List ℕ) (n 
 unfolding ledger
 ledger-is origin ds n left c = refl
 
-pub sums-is : (ds : List ℕ) (n left : ℕ) (c : Scene) → ledger_sums ds n left c ≡ with_totals ds n left c (end_from ds n left (moment_at_start c))
-unfolding ledger_sums
+pub sums-is : (ds : List ℕ) (n left : ℕ) (c : Scene) → ledger_totals ds n left c ≡ with_totals ds n left c (end_from ds n left (moment_at_start c))
+unfolding ledger_totals
 sums-is ds n left c = refl
+
+-- the tables follow the totals
+pub tables-behind : (o : Machine → ℕ → Option Origin) (ds : List ℕ) (n left cards : ℕ) (c : Scene) (s u : OutputState) (r : Result (Unit {0}) Failed)
+    → WritesLines s u (ledger_totals ds n left c ++ table_lines cards (tallied_of o ds n left c) (dropped_of ds n left c)) r
+    → WritesLines s u (ledger_sums o ds n left cards c) r
+unfolding ledger_sums
+tables-behind o ds n left cards c s u r h = h
 
 module _ (all run_lines : List (List ℕ)) (ds : List ℕ) (n left : ℕ) (c : Scene) (is : all ≡ with_totals ds n left c run_lines) (s u : OutputState) (list : List ℕ)
     (same : list ≡ ds) where

@@ -7,6 +7,9 @@ pub mod StallLemmas
 pub mod LoopLemmas
 pub mod PassLemmas
 pub mod TurnLemmas
+pub mod RoundLemmas
+pub mod TallyLemmas
+pub mod TallyLoop
 pub mod LedgerLemmas
 pub mod PrintLemmas
 pub mod LeftLemmas

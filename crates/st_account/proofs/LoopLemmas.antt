@@ -1,16 +1,10 @@
 -- Lemmas on one round of the run's loop.
-use Rattle.std.specs.Prelude.{Bool, ◌||◌, nat_eq, if◌then◌else◌, Option, Result, Ok, Err, IsErr}
+use Rattle.std.specs.Prelude.{Bool, ◌||◌, nat_eq, if◌then◌else◌}
 use Rattle.std.proofs.lemmas.Bool.Decides.{nat_tests}
-use Rattle.std.proofs.Common.{◌≡◌, ◌≢◌, ℕ, zero, suc, ◌+◌, ◌-◌, ◌≤◌, ◌⊎◌, inl, inr, true, false, List, ◌++◌, refl, sym, ◌∙◌, ap, subst, append_assoc, arith}
-use Rattle.st_state.specs.Machine.{Machine}
-use Rattle.st_io.specs.Output.{OutputState}
-use Rattle.st_io.specs.declared.Failed.{Failed}
-use Rattle.st_io.specs.Lines.{WritesLines}
-use Rattle.st_io.proofs.Progress.{LinesSoFar, lines_more, lines_failed, lines_last}
+use Rattle.std.proofs.Common.{◌≡◌, ◌≢◌, ℕ, zero, suc, ◌+◌, ◌-◌, ◌≤◌, ◌⊎◌, inl, inr, true, false, List, refl, ap, arith}
 use Rattle.st_exec.specs.Step.{rests}
 use Rattle.st_run.specs.Moments.{Moment, next_state, standing_at, next_moment}
-use Rattle.st_account.specs.Text.{begins_segment, segment_end_at, segment_lines, segment_after, uses_at, words_before, lines_of_entry, last_lines, lines_from, stalled_from}
-use Rattle.st_lines.specs.declared.origins.Origin.{Origin}
+use Rattle.st_account.specs.Text.{begins_segment, segment_after, uses_at, words_before, stalled_from}
 use Rattle.st_ledger.specs.declared.charges.Stage.{Stage}
 use Rattle.st_ledger.specs.declared.charges.Stage.TheVariants.{Restart, Instruction, Address, Index, Preparing, Operand, Executing}
 use Rattle.st_ledger.specs.declared.totals.Totals.{Totals}
@@ -20,36 +14,7 @@ use Rattle.st_ledger.specs.Totals.{sum_at, AreWithin}
 use Rattle.st_rows.specs.declared.uses.Use.{Use}
 use Rattle.st_reasons.specs.Sums.{row_stalled}
 use Rattle.st_reasons.specs.declared.waits.Stall.{Stall}
-use Rattle.st_account.proofs.RunLemmas.{lines-end, lines-on, waits-end, waits-on, charges-end, charges-on}
-
-module _ (o : Machine → ℕ → Option Origin) (ds : List ℕ) (n left k : ℕ) (b : Machine) (us : List Use) (m : Moment) (s t : OutputState) (all row : List (List ℕ))
-    (so_far : LinesSoFar s t all (row ++ lines_from o ds n left k b us m)) where
-  -- the run ends
-  pub run-ends : (u : OutputState) (r : Result (Unit {0}) Failed) → (left ≡ 0) ⊎ (rests (next_state m) ≡ true) → WritesLines t u (row ++ last_lines o ds n k b m) r
-      → WritesLines s u all r
-  run-ends u r end h =
-      lines_last s t u all (row ++ last_lines o ds n k b m) r (subst (λ ls. LinesSoFar s t all (row ++ ls)) (lines-end ds n o left k b us m end) so_far) h
-
-  module _ (some : left ≢ 0) (going : rests (next_state m) ≡ false) where
-    abbrev entry : List (List ℕ)
-    entry = lines_of_entry o ds n (segment_end_at (left - 1) (next_moment ds n (standing_at m))) (words_before m us) (standing_at m)
-
-    abbrev rest : List (List ℕ)
-    rest = lines_from o ds n (left - 1) (segment_after k m) (next_state m) (uses_at ds n (standing_at m)) (next_moment ds n (standing_at m))
-
-    both : LinesSoFar s t all ((row ++ segment_lines o ds n k b m) ++ (entry ++ rest))
-    both = subst (LinesSoFar s t all)
-        (ap (λ ls. row ++ ls) (lines-on ds n o left k b us m some going ∙ append_assoc (segment_lines o ds n k b m) entry rest)
-        ∙ sym (append_assoc row (segment_lines o ds n k b m) (entry ++ rest))) so_far
-
-    -- a write of the lines of a row or of a border fails
-    pub border-fails : (u : OutputState) (e : Failed) (r : Result (Unit {0}) Failed) → IsErr r → WritesLines t u (row ++ segment_lines o ds n k b m) (Err e)
-        → WritesLines s u all r
-    border-fails u e r f h = lines_failed s t u all (row ++ segment_lines o ds n k b m) (entry ++ rest) r f both h.err
-
-    -- no write fails
-    pub turn-made : (u : OutputState) (x : Unit {0}) → WritesLines t u (row ++ segment_lines o ds n k b m) (Ok x) → LinesSoFar s u all (entry ++ rest)
-    turn-made u x h = lines_more s t u all (row ++ segment_lines o ds n k b m) (entry ++ rest) both h.ok
+use Rattle.st_account.proofs.RunLemmas.{waits-end, waits-on, charges-end, charges-on}
 
 -- ---- numbers of a round
 

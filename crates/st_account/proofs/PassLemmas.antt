@@ -1,6 +1,7 @@
 -- Lemmas on the events after a moment, and on the account after them.
 use Rattle.std.specs.Prelude.{slice_index, nat_lt, nat_eq, ◌||◌, not, Bool, map, All}
 use Rattle.std.proofs.Common.{◌≡◌, ◌≢◌, ℕ, suc, ◌<◌, true, None, List, ◌++◌, length, sym, ◌∙◌, ap, subst}
+use Rattle.st_bits.specs.Storage.{words_of_storage}
 use Rattle.st_bits.specs.declared.limits.TheConstants.{WORDS}
 use Rattle.st_banks.specs.declared.answers.LastAnswers.{LastAnswers}
 use Rattle.st_card.specs.declared.control_cards.Signal.{Signal}
@@ -15,7 +16,7 @@ use Rattle.st_run.specs.Moments.{Moment, next_scene, has_card, has_waited}
 use Rattle.st_lines.specs.Changes.{IsUntouched}
 use Rattle.st_lines.specs.declared.changes.Changeable.{Changeable}
 use Rattle.st_plain.specs.Looking.{seen_ahead, first_late}
-use Rattle.st_plain.specs.declared.looking.Ahead.{Ahead as Seen}
+use Rattle.st_plain.specs.declared.looking.Ahead.{Ahead as SeenAhead}
 use Rattle.st_account.specs.declared.account.Account.{Account}
 use Rattle.st_account.specs.declared.last.Last.{Last}
 use Rattle.st_account.specs.Settling.{at_hand, words_printed}
@@ -58,12 +59,13 @@ module _ (ds : List ℕ) (n : ℕ) (b : Machine) (m : Moment) (a : Account) (xs 
         ∙ ap (λ (c : Scene). rests (with_due_orders (with_due_signals c)).scene.machine) (sym h.scene)
 
     -- a word that no event may have changed
-    pub left-is : (may : Changeable) → may ≡ record { writes = a.last.unit.prepared.writes; card = area mid.reader } → a.k ≢ 0 → (v : ℕ) → v < WORDS → IsUntouched v may
+    pub left-is : (may : Changeable) → may ≡ record { writes = a.last.unit.prepared.writes; card = area mid.reader } → a.k ≢ 0 → length a.words.items ≡ words_of_storage
+        → (v : ℕ) → v < WORDS → IsUntouched v may
         → slice_index a.words.items v ≡ word state v
-    left-is may is some v inside left =
+    left-is may is some long v inside left =
         let l : IsUntouched v (record { writes = a.last.unit.prepared.writes; card = area mid.reader }) = subst (IsUntouched v) is left in
         let each : All IsCard cards = subst (λ (c : Scene). All IsCard c.cards) h.scene h.each in
-        ap (λ (xs : List ℕ). slice_index xs v) (h.words some)
+        ap (λ (xs : List ℕ). slice_index xs v) (h.words some long)
         ∙ sym (h.unwritten some v l.above l.unwritten)
         ∙ ap (λ (u : Machine). word u v) (sym same)
         ∙ sym (between-left (at_hand mid xs cards) each v l.above l.beside)
@@ -75,7 +77,7 @@ module _ (ds : List ℕ) (n : ℕ) (b : Machine) (m : Moment) (a : Account) (xs 
     asked : looks ≡ true
     asked = end-looks left a.state xs cards m a.last.mispredicted still looks h.scene h.hand.mispredicted is_still is_looks ends
 
-    pub dropped-is : (found : List Seen)
+    pub dropped-is : (found : List SeenAhead)
         → (looks ≡ true → found ≡ map (seen_ahead ds n) (prepared_before a.last.tick (ahead ds n n None (predicting a.last.ic a.state) a.last.issue)))
         → found ≡ map (seen_ahead ds n) m.dropped
     dropped-is found seen =
@@ -93,7 +95,7 @@ module _ (ds : List ℕ) (n : ℕ) (b : Machine) (m : Moment) (a : Account) (xs 
         ∙ sym h.hand.banks
 
     -- the entry that had begun
-    pub begun-is : (begun : List Seen)
+    pub begun-is : (begun : List SeenAhead)
         → (looks ≡ true → begun ≡ map (seen_ahead ds n) (first_late a.last.tick (ahead ds n (suc n) None (predicting a.last.ic a.state) a.last.issue)))
         → a.k ≢ 0 → begun ≡ begun_at ds n b m
     unfolding begun_at

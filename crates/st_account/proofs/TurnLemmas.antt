@@ -1,12 +1,9 @@
 -- Lemmas on the run at the head of its loop, and on the effect of one round.
-use Rattle.std.specs.Prelude.{Bool, Result, Ok, Err, IsErr, nat_eq, ◌||◌, All}
-use Rattle.std.proofs.Common.{◌≡◌, ◌≢◌, ℕ, ◌+◌, ◌-◌, ◌*◌, ◌^◌, ◌≤◌, ◌<◌, true, false, Option, List, [], ◌∷◌, ◌++◌, length, refl, sym, ◌∙◌, ap, subst, arith}
+use Rattle.std.specs.Prelude.{Bool, nat_eq, ◌||◌, All}
+use Rattle.std.proofs.Common.{◌≡◌, ◌≢◌, ℕ, ◌+◌, ◌-◌, ◌*◌, ◌^◌, ◌≤◌, ◌<◌, true, false, List, [], ◌∷◌, length, refl, sym, ◌∙◌, ap, subst, arith}
 use Rattle.st_bits.specs.declared.limits.TheConstants.{MOST_INSTRUCTIONS}
 use Rattle.st_card.specs.declared.control_cards.Signal.{Signal}
 use Rattle.st_io.specs.Output.{OutputState}
-use Rattle.st_io.specs.declared.Failed.{Failed}
-use Rattle.st_io.specs.Lines.{WritesLines}
-use Rattle.st_io.proofs.Progress.{LinesSoFar, lines_none}
 use Rattle.st_bits.specs.Storage.{words_of_storage}
 use Rattle.st_state.specs.Machine.{Machine, IsMachine, word}
 use Rattle.st_exec.specs.Ahead.{IsNotAmong}
@@ -32,16 +29,13 @@ use Rattle.st_account.specs.Settling.{at_hand}
 use Rattle.st_reasons.specs.Sums.{AreWaitsWithin, is_parted, waited_at, row_stalled}
 use Rattle.st_reasons.specs.declared.sums.WaitTotals.{WaitTotals}
 use Rattle.st_reasons.specs.declared.waits.Stall.{Stall}
-use Rattle.st_account.specs.Standing.{predicting, kept_lines, kept_stalled, IsWaiting, IsLast, IsStanding, IsAt, IsBehindMoment}
-use Rattle.st_account.specs.Text.{run_ends, segment_end_at, segment_lines, segment_after, uses_at, words_before, lines_of_entry, last_lines, lines_from, stalled_from}
+use Rattle.st_account.specs.Standing.{predicting, kept_stalled, IsWaiting, IsLast, IsStanding, IsAt, IsBehindMoment}
+use Rattle.st_account.specs.Text.{run_ends, segment_after, uses_at, words_before, stalled_from}
 use Rattle.st_account.specs.LedgerSums.{end_from}
 use Rattle.st_report.specs.Line.{end_line as run_end_line, done_line, ticks_line}
-use Rattle.st_lines.specs.Origins.{origin_at}
-use Rattle.st_lines.specs.declared.origins.Origins.{Origins}
 use Rattle.st_account.proofs.LastLemmas.{start-last}
-use Rattle.st_account.proofs.EntryLemmas.{kept-none}
-use Rattle.st_account.proofs.RunLemmas.{next-stepped, next-at, end-last, end-on}
-use Rattle.st_account.proofs.LoopLemmas.{run-ends, border-fails, turn-made, sums-none, number-next, number-some, left-some, rests-not, ends-one, sums-next, sums-end, waits-next, waits-last}
+use Rattle.st_account.proofs.RunLemmas.{next-stepped, next-at, end-last}
+use Rattle.st_account.proofs.LoopLemmas.{sums-none, number-next, number-some, left-some, rests-not, ends-one, sums-next, sums-end, waits-next, waits-last}
 use Rattle.st_account.proofs.StallLemmas.{waited-none, kept-stalled-none}
 
 -- The account agrees with a moment of the run. The ticks still to be added and those already added are together the total.
@@ -58,15 +52,6 @@ pub record IsCounting (ds : List ℕ) (n : ℕ) (total : Stage → ℕ) (waited 
   pub waiting : IsWaiting a.last a.waiting.totals
   pub waits : (r : Stage) (z : Stall) → is_parted r ≡ true
       → waited_at r z a.waiting.totals + (kept_stalled r z a.k a.last + stalled_from r z ds n left a.last.uses.items m) ≡ waited r z
-  pub size : length a.words.items ≡ words_of_storage
-
--- Loop invariant of the whole ledger: lines are written so far, and those of the last entry and of the remaining run are to be written.
-pub record IsRunning (s t : OutputState) (all : List (List ℕ)) (ds : List ℕ) (n : ℕ) (total : Stage → ℕ) (waited : Stage → Stall → ℕ) (a : Account) (rest : List Signal)
-    (cards : List (List ℕ)) (left : ℕ) : Type 0 where
-  pub m : Moment
-  pub b : Machine
-  pub counted : IsCounting ds n total waited a rest cards left m b
-  pub so_far : LinesSoFar s t all (kept_lines a.k a.last (segment_end_at left m) ++ lines_from (origin_at a.origins) ds n left a.k b a.last.uses.items m)
 
 -- Loop invariant of the totals: nothing is written, and the remaining run ends with the lines with which the whole run does.
 pub record IsSumming (s t : OutputState) (all : List (List ℕ)) (ds : List ℕ) (n : ℕ) (total : Stage → ℕ) (waited : Stage → Stall → ℕ) (a : Account) (rest : List Signal)
@@ -76,15 +61,16 @@ pub record IsSumming (s t : OutputState) (all : List (List ℕ)) (ds : List ℕ)
   pub counted : IsCounting ds n total waited a rest cards left m b
   pub ends : end_from ds n left m ≡ all
   pub unwritten : t ≡ s
+  pub bare : length a.words.items ≡ 0
 
-next-done : (ds : List ℕ) (n : ℕ) (m : Moment) → (next_moment ds n (standing_at m)).scene.machine.done ≡ m.scene.machine.done + 1
+pub next-done : (ds : List ℕ) (n : ℕ) (m : Moment) → (next_moment ds n (standing_at m)).scene.machine.done ≡ m.scene.machine.done + 1
 unfolding next_moment
 next-done ds n m = step-done (next_state m) ∙ ap (λ d. d + 1) (settled-done m.scene)
 
 -- ---- the start
 
 module _ (ds : List ℕ) (n budget : ℕ) (state : Machine) (signals : List Signal) (cards : List (List ℕ)) (a : Account)
-    (size : length a.words.items ≡ words_of_storage) (are : AreDelaysUpTo 255 ds) (few : n ≤ 8) (machine : IsMachine state) (each : All IsCard cards)
+    (are : AreDelaysUpTo 255 ds) (few : n ≤ 8) (machine : IsMachine state) (each : All IsCard cards)
     (fresh : state.done ≡ 0) (limit : budget ≤ MOST_INSTRUCTIONS) (none : AreWithin 0 a.sums) (is : a.state ≡ state) (number : a.k ≡ 0) (tick : a.last.tick ≡ 0)
     (issue : a.last.issue ≡ opening_issue idle_banks 0) (past : a.last.past ≡ a.last.issue.past) (mispredicted : a.last.mispredicted ≡ false)
     (ic : a.last.ic ≡ state.ic) (enabled : a.last.enabled ≡ state.enabled) (counter : a.last.ic < 2 ^ 19) (empty : a.log ≡ []) (tight : IsTight 255 a.last.issue)
@@ -92,7 +78,7 @@ module _ (ds : List ℕ) (n budget : ℕ) (state : Machine) (signals : List Sign
   abbrev first : Moment
   first = moment_at_start (at_hand state signals cards)
 
-  counts-at-start : IsCounting ds n (λ x. ticks_for x (all_charges ds n (entries_from ds n budget first)))
+  pub counts-at-start : IsCounting ds n (λ x. ticks_for x (all_charges ds n (entries_from ds n budget first)))
       (λ r z. stalled_from r z ds n budget [] first) a signals cards budget first state
   counts-at-start = record {
     at = record {
@@ -101,7 +87,7 @@ module _ (ds : List ℕ) (n budget : ℕ) (state : Machine) (signals : List Sign
       hand = start-last ds n (at_hand state signals cards) a.last a.log tick issue past mispredicted ic counter empty tight;
       was = sym enabled;
       predicted = λ some. absurd (some number);
-      words = λ some. absurd (some number);
+      words = λ some long. absurd (some number);
       unwritten = λ some. absurd (some number);
     };
     bounds = start-is 255 n ds are few (at_hand state signals cards) (record { machine = machine; cards = each });
@@ -117,49 +103,13 @@ module _ (ds : List ℕ) (n budget : ℕ) (state : Machine) (signals : List Sign
         let unkept = kept-stalled-none r z a.k a.last number in
         let same = ap (λ us. stalled_from r z ds n budget us first) unused in
         omega (arith, nothing, unkept, same);
-    size = size;
   }
 
-  pub run-starts : (s : OutputState) (table : Origins) → a.origins ≡ table
-      → IsRunning s s (lines_from (origin_at table) ds n budget 0 state [] first) ds n
-      (λ x. ticks_for x (all_charges ds n (entries_from ds n budget first)))
-      (λ r z. stalled_from r z ds n budget [] first) a signals cards budget
-  run-starts s table same_table =
-      let all = lines_from (origin_at table) ds n budget 0 state [] first in
-      record {
-        m = first;
-        b = state;
-        counted = counts-at-start;
-        so_far = subst (LinesSoFar s s all)
-            (sym (ap (λ ls. ls ++ lines_from (origin_at a.origins) ds n budget a.k state a.last.uses.items first) (kept-none a.k a.last (segment_end_at budget first) number)
-            ∙ ap (λ y. lines_from (origin_at y) ds n budget a.k state a.last.uses.items first) same_table
-            ∙ ap (λ k. lines_from (origin_at table) ds n budget k state a.last.uses.items first) number
-            ∙ ap (λ us. lines_from (origin_at table) ds n budget 0 state us first) unused))
-            (lines_none s all);
-      }
-
-  pub sums-start : (s : OutputState) → IsSumming s s (end_from ds n budget first) ds n
-      (λ x. ticks_for x (all_charges ds n (entries_from ds n budget first)))
-      (λ r z. stalled_from r z ds n budget [] first) a signals cards budget
-  sums-start s = record { m = first; b = state; counted = counts-at-start; ends = refl; unwritten = refl }
-
 -- an invariant of the loop after the signals and the budget have been taken from the controls
-taken : (Q : List Signal → List (List ℕ) → ℕ → Type 0) (x : PendingEvents) (xs ys : List Signal) (cards : List (List ℕ)) (left budget : ℕ)
+pub taken : (Q : List Signal → List (List ℕ) → ℕ → Type 0) (x : PendingEvents) (xs ys : List Signal) (cards : List (List ℕ)) (left budget : ℕ)
     → x ≡ record { signals = xs; cards = cards } → xs ≡ ys → left ≡ budget → Q ys cards budget → Q x.signals x.cards left
 taken Q x xs ys cards left budget came is same h =
     subst (λ (y : PendingEvents). Q y.signals y.cards left) (sym came) (subst (λ zs. Q zs cards left) (sym is) (subst (λ k. Q ys cards k) (sym same) h))
-
-pub run-taken : (s t : OutputState) (all : List (List ℕ)) (ds : List ℕ) (n : ℕ) (total : Stage → ℕ) (waited : Stage → Stall → ℕ) (a : Account) (x : PendingEvents)
-    (xs ys : List Signal) (cards : List (List ℕ)) (left budget : ℕ) → x ≡ record { signals = xs; cards = cards } → xs ≡ ys → left ≡ budget
-    → IsRunning s t all ds n total waited a ys cards budget → IsRunning s t all ds n total waited a x.signals x.cards left
-run-taken s t all ds n total waited a x xs ys cards left budget =
-    taken (λ zs cs k. IsRunning s t all ds n total waited a zs cs k) x xs ys cards left budget
-
-pub sums-taken : (s t : OutputState) (all : List (List ℕ)) (ds : List ℕ) (n : ℕ) (total : Stage → ℕ) (waited : Stage → Stall → ℕ) (a : Account) (x : PendingEvents)
-    (xs ys : List Signal) (cards : List (List ℕ)) (left budget : ℕ) → x ≡ record { signals = xs; cards = cards } → xs ≡ ys → left ≡ budget
-    → IsSumming s t all ds n total waited a ys cards budget → IsSumming s t all ds n total waited a x.signals x.cards left
-sums-taken s t all ds n total waited a x xs ys cards left budget =
-    taken (λ zs cs k. IsSumming s t all ds n total waited a zs cs k) x xs ys cards left budget
 
 -- ---- the state at the head of the loop
 
@@ -190,17 +140,6 @@ module _ (ds : List ℕ) (n : ℕ) (total : Stage → ℕ) (waited : Stage → S
     -- whether the run ends
     pub over-is : (over : Bool) → over ≡ (nat_eq left 0 || rests a'.state) → over ≡ run_ends left m
     over-is over is = is ∙ ap (λ u. nat_eq left 0 || rests u) (sym next)
-
-    kept : (end : Option ℕ) → kept_lines a'.k a'.last end ≡ kept_lines a.k a.last end
-    kept end = ap (λ (x : Account). kept_lines x.k x.last end) same
-
-    pub finishes : (s t : OutputState) (all : List (List ℕ)) → LinesSoFar s t all (kept_lines a.k a.last (segment_end_at left m) ++ lines_from (origin_at a.origins) ds n left a.k b a.last.uses.items m)
-        → (u : OutputState) (r : Result (Unit {0}) Failed) → run_ends left m ≡ true
-        → WritesLines t u (kept_lines a'.k a'.last (segment_end_at left m) ++ last_lines (origin_at a'.origins) ds n a'.k b m) r → WritesLines s u all r
-    finishes s t all so_far u r end writes =
-        run-ends (origin_at a.origins) ds n left a.k b a.last.uses.items m s t all (kept_lines a.k a.last (segment_end_at left m)) so_far u r (ends-one left (rests (next_state m)) end)
-        (subst (λ ls. WritesLines t u ls r)
-        (ap (λ (x : Account). kept_lines x.k x.last (segment_end_at left m) ++ last_lines (origin_at x.origins) ds n x.k b m) same) writes)
 
     -- the lines of the end, of the state after the events
     pub ends-with : (all : List (List ℕ)) → end_from ds n left m ≡ all → run_ends left m ≡ true
@@ -234,37 +173,23 @@ module _ (ds : List ℕ) (n : ℕ) (total : Stage → ℕ) (waited : Stage → S
       pub some : left ≢ 0
       some = left-some left (rests (next_state m)) going
 
-      on : rests (next_state m) ≡ false
+      pub on : rests (next_state m) ≡ false
       on = rests-not (nat_eq left 0) (rests (next_state m)) going
-
-      abbrev row : List (List ℕ)
-      row = kept_lines a.k a.last (segment_end_at left m)
-
-      crossed : (t u : OutputState) (r : Result (Unit {0}) Failed) → WritesLines t u (kept_lines a'.k a'.last (segment_end_at left m) ++ segment_lines (origin_at a'.origins) ds n a'.k b m) r
-          → WritesLines t u (row ++ segment_lines (origin_at a.origins) ds n a.k b m) r
-      crossed t u r writes = subst (λ ls. WritesLines t u ls r)
-          (ap (λ (x : Account). kept_lines x.k x.last (segment_end_at left m) ++ segment_lines (origin_at x.origins) ds n x.k b m) same) writes
-
-      pub crossing-fails : (s t : OutputState) (all : List (List ℕ)) → LinesSoFar s t all (kept_lines a.k a.last (segment_end_at left m) ++ lines_from (origin_at a.origins) ds n left a.k b a.last.uses.items m)
-          → (u : OutputState) (e : Failed) (r : Result (Unit {0}) Failed) → IsErr r
-          → WritesLines t u (kept_lines a'.k a'.last (segment_end_at left m) ++ segment_lines (origin_at a'.origins) ds n a'.k b m) (Err e) → WritesLines s u all r
-      crossing-fails s t all so_far u e r f w =
-          border-fails (origin_at a.origins) ds n left a.k b a.last.uses.items m s t all (kept_lines a.k a.last (segment_end_at left m)) so_far some on u e r f (crossed t u (Err e) w)
 
       module _ (c : Account) (number : c.k ≡ segment_after a'.k m) (issue : c.last.issue ≡ next_issue m) (tick : c.last.tick ≡ a'.last.tick)
           (state : c.state ≡ a'.state) (table : c.origins ≡ a'.origins) where
         pub stands : IsStanding (standing_at m) c.state c.last
         stands = record { machine = next ∙ sym state; tick = behind.tick ∙ sym tick; issue = sym issue }
 
-        after : c.k ≡ segment_after a.k m
+        pub after : c.k ≡ segment_after a.k m
         after = number ∙ ap (λ k. segment_after k m) segment
 
-        old-words : c.last.uses.items ≡ words_before m a'.last.uses.items → c.last.uses.items ≡ words_before m a.last.uses.items
+        pub old-words : c.last.uses.items ≡ words_before m a'.last.uses.items → c.last.uses.items ≡ words_before m a.last.uses.items
         old-words earlier = earlier ∙ ap (λ (l : Last). words_before m l.uses.items) last
 
         -- the next entry is completed, and its lines are still to be written
         pub counts : (d : Account)
-            → c.words.items ≡ a'.state.words → c.sums ≡ a'.sums → length c.words.items ≡ words_of_storage → AreDelaysUpTo 255 ds → n ≤ 8
+            → (length c.words.items ≡ words_of_storage → c.words.items ≡ a'.state.words) → c.sums ≡ a'.sums → AreDelaysUpTo 255 ds → n ≤ 8
             → d.state ≡ step c.state → ((p : Standing) → IsStanding p c.state c.last → IsLast ds n (next_moment ds n p) d.last d.log)
             → ((p : Standing) (x : Stage) → IsStanding p c.state c.last → sum_at x d.sums ≡ sum_at x c.sums + ticks_for x (charges_at ds n p))
             → AreWithin d.last.tick d.sums → d.last.enabled ≡ c.state.enabled → predicting d.last.ic d.state ≡ prediction (interrupt c.state) c.state
@@ -276,14 +201,15 @@ module _ (ds : List ℕ) (n : ℕ) (total : Stage → ℕ) (waited : Stage → S
             → kept_stalled r z d.k d.last ≡ row_stalled r z (uses_at ds n p) c.last.uses.items (charges_at ds n p))
             → d.waiting.totals ≡ c.waiting.totals
             → IsCounting ds n total waited d ys cards' (left - 1) (next_moment ds n (standing_at m)) (next_state m)
-        counts d words sums size are few made hand added within enabled predicted unwritten kept_words segment' earlier used waits_new told kept totals =
+        counts d words sums are few made hand added within enabled predicted unwritten kept_words segment' earlier used waits_new told kept totals =
             let bounds = next-is 255 n ds are few m h.bounds in
             let more = next-done ds n m in
             let scene = next-stepped ds n m a'.state d.state ys cards' behind.scene (made ∙ ap step state) in
             let here : next_state m ≡ c.state = next ∙ sym state in
             let old = old-words earlier in
             let later = number-some a.k c.k m after in
-            let stored : d.words.items ≡ (next_state m).words = kept_words ∙ words ∙ ap (λ (u : Machine). u.words) (sym next) in
+            let stored : length d.words.items ≡ words_of_storage → d.words.items ≡ (next_state m).words =
+            λ long. kept_words ∙ words (ap length (sym kept_words) ∙ long) ∙ ap (λ (u : Machine). u.words) (sym next) in
             record {
               at = record {
                 scene = scene;
@@ -307,48 +233,4 @@ module _ (ds : List ℕ) (n : ℕ) (total : Stage → ℕ) (waited : Stage → S
                   waits-next ds n left a.last.uses.items d.last.uses.items m r z _ _ _ _ (waited r z) some on (waits-then r z parted)
                   (ap (waited_at r z) totals ∙ told r z parted)
                   (kept (standing_at m) r z later stands ∙ ap (λ us. row_stalled r z (uses_at ds n (standing_at m)) us (charges_at ds n (standing_at m))) old) (used (standing_at m) stands);
-              size = ap length kept_words ∙ size;
             }
-
-        -- and the lines of the entry before it are written
-        pub goes : (s t : OutputState) (all : List (List ℕ)) → LinesSoFar s t all (kept_lines a.k a.last (segment_end_at left m) ++ lines_from (origin_at a.origins) ds n left a.k b a.last.uses.items m)
-            → (u : OutputState) (x : Unit {0}) (d : Account)
-            → WritesLines t u (kept_lines a'.k a'.last (segment_end_at left m) ++ segment_lines (origin_at a'.origins) ds n a'.k b m) (Ok x)
-            → ((p : Standing) (end : Option ℕ) → c.k ≢ 0 → IsStanding p c.state c.last → kept_lines d.k d.last end ≡ lines_of_entry (origin_at c.origins) ds n end c.last.uses.items p)
-            → d.origins ≡ c.origins → d.k ≡ c.k → c.last.uses.items ≡ words_before m a'.last.uses.items
-            → ((p : Standing) → IsStanding p c.state c.last → d.last.uses.items ≡ uses_at ds n p)
-            → IsCounting ds n total waited d ys cards' (left - 1) (next_moment ds n (standing_at m)) (next_state m)
-            → IsRunning s u all ds n total waited d ys cards' (left - 1)
-        goes s t all so_far u x d writes entry kept_table segment' earlier used counted =
-            let m' = next_moment ds n (standing_at m) in
-            let p = standing_at m in
-            let end = segment_end_at (left - 1) m' in
-            let old = old-words earlier in
-            let later = number-some a.k c.k m after in
-            let same_table : c.origins ≡ a.origins = table ∙ ap (λ (x : Account). x.origins) same in
-            record {
-              m = m';
-              b = next_state m;
-              counted = counted;
-              so_far = subst (LinesSoFar s u all)
-                  (ap (λ ls. ls ++ lines_from (origin_at a.origins) ds n (left - 1) (segment_after a.k m) (next_state m) (uses_at ds n p) m')
-                  (ap (λ us. lines_of_entry (origin_at a.origins) ds n end us p) (sym old)
-                  ∙ ap (λ y. lines_of_entry (origin_at y) ds n end c.last.uses.items p) (sym same_table)
-                  ∙ sym (entry p end later stands))
-                  ∙ ap (λ us. kept_lines d.k d.last end ++ lines_from (origin_at a.origins) ds n (left - 1) (segment_after a.k m) (next_state m) us m') (sym (used p stands))
-                  ∙ ap (λ k. kept_lines d.k d.last end ++ lines_from (origin_at a.origins) ds n (left - 1) k (next_state m) d.last.uses.items m') (sym (segment' ∙ after))
-                  ∙ ap (λ y. kept_lines d.k d.last end ++ lines_from (origin_at y) ds n (left - 1) d.k (next_state m) d.last.uses.items m') (sym (kept_table ∙ same_table)))
-                  (turn-made (origin_at a.origins) ds n left a.k b a.last.uses.items m s t all (kept_lines a.k a.last (segment_end_at left m)) so_far some on u x (crossed t u (Ok x) writes));
-            }
-
-        -- the totals alone
-        pub sums-on : (s t : OutputState) (all : List (List ℕ)) → end_from ds n left m ≡ all → t ≡ s → (d : Account)
-            → IsCounting ds n total waited d ys cards' (left - 1) (next_moment ds n (standing_at m)) (next_state m)
-            → IsSumming s t all ds n total waited d ys cards' (left - 1)
-        sums-on s t all ends still d counted = record {
-          m = next_moment ds n (standing_at m);
-          b = next_state m;
-          counted = counted;
-          ends = sym (end-on ds n left m some on) ∙ ends;
-          unwritten = still;
-        }

@@ -1,23 +1,29 @@
 -- The output of the program for a job, and the meaning of each status.
-use Rattle.std.specs.Prelude.{◌≡◌, ℕ, ◌-◌, ◌&&◌, Bool, true, false, nat_le, if◌then◌else◌, List, [], ◌∷◌, Option, None, Some, option_map, Result, Ok, Err, codes}
+use Rattle.std.specs.Prelude.{◌≡◌, ℕ, ◌+◌, ◌-◌, ◌&&◌, Bool, nat_eq, nat_le, min, if◌then◌else◌, List, [], ◌∷◌, length, Option, None, Some, Result, Ok, Err, codes}
+use Rattle.st_text.specs.Number.{number_up_to}
 use Rattle.st_text.specs.Tables.{is_same}
-use Rattle.st_bits.specs.declared.limits.TheConstants.{LONGEST_JOB}
+use Rattle.st_bits.specs.declared.limits.TheConstants.{LONGEST_JOB, MOST_INSTRUCTIONS}
 use Rattle.st_io.specs.Count.{HasRisen}
 use Rattle.st_io.specs.Input.{InputState, CameWhole, CameWithin, CamePast}
 use Rattle.st_io.specs.Output.{OutputState, Wrote}
 use Rattle.st_io.specs.Lines.{text, StoppedIn}
+use Rattle.st_card.specs.Cards.{cards_of}
 use Rattle.st_card.specs.Faults.{name_of}
 use Rattle.st_asm.specs.Pass.{Refusal}
 use Rattle.st_asm.specs.Assembly.{Assembly, assembly}
-use Rattle.st_state.specs.Machine.{opening_state}
+use Rattle.st_state.specs.Machine.{Machine, opening_state}
+use Rattle.st_lines.specs.declared.origins.Origin.{Origin}
 use Rattle.st_exch.specs.Reader.{reader_cards}
 use Rattle.st_run.specs.Run.{Scene}
 use Rattle.st_report.specs.Line.{fault_line}
 use Rattle.st_account.specs.Settling.{at_hand}
 use Rattle.st_account.specs.FirstCards.{origin_of}
+use Rattle.st_account.specs.LedgerRows.{ledger_rows}
 use Rattle.st_account.specs.LedgerSums.{ledger_sums}
 use Rattle.st_account.specs.Text.{ledger}
 use Rattle.st_account.specs.declared.program.Asked.{Asked}
+use Rattle.st_account.specs.declared.program.Part.{Part}
+use Rattle.st_account.specs.declared.program.Part.TheVariants.{All, Sums, Rows}
 use Rattle.st_account.specs.declared.status.Status.{Status}
 use Rattle.st_account.specs.declared.status.Status.TheVariants.{Done, Refused, Usage, JobTooLong, ReadFault, WriteFault, NoMemory}
 
@@ -27,28 +33,53 @@ use Rattle.st_account.specs.declared.status.Status.TheVariants.{Done, Refused, U
 abbrev pub levels_by : ℕ → Option ℕ
 levels_by c = if nat_le 49 c && nat_le c 56 then Some (c - 48) else None
 
--- whether a word is `sums`
-abbrev pub is_sums : List ℕ → Bool
-is_sums word = is_same word (codes "sums")
-
 -- the number of levels that a word requests
 abbrev pub levels_of_word : List ℕ → Option ℕ
 levels_of_word [] = None
 levels_of_word (c ∷ []) = levels_by c
 levels_of_word (c ∷ b ∷ bs) = None
 
-abbrev pub asked_of : Bool → ℕ → Asked
-asked_of sums n = record { levels = n; sums = sums }
+-- whether a word is `sums`, and whether it is `rows`
+abbrev pub is_sums : List ℕ → Bool
+is_sums word = is_same word (codes "sums")
+
+abbrev pub is_rows : List ℕ → Bool
+is_rows word = is_same word (codes "rows")
+
+-- the number of a row that a word spells in decimal digits, from 1 to 10,000,000; the first digit
+-- is not 0
+abbrev pub row_of_word : List ℕ → Option ℕ
+row_of_word [] = None
+row_of_word (c ∷ cs) = if nat_eq c 48 then None else number_up_to MOST_INSTRUCTIONS (c ∷ cs)
+
+-- the part of a ledger from one row on, in a run of at most so many rows
+abbrev pub rows_between : Option ℕ → Option ℕ → Option Part
+rows_between None to = None
+rows_between (Some from) None = None
+rows_between (Some from) (Some to) = if nat_le from to then Some (Rows (from - 1) to) else None
+
+-- a part of a ledger on a machine with so many levels
+abbrev pub asked_of : Option Part → Option ℕ → Option Asked
+asked_of None levels = None
+asked_of (Some part) None = None
+asked_of (Some part) (Some n) = Some (record { levels = n; part = part })
 
 -- what a command line requests: four levels if no word says how many
 abbrev pub asked_by : List (List ℕ) → Option Asked
-asked_by [] = Some (asked_of false 4)
+asked_by [] = asked_of (Some All) (Some 4)
 asked_by (word ∷ []) =
-    if is_sums word then Some (asked_of true 4)
-    else option_map (asked_of false) (levels_of_word word)
+    if is_sums word then asked_of (Some Sums) (Some 4)
+    else asked_of (Some All) (levels_of_word word)
 asked_by (first ∷ second ∷ []) =
-    if is_sums second then option_map (asked_of true) (levels_of_word first) else None
-asked_by (first ∷ second ∷ third ∷ words) = None
+    if is_sums second then asked_of (Some Sums) (levels_of_word first) else None
+asked_by (first ∷ second ∷ third ∷ []) =
+    if is_rows first
+    then asked_of (rows_between (row_of_word second) (row_of_word third)) (Some 4) else None
+asked_by (first ∷ second ∷ third ∷ fourth ∷ []) =
+    if is_rows second
+    then asked_of (rows_between (row_of_word third) (row_of_word fourth)) (levels_of_word first)
+    else None
+asked_by (first ∷ second ∷ third ∷ fourth ∷ fifth ∷ words) = None
 
 -- ---- jobs
 
@@ -57,11 +88,18 @@ asked_by (first ∷ second ∷ third ∷ words) = None
 abbrev pub start_of : List ℕ → Assembly → Scene
 start_of job a = at_hand (opening_state a.image a.start) a.asked.signals (reader_cards job)
 
--- the lines of an assembled job: its ledger, or the totals alone
+-- the lines of a part of a ledger: all of them, or the totals with tables for so many cards, or
+-- those from one row on in a run of at most `most` rows; `left` is the budget
+abbrev pub lines_of_part : Part → (Machine → ℕ → Option Origin) → List ℕ → ℕ → ℕ → ℕ → Scene →
+    List (List ℕ)
+lines_of_part All o ds n left cards c = ledger o ds n left c
+lines_of_part Sums o ds n left cards c = ledger_sums o ds n left (cards + 1) c
+lines_of_part (Rows skipped most) o ds n left cards c = ledger_rows o ds n (min most left) skipped c
+
+-- the lines that are requested of an assembled job
 abbrev pub run_lines : Asked → List ℕ → Assembly → List (List ℕ)
-run_lines asked job a =
-    if asked.sums then ledger_sums a.asked.delays asked.levels a.asked.budget (start_of job a)
-    else ledger (origin_of a) a.asked.delays asked.levels a.asked.budget (start_of job a)
+run_lines asked job a = lines_of_part asked.part (origin_of a) a.asked.delays asked.levels
+    a.asked.budget (length (cards_of job)) (start_of job a)
 
 -- the lines of a job: those of its run, or the line of the first refused card
 abbrev pub lines_by : Asked → List ℕ → Result Assembly Refusal → List (List ℕ)

@@ -1,8 +1,12 @@
 pub mod Text
+pub mod LedgerTables
 pub mod LedgerSums
+pub mod Tallying
+pub mod LedgerRows
 pub mod FirstCards
 pub mod Answers
 pub mod Standing
+pub mod Passing
 pub mod Settling
 pub use Rattle.st_asm.specs.Assembly
 pub use Rattle.st_asm.specs.Pass
@@ -44,3 +48,5 @@ pub use Rattle.st_lines.specs.BorderLines
 pub use Rattle.st_lines.specs.EntryLines
 pub use Rattle.st_lines.specs.Origins
 pub use Rattle.st_lines.specs.WaitLines
+pub use Rattle.st_tally.specs.Tally
+pub use Rattle.st_tally.specs.TallyLines

@@ -1,6 +1,7 @@
 -- The facts that the code has of a moment of a run, except its scene. The machine has the delays ds
 -- and n levels.
 use Rattle.std.specs.Prelude.{ℕ, suc, ◌+◌, ◌≡◌, ◌≢◌, ◌<◌, ◌≤◌, ◌^◌, length, true, not, ◌&&◌, nat_eq, if◌then◌else◌, is_none, Bool, List, [], ◌∷◌, ◌++◌, map, All, Option, None}
+use Rattle.st_bits.specs.Storage.{words_of_storage}
 use Rattle.st_bits.specs.declared.limits.TheConstants.{MOST_DELAY}
 use Rattle.st_state.specs.Machine.{Machine, word}
 use Rattle.st_exec.specs.Ahead.{IsNotAmong}
@@ -118,7 +119,8 @@ pub record AddsKeptWaits (k : ℕ) (l : Last) (old new : WaitTotals) : Type 0 wh
       waited_at r s new ≡ waited_at r s old + kept_stalled r s k l
 
 -- The account agrees with a moment of the run, which the last entry reached from state b, with
--- these pending signals and remaining cards.
+-- these pending signals and remaining cards. Its copy of the words matters if it has a place for
+-- each word of storage; totals need no copy.
 pub record IsAt (ds : List ℕ) (n : ℕ) (b : Machine) (m : Moment) (a : Account) (xs : List Signal)
     (cards : List (List ℕ)) : Type 0 where
   pub scene : m.scene ≡ at_hand a.state xs cards
@@ -126,7 +128,7 @@ pub record IsAt (ds : List ℕ) (n : ℕ) (b : Machine) (m : Moment) (a : Accoun
   pub hand : IsLast ds n m a.last a.log
   pub was : b.enabled ≡ a.last.enabled
   pub predicted : a.k ≢ 0 → predicting a.last.ic m.scene.machine ≡ prediction (interrupt b) b
-  pub words : a.k ≢ 0 → a.words.items ≡ b.words
+  pub words : a.k ≢ 0 → length a.words.items ≡ words_of_storage → a.words.items ≡ b.words
   pub unwritten : a.k ≢ 0 → (w : ℕ) → 32 ≤ w → IsNotAmong w a.last.unit.prepared.writes →
       word a.state w ≡ word b w
 
@@ -146,8 +148,9 @@ pub record IsBehindMoment (ds : List ℕ) (n left : ℕ) (b : Machine) (m : Mome
   pub printed : a.behind.printed.items ≡ words_behind m
   pub card : a.behind.card ≡ has_card m
   pub waited : a.behind.waited ≡ has_waited m
-  pub words : a.k ≢ 0 → a.words.items ≡ b.words
-  pub unchanged : IsCopyBehind a.k a.behind.may a.words.items a.state
+  pub words : a.k ≢ 0 → length a.words.items ≡ words_of_storage → a.words.items ≡ b.words
+  pub unchanged : length a.words.items ≡ words_of_storage →
+      IsCopyBehind a.k a.behind.may a.words.items a.state
 
 -- whether the prediction was right and no event comes: no signal is due, no device has an order,
 -- the machine does not wait, and no interrupt is taken

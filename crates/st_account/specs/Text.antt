@@ -28,6 +28,7 @@ use Rattle.st_lines.specs.Lines.{start_line}
 use Rattle.st_lines.specs.EntryLines.{done_entry_lines}
 use Rattle.st_lines.specs.WaitLines.{wait_sum_lines}
 use Rattle.st_lines.specs.BorderLines.{segment_end_lines, marks_lines, state_lines, machine_lines}
+use Rattle.st_lines.specs.declared.facts.EntryDone.{EntryDone}
 use Rattle.st_lines.specs.declared.origins.Origin.{Origin}
 use Rattle.st_lines.specs.declared.lines.Why.{Why}
 use Rattle.st_lines.specs.declared.lines.Why.TheVariants.{Run, Interrupt, Mispredicted, Card}
@@ -115,26 +116,33 @@ uses_at ds n p =
 abbrev pub words_before : Moment → List Use → List Use
 words_before m us = if ends_segment m then [] else us
 
--- the lines of the next entry, given the words that the previous entry uses; its segment ends at
--- tick `end`, or continues if there is none
-unfoldable pub lines_of_entry : (Machine → ℕ → Option Origin) → List ℕ → ℕ → Option ℕ → List Use →
-    Standing → List (List ℕ)
-lines_of_entry o ds n end before p =
+-- the next entry as a completed one, given the words that the previous entry uses; its segment ends
+-- at tick `end`, or continues if there is none
+abbrev pub done_at : (Machine → ℕ → Option Origin) → List ℕ → ℕ → Option ℕ → List Use → Standing →
+    EntryDone
+done_at o ds n end before p =
     let s = p.scene.machine in
-    let e = plan s (interrupt s) in
     let x = entry (interrupt s) s in
-    done_entry_lines (record {
+    record {
       n = s.done + 1;
       address = address s;
       origin = o s (address s);
       row = record { ticks = next_row ds n p; level_wait = level_wait ds n p.issue x };
-      mispredicted = is_mispredicted e s;
+      mispredicted = is_mispredicted (plan s (interrupt s)) s;
       before = p.tick;
       start = p.issue.c;
       end = end;
       because = because p.issue x (next_row ds n p).a (next_row ds n p).p
           (level_wait ds n p.issue x) (formed_at ds p) before;
-    }) e (known_at (interrupt s) s) (uses_at ds n p) before
+    }
+
+-- the lines of the next entry, given the same
+unfoldable pub lines_of_entry : (Machine → ℕ → Option Origin) → List ℕ → ℕ → Option ℕ → List Use →
+    Standing → List (List ℕ)
+lines_of_entry o ds n end before p =
+    let s = p.scene.machine in
+    done_entry_lines (done_at o ds n end before p) (plan s (interrupt s))
+    (known_at (interrupt s) s) (uses_at ds n p) before
 
 -- ---- the end
 

@@ -1,4 +1,15 @@
-//! The ledger of a run so far, and how it proceeds from one entry to the next.
+//! The ledger of a run so far, and how it proceeds from one entry to the next. The lines of an
+//! entry are written late: after the events that follow it, since these say whether its segment
+//! ends.
+//!
+//! running.rt calls, for each entry: `take_events`, `write_to_next` (or `skip_to_next`), `step`,
+//! and at the end `finish` (or `finish_sums`). Ticks, counts and numbers are those of the run;
+//! segments are numbered from 1.
+//!
+//! Proved: with `IsAt` and `IsBehindMoment` of specs/Standing.antt kept, the lines are those of
+//! specs/Text.antt, and totals grow by the charges and waits of each entry. Pinned: the order of
+//! the calls, by these premises. Free: the fields that only save time, such as `may` and the
+//! buffers.
 ghost use Rattle.std.specs.Prelude.{◌≡◌, ◌≢◌, List, true, false, ℕ, ◌+◌, ◌<◌, ◌≤◌, ◌^◌, ◌∷◌, ◌++◌, ◌||◌, nat_eq, suc, [], if◌then◌else◌, length, map, replicate, All, IsOk, is_some, None, Option};
 ghost use Rattle.st_bits.specs.declared.limits.TheConstants.{MOST_DELAY, MOST_INSTRUCTIONS};
 ghost use Rattle.st_bits.specs.Storage.{words_of_storage};
@@ -14,6 +25,7 @@ ghost use Rattle.st_ledger.specs.Totals.{sum_at, AreWithin};
 ghost use Rattle.st_ledger.specs.declared.charges.Stage.{Stage};
 ghost use Rattle.st_lines.specs.Changes.{IsCopyBehind};
 ghost use Rattle.st_lines.specs.Origins.{origin_at};
+ghost use Rattle.st_lines.specs.declared.lines.Why.{Why as WhyOf};
 ghost use Rattle.st_lines.specs.declared.lines.Why.TheVariants.{Run as RunBegins};
 ghost use Rattle.st_plain.specs.Looking.{seen_ahead, first_late};
 ghost use Rattle.st_reasons.specs.Sums.{AreWaitsWithin, row_stalled};
@@ -28,6 +40,8 @@ ghost use Rattle.st_rows.specs.declared.bus.Bus.{Bus as BusOf};
 ghost use Rattle.st_run.specs.Moments.{Moment, Standing, next_issue, next_moment};
 ghost use Rattle.st_segment.specs.Ahead.{ahead, prepared_before, reads_before};
 ghost use Rattle.st_state.specs.Machine.{Machine, IsMachine, word};
+ghost use Rattle.st_account.specs.LedgerTables.{row_at};
+ghost use Rattle.st_account.specs.Tallying.{kept_rows, IsOrdered};
 ghost use Rattle.st_account.specs.Text.{why_by, run_ends, segment_end_at, segment_after, segment_lines, uses_at, words_before, lines_of_entry, last_lines};
 ghost use Rattle.st_account.specs.Standing.{predicting, kept_lines, kept_stalled, IsWaiting, AddsKeptWaits, HasReads, IsLast, IsStanding, IsAt, IsBehindMoment};
 
@@ -41,7 +55,7 @@ use crate::stepping::{
 use st_banks::LastAnswers;
 use st_exec::{interrupt, is_at_rest, next_address};
 use st_io::{Failed, Sink};
-use st_ledger::{RowLine, Totals, parts};
+use st_ledger::{RowLine, Totals};
 use st_lines::{
     Between, Border, Dropped, EntryDone, EntryRecord, FactLine, Origins, RowTelling, add_waits,
     copy_changed, either, write_border, write_done, write_end, write_marks, write_totals,
@@ -125,10 +139,12 @@ fn add_row(last: &Last, k: u32, waiting: &mut RowTelling)
     let done = &last.done;
     add_waits(
         done.before,
-        &parts(done.start, &done.row.ticks),
+        done.start,
+        &done.row.ticks,
         last.uses.as_slice(),
         last.before.as_slice(),
-        waiting,
+        &mut waiting.waits,
+        &mut waiting.totals,
     );
 }
 
@@ -156,6 +172,7 @@ impl Account {
         // No row has been written.
         ensures none { AreWithin 0 result.sums }
         ensures unused { result.last.uses.items ≡ [] }
+        ensures before { result.last.done.before ≡ 0 }
         ensures waiting { IsWaiting result.last result.waiting.totals }
         ensures unwaited { AreWaitsWithin 0 result.waiting.totals }
         ensures number { result.k ≡ 0 }
@@ -271,9 +288,10 @@ impl Account {
         left == 0 || is_at_rest(&self.state)
     }
 
-    // The border between the last entry and the next one; afterwards the issue state and the
-    // segment are those of the next entry.
-    fn enter_next(&mut self) -> Border
+    /// The border between the last entry and the next one; afterwards the issue state and the
+    /// segment are those of the next entry.
+    #[inline(always)]
+    pub fn enter_next(&mut self) -> Border
         requires number { self.old.k ≤ MOST_INSTRUCTIONS }
         requires early { self.old.last.tick ≤ 2 ^ 62 }
         requires dropped { length self.old.behind.ahead.found.items ≤ 8 }
@@ -405,7 +423,9 @@ impl Account {
     }
 
     /// Passes from the last entry to the next one as `write_to_next` does, and writes nothing.
-    pub fn skip_to_next(&mut self)
+    /// Returns the border between the two.
+    #[inline(never)]
+    pub fn skip_to_next(&mut self) -> Border
         requires number { self.old.k ≤ MOST_INSTRUCTIONS }
         requires early { self.old.last.tick ≤ 2 ^ 62 }
         requires dropped { length self.old.behind.ahead.found.items ≤ 8 }
@@ -418,6 +438,19 @@ impl Account {
             self.old.state }
         requires waiting { IsWaiting self.old.last self.old.waiting.totals }
 
+        ensures border { result ≡ record {
+          ends = result.ends;
+          begins = result.begins;
+          start = self.new.last.issue.c;
+          waited = self.old.behind.waited;
+          why = if nat_eq self.old.k 0 then RunBegins
+              else why_by (interrupt_of self.old.state) self.old.last.mispredicted;
+          taken = interrupt_of self.old.state;
+          done = self.old.state.done;
+        } }
+        ensures ends { result.ends ≡ (self.old.last.mispredicted || self.old.behind.card
+            || self.old.behind.waited || is_some (interrupt_of self.old.state)) }
+        ensures begins { result.begins ≡ (nat_eq self.old.k 0 || result.ends) }
         ensures number { (ds : List ℕ) (n left : ℕ) (b : Machine) (m : Moment)
             (xs : List SignalOf) (cards : List (List ℕ)) →
             IsBehindMoment ds n left b m self.old xs cards →
@@ -451,6 +484,7 @@ impl Account {
         clear_if(ends, &mut self.last.uses);
         self.state.shape();
         copy_changed(k, &self.behind.may, &mut self.words, &self.state);
+        border
     }
 
     /// Adds the waits of the last entry, and writes the lines of the end of the run, without those
@@ -537,8 +571,8 @@ impl Account {
         )
     }
 
-    /// Executes the next entry, whose lines are then to be written.
-    pub fn step(&mut self, timing: &Timing<'_>)
+    /// Executes the next entry. Its lines can be written if `facts` is set.
+    pub fn step(&mut self, timing: &Timing<'_>, facts: bool)
         requires few { self.old.state.done < MOST_INSTRUCTIONS }
         requires tight { IsTight MOST_DELAY self.old.last.issue }
         requires early { self.old.last.issue.c ≤ 2 ^ 63 }
@@ -548,12 +582,18 @@ impl Account {
         requires read { All IsReadInTime self.old.last.uses.items }
         requires waits { AreWaitsWithin self.old.last.tick self.old.waiting.totals }
 
-        ensures lines { (p : Standing) (end : Option ℕ) → self.old.k ≢ 0 →
+        ensures lines { facts ≡ true → (p : Standing) (end : Option ℕ) → self.old.k ≢ 0 →
             IsStanding p self.old.state self.old.last → kept_lines self.new.k self.new.last end
             ≡ lines_of_entry (origin_at self.old.origins) timing.now.delays.now.list
             timing.now.levels end self.old.last.uses.items p }
         ensures uses { (p : Standing) → IsStanding p self.old.state self.old.last →
             self.new.last.uses.items ≡ uses_at timing.now.delays.now.list timing.now.levels p }
+        ensures row { (p : Standing) (end : Option ℕ) (w : WhyOf) → self.old.k ≢ 0 →
+            IsStanding p self.old.state self.old.last → kept_rows self.new.k self.new.last end w
+            ≡ row_at (origin_at self.old.origins) timing.now.delays.now.list timing.now.levels end w
+            self.old.last.uses.items p ∷ [] }
+        ensures ordered { IsOrdered self.new.last }
+        ensures before { self.new.last.done.before ≡ self.old.last.tick }
         ensures waiting { IsWaiting self.new.last self.new.waiting.totals }
         ensures stalled { (p : Standing) (r : Stage) (s : Stall) → self.old.k ≢ 0 →
             IsStanding p self.old.state self.old.last →
@@ -588,7 +628,14 @@ impl Account {
         self.last.done.origin = self.origins.at(&self.state, address);
         self.last.done.before = before;
         self.last.done.start = start;
-        count_on(&self.state, taken, timing, &mut self.last, &mut self.log);
+        count_on(
+            &self.state,
+            taken,
+            timing,
+            facts,
+            &mut self.last,
+            &mut self.log,
+        );
         self.sums.add_row(&self.last.done.row.ticks, before, start);
         execute(&mut self.state, taken, &mut self.last);
     }

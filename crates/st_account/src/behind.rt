@@ -1,4 +1,13 @@
-//! The events after a completed entry, and the entries that ran ahead of it.
+//! The events after a completed entry (instruction), and the entries that ran ahead of it: the
+//! facts that the end of a segment needs.
+//!
+//! account.rt calls `look_behind` when a segment or the run may end; `st_plain` finds the entries,
+//! by predicted steps on the state, which is unchanged afterwards. Ticks are those of the run; at
+//! most eight entries ran ahead.
+//!
+//! Proved: the entries are those prepared before the completion and the next one
+//! (`prepared_before`, `first_late`), and the banks are those of the reads that were made by then.
+//! Free: the body; the log is used up.
 ghost use Rattle.std.specs.Prelude.{◌≡◌, List, suc, ◌+◌, ◌≤◌, ◌<◌, ◌^◌, ◌++◌, ◌∷◌, [], map, length, None, All};
 ghost use Rattle.st_bits.specs.declared.limits.TheConstants.{MOST_DELAY};
 ghost use Rattle.st_rows.specs.Asked.{made_before};

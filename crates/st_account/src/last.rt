@@ -1,4 +1,13 @@
-//! The facts about the last completed entry.
+//! The facts about the last completed entry (instruction), and the timetable after it, until its
+//! lines are written.
+//!
+//! account.rt keeps one `Last`; stepping.rt computes the next, and behind.rt reads it. Ticks are
+//! those of the run, addresses half-word addresses. A segment starts one tick after the end of the
+//! last one, and one more for each of at most 8 dropped entries.
+//!
+//! Proved: the issue state after such a start is `opening_issue` of `st_rows`; copies equal their
+//! originals. `past` repeats the entries of `issue`, since that cannot be copied (clauses `past`).
+//! A new fact for a line is a field of `DoneEntry`. Free: the bodies.
 ghost use Rattle.std.specs.Prelude.{◌≡◌, ◌+◌, ◌≤◌, ◌^◌, if◌then◌else◌, replicate, All, false, []};
 ghost use Rattle.st_bits.specs.declared.limits.TheConstants.{MOST_DELAY};
 ghost use Rattle.st_banks.specs.declared.answers.TheConstants.{BANKS};
@@ -22,6 +31,7 @@ pub(crate) struct DoneEntry {
     pub address: u32,
     /// The card that the entry's half-words come from.
     pub origin: Option<Origin>,
+    /// The ticks of the entry, and its wait for a level.
     pub row: WaitedRow,
     /// Facts about the entry that do not concern its ticks.
     pub known: Known,

@@ -1,4 +1,12 @@
-//! The cards that the half-words of a program come from.
+//! The cards that the half-words of a program come from: a table with the number of the first card
+//! whose bits begin in each half-word, made from the listing.
+//!
+//! program.rt calls `first_cards` before the run; `st_lines` reads the table. Locations in a
+//! listing are bit addresses, indexes half-word addresses; 0 means no card. The only error is a
+//! failed allocation.
+//!
+//! Proved: entry h is `first_card` of specs/FirstCards.antt. Pinned: the first of several cards
+//! counts. Free: the length of the table, if it covers the last such half-word.
 ghost use Rattle.std.specs.Prelude.{◌≡◌, ◌≢◌, ℕ, ◌<◌, ◌≤◌, ◌^◌, ◌∷◌, List, length, slice_index, slice_set, All, IfOk, IfSome};
 ghost use Rattle.std.specs.Option.{option_or};
 ghost use Rattle.st_asm.specs.declared.valuing.Listed.{Listed as ListedOf};

@@ -1,5 +1,14 @@
-//! The program: it reads a job and writes its ledger.
-ghost use Rattle.std.specs.Prelude.{◌≡◌, ◌↔◌, ◌≤◌, ◌<◌, ◌^◌, ◌∷◌, [], IfOk, IfSome, None, Ok, All, map, length, option_map, if◌then◌else◌};
+//! The program: it reads a job and writes its ledger, or, with the words `sums` or `rows`, a part of
+//! it.
+//!
+//! `crates/ledger` calls `ledger`. The words are the number of levels (1 to 8; 4 if it is missing),
+//! and `sums`, or `rows` with the numbers of two rows; the job is read whole, split, assembled and
+//! run. Refusals are one line, as in `stretch`.
+//!
+//! Proved: for each status the bytes that were read and the lines that were written (`IsAnswer` in
+//! specs/Answers.antt), and when `Usage` comes. All memory is allocated before the first line.
+//! Pinned: the words and statuses, by that definition. Free: the bodies.
+ghost use Rattle.std.specs.Prelude.{◌≡◌, ◌↔◌, ◌+◌, ◌≤◌, ◌<◌, ◌^◌, ◌∷◌, [], List, ℕ, IfOk, IfSome, None, Ok, All, map, length};
 ghost use Rattle.std.specs.List.{AllPass};
 ghost use Rattle.std.specs.String.{string_bytes};
 ghost use Rattle.st_bits.specs.declared.limits.TheConstants.{MOST_INSTRUCTIONS};
@@ -11,29 +20,31 @@ ghost use Rattle.st_card.specs.Cards.{cards_of};
 ghost use Rattle.st_card.specs.Faults.{name_of};
 ghost use Rattle.st_exch.specs.Reader.{reader_cards};
 ghost use Rattle.st_io.specs.Lines.{WritesLines};
+ghost use Rattle.st_io.specs.Output.{OutputState};
 ghost use Rattle.st_lines.specs.Origins.{origin_at};
 ghost use Rattle.st_report.specs.Line.{fault_line};
 ghost use Rattle.st_run.specs.Reached.{IsCard};
 ghost use Rattle.st_state.specs.Machine.{opening_state};
 ghost use Rattle.st_account.specs.FirstCards.{origin_of};
-ghost use Rattle.st_account.specs.Answers.{levels_by, levels_of_word as levels_of, is_sums as is_sums_of, asked_of as asked_with, asked_by, lines_by, ledger_lines_of, status_of, Writes, Did, IsAnswer};
-ghost use Rattle.st_account.specs.Settling.{at_hand};
+ghost use Rattle.st_account.specs.Answers.{levels_by, levels_of_word as levels_of, is_sums as is_sums_of, is_rows as is_rows_of, row_of_word as row_of, rows_between, asked_of as asked_with, asked_by, lines_of_part, lines_by, ledger_lines_of, status_of, Writes, Did, IsAnswer};
 ghost use Rattle.st_account.specs.LedgerSums.{ledger_sums};
-ghost use Rattle.st_account.specs.Text.{ledger as ledger_of};
+ghost use Rattle.st_account.specs.Settling.{at_hand};
 
 use crate::job::Job;
 use crate::origins::first_cards;
-use crate::running::{Ready, write_ledger, write_ledger_sums};
+use crate::running::{Ready, write_ledger, write_ledger_rows, write_ledger_sums};
 use crate::status::Status;
 use st_asm::{AsmError, Assembled, assemble_cards};
 use st_bits::NoMemory;
-use st_bits::limits::LONGEST_JOB;
+use st_bits::limits::{LONGEST_JOB, MOST_INSTRUCTIONS};
 use st_card::{Controls, Fault, split};
 use st_io::{Failed, ReadError, Sink, Source, read_all};
 use st_lines::Origins;
 use st_report::{line_fault, put};
 use st_run::{delays_asked, reader_of_job};
 use st_state::State;
+use st_tally::Tables;
+use st_text::number_up_to;
 use std::alloc::Global;
 
 // The default number of levels.
@@ -51,21 +62,24 @@ fn levels_by(c: u8) -> Option<u8>
     }
 }
 
+/// A part of a ledger.
+#[derive(Clone, Copy, Debug, PartialEq, Eq)]
+pub(crate) enum Part {
+    /// All of it.
+    All,
+    /// The totals alone.
+    Sums,
+    /// Its rows from one on, which comes after `skipped` rows, in a run of at most `most` rows.
+    Rows { skipped: u32, most: u32 },
+}
+
 /// What the words of the command line request.
 #[derive(Clone, Copy, Debug, PartialEq, Eq)]
 pub(crate) struct Asked {
     /// The number of levels of the machine, 1 to 8.
     pub levels: u8,
-    /// Whether the totals are written alone.
-    pub sums: bool,
-}
-
-// Whether a word is `sums`.
-fn is_sums(word: &[u8]) -> bool
-    ensures { result ≡ is_sums_of word.now }
-{
-    let sums: &[u8] = b"sums";
-    word == sums
+    /// The part of the ledger that is written.
+    pub part: Part,
 }
 
 // The number of levels that a word requests; `None` if it requests none.
@@ -79,15 +93,77 @@ fn levels_of_word(word: &[u8]) -> Option<u8>
     }
 }
 
-// The ledger on a machine with so many levels, or the totals alone.
-fn asked_of(sums: bool, levels: Option<u8>) -> Option<Asked>
+// Whether a word is `sums`.
+fn is_sums(word: &[u8]) -> bool
+    ensures { result ≡ is_sums_of word.now }
+{
+    let sums: &[u8] = b"sums";
+    word == sums
+}
+
+// Whether a word is `rows`.
+fn is_rows(word: &[u8]) -> bool
+    ensures { result ≡ is_rows_of word.now }
+{
+    let rows: &[u8] = b"rows";
+    word == rows
+}
+
+// The number of a row that a word spells without a leading zero; `None` if it spells none.
+fn row_of_word(word: &[u8]) -> Option<u64>
+    ensures value { result ≡ row_of word.now }
+    ensures within { IfSome result (λ n. n ≤ MOST_INSTRUCTIONS) }
+{
+    match word {
+        [] => None,
+        [c, ..] => {
+            if *c == b'0' {
+                None
+            } else {
+                number_up_to(word, MOST_INSTRUCTIONS)
+            }
+        }
+    }
+}
+
+// The part of a ledger from one row on, in a run that ends with another row; `None` if that comes
+// before the first one.
+fn rows_between(from: Option<u64>, to: Option<u64>) -> Option<Part>
+    requires from { IfSome from (λ n. n ≤ MOST_INSTRUCTIONS) }
+    requires to { IfSome to (λ n. n ≤ MOST_INSTRUCTIONS) }
+    ensures { result ≡ rows_between from to }
+{
+    match (from, to) {
+        (Some(from), Some(to)) => {
+            if from <= to {
+                Some(Part::Rows {
+                    skipped: from.saturating_sub(1) as u32,
+                    most: to as u32,
+                })
+            } else {
+                None
+            }
+        }
+        _ => None,
+    }
+}
+
+// The part of a ledger that two words request after `rows`.
+fn part_of_rows(from: &[u8], to: &[u8]) -> Option<Part>
+    ensures { result ≡ rows_between (row_of from.now) (row_of to.now) }
+{
+    rows_between(row_of_word(from), row_of_word(to))
+}
+
+// A part of the ledger on a machine with so many levels.
+fn asked_of(part: Option<Part>, levels: Option<u8>) -> Option<Asked>
     requires range { IfSome levels (λ n. (1 ≤ n) × (n ≤ 8)) }
-    ensures value { result ≡ option_map (asked_with sums) levels }
+    ensures value { result ≡ asked_with part levels }
     ensures range { IfSome result (λ a. (1 ≤ a.levels) × (a.levels ≤ 8)) }
 {
-    match levels {
-        Some(levels) => Some(Asked { levels, sums }),
-        None => None,
+    match (part, levels) {
+        (Some(part), Some(levels)) => Some(Asked { levels, part }),
+        _ => None,
     }
 }
 
@@ -97,17 +173,37 @@ fn read_words(words: &[String]) -> Option<Asked>
     ensures range { IfSome result (λ a. (1 ≤ a.levels) × (a.levels ≤ 8)) }
 {
     match words {
-        [] => asked_of(false, Some(LEVELS)),
+        [] => asked_of(Some(Part::All), Some(LEVELS)),
         [word] => {
             if is_sums(word.as_bytes()) {
-                asked_of(true, Some(LEVELS))
+                asked_of(Some(Part::Sums), Some(LEVELS))
             } else {
-                asked_of(false, levels_of_word(word.as_bytes()))
+                asked_of(Some(Part::All), levels_of_word(word.as_bytes()))
             }
         }
         [first, second] => {
             if is_sums(second.as_bytes()) {
-                asked_of(true, levels_of_word(first.as_bytes()))
+                asked_of(Some(Part::Sums), levels_of_word(first.as_bytes()))
+            } else {
+                None
+            }
+        }
+        [first, second, third] => {
+            if is_rows(first.as_bytes()) {
+                asked_of(
+                    part_of_rows(second.as_bytes(), third.as_bytes()),
+                    Some(LEVELS),
+                )
+            } else {
+                None
+            }
+        }
+        [first, second, third, fourth] => {
+            if is_rows(second.as_bytes()) {
+                asked_of(
+                    part_of_rows(third.as_bytes(), fourth.as_bytes()),
+                    levels_of_word(first.as_bytes()),
+                )
             } else {
                 None
             }
@@ -191,13 +287,26 @@ fn prepare(
     Ok((ready, controls))
 }
 
-// Writes the ledger of a run that is ready, or the totals alone.
-fn write_asked<K: Sink>(
+// The status after lines were written, or a write of them failed.
+fn status_by(written: Result<(), Failed>) -> Status
+    ensures { (before after : OutputState) (lines : List (List ℕ)) →
+        WritesLines before after lines written → Writes result before after lines Status.Done }
+{
+    match written {
+        Ok(()) => Status::Done,
+        Err(_) => Status::WriteFault,
+    }
+}
+
+// Writes the totals of a run that is ready, with tables for so many cards, or returns why it does
+// not.
+fn write_tallied<K: Sink>(
+    alloc: Global,
     out: &mut K,
-    sums: bool,
+    cards: u32,
     ready: Ready,
     controls: &Controls,
-) -> Result<(), Failed>
+) -> Status
     requires fresh { ready.state.done ≡ 0 }
     requires cards { All IsCard ready.cards }
     requires levels { (1 ≤ ready.levels) × (ready.levels ≤ 8) }
@@ -206,17 +315,54 @@ fn write_asked<K: Sink>(
     requires limit { controls.now.budget ≤ MOST_INSTRUCTIONS }
     requires size { length ready.words.items ≡ words_of_storage }
 
-    ensures { let c = at_hand ready.state controls.now.signals ready.cards in
-        WritesLines (K.output out.old) (K.output out.new)
-        (if sums then ledger_sums ready.delays.list ready.levels controls.now.budget c
-        else ledger_of (origin_at ready.origins) ready.delays.list ready.levels
-        controls.now.budget c) result }
+    ensures { Writes result (K.output out.old) (K.output out.new)
+        (ledger_sums (origin_at ready.origins) ready.delays.list ready.levels
+        controls.now.budget (cards + 1) (at_hand ready.state controls.now.signals ready.cards))
+        Status.Done }
 {
-    if sums {
-        write_ledger_sums(out, ready, controls)
-    } else {
-        write_ledger(out, ready, controls)
+    let Ok(tables) = Tables::new(alloc, cards) else {
+        return Status::NoMemory;
+    };
+    status_by(write_ledger_sums(out, ready, controls, tables))
+}
+
+// Writes a part of the ledger of a run that is ready, whose job has so many cards, or returns why
+// it does not.
+fn write_part<K: Sink>(
+    alloc: Global,
+    out: &mut K,
+    part: Part,
+    cards: u32,
+    ready: Ready,
+    controls: &Controls,
+) -> Status
+    requires fresh { ready.state.done ≡ 0 }
+    requires cards { All IsCard ready.cards }
+    requires levels { (1 ≤ ready.levels) × (ready.levels ≤ 8) }
+    requires delays { ready.delays.list ≡ controls.now.delays }
+    requires signals { AllPass is_signal controls.now.signals }
+    requires limit { controls.now.budget ≤ MOST_INSTRUCTIONS }
+    requires size { length ready.words.items ≡ words_of_storage }
+
+    ensures { Writes result (K.output out.old) (K.output out.new)
+        (lines_of_part part (origin_at ready.origins) ready.delays.list ready.levels
+        controls.now.budget cards (at_hand ready.state controls.now.signals ready.cards))
+        Status.Done }
+{
+    match part {
+        Part::All => status_by(write_ledger(out, ready, controls)),
+        Part::Sums => write_tallied(alloc, out, cards, ready, controls),
+        Part::Rows { skipped, most } => {
+            status_by(write_ledger_rows(out, ready, controls, most, skipped))
+        }
     }
+}
+
+// The number of a job's cards.
+fn card_count(job: &Job<'_>) -> u32
+    ensures { result ≡ length (cards_of job.now.text.now) }
+{
+    job.cards.len() as u32
 }
 
 // Writes what is requested of the run of an assembled job, or returns why it does not.
@@ -235,10 +381,7 @@ fn run_program<K: Sink>(
     let Ok((ready, controls)) = prepare(alloc, asked.levels, job, program) else {
         return Status::NoMemory;
     };
-    match write_asked(out, asked.sums, ready, &controls) {
-        Ok(()) => Status::Done,
-        Err(_) => Status::WriteFault,
-    }
+    write_part(alloc, out, asked.part, card_count(job), ready, &controls)
 }
 
 // Writes what is requested of a job that has been read, or returns why it does not.
@@ -279,8 +422,9 @@ fn run_asked<S: Source, K: Sink>(alloc: Global, asked: Asked, job: &mut S, out: 
 
 /// Writes the ledger of a job of at most 2,000,000 bytes. `words` are the words of the command line
 /// after the program's name: the number of levels, one digit from 1 to 8, or 4 without it, and
-/// then, if only the totals are to be written, `sums`. Each line is written with a call of its own, and all memory is allocated before the
-/// first one. `docs/ledger.md` has the rules.
+/// then, for a part of the ledger, `sums`, or `rows` with the numbers of two rows. Each line is
+/// written with a call of its own, and all memory is allocated before the first one.
+/// `docs/ledger.md` has the rules.
 pub fn ledger<S: Source, K: Sink>(
     alloc: Global,
     words: &[String],

@@ -1,5 +1,14 @@
-//! Writes the run line by line.
-ghost use Rattle.std.specs.Prelude.{◌≡◌, ◌≤◌, true, [], IsOk, All, length};
+//! Writes the run line by line: the whole ledger, the rows from one on, or only its first and last
+//! lines with the sums and the tables.
+//!
+//! program.rt makes the calls with a run that is ready, whose memory is allocated; account.rt does
+//! each step. Budgets are at most 10,000,000 instructions.
+//!
+//! Proved: the lines are `ledger` of specs/Text.antt, `ledger_rows` of specs/LedgerRows.antt, or
+//! `ledger_sums` of specs/LedgerSums.antt, all on Ok, the first ones after a failed write. Pinned:
+//! the run ends at rest before its budget is looked at. Free: the bodies. That sums add up to the
+//! ticks of the run is proved in `st_causes`.
+ghost use Rattle.std.specs.Prelude.{◌≡◌, ◌≤◌, true, suc, [], IsOk, All, length, min};
 ghost use Rattle.std.specs.List.{AllPass};
 ghost use Rattle.st_bits.specs.declared.limits.TheConstants.{MOST_INSTRUCTIONS};
 ghost use Rattle.st_bits.specs.Storage.{words_of_storage};
@@ -15,24 +24,33 @@ ghost use Rattle.st_ledger.specs.Totals.{sum_at};
 ghost use Rattle.st_account.specs.Settling.{at_hand};
 ghost use Rattle.st_reasons.specs.Sums.{is_parted, waited_at};
 ghost use Rattle.st_reasons.specs.declared.waits.Stall.{Stall};
-ghost use Rattle.st_account.specs.LedgerSums.{end_from, ledger_sums};
-ghost use Rattle.st_account.specs.Text.{lines_from, stalled_from, ledger};
+ghost use Rattle.st_account.specs.LedgerSums.{end_from, ledger_totals, ledger_sums};
+ghost use Rattle.st_account.specs.LedgerTables.{tallied_of, dropped_of};
+ghost use Rattle.st_account.specs.Tallying.{AreEmptyTables, IsEmptyTally};
+ghost use Rattle.st_tally.specs.Tally.{IsTally};
+ghost use Rattle.st_account.specs.LedgerRows.{ledger_rows};
+ghost use Rattle.st_account.specs.Passing.{lines_until};
+ghost use Rattle.st_account.specs.Text.{stalled_from, ledger};
 
 use crate::account::Account;
+use crate::passing::{finish_run, no_border, pass_to_next};
+use crate::tallying::{Tally, finish_tally, tally_to_next};
 use st_banks::Delays;
 use st_card::Controls;
 use st_exch::Hopper;
 use st_io::{Failed, Sink};
 use st_ledger::{Totals, write_sums};
-use st_lines::{Origins, write_machine, write_wait_sums};
+use st_lines::{Origins, Why, write_machine, write_wait_sums};
 use st_reasons::WaitTotals;
 use st_rows::Timing;
 use st_run::PendingEvents;
 use st_state::State;
+use st_tally::Tables;
 
 /// A run that is ready to be written: the machine is in its initial state.
 #[derive(Drop)]
 pub struct Ready {
+    /// The initial state: no instruction is complete.
     pub state: State,
     /// As many words as storage has; their values do not matter.
     pub words: Vec<u64>,
@@ -46,12 +64,15 @@ pub struct Ready {
     pub levels: u8,
 }
 
-// Writes the run until it ends or its budget is used up. Afterwards `sums` are the ticks of its
+// Writes a run of at most `budget` rows, at most as many as were requested. If `until` is 0, all
+// lines are written; else those from row `until` on. Afterwards `sums` are the ticks of its
 // charges, and `waits` those of its waits.
 fn write_run<K: Sink>(
     out: &mut K,
     ready: Ready,
     controls: &Controls,
+    budget: u64,
+    until: u64,
     sums: &mut Totals,
     waits: &mut WaitTotals,
 ) -> Result<(), Failed>
@@ -59,20 +80,19 @@ fn write_run<K: Sink>(
     requires cards { All IsCard ready.cards }
     requires levels { (1 ≤ ready.levels) × (ready.levels ≤ 8) }
     requires signals { AllPass is_signal controls.now.signals }
-    requires limit { controls.now.budget ≤ MOST_INSTRUCTIONS }
+    requires limit { budget ≤ MOST_INSTRUCTIONS }
     requires size { length ready.words.items ≡ words_of_storage }
 
     ensures lines { WritesLines (K.output out.old) (K.output out.new)
-        (lines_from (origin_at ready.origins) ready.delays.list ready.levels
-        controls.now.budget 0 ready.state []
-        (start_of (at_hand ready.state controls.now.signals ready.cards))) result }
+        (lines_until until (origin_at ready.origins) ready.delays.list ready.levels budget 0
+        ready.state [] [] (start_of (at_hand ready.state controls.now.signals ready.cards))) result }
     ensures sums { (s : Stage) → IsOk result → sum_at s sums.new
         ≡ ticks_for s (all_charges ready.delays.list ready.levels
-        (entries_from ready.delays.list ready.levels controls.now.budget
+        (entries_from ready.delays.list ready.levels budget
         (start_of (at_hand ready.state controls.now.signals ready.cards)))) }
     ensures waits { (r : Stage) (s : Stall) → is_parted r ≡ true → IsOk result →
-        waited_at r s waits.new ≡ stalled_from r s ready.delays.list ready.levels
-        controls.now.budget [] (start_of (at_hand ready.state controls.now.signals ready.cards)) }
+        waited_at r s waits.new ≡ stalled_from r s ready.delays.list ready.levels budget []
+        (start_of (at_hand ready.state controls.now.signals ready.cards)) }
 {
     let Ready {
         state,
@@ -88,29 +108,34 @@ fn write_run<K: Sink>(
     };
     let mut account = Account::new(state, words, origins);
     let mut pending = PendingEvents::new(controls.signals(), cards);
-    let mut left = controls.budget();
+    let mut start = no_border();
+    let mut left = budget;
+    let mut until = until;
     'entries: loop {
         account.take_events(&timing, left, &mut pending);
         if account.is_over(left) {
-            let written = account.finish(out);
+            let written = finish_run(out, &mut account, until);
             *sums = account.sums;
             *waits = account.waiting.totals;
             return written;
         }
-        account.write_to_next(out)?;
-        account.step(&timing);
+        pass_to_next(out, &mut account, until, &mut start)?;
+        account.step(&timing, true);
         left -= 1;
+        until = until.saturating_sub(1);
     }
 }
 
 // Runs until the run ends or its budget is used up, and writes the lines of the end alone.
-// Afterwards `sums` are the ticks of the run's charges, and `waits` those of its waits.
+// Afterwards `sums` are the ticks of the run's charges, `waits` those of its waits, and `tally` has
+// its tables and the number of dropped entries.
 fn add_run<K: Sink>(
     out: &mut K,
     ready: Ready,
     controls: &Controls,
     sums: &mut Totals,
     waits: &mut WaitTotals,
+    tally: &mut Tally,
 ) -> Result<(), Failed>
     requires fresh { ready.state.done ≡ 0 }
     requires cards { All IsCard ready.cards }
@@ -118,6 +143,7 @@ fn add_run<K: Sink>(
     requires signals { AllPass is_signal controls.now.signals }
     requires limit { controls.now.budget ≤ MOST_INSTRUCTIONS }
     requires size { length ready.words.items ≡ words_of_storage }
+    requires empty { IsEmptyTally tally.old }
 
     ensures lines { WritesLines (K.output out.old) (K.output out.new)
         (end_from ready.delays.list ready.levels controls.now.budget
@@ -129,6 +155,12 @@ fn add_run<K: Sink>(
     ensures waits { (r : Stage) (s : Stall) → is_parted r ≡ true →
         waited_at r s waits.new ≡ stalled_from r s ready.delays.list ready.levels
         controls.now.budget [] (start_of (at_hand ready.state controls.now.signals ready.cards)) }
+    ensures tables { IsTally (tallied_of (origin_at ready.origins) ready.delays.list ready.levels
+        controls.now.budget (at_hand ready.state controls.now.signals ready.cards))
+        tally.new.tables }
+    ensures places { length tally.new.tables.cards.items ≡ length tally.old.tables.cards.items }
+    ensures dropped { tally.new.dropped ≡ dropped_of ready.delays.list ready.levels
+        controls.now.budget (at_hand ready.state controls.now.signals ready.cards) }
 {
     let Ready {
         state,
@@ -142,31 +174,31 @@ fn add_run<K: Sink>(
         delays: &delays,
         levels: levels as usize,
     };
+    let mut words = words;
+    words.clear();
     let mut account = Account::new(state, words, origins);
     let mut pending = PendingEvents::new(controls.signals(), cards);
     let mut left = controls.budget();
     'entries: loop {
         account.take_events(&timing, left, &mut pending);
         if account.is_over(left) {
-            let written = account.finish_sums(out);
+            let written = finish_tally(out, &mut account, tally);
             *sums = account.sums;
             *waits = account.waiting.totals;
             return written;
         }
-        account.skip_to_next();
-        account.step(&timing);
+        tally_to_next(&mut account, tally);
+        account.step(&timing, false);
         left -= 1;
     }
 }
 
-/// Writes the totals of a run, which ends or uses up the requested budget, at most 10,000,000
-/// instructions: of its ledger the lines of the machine, of the end of the run, and of the sums.
-/// The delays must be the requested ones. Each line is written with a call of its own.
-/// `docs/ledger.md` has the rules.
-pub fn write_ledger_sums<K: Sink>(
+// Writes the totals of a run without the tables, which `tally` has afterwards.
+fn write_ledger_totals<K: Sink>(
     out: &mut K,
     ready: Ready,
     controls: &Controls,
+    tally: &mut Tally,
 ) -> Result<(), Failed>
     requires fresh { ready.state.done ≡ 0 }
     requires cards { All IsCard ready.cards }
@@ -175,17 +207,58 @@ pub fn write_ledger_sums<K: Sink>(
     requires signals { AllPass is_signal controls.now.signals }
     requires limit { controls.now.budget ≤ MOST_INSTRUCTIONS }
     requires size { length ready.words.items ≡ words_of_storage }
+    requires empty { IsEmptyTally tally.old }
 
-    ensures { WritesLines (K.output out.old) (K.output out.new)
-        (ledger_sums ready.delays.list ready.levels controls.now.budget
+    ensures lines { WritesLines (K.output out.old) (K.output out.new)
+        (ledger_totals ready.delays.list ready.levels controls.now.budget
         (at_hand ready.state controls.now.signals ready.cards)) result }
+    ensures tables { IsOk result →
+        IsTally (tallied_of (origin_at ready.origins) ready.delays.list ready.levels
+        controls.now.budget (at_hand ready.state controls.now.signals ready.cards))
+        tally.new.tables }
+    ensures places { IsOk result →
+        length tally.new.tables.cards.items ≡ length tally.old.tables.cards.items }
+    ensures dropped { IsOk result → tally.new.dropped ≡ dropped_of ready.delays.list ready.levels
+        controls.now.budget (at_hand ready.state controls.now.signals ready.cards) }
 {
     let mut sums = Totals::default();
     let mut waits = WaitTotals::default();
     write_machine(out, ready.levels, controls.delays())?;
-    add_run(out, ready, controls, &mut sums, &mut waits)?;
+    add_run(out, ready, controls, &mut sums, &mut waits, tally)?;
     write_sums(out, &sums)?;
     write_wait_sums(out, &waits)
+}
+
+/// Writes the totals of a run, which ends or uses up the requested budget, at most 10,000,000
+/// instructions: of its ledger the lines of the machine, of the end of the run, and of the sums;
+/// then those of its tables, which are made in `tables`. The delays must be the requested ones.
+/// Each line is written with a call of its own. `docs/ledger.md` has the rules.
+pub fn write_ledger_sums<K: Sink>(
+    out: &mut K,
+    ready: Ready,
+    controls: &Controls,
+    tables: Tables,
+) -> Result<(), Failed>
+    requires fresh { ready.state.done ≡ 0 }
+    requires cards { All IsCard ready.cards }
+    requires levels { (1 ≤ ready.levels) × (ready.levels ≤ 8) }
+    requires delays { ready.delays.list ≡ controls.now.delays }
+    requires signals { AllPass is_signal controls.now.signals }
+    requires limit { controls.now.budget ≤ MOST_INSTRUCTIONS }
+    requires size { length ready.words.items ≡ words_of_storage }
+    requires empty { AreEmptyTables tables }
+
+    ensures { WritesLines (K.output out.old) (K.output out.new)
+        (ledger_sums (origin_at ready.origins) ready.delays.list ready.levels controls.now.budget
+        (length tables.cards.items) (at_hand ready.state controls.now.signals ready.cards)) result }
+{
+    let mut tally = Tally {
+        tables,
+        why: Why::Run,
+        dropped: 0,
+    };
+    write_ledger_totals(out, ready, controls, &mut tally)?;
+    tally.tables.write(out, tally.dropped)
 }
 
 /// Writes the ledger of a run until it ends or the requested budget, at most 10,000,000
@@ -207,7 +280,69 @@ pub fn write_ledger<K: Sink>(out: &mut K, ready: Ready, controls: &Controls) -> 
     let mut sums = Totals::default();
     let mut waits = WaitTotals::default();
     write_machine(out, ready.levels, controls.delays())?;
-    write_run(out, ready, controls, &mut sums, &mut waits)?;
+    write_run(
+        out,
+        ready,
+        controls,
+        controls.budget(),
+        0,
+        &mut sums,
+        &mut waits,
+    )?;
     write_sums(out, &sums)?;
     write_wait_sums(out, &waits)
+}
+
+// The budget of a run of at most `most` rows.
+fn budget_of(controls: &Controls, most: u32) -> u64
+    ensures value { result ≡ min most controls.now.budget }
+    ensures within { result ≤ controls.now.budget }
+{
+    controls.budget().min(u64::from(most))
+}
+
+// The number of the row before which so many rows are skipped.
+fn first_row(skipped: u32) -> u64
+    ensures { result ≡ suc skipped }
+{
+    u64::from(skipped) + 1
+}
+
+/// Writes the ledger of a run from one row on, without its sums: the lines of the machine, the state
+/// before that row, its segment, and the lines of all rows from it on up to the end of the run, which
+/// ends after at most `most` rows; of a run that ends before, only the machine and the end. `skipped`
+/// rows come before that row. The delays must be the requested ones. Each line is written with a call
+/// of its own. `docs/ledger.md` has the rules.
+pub fn write_ledger_rows<K: Sink>(
+    out: &mut K,
+    ready: Ready,
+    controls: &Controls,
+    most: u32,
+    skipped: u32,
+) -> Result<(), Failed>
+    requires fresh { ready.state.done ≡ 0 }
+    requires cards { All IsCard ready.cards }
+    requires levels { (1 ≤ ready.levels) × (ready.levels ≤ 8) }
+    requires delays { ready.delays.list ≡ controls.now.delays }
+    requires signals { AllPass is_signal controls.now.signals }
+    requires limit { controls.now.budget ≤ MOST_INSTRUCTIONS }
+    requires size { length ready.words.items ≡ words_of_storage }
+
+    ensures { WritesLines (K.output out.old) (K.output out.new)
+        (ledger_rows (origin_at ready.origins) ready.delays.list ready.levels
+        (min most controls.now.budget) skipped
+        (at_hand ready.state controls.now.signals ready.cards)) result }
+{
+    let mut sums = Totals::default();
+    let mut waits = WaitTotals::default();
+    write_machine(out, ready.levels, controls.delays())?;
+    write_run(
+        out,
+        ready,
+        controls,
+        budget_of(controls, most),
+        first_row(skipped),
+        &mut sums,
+        &mut waits,
+    )
 }

@@ -1,4 +1,10 @@
-//! Applies the events between two entries.
+//! Applies the events between two entries (instructions): signals and orders that are due, and the
+//! end of a wait; with the printed lines for the ledger.
+//!
+//! account.rt calls `settle`, and says `still` if it knows that nothing happens, which is the usual
+//! case and saves time. Proved: the state and the pending events are those after `interlude` of
+//! `st_run`, also if `still` holds. At most one line is printed between two entries, so `printed`
+//! has room. Free: the shortcut.
 ghost use Rattle.std.specs.Prelude.{◌≡◌, Bool, true, nat_lt, length};
 ghost use Rattle.st_exec.specs.Step.{rests};
 ghost use Rattle.st_run.specs.ExternalEvents.{scene_at};

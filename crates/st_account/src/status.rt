@@ -1,4 +1,9 @@
-//! The exit statuses of the program.
+//! The exit statuses of the program `ledger`; the numbers are those of `stretch` (`st_top`).
+//!
+//! program.rt returns them, and `crates/ledger` turns them into exit codes. specs/Answers.antt
+//! defines what was read and written for each (`Did`, `Writes`); every status but `NoMemory` is
+//! returned only with its cause. Pinned: the numbers. A new status needs its case there. There is
+//! no code here to prove.
 
 /// The status of a call of `ledger`. The number is the program's exit status.
 #[derive(Clone, Copy, Debug, PartialEq, Eq)]

@@ -1,5 +1,14 @@
-//! Properties of a state and of an entry that are needed between two entries.
-ghost use Rattle.std.specs.Prelude.{◌≡◌, ◌+◌, ◌<◌, ◌≤◌, ◌^◌, ◌||◌, [], not, nat_eq, if◌then◌else◌, is_some, option_map, Some, None};
+//! Properties of a state and of an entry that are needed between two entries, and the two halves of
+//! a step of the ledger: `count_on` computes the row of the next entry, `execute` executes it.
+//!
+//! account.rt calls all of these. C, the tick of its completion, is at most 2^63 for the last
+//! entry; segments and rows are numbered from 1.
+//!
+//! Proved: the row, the words, the wait and the cause are the definitions of `st_rows`, `st_plain`
+//! and `st_reasons` for the next entry of the state, and the state after it is that of a step.
+//! Pinned: the row is computed before the entry is executed, since it reads the state before. Free:
+//! the bodies.
+ghost use Rattle.std.specs.Prelude.{◌≡◌, ◌+◌, ◌<◌, ◌≤◌, ◌^◌, ◌||◌, [], not, nat_eq, if◌then◌else◌, is_some, option_map, Some, None, true};
 ghost use Rattle.st_bits.specs.Indicators.{IsIndicatorIfAny};
 ghost use Rattle.st_bits.specs.declared.limits.TheConstants.{MOST_DELAY, MOST_INSTRUCTIONS};
 ghost use Rattle.st_prep.specs.Plan.{plan as plan_of};
@@ -83,12 +92,14 @@ pub(crate) fn is_end_near(left: u64, still: bool) -> bool
     left == 0 || !still
 }
 
-/// Computes the row of the next entry and the facts after it.
+/// Computes the row of the next entry and the facts after it; those that only its lines have, if
+/// `facts` is set.
 #[tactic(auto, unfolding(st_plain::specs::Uses::uses_of_entry), using(st_bits::specs::Storage::words_of_storage_is))]
 pub(crate) fn count_on(
     state: &State,
     taken: Option<u8>,
     timing: &Timing<'_>,
+    facts: bool,
     last: &mut Last,
     log: &mut Log,
 )
@@ -104,7 +115,7 @@ pub(crate) fn count_on(
     ensures wait { last.new.done.row.level_wait
         ≡ level_wait timing.now.delays.now.list timing.now.levels last.old.issue
         (entry_of taken state.now) }
-    ensures known { last.new.done.known ≡ known_at taken state.now }
+    ensures known { facts ≡ true → last.new.done.known ≡ known_at taken state.now }
     ensures uses { last.new.uses.items ≡ uses_of_entry timing.now.delays.now.list timing.now.levels
         last.old.issue (entry_of taken state.now) (side_at taken state.now)
         (plan_of state.now taken).reads }
@@ -133,6 +144,7 @@ pub(crate) fn count_on(
         state: &*state,
         issue: &last.issue,
         timing: &*timing,
+        facts,
     };
     let begun = begin(&mut last.unit, taken, &before, log, &mut last.uses);
     last.because = find_reason(

@@ -17,15 +17,19 @@ use Rattle.st_rows.specs.Rows.{reads_of_entry}
 use Rattle.st_reasons.specs.Waits.{charge_waits}
 use Rattle.st_reasons.specs.Words.{read_of}
 use Rattle.st_reasons.specs.declared.waits.Wait.{Wait}
+use Rattle.st_lines.specs.declared.lines.Why.TheVariants.{Run}
+use Rattle.st_account.specs.LedgerSums.{ledger_sums}
 use Rattle.st_account.specs.Text.{formed_at, uses_at}
-use Rattle.st_causes.specs.Laws.{LedgersTellWhereTicksWent, TotalsAreTheLedgerWithoutRows, OneEntryIsBegun, StageSumsAddUp, WaitSumsAddUp, UsesOfARunAreTrue, WaitsOfARunAreTrue, WaitsOfARunCoverTheirCharges, NamedReadsAreMade, ReasonsStandWhereTicksAreLost, ReasonsOfARunAreTrue}
+use Rattle.st_causes.specs.Laws.{LedgersTellWhereTicksWent, TotalsAreTheLedgerWithoutRows, TablesHaveTheRowsOfTheRun, RowsAreAPartOfTheLedger, OneEntryIsBegun, StageSumsAddUp, WaitSumsAddUp, UsesOfARunAreTrue, WaitsOfARunAreTrue, WaitsOfARunCoverTheirCharges, NamedReadsAreMade, ReasonsStandWhereTicksAreLost, ReasonsOfARunAreTrue}
 use Rattle.st_causes.specs.Runs.{ToldRow, because_at}
 use Rattle.st_causes.specs.Summed.{all_summed}
 use Rattle.st_causes.proofs.RunLemmas.{row-read, row-brought, row-written, row-true, row-covered, row-ended, row-reasoned, each-told, sums-from, at-start, entries-fit}
 use Rattle.st_causes.proofs.BankRuns.{opened-banked, each-banked}
 use Rattle.st_causes.proofs.BegunLemmas.{one-begun}
 use Rattle.st_causes.proofs.TextLemmas.{ledger-told}
+use Rattle.st_causes.proofs.RowsLemmas.{from-row, without-row}
 use Rattle.st_causes.proofs.SumsLemmas.{without-rows}
+use Rattle.st_causes.proofs.TableLemmas.{rows-told, charges-told, waits-told}
 use Rattle.st_causes.proofs.TickLemmas.{named-early, each-lost}
 
 -- ---- the text
@@ -34,7 +38,24 @@ pub ledgers_tell_where_ticks_went : LedgersTellWhereTicksWent
 ledgers_tell_where_ticks_went o ds n left c = ledger-told o ds n left c
 
 pub totals_are_the_ledger_without_rows : TotalsAreTheLedgerWithoutRows
-totals_are_the_ledger_without_rows o ds n left c = without-rows o ds n left c
+unfolding ledger_sums
+totals_are_the_ledger_without_rows = record {
+  totals = λ o ds n left c. without-rows o ds n left c;
+  tables = λ o ds n left cards c. refl;
+}
+
+pub tables_have_the_rows_of_the_run : TablesHaveTheRowsOfTheRun
+tables_have_the_rows_of_the_run = record {
+  rows = λ o ds n left c. rows-told o ds n left 0 Run [] [] (moment_at_start c);
+  charges = λ o ds n left c s. charges-told o ds n s left 0 Run [] (moment_at_start c);
+  waits = λ o ds n left c r s. waits-told o ds n r s left 0 Run [] (moment_at_start c);
+}
+
+pub rows_are_a_part_of_the_ledger : RowsAreAPartOfTheLedger
+rows_are_a_part_of_the_ledger = record {
+  begun = λ o ds n left skipped c less. from-row o ds n left skipped c less;
+  ended = λ o ds n left skipped c few. without-row o ds n left skipped c few;
+}
 
 pub one_entry_is_begun : OneEntryIsBegun
 one_entry_is_begun ds n t s f some few costs = one-begun ds n t s f some few costs

@@ -4,4 +4,8 @@ pub mod TickLemmas
 pub mod BankRuns
 pub mod BegunLemmas
 pub mod SumsLemmas
+pub mod TableLemmas
+pub mod RowsLemmas
 pub mod Laws
+pub mod CardLemmas
+pub mod CardLaws

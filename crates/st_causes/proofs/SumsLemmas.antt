@@ -9,7 +9,7 @@ use Rattle.st_run.specs.Run.{Scene}
 use Rattle.st_ledger.specs.Ledger.{entries_of, all_charges}
 use Rattle.st_lines.specs.BorderLines.{machine_lines, marks_lines}
 use Rattle.st_lines.specs.declared.origins.Origin.{Origin}
-use Rattle.st_account.specs.LedgerSums.{end_lines, end_from, ledger_sums}
+use Rattle.st_account.specs.LedgerSums.{end_lines, end_from, ledger_totals}
 use Rattle.st_account.specs.Text.{end_lines_at, words_behind, segment_lines, segment_after, segment_end_at, lines_of_entry, words_before, uses_at, last_lines, lines_from, totals_lines, wait_totals_lines, stalled_from, ledger}
 use Rattle.st_account.proofs.RunLemmas.{lines-end, lines-on, end-last, end-on}
 use Rattle.st_causes.specs.Laws.{IsWithoutLines}
@@ -62,8 +62,8 @@ run-ends o ds n (suc left) k b us m =
         }
 
 pub without-rows : (o : Machine → ℕ → Option Origin) (ds : List ℕ) (n left : ℕ) (c : Scene)
-    → IsWithoutLines (ledger o ds n left c) (ledger_sums ds n left c) (machine_lines ds n)
-unfolding ledger ledger_sums
+    → IsWithoutLines (ledger o ds n left c) (ledger_totals ds n left c) (machine_lines ds n)
+unfolding ledger ledger_totals
 without-rows o ds n left c =
     let m = moment_at_start c in
     let h = run-ends o ds n left 0 c.machine [] m in

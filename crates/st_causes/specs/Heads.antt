@@ -22,3 +22,13 @@ spent_words = codes "ROW" ∷ codes "CHARGE" ∷ codes "WAIT" ∷ codes "LEVEL" 
 -- whether a line begins with one of the words that account for ticks
 unfoldable pub is_spent_line : List ℕ → Bool
 is_spent_line line = list_any (is_word (head_of line)) spent_words
+
+-- whether a line begins with the word SEGMENT
+unfoldable pub is_segment_line : List ℕ → Bool
+is_segment_line line = is_word (head_of line) (codes "SEGMENT")
+
+-- the last line SEGMENT of some lines, as a list; `last` if there is none
+unfoldable pub last_segment : List (List ℕ) → List (List ℕ) → List (List ℕ)
+last_segment last [] = last
+last_segment last (line ∷ lines) =
+    last_segment (if is_segment_line line then line ∷ [] else last) lines

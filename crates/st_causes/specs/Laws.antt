@@ -1,6 +1,6 @@
 -- Laws of the ledger of each run: its lines account for the ticks of its rows, and the facts in
 -- them are true. The machine has the delays ds and n levels, and the run has a budget.
-use Rattle.std.specs.Prelude.{ℕ, ◌≡◌, ◌+◌, ◌≤◌, ◌<◌, true, nat_lt, suc, length, List, [], ◌∷◌, ◌++◌, All, Option}
+use Rattle.std.specs.Prelude.{ℕ, ◌≡◌, ◌+◌, ◌≤◌, ◌<◌, true, nat_lt, suc, length, List, [], ◌∷◌, ◌++◌, map, All, Option}
 use Rattle.std.specs.List.{filter}
 use Rattle.st_state.specs.Machine.{Machine}
 use Rattle.st_banks.specs.declared.answers.LastAnswers.{LastAnswers}
@@ -25,14 +25,19 @@ use Rattle.st_reasons.specs.Served.{served, reads_told, AreBankedBehind, AreBrou
 use Rattle.st_reasons.specs.Sums.{is_parted}
 use Rattle.st_reasons.specs.Waits.{charge_waits}
 use Rattle.st_reasons.specs.Words.{read_of}
+use Rattle.st_reasons.specs.declared.waits.Stall.{Stall}
 use Rattle.st_reasons.specs.declared.waits.Stall.TheVariants.{Turn, Bank, Storage}
 use Rattle.st_reasons.specs.declared.waits.Wait.{Wait}
 use Rattle.st_lines.specs.declared.origins.Origin.{Origin}
-use Rattle.st_lines.specs.BorderLines.{machine_lines}
-use Rattle.st_account.specs.LedgerSums.{ledger_sums}
-use Rattle.st_account.specs.Text.{formed_at, totals_lines, wait_totals_lines, stalled_from, ledger}
-use Rattle.st_causes.specs.Heads.{is_spent_line}
-use Rattle.st_causes.specs.Runs.{ToldRow, told_of, lines_of_rows, because_at}
+use Rattle.st_lines.specs.BorderLines.{whole_state_lines, machine_lines}
+use Rattle.st_tally.specs.Tally.{stage_ticks, wait_ticks}
+use Rattle.st_tally.specs.TallyLines.{table_lines}
+use Rattle.st_account.specs.LedgerRows.{ledger_rows}
+use Rattle.st_account.specs.LedgerSums.{end_from, ledger_totals, ledger_sums}
+use Rattle.st_account.specs.LedgerTables.{tallied_of, dropped_of}
+use Rattle.st_account.specs.Text.{formed_at, totals_lines, wait_totals_lines, stalled_from, with_totals, ledger}
+use Rattle.st_causes.specs.Heads.{is_spent_line, last_segment}
+use Rattle.st_causes.specs.Runs.{ToldRow, told_of, line_of_row, lines_of_rows, because_at, facts_tallied, facts_told}
 use Rattle.st_causes.specs.Summed.{all_summed}
 
 -- ---- the text
@@ -56,11 +61,57 @@ pub record IsWithoutLines (whole part first : List (List ℕ)) : Type 0 where
   pub part_is : part ≡ first ++ last
 
 -- The totals are the ledger without all lines between LEVELS or DELAYS and END: both begin with the
--- lines of the machine, and end alike.
-abbrev pub TotalsAreTheLedgerWithoutRows : Type 0
-TotalsAreTheLedgerWithoutRows = (o : Machine → ℕ → Option Origin) (ds : List ℕ) (n left : ℕ)
-    (c : Scene) →
-    IsWithoutLines (ledger o ds n left c) (ledger_sums ds n left c) (machine_lines ds n)
+-- lines of the machine, and end alike. The tables of the run's rows follow the totals.
+pub record TotalsAreTheLedgerWithoutRows : Type 0 where
+  pub totals : (o : Machine → ℕ → Option Origin) (ds : List ℕ) (n left : ℕ) (c : Scene) →
+      IsWithoutLines (ledger o ds n left c) (ledger_totals ds n left c) (machine_lines ds n)
+  pub tables : (o : Machine → ℕ → Option Origin) (ds : List ℕ) (n left cards : ℕ) (c : Scene) →
+      ledger_sums o ds n left cards c
+      ≡ ledger_totals ds n left c
+      ++ table_lines cards (tallied_of o ds n left c) (dropped_of ds n left c)
+
+-- The rows of the tables are those of the run, in their order. Their charges and waits add up to
+-- those of the SUM lines.
+pub record TablesHaveTheRowsOfTheRun : Type 0 where
+  pub rows : (o : Machine → ℕ → Option Origin) (ds : List ℕ) (n left : ℕ) (c : Scene) →
+      map facts_tallied (tallied_of o ds n left c)
+      ≡ map (facts_told o ds n) (told_of ds n left c)
+  pub charges : (o : Machine → ℕ → Option Origin) (ds : List ℕ) (n left : ℕ) (c : Scene)
+      (s : Stage) →
+      stage_ticks s (tallied_of o ds n left c)
+      ≡ ticks_for s (all_charges ds n (entries_of ds n left c))
+  pub waits : (o : Machine → ℕ → Option Origin) (ds : List ℕ) (n left : ℕ) (c : Scene)
+      (r : Stage) (s : Stall) →
+      wait_ticks r s (tallied_of o ds n left c)
+      ≡ stalled_from r s ds n left [] (moment_at_start c)
+
+-- A part of a ledger from one row on, before which `skipped` rows complete. The whole ledger has
+-- lines before and after the line of that row. The part begins with the state before that row and
+-- the last line SEGMENT before it, and then both go on alike; only the part has no sums.
+pub record IsFromRow (o : Machine → ℕ → Option Origin) (ds : List ℕ) (n left skipped : ℕ)
+    (c : Scene) : Type 0 where
+  pub first : List ToldRow
+  pub row : ToldRow
+  pub others : List ToldRow
+  pub rows_are : told_of ds n left c ≡ first ++ (row ∷ others)
+  pub skips : length first ≡ skipped
+  pub before : List (List ℕ)
+  pub after : List (List ℕ)
+  pub whole_is : ledger o ds n left c
+      ≡ with_totals ds n left c (before ++ (line_of_row ds n row ∷ after))
+  pub part_is : ledger_rows o ds n left skipped c
+      ≡ machine_lines ds n ++ (whole_state_lines row.standing.scene.machine
+      ++ last_segment [] before ++ (line_of_row ds n row ∷ after))
+
+-- A part of a ledger is either from one row on, or, if the run has no such row, it has only the
+-- lines of the machine and of the end of the run.
+pub record RowsAreAPartOfTheLedger : Type 0 where
+  pub begun : (o : Machine → ℕ → Option Origin) (ds : List ℕ) (n left skipped : ℕ) (c : Scene) →
+      skipped < length (told_of ds n left c) → IsFromRow o ds n left skipped c
+  pub ended : (o : Machine → ℕ → Option Origin) (ds : List ℕ) (n left skipped : ℕ) (c : Scene) →
+      length (told_of ds n left c) ≤ skipped →
+      ledger_rows o ds n left skipped c
+      ≡ machine_lines ds n ++ end_from ds n left (moment_at_start c)
 
 -- Of the n + 1 entries after an issue state, at most n are prepared by the completion of its last
 -- entry, if each takes at least one tick; so one of them has begun and is not yet prepared.

@@ -2,6 +2,7 @@ pub mod Heads
 pub mod Runs
 pub mod Summed
 pub mod Laws
+pub mod CardLaws
 pub use Rattle.st_ledger.specs.Charges
 pub use Rattle.st_plain.specs.Uses
 pub use Rattle.st_reasons.specs.Causes

@@ -1,6 +1,7 @@
 -- The rows of a run as the ledger accounts for their ticks. The machine has the delays ds and n
 -- levels.
-use Rattle.std.specs.Prelude.{ℕ, zero, suc, ◌+◌, if◌then◌else◌, List, [], ◌∷◌, ◌++◌, reverse}
+use Rattle.std.specs.Prelude.{ℕ, zero, suc, ◌+◌, if◌then◌else◌, List, [], ◌∷◌, ◌++◌, reverse, Option, None}
+use Rattle.st_state.specs.Machine.{Machine}
 use Rattle.st_exec.specs.Step.{rests, address}
 use Rattle.st_run.specs.Run.{Scene}
 use Rattle.st_run.specs.Moments.{Moment, Standing, moment_at_start, next_state, standing_at, next_row, next_moment, entry_of_moment}
@@ -12,7 +13,10 @@ use Rattle.st_reasons.specs.Reasons.{because}
 use Rattle.st_reasons.specs.declared.because.StallCause.{StallCause}
 use Rattle.st_lines.specs.EntryLines.{level_lines}
 use Rattle.st_lines.specs.WaitLines.{charged_lines, because_lines}
-use Rattle.st_account.specs.Text.{formed_at, uses_at, words_before}
+use Rattle.st_lines.specs.declared.facts.EntryDone.{EntryDone}
+use Rattle.st_lines.specs.declared.origins.Origin.{Origin}
+use Rattle.st_tally.specs.Tally.{TalliedRow}
+use Rattle.st_account.specs.Text.{formed_at, uses_at, words_before, done_at}
 
 -- a row: the state of the run before it, the words that it uses, the words of the previous row in
 -- its segment, and the words of all rows of the segment up to and including it, youngest first
@@ -48,6 +52,12 @@ abbrev pub because_at : List ℕ → ℕ → List Use → Standing → StallCaus
 because_at ds n before p = because p.issue (entry_of_moment p) (next_row ds n p).a
     (next_row ds n p).p (wait_at ds n p) (formed_at ds p) before
 
+-- the line ROW of a row
+abbrev pub line_of_row : List ℕ → ℕ → ToldRow → List ℕ
+line_of_row ds n r =
+    let s = r.standing.scene.machine in
+    row_stage_line (s.done + 1) (address s) (next_row ds n r.standing)
+
 -- the lines that account for the ticks of a row: the row, each charge followed by its waits, its
 -- wait for a level, and the cause that delayed it
 unfoldable pub lines_of_row : List ℕ → ℕ → ToldRow → List (List ℕ)
@@ -64,3 +74,25 @@ lines_of_row ds n r =
 unfoldable pub lines_of_rows : List ℕ → ℕ → List ToldRow → List (List ℕ)
 lines_of_rows ds n [] = []
 lines_of_rows ds n (r ∷ rs) = lines_of_row ds n r ++ lines_of_rows ds n rs
+
+-- ---- the rows of the tables
+
+-- the facts about a row that do not depend on its segment: the completed entry, with no end of its
+-- segment, the words that it uses, and those of the row before it in its segment
+pub record RowFacts : Type 0 where
+  pub done : EntryDone
+  pub uses : List Use
+  pub before : List Use
+
+-- those of a row of the tables
+abbrev pub facts_tallied : TalliedRow → RowFacts
+facts_tallied x =
+    record { done = record x.done { end = None }; uses = x.uses; before = x.before }
+
+-- those of a row of a run; the function `o` gives the card that a half-word of a state comes from
+abbrev pub facts_told : (Machine → ℕ → Option Origin) → List ℕ → ℕ → ToldRow → RowFacts
+facts_told o ds n r = record {
+  done = done_at o ds n None r.before r.standing;
+  uses = r.uses;
+  before = r.before;
+}

@@ -1,4 +1,12 @@
-//! Charges: the ticks that are attributed to the stages of entries.
+//! Charges: the ticks that are attributed to the stages of entries (executed instructions).
+//!
+//! An entry is charged with the ticks after the completion of the entry before it, up to its own.
+//! `from` is not in a charge, `to` is. telling.rt makes the stages of a row, totals.rt and
+//! `st_lines` the charges.
+//!
+//! There is no code here. A new stage needs its place in `parts_of_row` and `stage_at` of
+//! specs/Charges.antt, its name in specs/Lines.antt, its total, and a decision in `st_reasons`
+//! whether it has waits; the order of the variants is that of the lines.
 
 /// A stage of an entry, in the order in which an entry passes through them.
 #[derive(Clone, Copy, Debug, PartialEq, Eq)]
@@ -22,14 +30,19 @@ pub enum Stage {
 /// The ticks `from` + 1 to `to`, and the stage that they are charged to.
 #[derive(Clone, Copy, Debug, PartialEq, Eq)]
 pub struct Charge {
+    /// The tick before the first one of the charge.
     pub from: u64,
+    /// The last tick of the charge.
     pub to: u64,
+    /// The stage.
     pub stage: Stage,
 }
 
 /// A stage, with the tick at which it ends.
 #[derive(Clone, Copy, Debug, PartialEq, Eq)]
 pub struct StagePart {
+    /// The stage.
     pub stage: Stage,
+    /// The tick at which the stage ends.
     pub end: u64,
 }

@@ -1,5 +1,12 @@
-//! The lines of the ledger, by the rules of `docs/ledger.md`: one call for each kind of line, with
-//! its line end.
+//! The lines of the ledger about rows, charges and sums, by the rules of `docs/ledger.md`: one call
+//! for each kind of line, with its line end.
+//!
+//! Lines are built from their end in one buffer, since rows are many and successive numbers share
+//! digits (`KeptDigits`). telling.rt, totals.rt and `st_lines` write them. Ticks and numbers are
+//! decimal, addresses half-word addresses in the form `word.bit`.
+//!
+//! Proved: the bytes are those of specs/Lines.antt, so a form is changed there too. Free: how
+//! digits are kept. Not proved: speed.
 ghost use Rattle.std.specs.Prelude.{◌≡◌, ◌+◌, ◌≤◌, ◌++◌, [], length};
 ghost use Rattle.st_ledger.specs.Lines.{stage_name, row_stage_line, charge_line, sum_line};
 
@@ -7,7 +14,8 @@ use crate::charges::{Charge, Stage};
 use st_report::{KeptDigits, LineFromEnd};
 use st_rows::EntryTicks;
 
-/// Puts the name of a stage in front of a line.
+/// Puts the name of a stage in front of a line. The longest name has 11 letters, for which there
+/// has to be room.
 #[inline(always)]
 pub fn put_stage(line: &mut LineFromEnd, stage: Stage)
     requires { length line.old + 11 ≤ 128 }

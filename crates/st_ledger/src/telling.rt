@@ -1,4 +1,10 @@
-//! The line of a row, and the stages of the row.
+//! The line of a row, which are the ticks of one instruction, and its stages: the seven parts in
+//! which its ticks are charged, each with the tick at which it ends.
+//!
+//! `st_account` and `st_lines` call these. `start` is the start of the segment in ticks; a stage
+//! that ends before the last completion has no charge. Proved: the stages are `parts_of_row` of
+//! specs/Charges.antt, which pins their ends, and the line is `row_stage_line` of specs/Lines.antt.
+//! Another rule of the timetable changes the ends (`docs/changing.md`). Free: the bodies.
 ghost use Rattle.std.specs.Prelude.{◌≡◌, ◌∷◌, [], max};
 ghost use Rattle.st_io.specs.Lines.{WritesLines};
 ghost use Rattle.st_ledger.specs.Charges.{parts_of_row as parts_of};

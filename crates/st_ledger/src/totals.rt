@@ -1,4 +1,11 @@
-//! The ticks charged to each stage.
+//! The ticks charged to each stage in a whole run, and their `SUM` lines.
+//!
+//! `st_account` adds each row (the ticks of one instruction) as it completes, and writes the sums
+//! at the end. Proved: each total grows by the charges of the row (`ticks_for` in
+//! specs/Charges.antt), no sum overflows (`AreWithin`: a total is at most the tick), and the lines
+//! are `sum_lines` of specs/Totals.antt. That the totals add up to the ticks of the run is a law
+//! (specs/Laws.antt). A new stage needs a field, its arms and its place in `sums_of`. Free: the
+//! recursion.
 ghost use Rattle.std.specs.Prelude.{◌≡◌, ◌+◌, ◌<◌, ◌∷◌, [], max};
 ghost use Rattle.st_io.specs.Lines.{WritesLines};
 ghost use Rattle.st_ledger.specs.declared.charges.Stage.{Stage as StageOf};
@@ -16,12 +23,19 @@ use st_rows::EntryTicks;
 /// The ticks charged to each stage.
 #[derive(Clone, Copy, Debug, Default, PartialEq, Eq)]
 pub struct Totals {
+    /// The ticks up to the starts of segments.
     pub restart: u64,
+    /// The ticks of waits for instruction words.
     pub instruction: u64,
+    /// The ticks in which addresses are formed.
     pub address: u64,
+    /// The ticks of waits for index-side words.
     pub index: u64,
+    /// The ticks in which entries are prepared.
     pub preparing: u64,
+    /// The ticks of waits for operand words.
     pub operand: u64,
+    /// The ticks in which entries execute.
     pub executing: u64,
 }
 
@@ -94,7 +108,9 @@ impl Totals {
 /// A stage, with its ticks in the whole run.
 #[derive(Clone, Copy, Debug, PartialEq, Eq)]
 pub struct StageSum {
+    /// The stage.
     pub stage: Stage,
+    /// Its ticks.
     pub ticks: u64,
 }
 

@@ -1,8 +1,9 @@
 -- Lemmas on words that changed and words that did not.
-use Rattle.std.specs.Prelude.{Bool, if◌then◌else◌, nat_eq, slice_index, slice_set, Result, Ok, Err, IsErr}
-use Rattle.std.proofs.Common.{◌≡◌, ◌≢◌, ℕ, zero, suc, ◌+◌, ◌-◌, ◌<◌, ◌≤◌, inl, inr, true, false, List, [], ◌++◌, length, length-set, get_or-set_other, refl, sym, ◌∙◌, ap, subst, arith}
+use Rattle.std.specs.Prelude.{take, drop, Bool, if◌then◌else◌, nat_eq, slice_index, slice_set, Result, Ok, Err, IsErr}
+use Rattle.std.proofs.Common.{◌≡◌, ◌≢◌, ℕ, zero, suc, ◌+◌, ◌-◌, ◌<◌, ◌≤◌, inl, inr, true, false, List, [], ◌++◌, length, length-set, length-append, get_or-set_other, refl, sym, ◌∙◌, ap, subst, arith}
 use Rattle.std.proofs.lemmas.Bool.Decides.{leb_tells, eqb_tells, nat_tests}
-use Rattle.std.proofs.lemmas.List.{get_or-set_same, ext_get_or}
+use Rattle.std.proofs.lemmas.List.{get_or-set_same, ext_get_or, length-take-le, get_or_append_left, get_or-take, get_or-append-add, get_or-drop, length-drop}
+use Rattle.std.proofs.Math.Seq.{take-append_seam}
 use Rattle.st_bits.specs.Storage.{words_of_storage, words_of_storage_is}
 use Rattle.st_bits.specs.declared.limits.TheConstants.{WORDS}
 use Rattle.st_io.specs.Output.{OutputState}
@@ -71,6 +72,47 @@ copy-starts old m size = record {
   kept = λ v below. absurd (omega arith);
   left = λ v from. refl;
 }
+
+-- the first words of a list are overwritten
+pub front-kept : (n : ℕ) (new from words to items : List ℕ) → new ≡ take 32 from ++ drop 32 to → from ≡ words → to ≡ items → 32 ≤ length words
+    → 32 ≤ length items → length items ≡ n → take n (new ++ drop (length new) items) ≡ take 32 words ++ drop 32 items
+front-kept n new from words to items is from_is to_is long some size =
+    let all : new ≡ take 32 words ++ drop 32 items = is ∙ ap (λ xs. take 32 xs ++ drop 32 to) from_is ∙ ap (λ xs. take 32 words ++ drop 32 xs) to_is in
+    let front = length-take-le 32 words long in
+    let same : n ≡ length new = omega (arith, ap length all, length-append (take 32 words) (drop 32 items), length-drop 32 items, front, size, some) in
+    ap (λ k. take k (new ++ drop (length new) items)) same ∙ take-append_seam new (drop (length new) items) ∙ all
+
+-- the registers are copied
+module _ (old now : List ℕ) (m : Machine) (size : length old ≡ words_of_storage) (own : length m.words ≡ words_of_storage)
+    (is : now ≡ take 32 m.words ++ drop 32 old) where
+  front : length (take 32 m.words) ≡ 32
+  front = length-take-le 32 m.words (omega (arith, own, words_of_storage_is))
+
+  low : (v : ℕ) → v < 32 → slice_index now v ≡ word m v
+  low v below =
+      ap (λ xs. slice_index xs v) is
+      ∙ get_or_append_left (take 32 m.words) (drop 32 old) 0 v (omega (arith, below, front))
+      ∙ get_or-take 32 m.words v 0 below
+
+  high : (v : ℕ) → 32 ≤ v → slice_index now v ≡ slice_index old v
+  high v from =
+      let at : v ≡ length (take 32 m.words) + (v - 32) = omega (arith, from, front) in
+      let back : 32 + (v - 32) ≡ v = omega (arith, from) in
+      ap (λ xs. slice_index xs v) is
+      ∙ ap (λ k. slice_index (take 32 m.words ++ drop 32 old) k) at
+      ∙ get_or-append-add (take 32 m.words) (drop 32 old) (v - 32) 0
+      ∙ get_or-drop 32 old (v - 32) 0
+      ∙ ap (λ k. slice_index old k) back
+
+  pub copy-registers : IsCopying old now m 32
+  copy-registers = record {
+    most = omega arith;
+    size =
+        let rest = length-drop 32 old in
+        omega (arith, ap length is, length-append (take 32 m.words) (drop 32 old), front, rest, size, words_of_storage_is);
+    kept = low;
+    left = high;
+  }
 
 -- words that did not change are skipped
 pub copy-passes : (old now : List ℕ) (m : Machine) (w c : ℕ) → IsCopying old now m w → w ≤ c → c ≤ WORDS

@@ -5,3 +5,4 @@ pub mod DigitLemmas
 pub mod ChangeLemmas
 pub mod WaitLemmas
 pub mod OriginLemmas
+pub mod RowWaits

@@ -80,7 +80,7 @@ part_end t bound x top =
     let none : bound + 0 ≡ bound = omega arith in
     sym (reach-later t bound (x ∷ []) [] x refl top) ∙ none
 
-part_stalled : (r : Stage) (s : Stall) (uses before : List Use) (t : ℕ) (x : StagePart) (n : ℕ) → x.end ≤ t
+pub part_stalled : (r : Stage) (s : Stall) (uses before : List Use) (t : ℕ) (x : StagePart) (n : ℕ) → x.end ≤ t
     → n ≡ n + row_stalled r s uses before (part_charges t x)
 unfolding row_stalled
 part_stalled r s uses before t x n past = rw (le-ltb t x.end past) (omega arith)
@@ -96,7 +96,7 @@ pub part_told : (s u : OutputState) (uses before : List Use) (t : ℕ) (x : Stag
 part_told s u uses before t x c waits r early is waits_is h =
     subst (λ ls. WritesLines s u ls r) (ap (λ ws. charge_line c ∷ wait_lines ws) waits_is ∙ sym (charge-lines uses before t x c early is)) h
 
-part_added : (r : Stage) (s : Stall) (uses before : List Use) (t : ℕ) (x : StagePart) (waits : List Wait) (n m : ℕ) → t < x.end
+pub part_added : (r : Stage) (s : Stall) (uses before : List Use) (t : ℕ) (x : StagePart) (waits : List Wait) (n m : ℕ) → t < x.end
     → waits ≡ charge_waits (record { from = t; to = x.end; stage = x.stage }) uses before
     → m ≡ n + (if is_stage r x.stage then stalled_for s waits else 0)
     → m ≡ n + row_stalled r s uses before (part_charges t x)

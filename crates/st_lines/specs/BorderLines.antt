@@ -87,6 +87,12 @@ unfoldable pub state_lines : List (List ℕ) → ℕ → Bool → List ℕ → M
 state_lines words k was old s taken done = marks_lines words k was old s
     ++ taken_by (nat_eq k 0) taken done
 
+-- the lines of a whole state: the counter, whether interrupts are enabled, and each word that is
+-- not zero, by its address
+unfoldable pub whole_state_lines : Machine → List (List ℕ)
+whole_state_lines s =
+    (ic_line s.ic ∷ en_line s.enabled ∷ []) ++ lines_for (nonzero_word_lines s) WORDS 0
+
 -- ---- the machine
 
 -- the lines of the machine's levels and delays

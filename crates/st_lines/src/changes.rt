@@ -1,5 +1,14 @@
-//! Writes the words that changed since the previous entry.
-ghost use Rattle.std.specs.Prelude.{true, ◌≡◌, ℕ, ◌+◌, ◌<◌, ◌≤◌, ◌⊎◌, length, slice_index, slice_set, IsOk};
+//! Writes the words that changed since the previous entry (instruction), one `WORD` line each, in
+//! order of address.
+//!
+//! writing.rt calls it after each entry. To compare all 98,304 words would be slow, so the caller
+//! says which words other than registers may have changed (`Changeable`), and only those and the
+//! registers are compared with a copy.
+//!
+//! Proved: the lines are `word_change_lines` of all words (specs/BorderLines.antt), given that no
+//! other word changed (`AreOthersAlike` in specs/Changes.antt), and the copy is up to date after
+//! them. Free: how unchanged words are skipped. Pinned: the order.
+ghost use Rattle.std.specs.Prelude.{true, ◌≡◌, ℕ, ◌+◌, ◌<◌, ◌≤◌, ◌⊎◌, ◌++◌, drop, length, slice_index, slice_set, take, IsOk};
 ghost use Rattle.st_bits.specs.Storage.{words_of_storage};
 ghost use Rattle.st_bits.specs.declared.limits.TheConstants.{WORDS};
 ghost use Rattle.st_io.specs.Lines.{WritesLines, lines_for};
@@ -14,6 +23,9 @@ use st_io::{Failed, Sink, write_line};
 use st_prep::Words;
 use st_report::LineFromEnd;
 use st_state::State;
+
+// The number of registers.
+const REGISTERS: usize = FIRST_STORAGE_WORD as usize;
 
 /// The words other than registers that may have changed since the previous entry.
 #[derive(Clone, Copy, Debug, Default, PartialEq, Eq)]
@@ -208,7 +220,26 @@ pub(crate) fn write_changed<K: Sink>(
     Ok(())
 }
 
-/// Copies the words of a state that changed. `old` has the words as they were before.
+// Copies the first `n` words; both slices have as many.
+fn copy_front(n: usize, from: &[u64], to: &mut [u64])
+    requires from { n ≤ length from.now }
+    requires to { n ≤ length to.old }
+    ensures { to.new ≡ take n from.now ++ drop n to.old }
+{
+    to[..n].copy_from_slice(&from[..n]);
+}
+
+// Copies the registers of a state.
+#[tactic(auto, using(st_bits::specs::Storage::words_of_storage_is))]
+fn keep_registers(old: &mut Vec<u64>, state: &State)
+    requires { length old.old.items ≡ words_of_storage }
+    ensures { old.new.items ≡ take 32 state.now.words ++ drop 32 old.old.items }
+{
+    copy_front(REGISTERS, state.words(), old.as_mut_slice());
+}
+
+/// Copies the words of a state that changed. `old` has the words as they were before. To copy all
+/// registers takes less time than to compare them.
 #[tactic(auto, using(st_bits::specs::Storage::words_of_storage_is))]
 pub(crate) fn keep_changed(old: &mut Vec<u64>, state: &State, may: &Changeable)
     requires size { length old.old.items ≡ words_of_storage }
@@ -216,11 +247,12 @@ pub(crate) fn keep_changed(old: &mut Vec<u64>, state: &State, may: &Changeable)
     ensures { old.new.items ≡ state.now.words }
 {
     state.shape();
-    let first = next_changed(old, state, may, 0);
+    keep_registers(old, state);
+    let first = next_word(may, FIRST_STORAGE_WORD);
     let mut w = first;
     'words: while w < WORDS {
         old[w as usize] = state.word(w);
-        let next = next_changed(old, state, may, w + 1);
+        let next = next_word(may, w + 1);
         w = next;
     }
 }

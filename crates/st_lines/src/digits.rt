@@ -1,4 +1,12 @@
-//! Lines with hexadecimal digits, built from their end.
+//! Lines with hexadecimal digits, built from their end: changed words, index words, half-words, and
+//! the short lines that come with each entry.
+//!
+//! changes.rt, facts.rt and writing.rt call these, into a buffer that is overwritten. A word has 16
+//! digits, a half-word eight.
+//!
+//! Proved: each line is the definition of its form in specs/Lines.antt (`IC` is that of
+//! `st_report`), so a form is changed there too. Free: the table of digit pairs, which saves time.
+//! Not proved: speed.
 ghost use Rattle.std.specs.Prelude.{◌≡◌, ◌+◌, ◌≤◌, ◌++◌, length};
 ghost use Rattle.st_text.specs.Numerals.{hex_text, hex_word};
 ghost use Rattle.st_report.specs.Line.{ic_line};

@@ -1,5 +1,12 @@
 //! The lines of a ledger: their contents, and the code that writes them. `docs/ledger.md` has the
 //! rules.
+//!
+//! `st_account` follows a run and writes its lines with these calls; charges come from `st_ledger`,
+//! waits and causes from `st_reasons`, entries from `st_plain`. The bytes of each line are defined
+//! in specs/ (`Lines`, `UseLines`, `WaitLines`), and their order by `EntryLines` and `BorderLines`;
+//! a ledger has no other lines. Proved: each call writes exactly the lines of its definition, or
+//! the first ones up to a failed write. No call allocates. A new kind of line needs its definition,
+//! its place in one of these, and a function. Free is all that is not exported.
 #![tactic(auto, using(st_bits::specs::Storage::words_of_storage_is))]
 
 mod changes;
@@ -19,5 +26,5 @@ pub use uses::FactLine;
 pub use waits::{RowTelling, add_waits, write_because, write_charged, write_wait_sums};
 pub use writing::{
     Between, Border, Dropped, Printed, copy_changed, either, write_border, write_end,
-    write_machine, write_marks, write_totals,
+    write_machine, write_marks, write_start, write_totals, write_whole_state,
 };

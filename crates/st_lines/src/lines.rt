@@ -1,5 +1,13 @@
 //! The lines of a ledger about the machine and about segments, by the rules of `docs/ledger.md`:
 //! one call for each kind of line, with its line end.
+//!
+//! writing.rt and facts.rt write these lines. Numbers are decimal; ticks count from the start of
+//! the run, addresses are half-word addresses in the form `word.bit`, segments and entries are
+//! numbered from 1.
+//!
+//! Proved: the bytes are those of specs/Lines.antt, so another form changes both. A new reason
+//! (`Why`, `Alone`) needs its text there. Free: the bodies. Lines with many repetitions are in
+//! digits.rt, built faster.
 ghost use Rattle.std.specs.Prelude.{◌≡◌, ◌+◌, ◌*◌, ◌≤◌, ◌++◌, length, codes, decimal};
 ghost use Rattle.arrayvec.specs.ArrayString.{array_string_len};
 ghost use Rattle.st_lines.specs.Lines.{ledger_levels_line, numbers_text, delays_line, why_text, start_line, segment_end_line, word_line, missed_line, alone_text, alone_line, suppressed_line, ahead_text, dropped_line, begun_line, level_wait_line};

@@ -1,4 +1,11 @@
-//! The cards that the first half-words of entries come from.
+//! The cards that the first half-words of entries come from, for the line `LAID`: the first card
+//! whose bits begin in that half-word, and whether storage still has the bits of the image there.
+//!
+//! `st_account` makes the table from the listing; facts.rt writes the line. `cards` is indexed by
+//! half-word address; cards are numbered from 1, and 0 means none.
+//!
+//! Proved: the origin is `origin_at` of specs/Origins.antt, and the line `emitted_line` of
+//! specs/Lines.antt. The table decides which of several cards counts. Free: the bodies.
 ghost use Rattle.std.specs.Prelude.{◌≡◌, ◌+◌, ◌≤◌, ◌++◌, length, codes, slice_index};
 ghost use Rattle.st_prep.specs.Reading.{half_of as half_by};
 ghost use Rattle.st_text.specs.Numerals.{flag};

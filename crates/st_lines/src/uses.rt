@@ -1,4 +1,13 @@
-//! The lines of the words that an entry uses.
+//! The lines of the words that an entry (instruction) uses (`USE`): the role of each word, its
+//! source, and, if it is read, its ticks, its bank, and whether the read is made before the segment
+//! ends.
+//!
+//! facts.rt calls `write_uses`. Word addresses and ticks are decimal; successive reads share digits
+//! (`KeptDigits`). A read that is wanted only after the end of the segment has no line (`is_told`).
+//!
+//! Proved: the lines are `use_lines` of specs/UseLines.antt, in the order of the reads. A new
+//! source needs its text there. Free: how digits are kept. Pinned: the order, which other laws
+//! cite.
 ghost use Rattle.std.specs.Prelude.{◌≡◌, ◌+◌, ◌-◌, ◌<◌, ◌≤◌, ◌∷◌, ◌++◌, [], length, codes, decimal, if◌then◌else◌};
 ghost use Rattle.st_banks.specs.Bank.{bank_of as bank_by};
 ghost use Rattle.st_io.specs.Lines.{WritesLines};
@@ -119,7 +128,9 @@ fn put_writer(line: &mut LineFromEnd, n: u32, writer: Writer)
 /// have in common.
 #[derive(Debug, Drop)]
 pub struct FactLine {
+    /// The bytes of the line.
     pub(crate) bytes: LineFromEnd,
+    /// The digits of the last tick.
     pub(crate) ticks: KeptDigits,
 }
 

@@ -1,7 +1,15 @@
-//! The lines of the waits of a row, and of the cause that delayed it.
+//! The lines of the charges and waits of a row, of the sums of waits, and of the cause that delayed
+//! it (`CHARGE`, `WAIT`, `SUM`, `BECAUSE`).
+//!
+//! facts.rt writes those of an entry, and `st_account` the sums; `add_waits` only adds, for a
+//! ledger that has sums and nothing else. A charge is followed by its waits, the last wait first.
+//!
+//! Proved: the lines are those of specs/WaitLines.antt, and each total grows by the ticks of its
+//! waits (`HasToldWaits`, `AddsWaits`). Pinned: the order, and that a row with no charge but
+//! executing has no cause. Free: the recursions and buffers.
 ghost use Rattle.std.specs.Prelude.{◌≡◌, ◌+◌, ◌≤◌, ◌∷◌, ◌++◌, [], length, IsOk};
 ghost use Rattle.st_io.specs.Lines.{WritesLines};
-ghost use Rattle.st_ledger.specs.Charges.{charges_behind, part_charges};
+ghost use Rattle.st_ledger.specs.Charges.{charges_behind, part_charges, parts_of_row};
 ghost use Rattle.st_ledger.specs.Lines.{charge_line};
 ghost use Rattle.st_reasons.specs.declared.because.StallCause.TheVariants.{Start as StartOf, Prefetch as PrefetchOf, Earlier as EarlierOf};
 ghost use Rattle.st_reasons.specs.Sums.{waited_at, wait_sums_by};
@@ -13,13 +21,13 @@ ghost use Rattle.st_lines.specs.WaitLines.{stall_name, wait_line, wait_lines, ch
 use crate::facts::EntryRecord;
 use crate::uses::{FactLine, put_bank};
 use st_io::{Failed, Sink, write_line};
-use st_ledger::{Charge, RowLine, StagePart, fill_charge, later, parts, put_stage};
+use st_ledger::{Charge, RowLine, Stage, StagePart, fill_charge, later, parts, put_stage};
 use st_reasons::{
     Cause, Prefetched, Reason, Stall, StallCause, Wait, WaitSum, WaitTotals, Waits, fill_waits,
     wait_sums,
 };
 use st_report::LineFromEnd;
-use st_rows::Use;
+use st_rows::{EntryTicks, Use};
 
 // Puts the name of a kind of wait in front of a line.
 #[inline(always)]
@@ -176,11 +184,19 @@ pub fn write_charged<K: Sink>(
     write_parts(out, done.before, &stages, entry, waiting)
 }
 
-// Adds the waits of the charge of a stage after tick `from` to the totals, if the stage ends later.
-fn add_part(from: u64, part: StagePart, uses: &[Use], before: &[Use], waiting: &mut RowTelling)
-    requires { AreWaitsReady uses.now before.now from waiting.old.totals }
-    ensures { AddsWaits uses.now before.now from (part_charges from part) waiting.old.totals
-        waiting.new.totals }
+// Adds the waits of the charge of a stage after tick `from` to the totals, if the stage ends later;
+// `waits` lends its room.
+#[inline(always)]
+fn add_part(
+    from: u64,
+    part: StagePart,
+    uses: &[Use],
+    before: &[Use],
+    waits: &mut Waits,
+    totals: &mut WaitTotals,
+)
+    requires { AreWaitsReady uses.now before.now from totals.old }
+    ensures { AddsWaits uses.now before.now from (part_charges from part) totals.old totals.new }
 {
     if from >= part.end {
         return;
@@ -190,28 +206,45 @@ fn add_part(from: u64, part: StagePart, uses: &[Use], before: &[Use], waiting: &
         to: part.end,
         stage: part.stage,
     };
-    fill_waits(&mut waiting.waits, charge, uses, before);
-    waiting.totals.add(charge, waiting.waits.as_slice());
+    fill_waits(waits, charge, uses, before);
+    totals.add(charge, waits.as_slice());
 }
 
-/// Adds the waits of the charges of stages after tick `from` to the totals, and writes nothing. The
-/// entry uses the words `uses`, and the entry before it the words `before`.
+/// Adds the waits of the charges of a row after tick `from` to the totals, and writes nothing: those
+/// of the three stages that have waits. The row's segment starts at `start`. Its entry uses the words
+/// `uses`, and the entry before it the words `before`; `waits` lends its room.
+#[inline(always)]
 pub fn add_waits(
     from: u64,
-    parts: &[StagePart],
+    start: u64,
+    row: &EntryTicks,
     uses: &[Use],
     before: &[Use],
-    waiting: &mut RowTelling,
+    waits: &mut Waits,
+    totals: &mut WaitTotals,
 )
-    requires { AreWaitsReady uses.now before.now from waiting.old.totals }
-    ensures { AddsWaits uses.now before.now from (charges_behind from parts.now)
-        waiting.old.totals waiting.new.totals }
+    requires { AreWaitsReady uses.now before.now from totals.old }
+    ensures { AddsWaits uses.now before.now from (charges_behind from (parts_of_row start row.now))
+        totals.old totals.new }
 {
-    let Some((&part, more)) = parts.split_first() else {
-        return;
+    let begun = later(from, start);
+    let requested = StagePart {
+        stage: Stage::Instruction,
+        end: row.a.saturating_sub(1),
     };
-    add_part(from, part, uses, before, waiting);
-    add_waits(later(from, part.end), more, uses, before, waiting);
+    add_part(begun, requested, uses, before, waits, totals);
+    let formed = later(later(begun, requested.end), row.a);
+    let indexed = StagePart {
+        stage: Stage::Index,
+        end: row.p.saturating_sub(1),
+    };
+    add_part(formed, indexed, uses, before, waits, totals);
+    let prepared = later(later(formed, indexed.end), row.p);
+    let read = StagePart {
+        stage: Stage::Operand,
+        end: row.r,
+    };
+    add_part(prepared, read, uses, before, waits, totals);
 }
 
 // Fills a line with `SUM stage why n`: the ticks of one kind of wait in a stage. The previous

@@ -1,5 +1,14 @@
-//! Writes the lines between two entries: the end of a segment, the state, and the start of a
-//! segment.
+//! Writes the lines between two entries (instructions): the end of a segment with the flushed
+//! entries, the printed lines, the state, and the start of a segment; and the first and last lines
+//! of a ledger.
+//!
+//! `st_account` calls `write_border` after each entry, with the facts in `Border` and `Between`,
+//! and the others at the start and the end. Segments and entries are numbered from 1; `old` is a
+//! copy of all words.
+//!
+//! Proved: the lines are those of specs/BorderLines.antt, in that order; the copy is up to date
+//! after them. Pinned: words are compared only where `between.may` allows a change, and the caller
+//! proves that. Free: the split into functions.
 ghost use Rattle.std.specs.Prelude.{◌≡◌, ◌+◌, ◌<◌, ◌≤◌, ◌^◌, ℕ, ◌∷◌, ◌++◌, [], if◌then◌else◌, ◌||◌, length, min, Some, false, IsOk};
 ghost use Rattle.st_io.specs.Lines.{WritesLines, lines_for};
 ghost use Rattle.st_bits.specs.Storage.{words_of_storage};
@@ -10,7 +19,7 @@ ghost use Rattle.st_lines.specs.Lines.{ledger_levels_line, delays_line, delays_l
 ghost use Rattle.st_lines.specs.EntryLines.{facts_lines};
 ghost use Rattle.st_lines.specs.Changes.{AreOthersAlike, IsCopyBehind};
 ghost use Rattle.st_lines.specs.Origins.{origin_at};
-ghost use Rattle.st_lines.specs.BorderLines.{drop_lines, begun_entry_lines, segment_end_lines, differs, en_lines, prints_lines, nonzero_word_lines, word_change_lines, words_lines, marks_lines, taken_by, state_lines, machine_lines};
+ghost use Rattle.st_lines.specs.BorderLines.{drop_lines, begun_entry_lines, segment_end_lines, differs, en_lines, prints_lines, nonzero_word_lines, word_change_lines, words_lines, marks_lines, taken_by, state_lines, whole_state_lines, machine_lines};
 
 use crate::changes::{Changeable, keep_changed, keep_words, write_changed};
 use crate::digits::fill_counter;
@@ -213,6 +222,7 @@ pub fn write_end<K: Sink>(
 }
 
 // Writes the instruction counter.
+#[inline(always)]
 fn write_ic<K: Sink>(out: &mut K, ic: u32) -> Result<(), Failed>
     ensures { WritesLines (K.output out.old) (K.output out.new) (ic_line ic ∷ []) result }
 {
@@ -268,6 +278,7 @@ fn write_prints<K: Sink>(out: &mut K, printed: &[[u64; 8]]) -> Result<(), Failed
 }
 
 // Writes the instruction counter, and whether interrupts are enabled if that line is due.
+#[inline(always)]
 fn write_counter<K: Sink>(
     out: &mut K,
     k: u32,
@@ -326,6 +337,15 @@ fn write_words<K: Sink>(
         return write_changed(out, old, state, may);
     }
     keep_words(old, state);
+    write_each_word(out, state)
+}
+
+/// Writes a whole state, as `write_marks` does at the start of a run: the instruction counter,
+/// whether interrupts are enabled, and the words that are not zero.
+pub fn write_whole_state<K: Sink>(out: &mut K, state: &State) -> Result<(), Failed>
+    ensures { WritesLines (K.output out.old) (K.output out.new) (whole_state_lines state.now) result }
+{
+    write_counter(out, 0, false, counter_in(state), is_enabled(state))?;
     write_each_word(out, state)
 }
 
@@ -477,8 +497,9 @@ fn write_state<K: Sink>(
     write_taken(out, between.k == 0, border.taken, border.done)
 }
 
-// Writes the start of segment k, if one begins.
-fn write_start<K: Sink>(out: &mut K, border: &Border, k: u32) -> Result<(), Failed>
+/// Writes the start of segment k, if one begins.
+#[inline(always)]
+pub fn write_start<K: Sink>(out: &mut K, border: &Border, k: u32) -> Result<(), Failed>
     ensures { WritesLines (K.output out.old) (K.output out.new)
         (if border.now.begins then start_line k border.now.start border.now.waited border.now.why
         ∷ [] else []) result }

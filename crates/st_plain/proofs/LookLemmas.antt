@@ -22,7 +22,7 @@ use Rattle.st_segment.specs.Entries.{entry}
 use Rattle.st_rows.specs.declared.bus.Bus.{Bus}
 use Rattle.st_segment.specs.Ahead.{Ahead, ahead, next_ahead, prepared_before}
 use Rattle.st_exec.proofs.Unchanged.{completed-done}
-use Rattle.st_plain.specs.declared.looking.Ahead.{Ahead as Seen}
+use Rattle.st_plain.specs.declared.looking.Ahead.{Ahead as SeenAhead}
 use Rattle.st_plain.specs.Looking.{seen_ahead, first_late, reads_up_to}
 
 -- a predicted step is a completion with a new counter
@@ -75,11 +75,11 @@ module _ (ds : List ℕ) (n t : ℕ) (s : Machine) (f : IssueState) where
       let one : suc k ≡ suc (suc k - 1) = omega arith in
       rw (lt-ltb _ t early) (ap (λ j. first_late t (ahead ds n j None (prediction None s) (issue_after_entry ds n f (entry None s)))) one)
 
-  pub begun-here : (k : ℕ) (x : Seen) → t ≤ (row_of_entry ds n f (entry None s)).p → x ≡ seen_ahead ds n (next_ahead ds n None s f)
+  pub begun-here : (k : ℕ) (x : SeenAhead) → t ≤ (row_of_entry ds n f (entry None s)).p → x ≡ seen_ahead ds n (next_ahead ds n None s f)
       → x ∷ [] ≡ map (seen_ahead ds n) (first_late t (ahead ds n (suc k) None s f))
   begun-here k x late is = ap (λ y. y ∷ []) is ∙ ap (map (seen_ahead ds n)) (sym (late-here k late))
 
-  pub begun-behind : (u : Machine) (g : IssueState) (k : ℕ) (xs : List Seen) → 1 ≤ k → (row_of_entry ds n f (entry None s)).p < t
+  pub begun-behind : (u : Machine) (g : IssueState) (k : ℕ) (xs : List SeenAhead) → 1 ≤ k → (row_of_entry ds n f (entry None s)).p < t
       → u ≡ prediction None s → g ≡ issue_after_entry ds n f (entry None s)
       → xs ≡ map (seen_ahead ds n) (first_late t (ahead ds n (suc (k - 1)) None u g))
       → xs ≡ map (seen_ahead ds n) (first_late t (ahead ds n (suc k) None s f))
@@ -105,16 +105,16 @@ module _ (ds : List ℕ) (n t : ℕ) (s : Machine) (f : IssueState) where
       (ap (λ j. reads_of_entry ds n f (entry None s) ++ reads_up_to ds n t (ahead ds n j None (prediction None s) (issue_after_entry ds n f (entry None s)))) one)
 
 -- the results of a search
-pub found-same : (ds : List ℕ) (n : ℕ) (xs : List Seen) (ys : List Ahead) → ys ≡ [] → xs ≡ xs ++ map (seen_ahead ds n) ys
+pub found-same : (ds : List ℕ) (n : ℕ) (xs : List SeenAhead) (ys : List Ahead) → ys ≡ [] → xs ≡ xs ++ map (seen_ahead ds n) ys
 found-same ds n xs ys none = rw none (sym (append-nil xs))
 
 module _ (ds : List ℕ) (n t : ℕ) (s : Machine) (f : IssueState) where
-  pub found-look : (u : Machine) (g : IssueState) (k : ℕ) (xs ys ws : List Seen) (x : Seen) → 1 ≤ k → (row_of_entry ds n f (entry None s)).p < t
+  pub found-look : (u : Machine) (g : IssueState) (k : ℕ) (xs ys ws : List SeenAhead) (x : SeenAhead) → 1 ≤ k → (row_of_entry ds n f (entry None s)).p < t
       → x ≡ seen_ahead ds n (next_ahead ds n None s f) → u ≡ prediction None s → g ≡ issue_after_entry ds n f (entry None s) → ys ≡ xs ++ x ∷ []
       → ws ≡ ys ++ map (seen_ahead ds n) (prepared_before t (ahead ds n (k - 1) None u g))
       → ws ≡ xs ++ map (seen_ahead ds n) (prepared_before t (ahead ds n k None s f))
   found-look u g k xs ys ws x some early is next behind one rest =
-      let later : List Seen = map (seen_ahead ds n) (prepared_before t (ahead ds n (k - 1) None (prediction None s) (issue_after_entry ds n f (entry None s)))) in
+      let later : List SeenAhead = map (seen_ahead ds n) (prepared_before t (ahead ds n (k - 1) None (prediction None s) (issue_after_entry ds n f (entry None s)))) in
       rest
       ∙ ap (λ v. ys ++ map (seen_ahead ds n) (prepared_before t (ahead ds n (k - 1) None v g))) next
       ∙ ap (λ h. ys ++ map (seen_ahead ds n) (prepared_before t (ahead ds n (k - 1) None (prediction None s) h))) behind

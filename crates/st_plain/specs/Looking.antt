@@ -16,7 +16,7 @@ use Rattle.st_rows.specs.declared.issue.IssueState.{IssueState}
 use Rattle.st_segment.specs.Ahead.{Ahead, plan_of}
 use Rattle.st_plain.specs.declared.known.Code.{Code}
 use Rattle.st_plain.specs.declared.known.Known.{Known}
-use Rattle.st_plain.specs.declared.looking.Ahead.{Ahead as Seen}
+use Rattle.st_plain.specs.declared.looking.Ahead.{Ahead as SeenAhead}
 use Rattle.st_plain.specs.Uses.{uses_of_entry}
 
 -- the index-side word of the next entry of a state, or of its table instruction
@@ -49,7 +49,7 @@ known_at table s = record {
 
 -- a predicted entry: its plan, its row, its other facts, and the words that it uses, on a machine
 -- with the delays ds and n levels
-abbrev pub seen_ahead : List ℕ → ℕ → Ahead → Seen
+abbrev pub seen_ahead : List ℕ → ℕ → Ahead → SeenAhead
 seen_ahead ds n a = record {
   plan = plan_of a;
   row = a.row;

@@ -1,12 +1,18 @@
-//! The facts of an entry that its plan does not have.
-ghost use Rattle.std.specs.Prelude.{◌≡◌, None, Some, if◌then◌else◌};
+//! The facts of an entry (instruction) that its preparation does not have, and which the ledger
+//! writes: the index-side word, whether it is EX, and the half-words that are executed.
+//!
+//! rows.rt calls `known_if`. Half-words are 32 bits; the index-side word is a word address, a
+//! register included. Proved: the facts are `known_at` of specs/Looking.antt, for each state. Free:
+//! the shortcut for an entry that prefetches (it has no forbidden word), which saves reading its
+//! words again. A new fact is a field here, in `known_at`, and a line of `st_lines`.
+ghost use Rattle.std.specs.Prelude.{◌≡◌, None, Some, if◌then◌else◌, true};
 ghost use Rattle.st_bits.specs.Indicators.{IsIndicatorIfAny};
 ghost use Rattle.st_prep.specs.Fetch.{index_words as index_words_of, place_of as place_by, words_fetched};
 ghost use Rattle.st_prep.specs.Plan.{needs as needs_of, decode_context, plan as plan_of};
 ghost use Rattle.st_prep.specs.Ranges.{HasFields, IsFetched, IsPrepared};
 ghost use Rattle.st_prep.specs.Reading.{is_execute as is_execute_of};
 ghost use Rattle.st_segment.specs.Entries.{entry as entry_of};
-ghost use Rattle.st_plain.specs.Looking.{code_of as code_by, code_found as code_found_of, known_at};
+ghost use Rattle.st_plain.specs.Looking.{code_of as code_by, code_found as code_found_of, known_at, side_at};
 
 use st_format::{Instr, encode};
 use st_next::FetchUnit;
@@ -41,7 +47,7 @@ fn second_where(full: bool, second: u32) -> Option<u32>
     if full { Some(second) } else { None }
 }
 
-// The half-words of an instruction.
+// The half-words of an instruction, whose fields fit their bits unless it is invalid (`HasFields`).
 #[inline(always)]
 fn code_of(instr: &Instr) -> Code
     requires { HasFields instr.now }
@@ -104,10 +110,10 @@ fn known_anew(table: Option<u8>, side: Option<u32>, x: &[u64; 16], state: &State
     }
 }
 
-/// The facts of the next entry of a state, which is planned and prepared. If it asks for following
-/// words, each of its words may be fetched, and it is EX if it has a target.
+// The facts of the next entry of a state, which is planned and prepared. If it asks for following
+// words, each of its words may be fetched, and it is EX if it has a target.
 #[inline(always)]
-pub(crate) fn known_of(unit: &FetchUnit, table: Option<u8>, x: &[u64; 16], state: &State) -> Known
+fn known_of(unit: &FetchUnit, table: Option<u8>, x: &[u64; 16], state: &State) -> Known
     requires indicator { IsIndicatorIfAny table }
     requires words { x.now ≡ index_words_of state.now }
     requires plan { unit.now.prepared ≡ plan_of state.now table }
@@ -125,5 +131,34 @@ pub(crate) fn known_of(unit: &FetchUnit, table: Option<u8>, x: &[u64; 16], state
         side,
         execute: entry.target.len > 0,
         code: Some(code_of(&unit.prepared.instr)),
+    }
+}
+
+/// The facts of the next entry of a state, which is planned and prepared; if they are not wanted,
+/// only the index-side word among them is valid.
+#[inline(always)]
+pub(crate) fn known_if(
+    wanted: bool,
+    unit: &FetchUnit,
+    table: Option<u8>,
+    x: &[u64; 16],
+    state: &State,
+) -> Known
+    requires indicator { IsIndicatorIfAny table }
+    requires words { x.now ≡ index_words_of state.now }
+    requires plan { unit.now.prepared ≡ plan_of state.now table }
+    requires ranges { IsPrepared unit.now.prepared }
+    requires entry { unit.now.entry ≡ entry_of table state.now }
+    requires needs { unit.now.needs ≡ needs_of (decode_context state.now (place_by state.now table)) }
+    ensures side { result.side ≡ side_at table state.now }
+    ensures known { wanted ≡ true → result ≡ known_at table state.now }
+{
+    if wanted {
+        return known_of(unit, table, x, state);
+    }
+    Known {
+        side: unit.needs.index_read,
+        execute: false,
+        code: None,
     }
 }

@@ -1,4 +1,13 @@
-//! The predicted entries after a state.
+//! The predicted entries after a state: those that an overlapped machine has in flight when the
+//! last entry completes, and the first one that came too late.
+//!
+//! `st_account` asks at the end of a segment, to write the flushed entries. `look` makes predicted
+//! steps on the state itself, and undoes them (`st_back`), so no copy of storage is needed. Ticks
+//! are those of the run; at most 8 entries are found.
+//!
+//! Proved: the entries are `prepared_before` and `first_late` of those along the predictions
+//! (`st_segment`, specs/Looking.antt), their reads are in the log, and the state is unchanged.
+//! Free: the recursion.
 ghost use Rattle.std.specs.Prelude.{◌≡◌, suc, ◌+◌, ◌-◌, ◌*◌, ◌≤◌, ◌<◌, ◌^◌, ◌∷◌, ◌++◌, [], map, length, None};
 ghost use Rattle.st_bits.specs.declared.limits.TheConstants.{MOST_DELAY};
 ghost use Rattle.st_state.specs.Machine.{IsMachine};
@@ -76,6 +85,8 @@ pub struct FoundAhead {
 /// on the bus of `issue` and noted in `log`. The entry before the state completes at that tick or
 /// later. If `reach.more` is less than the number n of levels, the entry n - `reach.more` before
 /// the next one does so too. The state is unchanged afterwards; of `issue` only the bus is valid.
+/// The ticks of `issue` are close together, as they are in a run (`IsTight`), and so early that no
+/// tick of the entries to find overflows.
 pub fn look(
     state: &mut State,
     issue: &mut IssueState,
@@ -114,6 +125,7 @@ pub fn look(
         state,
         issue,
         timing: reach.timing,
+        facts: true,
     };
     let begun = begin(&mut unit, None, &before, log, &mut uses);
     let p = unit.prepared;

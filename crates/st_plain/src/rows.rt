@@ -1,5 +1,14 @@
-//! The row of the next entry of a state, and the words that it uses.
-ghost use Rattle.std.specs.Prelude.{◌≡◌, ℕ, ◌+◌, ◌-◌, ◌≤◌, ◌^◌, ◌∷◌, ◌++◌, List, length, take, IfSome};
+//! The row (the ticks) of the next entry (instruction) of a state, the words that it uses, and its
+//! wait for a level, a place in flight.
+//!
+//! `begin` plans the entry up to A and P, `finish` computes R and C and advances the issue state:
+//! the two halves, since a cause of delay (`st_reasons`) is found between them. looking.rt and
+//! `st_account` call both. C of the last entry is at most 2^63 + 2^20.
+//!
+//! Proved: the row is `row_of_entry` of `st_rows`, and the words are `formed_uses` and
+//! `prepared_uses` of specs/Uses.antt. Pinned: there is room for 48 words (`space`). Free: how the
+//! wait is computed; it is `level_wait` of specs/Looking.antt.
+ghost use Rattle.std.specs.Prelude.{◌≡◌, ℕ, ◌+◌, ◌-◌, ◌≤◌, ◌^◌, ◌∷◌, ◌++◌, List, length, take, true, IfSome};
 ghost use Rattle.st_bits.specs.Indicators.{IsIndicatorIfAny};
 ghost use Rattle.st_bits.specs.declared.limits.TheConstants.{MOST_DELAY};
 ghost use Rattle.st_banks.specs.Bank.{last_of};
@@ -15,10 +24,10 @@ ghost use Rattle.st_rows.specs.Words.{bus_after_index_read, side_there as side_t
 ghost use Rattle.st_rows.specs.declared.bus.Bus.{Bus as BusOf};
 ghost use Rattle.st_rows.specs.declared.log.Made.{Made};
 ghost use Rattle.st_segment.specs.Entries.{entry as entry_of};
-ghost use Rattle.st_plain.specs.Looking.{known_at, level_wait as level_wait_of};
+ghost use Rattle.st_plain.specs.Looking.{known_at, level_wait as level_wait_of, side_at};
 ghost use Rattle.st_plain.specs.Uses.{formed_uses, prepared_uses};
 
-use crate::known::{Known, known_of};
+use crate::known::{Known, known_if};
 use crate::uses::{DataWords, use_data, use_side_register};
 use st_banks::{BANKS, LastAnswers};
 use st_next::{FetchUnit, PlanContext};
@@ -94,6 +103,8 @@ pub struct Before<'a, 'b> {
     pub issue: &'b IssueState,
     /// The delays and the number of levels of the machine.
     pub timing: &'b Timing<'b>,
+    /// Whether all facts of the entry are wanted, as its lines need them.
+    pub facts: bool,
 }
 
 /// A planned entry: its facts, its P, and its wait for a level.
@@ -109,7 +120,11 @@ pub struct Begun {
 
 /// Plans and prepares the next entry of a state, or the table instruction of an interrupt by the
 /// indicator in `table`, and notes the words that it uses until its address is formed. The old
-/// value of `unit` is ignored.
+/// value of `unit` is ignored. Of the facts only the index-side word is valid if they are not
+/// wanted. The ticks of the issue state are close together, as they are in a
+/// run (`IsTight`), and `uses` has room for six more words: at most four instruction words and the
+/// index-side word come here.
+#[inline(always)]
 pub fn begin(
     unit: &mut FetchUnit,
     table: Option<u8>,
@@ -128,7 +143,9 @@ pub fn begin(
     ensures entry { unit.new.entry ≡ entry_of table before.now.state.now }
     ensures in_time { IsEntryInTime unit.new.entry }
     ensures machine { IsMachine before.now.state.now }
-    ensures known { result.known ≡ known_at table before.now.state.now }
+    ensures side { result.known.side ≡ side_at table before.now.state.now }
+    ensures known { before.now.facts ≡ true →
+        result.known ≡ known_at table before.now.state.now }
 
     // Its ticks.
     ensures formed { unit.new.formed ≡ result.formed }
@@ -159,7 +176,7 @@ pub fn begin(
         index: &index,
     };
     unit.plan(table, &context, log, uses);
-    let known = known_of(unit, table, &index, state);
+    let known = known_if(before.facts, unit, table, &index, state);
     use_side_register(uses, known.side);
     let formed = unit.formed;
     let level_wait = level_wait(
@@ -177,7 +194,9 @@ pub fn begin(
 }
 
 /// Completes the row of an entry that `begin` has planned: advances the issue state over it, and
-/// notes the words that it uses from its preparation on.
+/// notes the words that it uses from its preparation on. `unit` is as `begin` left it, and `uses`
+/// has room for 34 more words: 32 operand words, and two that are prefetched.
+#[inline(always)]
 pub fn finish(
     issue: &mut IssueState,
     unit: &mut FetchUnit,

@@ -1,4 +1,10 @@
-//! Notes the registers that an entry uses, in the list of the words that are read for it.
+//! Notes the registers that an entry (instruction) uses, in the list of the words that are read for
+//! it: the timetable makes no read for a register, so its observer does not hear of it.
+//!
+//! rows.rt calls these. Registers are words below 32, and come first in a run. Proved: the list
+//! grows by `data_uses` or `side_register` of specs/Uses.antt, and bus and log are those of the
+//! timetable. Pinned: the order of the list, which is that of the `USE` lines; at most 48 words.
+//! Free: the loops.
 ghost use Rattle.std.specs.Prelude.{◌≡◌, ◌+◌, ◌-◌, ◌<◌, ◌≤◌, ◌^◌, ◌∷◌, ◌++◌, [], length};
 ghost use Rattle.st_prep.specs.Ranges.{IsRuns};
 ghost use Rattle.st_rows.specs.Ranges.{IsBusWithin, IsReadingWithin, ArePastWithin, IsReadable};
@@ -41,7 +47,8 @@ pub(crate) fn use_side_register(uses: &mut Uses, side: Option<u32>)
     }
 }
 
-// Notes `count` operand words that are registers, from the word `first` on.
+// Notes `count` operand words that are registers, from the word `first` on. The label of the loop
+// serves only its proof.
 fn use_registers(uses: &mut Uses, first: u32, count: u8)
     requires space { length uses.old.items + count ≤ 48 }
     requires start { first < 2 ^ 18 }
@@ -64,7 +71,8 @@ struct OperandRun {
     read: WordRun,
 }
 
-// Notes the registers among the operand words of a run, and reads the others.
+// Notes the registers among the operand words of a run, at most 16, and reads the others. All ticks
+// before are at most 2^64 - 2^16, so that those of these reads do not overflow.
 #[inline(always)]
 fn use_run(
     uses: &mut Uses,
@@ -100,12 +108,15 @@ fn use_run(
 /// The operand words of an entry, and those of them that are read from storage.
 #[derive(Clone, Copy)]
 pub(crate) struct DataWords {
+    /// All operand words.
     pub all: Words,
+    /// Those of them that are read from storage.
     pub read: WordRuns,
 }
 
 /// Notes the operand words of the next entry, which is prepared at the tick, and reads those that
-/// are not registers.
+/// are not registers. There are two runs of at most 16 words, so `uses` has room for 32. All ticks
+/// before are at most 2^64 - 2^17.
 #[inline(always)]
 pub(crate) fn use_data(
     uses: &mut Uses,

@@ -63,7 +63,7 @@ piece-empty : (from to : ℕ) (why : Stall) (w v : ℕ) → to ≤ from → wait
 unfolding wait_piece
 piece-empty from to why w v late = rw (le-ltb from to late) refl
 
-turns-empty : (from w : ℕ) (next : Accepted) (older : List Use) → next.tick ≤ from → turns from w next older ≡ []
+pub turns-empty : (from w : ℕ) (next : Accepted) (older : List Use) → next.tick ≤ from → turns from w next older ≡ []
 unfolding turns
 turns-empty from w next [] late = piece-empty from next.tick Bank w next.word late
 turns-empty from w next (u ∷ older) late =

@@ -1,4 +1,13 @@
-//! Finds the cause for which a row was not prepared earlier.
+//! Finds the cause for which a row (one instruction with its ticks) was not prepared earlier: the
+//! path from its address back in time, to the completion, read or preparation that decided it.
+//!
+//! `st_account` calls `find_reason` between the two halves of a row; `st_lines` writes the
+//! `BECAUSE` line. Distances count rows, 1 to 8; ticks are those of the run.
+//!
+//! Proved: the cause is `because` of specs/Reasons.antt; that it did delay the row, by the ticks
+//! that `late` says, is a law (specs/ReasonLaws.antt). Pinned: the order in which causes are tried,
+//! which decides between causes at one tick. A new cause needs a variant, its case there, and its
+//! name in `st_lines`. Free: the recursions.
 ghost use Rattle.std.specs.Prelude.{◌≡◌, ◌-◌, ◌≤◌, nat_eq, find, reverse, All, unwrap_or};
 ghost use Rattle.st_reasons.specs.declared.because.StallCause.TheVariants.{Prefetch as PrefetchOf};
 ghost use Rattle.std.specs.List.{list_any};
@@ -30,6 +39,7 @@ pub enum Reason {
 /// A reason with the row that it concerns.
 #[derive(Clone, Copy, Debug, PartialEq, Eq)]
 pub struct Cause {
+    /// The kind of dependence.
     pub reason: Reason,
     /// The distance to that row in rows: 1 is the row before, 0 the row itself.
     pub back: u8,
@@ -167,21 +177,25 @@ fn in_order(issue: &IssueState) -> StallCause
 }
 
 // The cause `Bus` if the last read of the row before was accepted at tick `t`, after that row was
-// prepared; else the cause from the order.
-fn bus_or_order(issue: &IssueState, t: u64, before: &[Use]) -> StallCause
-    ensures { result ≡ reason_of_bus issue.now t (reverse before.now) }
+// prepared; else the cause from the order. The answer is put into `cause`, here and below, since a
+// recursion whose answer is returned keeps all its frames.
+fn bus_or_order(issue: &IssueState, t: u64, before: &[Use], cause: &mut StallCause)
+    ensures { cause.new ≡ reason_of_bus issue.now t (reverse before.now) }
 {
     let Some((last, earlier)) = last_use(before) else {
-        return in_order(issue);
+        *cause = in_order(issue);
+        return;
     };
     if !is_read(&last.supply) {
-        return bus_or_order(issue, t, earlier);
+        bus_or_order(issue, t, earlier, cause);
+        return;
     }
     let read = read_of(&last.supply);
     if read.accept == t && issue.p < t {
-        return earlier_reason(Reason::Bus, 1, read.want, t.saturating_sub(issue.p));
+        *cause = earlier_reason(Reason::Bus, 1, read.want, t.saturating_sub(issue.p));
+        return;
     }
-    in_order(issue)
+    *cause = in_order(issue);
 }
 
 // The cause of an instruction word that an earlier row requested.
@@ -196,24 +210,34 @@ fn asked_before(issue: &IssueState, word: u32, t: u64) -> StallCause
 }
 
 // The cause for which the words requested so far came late, on the path from tick `t` backwards.
-fn of_words(issue: &IssueState, own: u8, t: u64, words: &[Use], before: &[Use]) -> StallCause
-    ensures { result
+fn of_words(
+    issue: &IssueState,
+    own: u8,
+    t: u64,
+    words: &[Use],
+    before: &[Use],
+    cause: &mut StallCause,
+)
+    ensures { cause.new
         ≡ reason_of_words issue.now own (reverse before.now) t (reverse words.now) }
 {
     let Some((last, earlier)) = last_use(words) else {
-        return bus_or_order(issue, t, before);
+        bus_or_order(issue, t, before, cause);
+        return;
     };
     if !decides(Role::Instruction, t, last, earlier) {
-        return of_words(issue, own, t, earlier, before);
+        of_words(issue, own, t, earlier, before, cause);
+        return;
     }
     if !is_read(&last.supply) {
-        return asked_before(issue, last.word, t);
+        *cause = asked_before(issue, last.word, t);
+        return;
     }
     let want = read_of(&last.supply).want;
     let of_target = usize::from(own) <= earlier.len();
     match done_at(issue, of_target, want, earlier) {
-        Some(reason) => reason,
-        None => of_words(issue, own, want, earlier, before),
+        Some(reason) => *cause = reason,
+        None => of_words(issue, own, want, earlier, before, cause),
     }
 }
 
@@ -224,13 +248,14 @@ fn of_address(
     t: u64,
     words: &[Use],
     before: &[Use],
-) -> StallCause
-    ensures { result ≡ reason_of_address issue.now entry.now t (reverse before.now)
+    cause: &mut StallCause,
+)
+    ensures { cause.new ≡ reason_of_address issue.now entry.now t (reverse before.now)
         (reverse words.now) }
 {
     match done_at(issue, entry.serial, t, words) {
-        Some(reason) => reason,
-        None => of_words(issue, entry.own.len, t, words, before),
+        Some(reason) => *cause = reason,
+        None => of_words(issue, entry.own.len, t, words, before, cause),
     }
 }
 
@@ -245,17 +270,19 @@ fn writer_of(supply: &Supply) -> Option<Writer>
     }
 }
 
-// The writer of the index-side word, if that is forwarded.
-fn side_writer(uses: &[Use]) -> Option<Writer>
-    ensures { result ≡ side_writer_of uses.now }
+// Finds the writer of the index-side word, if that is forwarded.
+fn find_side_writer(uses: &[Use], writer: &mut Option<Writer>)
+    ensures { writer.new ≡ side_writer_of uses.now }
 {
     let Some((first, more)) = uses.split_first() else {
-        return None;
+        *writer = None;
+        return;
     };
     if is_index(first.role) {
-        return writer_of(&first.supply);
+        *writer = writer_of(&first.supply);
+        return;
     }
-    side_writer(more)
+    find_side_writer(more, writer);
 }
 
 /// The cause for which the entry after an issue state was not prepared earlier. `words` are the
@@ -281,13 +308,17 @@ pub fn find_reason(
         );
     }
     let a = begun.formed.a;
-    match side_writer(words) {
-        Some(writer) => earlier_reason(
+    let mut writer = None;
+    find_side_writer(words, &mut writer);
+    if let Some(writer) = writer {
+        return earlier_reason(
             Reason::Forwarding,
             writer.back,
             writer.done,
             writer.done.saturating_sub(a),
-        ),
-        None => of_address(issue, entry, a.saturating_sub(1), words, before),
+        );
     }
+    let mut cause = StallCause::Start(0);
+    of_address(issue, entry, a.saturating_sub(1), words, before, &mut cause);
+    cause
 }

@@ -1,4 +1,12 @@
-//! The ticks of waits, by stage and by kind of wait.
+//! The ticks of waits, by stage and by kind of wait, in a whole run.
+//!
+//! `st_lines` adds the waits of each charge and writes the sums at the end. Only three stages wait
+//! for words (instruction, index, operand), and an index-side word never waits for a turn, so there
+//! are eight sums.
+//!
+//! Proved: each sum grows by the ticks of its waits (specs/Sums.antt), and none overflows, since it
+//! is at most the tick. That the sums of a stage are its charge is a law of `st_causes`. Pinned by
+//! `wait_sums_by`: the order of the sums, that of the lines. Free: the recursion.
 ghost use Rattle.std.specs.Prelude.{◌≡◌, ◌+◌, ◌-◌, ◌≤◌, ◌<◌, ◌^◌, true, if◌then◌else◌};
 ghost use Rattle.st_ledger.specs.declared.charges.Stage.{Stage as StageOf};
 ghost use Rattle.st_ledger.specs.Charges.{is_stage};
@@ -11,16 +19,22 @@ use st_ledger::{Charge, Stage};
 /// The ticks of waits, by kind of wait.
 #[derive(Clone, Copy, Debug, Default, PartialEq, Eq)]
 pub struct Shares {
+    /// The ticks of waits for a turn on the bus.
     pub turn: u64,
+    /// The ticks of waits for a bank.
     pub bank: u64,
+    /// The ticks in which reads were in progress.
     pub storage: u64,
 }
 
 /// The ticks of the waits of charges, by stage.
 #[derive(Clone, Copy, Debug, Default, PartialEq, Eq)]
 pub struct WaitTotals {
+    /// The waits for instruction words.
     pub instruction: Shares,
+    /// The waits for index-side words.
     pub index: Shares,
+    /// The waits for operand words.
     pub operand: Shares,
 }
 
@@ -61,6 +75,7 @@ impl Shares {
 impl WaitTotals {
     /// Adds the waits of a charge, which have at most as many ticks as the charge. No total may be
     /// greater than the tick at which the charge begins.
+    #[inline(always)]
     pub fn add(&mut self, charge: Charge, waits: &[Wait])
         requires within { AreWaitsWithin charge.from self.old }
         requires few { charge.from + all_stalled waits.now ≤ charge.to }
@@ -81,8 +96,11 @@ impl WaitTotals {
 /// The ticks of one kind of wait in a stage, in the whole run.
 #[derive(Clone, Copy, Debug, PartialEq, Eq)]
 pub struct WaitSum {
+    /// The stage.
     pub stage: Stage,
+    /// The kind of wait.
     pub why: Stall,
+    /// Its ticks.
     pub ticks: u64,
 }
 

@@ -1,4 +1,13 @@
-//! Finds the waits in the ticks of a charge.
+//! Finds the waits in the ticks of a charge (the ticks that one stage of an instruction took): for
+//! which word a row waited, and whether for its turn on the bus, for a bank, or for storage.
+//!
+//! `st_lines` calls `fill_waits` for each charge, with the words of the row and of the row before
+//! it; earlier reads do not matter. A wait has the ticks `from` + 1 to `to`; the last wait comes
+//! first in the list.
+//!
+//! Proved: the list is `charge_waits` of specs/Waits.antt. That waits are true and cover the charge
+//! are laws (specs/WaitLaws.antt). Pinned: room for 514 waits, by 48 words of each row and four
+//! instruction words. Free: the recursions.
 ghost use Rattle.std.specs.Prelude.{◌≡◌, ◌+◌, ◌*◌, ◌≤◌, ◌<◌, ◌++◌, List, length, take, reverse, nat_eq, ◌&&◌};
 ghost use Rattle.st_rows.specs.declared.uses.Use.{Use as UseOf};
 ghost use Rattle.st_reasons.specs.Words.{is_read as is_read_of, read_of as read_by};
@@ -34,8 +43,11 @@ impl Default for Stall {
 /// The ticks `from` + 1 to `to`, in which a row waits for a word.
 #[derive(Clone, Copy, Debug, Default, PartialEq, Eq)]
 pub struct Wait {
+    /// The tick before the first one of the wait.
     pub from: u64,
+    /// The last tick of the wait.
     pub to: u64,
+    /// The kind of the wait.
     pub why: Stall,
     /// The address of the word that the row waits for.
     pub word: u32,
@@ -52,13 +64,17 @@ pub struct Accepted {
     pub tick: u64,
 }
 
-/// The waits of a charge, the last one first.
+/// The waits of a charge, the last one first. The room of 514 is 104 for each of four instruction
+/// words (two for each of the three words and 48 words before it, and two of its own) and 98 for
+/// the 48 words of the row before.
 pub type Waits = ArrayVec<Wait, 514>;
 
 // The ticks `from` + 1 to `to`: those of a charge, or of a part of it.
 #[derive(Clone, Copy, Debug, PartialEq, Eq)]
 struct Span {
+    // The tick before the first one of the span.
     from: u64,
+    // The last tick of the span.
     to: u64,
 }
 
@@ -143,7 +159,7 @@ fn add_turns(waits: &mut Waits, from: u64, word: u32, next: Accepted, uses: &[Us
 }
 
 // Adds all waits before the acceptance of a read, from tick `from` on, given the earlier words of
-// its row and the words of the row before.
+// its row and the words of the row before. Most reads are accepted by then and have no such waits.
 fn add_all_turns(waits: &mut Waits, from: u64, read: Accepted, earlier: &[Use], before: &[Use])
     requires room { length waits.old.items + 2 * (length earlier.now + length before.now) < 514 }
     ensures items { waits.new.items ≡ waits.old.items
@@ -151,6 +167,9 @@ fn add_all_turns(waits: &mut Waits, from: u64, read: Accepted, earlier: &[Use], 
     ensures room { length waits.new.items
         ≤ length waits.old.items + 2 * (length earlier.now + length before.now) + 1 }
 {
+    if read.tick <= from {
+        return;
+    }
     let here = add_turns(waits, from, read.word, read, earlier);
     let there = add_turns(waits, from, read.word, here, before);
     let at_bank = Span {
@@ -296,6 +315,7 @@ fn first_four(uses: &[Use]) -> &[Use]
 /// Fills a list with the waits of a charge of a row that uses the words `uses`; `before` are the
 /// words of the row before it in its segment, none for the first row of a segment. The previous
 /// contents are overwritten.
+#[inline(always)]
 pub fn fill_waits(waits: &mut Waits, charge: Charge, uses: &[Use], before: &[Use])
     requires uses { length uses.now ≤ 48 }
     requires before { length before.now ≤ 48 }

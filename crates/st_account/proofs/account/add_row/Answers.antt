@@ -1,7 +1,5 @@
 use Rattle.std.specs.Prelude.{All}
 use Rattle.std.proofs.Common.{sym, subst}
-use Rattle.st_ledger.specs.Charges.{charges_behind}
-use Rattle.st_lines.specs.Waited.{AddsWaits}
 use Rattle.st_reasons.specs.Words.{IsReadInTime}
 use Rattle.st_account.proofs.StallLemmas.{adds-none, adds-some}
 use Rattle.st_account.proofs.account.add_row.Goals as goal
@@ -18,6 +16,4 @@ add_waits-requires c = record {
 
 pub returns : goal.returns
 returns c =
-    adds-some c.args.k c.args.last.now _ _ _ _ c.if-k-eq0.false c.requires.reach c.as_slice.ensures.value c.as_slice-2.ensures.value
-    (subst (λ ps. AddsWaits c.as_slice.result.now c.as_slice-2.result.now c.args.last.now.done.before (charges_behind c.args.last.now.done.before ps)
-    c.args.waiting.now.totals c.add_waits.new.waiting.totals) c.parts.ensures c.add_waits.ensures)
+    adds-some c.args.k c.args.last.now _ _ _ _ c.if-k-eq0.false c.requires.reach c.as_slice.ensures.value c.as_slice-2.ensures.value c.add_waits.ensures

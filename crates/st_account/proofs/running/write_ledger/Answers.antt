@@ -1,6 +1,8 @@
-use Rattle.std.proofs.Common.{refl, sym, ◌∙◌}
+use Rattle.std.proofs.Common.{refl, sym, ◌∙◌, ap}
 use Rattle.st_lines.specs.Origins.{origin_at}
+use Rattle.st_account.specs.Passing.{lines_until}
 use Rattle.st_account.specs.Settling.{at_hand}
+use Rattle.st_account.specs.Text.{ledger}
 use Rattle.st_account.proofs.LedgerLemmas.{ledger-is, machine-fails, run-fails, sums-fail, all-written}
 use Rattle.st_account.proofs.running.write_ledger.Goals as goal
 
@@ -13,28 +15,37 @@ returns-in_err-write_machine g c =
     _ c.from_residual.result c.from_residual.ensures.0 c.in_err-write_machine.ensures
 
 pub returns-in_err-write_run : goal.returns-in_err-write_run
+unfolding lines_until
 returns-in_err-write_run g c =
-    run-fails _ _ c.args.ready.delays.list c.args.ready.levels c.args.controls.now.budget
+    run-fails _ _ c.args.ready.delays.list c.args.ready.levels c.budget.result
     (at_hand c.args.ready.state c.args.controls.now.signals c.args.ready.cards)
-    (ledger-is (origin_at c.args.ready.origins) c.args.ready.delays.list c.args.ready.levels c.args.controls.now.budget
+    (ap (λ i. ledger (origin_at c.args.ready.origins) c.args.ready.delays.list c.args.ready.levels i
+    (at_hand c.args.ready.state c.args.controls.now.signals c.args.ready.cards)) (sym c.budget.ensures)
+    ∙ ledger-is (origin_at c.args.ready.origins) c.args.ready.delays.list c.args.ready.levels c.budget.result
     (at_hand c.args.ready.state c.args.controls.now.signals c.args.ready.cards)) _ _ _ (c.delays.ensures ∙ sym c.requires.delays)
     _ _ _ c.from_residual-in_err-write_run.result c.from_residual-in_err-write_run.ensures.0 c.in_ok-write_machine.ensures c.in_err-write_run.ensures.lines
 
 pub returns-in_err-write_sums : goal.returns-in_err-write_sums
+unfolding lines_until
 returns-in_err-write_sums g c =
-    sums-fail _ _ c.args.ready.delays.list c.args.ready.levels c.args.controls.now.budget
+    sums-fail _ _ c.args.ready.delays.list c.args.ready.levels c.budget.result
     (at_hand c.args.ready.state c.args.controls.now.signals c.args.ready.cards)
-    (ledger-is (origin_at c.args.ready.origins) c.args.ready.delays.list c.args.ready.levels c.args.controls.now.budget
+    (ap (λ i. ledger (origin_at c.args.ready.origins) c.args.ready.delays.list c.args.ready.levels i
+    (at_hand c.args.ready.state c.args.controls.now.signals c.args.ready.cards)) (sym c.budget.ensures)
+    ∙ ledger-is (origin_at c.args.ready.origins) c.args.ready.delays.list c.args.ready.levels c.budget.result
     (at_hand c.args.ready.state c.args.controls.now.signals c.args.ready.cards)) _ _ _ (c.delays.ensures ∙ sym c.requires.delays)
     _ _ _ _ c.in_ok-write_machine.ensures c.in_ok-write_run.ensures.lines c.write_run.new.sums
     (λ stage. c.in_ok-write_run.ensures.sums stage refl)
     _ c.from_residual-in_err-write_sums.result c.from_residual-in_err-write_sums.ensures.0 c.in_err-write_sums.ensures
 
 pub returns : goal.returns
+unfolding lines_until
 returns g c =
-    all-written _ _ c.args.ready.delays.list c.args.ready.levels c.args.controls.now.budget
+    all-written _ _ c.args.ready.delays.list c.args.ready.levels c.budget.result
     (at_hand c.args.ready.state c.args.controls.now.signals c.args.ready.cards)
-    (ledger-is (origin_at c.args.ready.origins) c.args.ready.delays.list c.args.ready.levels c.args.controls.now.budget
+    (ap (λ i. ledger (origin_at c.args.ready.origins) c.args.ready.delays.list c.args.ready.levels i
+    (at_hand c.args.ready.state c.args.controls.now.signals c.args.ready.cards)) (sym c.budget.ensures)
+    ∙ ledger-is (origin_at c.args.ready.origins) c.args.ready.delays.list c.args.ready.levels c.budget.result
     (at_hand c.args.ready.state c.args.controls.now.signals c.args.ready.cards)) _ _ _ (c.delays.ensures ∙ sym c.requires.delays)
     _ _ _ _ c.in_ok-write_machine.ensures c.in_ok-write_run.ensures.lines c.write_run.new.sums
     (λ stage. c.in_ok-write_run.ensures.sums stage refl)

@@ -1,41 +1,30 @@
-use Rattle.std.proofs.Common.{refl, sym, ◌∙◌}
+use Rattle.std.proofs.Common.{length, refl, ◌∙◌, ap}
+use Rattle.st_io.proofs.Progress.{lines_cut, lines_then}
+use Rattle.st_lines.proofs.LineLemmas.{same_lines}
+use Rattle.st_lines.specs.Origins.{origin_at}
+use Rattle.st_tally.specs.TallyLines.{table_lines}
+use Rattle.st_account.specs.LedgerTables.{tallied_of, dropped_of}
 use Rattle.st_account.specs.Settling.{at_hand}
-use Rattle.st_account.proofs.LedgerLemmas.{sums-is, machine-fails, run-fails, sums-fail, all-written}
+use Rattle.st_account.proofs.LedgerLemmas.{tables-behind}
 use Rattle.st_account.proofs.running.write_ledger_sums.Goals as goal
 
-pub returns-in_err-write_machine : goal.returns-in_err-write_machine
-returns-in_err-write_machine g c =
-    machine-fails _ _ c.args.ready.delays.list c.args.ready.levels c.args.controls.now.budget
-    (at_hand c.args.ready.state c.args.controls.now.signals c.args.ready.cards)
-    (sums-is c.args.ready.delays.list c.args.ready.levels c.args.controls.now.budget
-    (at_hand c.args.ready.state c.args.controls.now.signals c.args.ready.cards)) _ _ _ (c.delays.ensures ∙ sym c.requires.delays)
-    _ c.from_residual.result c.from_residual.ensures.0 c.in_err-write_machine.ensures
+pub write_ledger_totals-requires-clause-empty : goal.write_ledger_totals-requires-clause-empty
+write_ledger_totals-requires-clause-empty g c = record { tables = c.requires.empty; why = refl; dropped = refl }
 
-pub returns-in_err-add_run : goal.returns-in_err-add_run
-returns-in_err-add_run g c =
-    run-fails _ _ c.args.ready.delays.list c.args.ready.levels c.args.controls.now.budget
-    (at_hand c.args.ready.state c.args.controls.now.signals c.args.ready.cards)
-    (sums-is c.args.ready.delays.list c.args.ready.levels c.args.controls.now.budget
-    (at_hand c.args.ready.state c.args.controls.now.signals c.args.ready.cards)) _ _ _ (c.delays.ensures ∙ sym c.requires.delays)
-    _ _ _ c.from_residual-in_err-add_run.result c.from_residual-in_err-add_run.ensures.0 c.in_ok-write_machine.ensures c.in_err-add_run.ensures.lines
-
-pub returns-in_err-write_sums : goal.returns-in_err-write_sums
-returns-in_err-write_sums g c =
-    sums-fail _ _ c.args.ready.delays.list c.args.ready.levels c.args.controls.now.budget
-    (at_hand c.args.ready.state c.args.controls.now.signals c.args.ready.cards)
-    (sums-is c.args.ready.delays.list c.args.ready.levels c.args.controls.now.budget
-    (at_hand c.args.ready.state c.args.controls.now.signals c.args.ready.cards)) _ _ _ (c.delays.ensures ∙ sym c.requires.delays)
-    _ _ _ _ c.in_ok-write_machine.ensures c.in_ok-add_run.ensures.lines c.add_run.new.sums
-    c.in_ok-add_run.ensures.sums
-    _ c.from_residual-in_err-write_sums.result c.from_residual-in_err-write_sums.ensures.0 c.in_err-write_sums.ensures
+pub returns-in_err-write_ledger_totals : goal.returns-in_err-write_ledger_totals
+returns-in_err-write_ledger_totals g c =
+    tables-behind _ _ _ _ _ _ _ _ _ (lines_cut _ _ _ _ _ c.from_residual.result c.from_residual.ensures.0 c.in_err-write_ledger_totals.ensures.lines)
 
 pub returns : goal.returns
 returns g c =
-    all-written _ _ c.args.ready.delays.list c.args.ready.levels c.args.controls.now.budget
-    (at_hand c.args.ready.state c.args.controls.now.signals c.args.ready.cards)
-    (sums-is c.args.ready.delays.list c.args.ready.levels c.args.controls.now.budget
-    (at_hand c.args.ready.state c.args.controls.now.signals c.args.ready.cards)) _ _ _ (c.delays.ensures ∙ sym c.requires.delays)
-    _ _ _ _ c.in_ok-write_machine.ensures c.in_ok-add_run.ensures.lines c.add_run.new.sums
-    c.in_ok-add_run.ensures.sums
-    _ _ c.write_wait_sums.result c.add_run.new.waits c.in_ok-write_sums.ensures
-    c.in_ok-add_run.ensures.waits c.write_wait_sums.ensures
+    let rows = tallied_of (origin_at c.args.ready.origins) c.args.ready.delays.list c.args.ready.levels c.args.controls.now.budget
+    (at_hand c.args.ready.state c.args.controls.now.signals c.args.ready.cards) in
+    let tally = c.write_ledger_totals.new.tally in
+    let dropped = dropped_of c.args.ready.delays.list c.args.ready.levels c.args.controls.now.budget
+    (at_hand c.args.ready.state c.args.controls.now.signals c.args.ready.cards) in
+    tables-behind _ _ _ _ _ _ _ _ _
+    (lines_then _ _ _ _ (table_lines (length c.args.tables.cards.items) rows dropped) _ _ c.in_ok-write_ledger_totals.ensures.lines
+    (same_lines _ _ _ _ _
+    (ap (λ j. table_lines j rows tally.dropped) (c.in_ok-write_ledger_totals.ensures.places refl)
+    ∙ ap (table_lines (length c.args.tables.cards.items) rows) (c.in_ok-write_ledger_totals.ensures.dropped refl))
+    (c.write.ensures rows (c.in_ok-write_ledger_totals.ensures.tables refl))))

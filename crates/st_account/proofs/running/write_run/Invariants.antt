@@ -4,18 +4,19 @@ use Rattle.st_ledger.specs.Charges.{ticks_for}
 use Rattle.st_ledger.specs.Ledger.{entries_from, all_charges}
 use Rattle.st_lines.specs.Origins.{origin_at}
 use Rattle.st_account.specs.Settling.{at_hand}
-use Rattle.st_account.specs.Text.{lines_from, stalled_from}
-use Rattle.st_account.proofs.TurnLemmas.{IsRunning}
+use Rattle.st_account.specs.Text.{stalled_from}
+use Rattle.st_account.specs.Passing.{lines_until}
+use Rattle.st_account.proofs.RoundLemmas.{IsRunning}
 use Rattle.st_account.proofs.running.write_run.Given as goal
 
 abbrev pub invariant-entries : goal.invariant-entries
 invariant-entries g l =
     let c = moment_at_start (at_hand l.fn.ready.state l.controls.signals l.fn.ready.cards) in
-    IsRunning (g.K.Sink.output l.fn.out) (g.K.Sink.output l.out) (lines_from (origin_at l.fn.ready.origins) l.fn.ready.delays.list l.fn.ready.levels l.controls.budget 0 l.fn.ready.state [] c)
+    IsRunning (g.K.Sink.output l.fn.out) (g.K.Sink.output l.out) (lines_until l.fn.until (origin_at l.fn.ready.origins) l.fn.ready.delays.list l.fn.ready.levels l.budget 0 l.fn.ready.state [] [] c)
     l.fn.ready.delays.list l.fn.ready.levels
-    (λ x. ticks_for x (all_charges l.fn.ready.delays.list l.fn.ready.levels (entries_from l.fn.ready.delays.list l.fn.ready.levels l.controls.budget c)))
-    (λ r s. stalled_from r s l.fn.ready.delays.list l.fn.ready.levels l.controls.budget [] c)
-    l.account l.pending.signals l.pending.cards l.left
+    (λ x. ticks_for x (all_charges l.fn.ready.delays.list l.fn.ready.levels (entries_from l.fn.ready.delays.list l.fn.ready.levels l.budget c)))
+    (λ r s. stalled_from r s l.fn.ready.delays.list l.fn.ready.levels l.budget [] c)
+    l.account l.pending.signals l.pending.cards l.left l.until l.start
 
 abbrev pub decreases-entries : goal.decreases-entries
 decreases-entries g l = l.left

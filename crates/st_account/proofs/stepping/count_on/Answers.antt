@@ -5,7 +5,6 @@ use Rattle.st_rows.specs.declared.entry.Entry.{Entry}
 use Rattle.st_rows.specs.declared.log.Made.{Made}
 use Rattle.st_next.specs.declared.fetch_unit.FetchUnit.{FetchUnit}
 use Rattle.st_prep.specs.declared.entries.Prepared.{Prepared}
-use Rattle.st_plain.specs.declared.known.Known.{Known}
 use Rattle.st_plain.proofs.UseLemmas.{all-used}
 use Rattle.st_account.proofs.LastLemmas.{past-kept, because-made}
 use Rattle.st_account.proofs.stepping.count_on.Goals as goal
@@ -28,7 +27,7 @@ returns-clause-log c =
 pub returns-clause-uses : goal.returns-clause-uses
 returns-clause-uses c =
     all-used c.args.timing.now.delays.now.list c.args.timing.now.levels c.args.last.now.issue c.begin-begun.new.unit.entry _ c.begin-begun.result.known.side _
-    c.begin-begun.new.unit.prepared.reads _ _ _ _ c.begin-begun.ensures.entry (ap (λ (k : Known). k.side) c.begin-begun.ensures.known)
+    c.begin-begun.new.unit.prepared.reads _ _ _ _ c.begin-begun.ensures.entry c.begin-begun.ensures.side
     (ap (λ (p : Prepared). p.reads) c.begin-begun.ensures.plan) c.clear-2.ensures c.begin-begun.ensures.uses c.finish-ticks.ensures.uses
 
 pub returns-clause-because : goal.returns-clause-because
@@ -36,5 +35,5 @@ returns-clause-because c =
     because-made c.args.timing.now.delays.now.list c.args.timing.now.levels c.args.last.now.issue c.begin-begun.new.unit.entry _ c.begin-begun.result.known.side _
     c.finish-ticks.result c.begin-begun.result.formed.a c.begin-begun.result.formed.p c.begin-begun.result.level_wait _ _ _ _ _ _ c.clear-2.ensures
     c.begin-begun.ensures.uses c.as_slice.ensures.value (c.as_slice-2.ensures.value ∙ c.copy.ensures) c.begin-begun.ensures.entry
-    (ap (λ (k : Known). k.side) c.begin-begun.ensures.known) c.finish-ticks.ensures.value c.begin-begun.ensures.address c.begin-begun.ensures.tick
+    c.begin-begun.ensures.side c.finish-ticks.ensures.value c.begin-begun.ensures.address c.begin-begun.ensures.tick
     c.find_reason-last.ensures

@@ -1,4 +1,4 @@
-use Rattle.std.proofs.Common.{◌≡◌, ◌<◌, length, None, sym, subst, ◌∙◌, ap, arith}
+use Rattle.std.proofs.Common.{◌≡◌, ◌<◌, length, None, refl, sym, subst, ◌∙◌, ap, arith}
 use Rattle.std.proofs.lemmas.List.{length_push}
 use Rattle.st_exec.specs.Completion.{predicted_state}
 use Rattle.st_state.specs.Machine.{Machine, IsMachine}
@@ -19,7 +19,7 @@ use Rattle.st_plain.specs.Looking.{side_at, known_at}
 use Rattle.st_plain.specs.Uses.{uses_of_entry}
 use Rattle.st_plain.specs.declared.known.Known.{Known}
 use Rattle.st_rows.specs.declared.uses.Use.{Use}
-use Rattle.st_plain.specs.declared.looking.Ahead.{Ahead as Seen}
+use Rattle.st_plain.specs.declared.looking.Ahead.{Ahead as SeenAhead}
 use Rattle.st_plain.proofs.LookLemmas.{prediction-counted, prediction-done, found-late, found-same, found-look, begun-here, begun-behind, bus-late, log-late, bus-look, log-look, first-next, some-more, row-p, after-c}
 use Rattle.st_plain.proofs.UseLemmas.{all-used}
 use Rattle.st_plain.proofs.looking.+look.Goals as goal
@@ -37,9 +37,9 @@ returns-then-begun-reach-clause-late t c =
     let s = c.args.state.now in
     let p = ap (tick_p ds n f) c.begin-begun.ensures.entry in
     let is = c.finish-ticks.ensures.value ∙ ap (row_of_entry ds n f) c.begin-begun.ensures.entry in
-    let at : Prepared → EntryTicks → Known → Uses → Seen = λ q r known uses. record { plan = q; row = r; known = known; uses = uses } in
+    let at : Prepared → EntryTicks → Known → Uses → SeenAhead = λ q r known uses. record { plan = q; row = r; known = known; uses = uses } in
     let plan_is = c.begin-begun.ensures.plan in
-    let known_is = c.begin-begun.ensures.known in
+    let known_is = c.begin-begun.ensures.known refl in
     let uses_are : c.finish-ticks.new.uses.items ≡ uses_of_entry ds n f (entry None s) (side_at None s) (plan s None).reads =
     all-used ds n f _ _ _ _ _ _ _ _ _ c.begin-begun.ensures.entry (ap (λ (k : Known). k.side) known_is) (ap (λ (q : Prepared). q.reads) plan_is)
     c.new-uses.ensures c.begin-begun.ensures.uses c.finish-ticks.ensures.uses in
@@ -151,9 +151,9 @@ returns-clause-found t c =
     (omega (arith, c.begin-begun.ensures.tick, c.if-begun-reach.false)) in
     let p = ap (tick_p ds n f) c.begin-begun.ensures.entry in
     let is = c.finish-row.ensures.value ∙ ap (row_of_entry ds n f) c.begin-begun.ensures.entry in
-    let at : Prepared → EntryTicks → Known → Uses → Seen = λ q r known uses. record { plan = q; row = r; known = known; uses = uses } in
+    let at : Prepared → EntryTicks → Known → Uses → SeenAhead = λ q r known uses. record { plan = q; row = r; known = known; uses = uses } in
     let plan_is = c.begin-begun.ensures.plan in
-    let known_is = c.begin-begun.ensures.known in
+    let known_is = c.begin-begun.ensures.known refl in
     let uses_are : c.finish-row.new.uses.items ≡ uses_of_entry ds n f (entry None s) (side_at None s) (plan s None).reads =
     all-used ds n f _ _ _ _ _ _ _ _ _ c.begin-begun.ensures.entry (ap (λ (k : Known). k.side) known_is) (ap (λ (q : Prepared). q.reads) plan_is)
     c.new-uses.ensures c.begin-begun.ensures.uses c.finish-row.ensures.uses in

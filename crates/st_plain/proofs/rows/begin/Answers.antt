@@ -2,7 +2,6 @@ use Rattle.std.proofs.Common.{◌∙◌, sym, ap, arith}
 use Rattle.st_prep.specs.declared.entries.Needs.{Needs}
 use Rattle.st_segment.specs.Entries.{side_to_read}
 use Rattle.st_plain.specs.Looking.{side_at}
-use Rattle.st_plain.specs.declared.known.Known.{Known}
 use Rattle.st_plain.proofs.UseLemmas.{put-formed, formed-used}
 use Rattle.st_plain.proofs.rows.begin.Goals as goal
 
@@ -20,8 +19,8 @@ returns-clause-uses c =
     let e = c.plan.new.self.entry in
     let told = put-formed ds f e _ c.args.uses.now c.plan.new.watch c.plan.ensures.entry c.plan.ensures.in_time
     c.plan.ensures.told (omega (arith, c.requires.space)) in
-    let side = ap (λ (n : Needs). n.index_read) c.plan.ensures.needs ∙ sym (ap (λ (k : Known). k.side) c.known_of-known.ensures) in
-    formed-used ds f e c.known_of-known.result.side c.args.uses.now.items c.plan.new.watch.items c.use_side_register.new.uses.items
+    let side = ap (λ (n : Needs). n.index_read) c.plan.ensures.needs ∙ sym c.known_if-known.ensures.side in
+    formed-used ds f e c.known_if-known.result.side c.args.uses.now.items c.plan.new.watch.items c.use_side_register.new.uses.items
     (c.plan.ensures.side ∙ ap side_to_read side) told.0 c.use_side_register.ensures.items
 
 pub returns-clause-noted : goal.returns-clause-noted

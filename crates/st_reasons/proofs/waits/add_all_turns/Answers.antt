@@ -1,5 +1,8 @@
-use Rattle.std.proofs.Common.{[], ◌++◌, reverse}
+use Rattle.std.proofs.Common.{[], ◌++◌, List, reverse, sym, ◌∙◌, ap}
+use Rattle.std.proofs.lemmas.List.{append-nil}
+use Rattle.st_reasons.specs.declared.waits.Wait.{Wait}
 use Rattle.st_reasons.proofs.Stands.{turns_all}
+use Rattle.st_reasons.proofs.Covers.{turns-empty}
 use Rattle.st_reasons.proofs.waits.add_all_turns.Goals as goal
 
 pub returns-clause-items : goal.returns-clause-items
@@ -7,3 +10,9 @@ returns-clause-items c =
     turns_all c.args.from c.args.read.word c.args.read c.add_turns-here.result c.add_turns-there.result (reverse c.args.earlier.now)
     (reverse c.args.before.now) c.args.waits.now.items c.add_turns-here.new.waits.items c.add_turns-there.new.waits.items _
     (c.add_turns-here.ensures.items (reverse c.args.before.now ++ [])) (c.add_turns-there.ensures.items []) c.add_piece.ensures.items
+
+pub returns-then-read-from-clause-items : goal.returns-then-read-from-clause-items
+returns-then-read-from-clause-items c =
+    sym (append-nil c.args.waits.now.items)
+    ∙ ap (λ (xs : List Wait). c.args.waits.now.items ++ xs)
+    (sym (turns-empty c.args.from c.args.read.word c.args.read (reverse c.args.earlier.now ++ reverse c.args.before.now) c.if-read-from.true))

@@ -7,7 +7,7 @@ use Rattle.st_segment.proofs.EntryRanges.{entry-ranges}
 use Rattle.st_plain.specs.Looking.{side_at}
 use Rattle.st_plain.specs.Uses.{formed_uses}
 use Rattle.st_account.specs.declared.last.Last.{Last}
-use Rattle.st_account.proofs.EntryLemmas.{uses-is, entry-lines, entry-last, entry-sums, entry-within, entry-step, kept-some}
+use Rattle.st_account.proofs.EntryLemmas.{uses-is, entry-lines, entry-row, entry-last, entry-sums, entry-within, entry-step, kept-some}
 use Rattle.st_segment.specs.Entries.{entry}
 use Rattle.st_reasons.specs.Reasons.{because}
 use Rattle.st_reasons.specs.Sums.{AreWaitsWithin}
@@ -16,11 +16,12 @@ use Rattle.st_reasons.proofs.Laws.{reads_of_an_entry_are_in_time}
 use Rattle.st_lines.specs.Origins.{origin_at}
 use Rattle.st_account.specs.Text.{lines_of_entry}
 use Rattle.st_account.proofs.LeftLemmas.{entry-left}
+use Rattle.st_account.proofs.TallyLemmas.{kept-rows-some, entry-ordered}
 use Rattle.st_account.proofs.StallLemmas.{kept-stalled-some, row-reach, row-stalled}
 use Rattle.st_account.proofs.account.Account.step.Goals as goal
 
 pub returns-clause-lines : goal.returns-clause-lines
-returns-clause-lines c p end some is =
+returns-clause-lines c facts p end some is =
     let rest = c.execute.ensures.rest in
     kept-some _ _ end some
     ∙ entry-lines (origin_at c.args.self.now.origins) c.args.timing.now.delays.now.list c.args.timing.now.levels p end c.args.self.now.state c.args.self.now.last
@@ -36,7 +37,7 @@ returns-clause-lines c p end some is =
     (ap (λ (l : Last). l.done.n) rest ∙ c.count_on.ensures.number ∙ c.row_number-self.ensures.number)
     (ap (λ (l : Last). l.mispredicted) rest)
     (ap (λ (l : Last). l.unit.prepared) rest ∙ c.count_on.ensures.plan)
-    (ap (λ (l : Last). l.done.known) rest ∙ c.count_on.ensures.known)
+    (ap (λ (l : Last). l.done.known) rest ∙ c.count_on.ensures.known facts)
     (ap (λ (l : Last). l.done.before) rest ∙ c.count_on.ensures.before)
     (ap (λ (l : Last). l.done.start) rest ∙ c.count_on.ensures.start)
     (ap (λ (l : Last). l.uses.items) rest ∙ c.count_on.ensures.uses)
@@ -53,6 +54,54 @@ returns-clause-lines c p end some is =
     (formed_uses c.args.timing.now.delays.now.list c.args.self.now.last.issue (entry c.interrupt-taken.result c.args.self.now.state)
     (side_at c.interrupt-taken.result c.args.self.now.state)) l.before.items) (sym rest))
     ∙ ap (λ us. lines_of_entry (origin_at c.args.self.now.origins) c.args.timing.now.delays.now.list c.args.timing.now.levels end us p) (ap (λ (l : Last). l.before.items) rest ∙ c.count_on.ensures.earlier)
+
+pub returns-clause-row : goal.returns-clause-row
+returns-clause-row c p end v some is =
+    let rest = c.execute.ensures.rest in
+    kept-rows-some _ _ end v some
+    ∙ entry-row (origin_at c.args.self.now.origins) c.args.timing.now.delays.now.list c.args.timing.now.levels p end v c.args.self.now.state c.args.self.now.last
+    c.interrupt-taken.result _ _ _ _ _ _ _ _ _ _ _ _ is
+    c.interrupt-taken.ensures.value
+    (ap (λ (l : Last). l.done.address) rest ∙ c.count_on.ensures.address ∙ c.next_address-address.ensures.value)
+    (ap (λ (l : Last). l.done.origin) rest
+    ∙ c.count_on.ensures.origin
+    ∙ c.at-self.ensures
+    ∙ ap (origin_at c.args.self.now.origins c.args.self.now.state) c.next_address-address.ensures.value)
+    (ap (λ (l : Last). l.done.row.ticks) rest ∙ c.count_on.ensures.row)
+    (ap (λ (l : Last). l.done.row.level_wait) rest ∙ c.count_on.ensures.wait)
+    (ap (λ (l : Last). l.done.n) rest ∙ c.count_on.ensures.number ∙ c.row_number-self.ensures.number)
+    (ap (λ (l : Last). l.mispredicted) rest)
+    (ap (λ (l : Last). l.done.before) rest ∙ c.count_on.ensures.before)
+    (ap (λ (l : Last). l.done.start) rest ∙ c.count_on.ensures.start)
+    (ap (λ (l : Last). l.uses.items) rest ∙ c.count_on.ensures.uses)
+    refl
+    (ap (λ (l : Last). l.because) rest
+    ∙ c.count_on.ensures.because
+    ∙ ap (λ us. because c.args.self.now.last.issue (entry c.interrupt-taken.result c.args.self.now.state) c.count_on.new.last.done.row.ticks.a
+    c.count_on.new.last.done.row.ticks.p c.count_on.new.last.done.row.level_wait
+    (formed_uses c.args.timing.now.delays.now.list c.args.self.now.last.issue (entry c.interrupt-taken.result c.args.self.now.state)
+    (side_at c.interrupt-taken.result c.args.self.now.state)) us)
+    (sym c.count_on.ensures.earlier)
+    ∙ ap (λ (l : Last). because c.args.self.now.last.issue (entry c.interrupt-taken.result c.args.self.now.state) l.done.row.ticks.a l.done.row.ticks.p
+    l.done.row.level_wait
+    (formed_uses c.args.timing.now.delays.now.list c.args.self.now.last.issue (entry c.interrupt-taken.result c.args.self.now.state)
+    (side_at c.interrupt-taken.result c.args.self.now.state)) l.before.items) (sym rest))
+    (ap (λ (l : Last). l.before.items) rest ∙ c.count_on.ensures.earlier)
+
+pub returns-clause-ordered : goal.returns-clause-ordered
+returns-clause-ordered c =
+    let rest = c.execute.ensures.rest in
+    entry-ordered c.args.timing.now.delays.now.list (delays-are c.args.timing.now.delays.now) c.args.timing.now.levels c.args.self.now.state c.args.self.now.last _
+    c.interrupt-taken.result c.requires.order c.requires.early c.requires.tight
+    (entry-ranges c.interrupt-taken.result c.args.self.now.state c.row_number-self.ensures.machine c.interrupt-taken.ensures.bound)
+    (ap (λ (l : Last). l.done.before) rest ∙ c.count_on.ensures.before)
+    (ap (λ (l : Last). l.done.start) rest ∙ c.count_on.ensures.start)
+    (ap (λ (l : Last). l.done.row.ticks) rest ∙ c.count_on.ensures.row)
+    (ap (λ (l : Last). l.done.row.level_wait) rest ∙ c.count_on.ensures.wait)
+    (ap (λ (l : Last). l.tick) rest ∙ c.count_on.ensures.tick ∙ ap (λ (l : Last). l.done.row.ticks.c) (sym rest))
+
+pub returns-clause-before : goal.returns-clause-before
+returns-clause-before c = ap (λ (l : Last). l.done.before) c.execute.ensures.rest ∙ c.count_on.ensures.before
 
 pub returns-clause-uses : goal.returns-clause-uses
 returns-clause-uses c p is =

@@ -1,5 +1,6 @@
 use Rattle.std.specs.Prelude.{slice_index}
-use Rattle.std.proofs.Common.{sym, ◌∙◌, ap}
+use Rattle.std.proofs.Common.{◌≡◌, length, sym, ◌∙◌, ap}
+use Rattle.st_bits.specs.Storage.{words_of_storage}
 use Rattle.st_account.specs.Standing.{still_by}
 use Rattle.st_account.specs.declared.account.Account.{Account}
 use Rattle.st_account.proofs.PassLemmas.{scene-is, printed-is, card-is, waited-is, left-is, may-is, dropped-is, banks-is, begun-is}
@@ -13,6 +14,8 @@ returns-clause-came c b m at =
     let still = c.is_still-still.ensures ∙ ap (still_by a.state a.last.mispredicted) c.signals.ensures in
     let last = ap (λ (x : Account). x.last) c.look_if.ensures.rest in
     let segment = ap (λ (x : Account). x.k) c.look_if.ensures.rest in
+    let size : length c.look_if.new.self.words.items ≡ words_of_storage → length a.words.items ≡ words_of_storage =
+    λ long. ap (λ (x : Account). length x.words.items) (sym c.look_if.ensures.rest) ∙ long in
     record {
       scene = scene-is ds n b m a c.args.pending.now.signals c.args.pending.now.cards at c.look_if.new.self.state c.settle-came.new.state _ c.settle-came.new.pending.cards
           c.look_if.ensures.state (sym c.settle-came.ensures.came);
@@ -35,12 +38,13 @@ returns-clause-came c b m at =
           c.look_if.ensures.state (sym c.settle-came.ensures.came) _ c.settle-came.ensures.card;
       waited = waited-is ds n b m a c.args.pending.now.signals c.args.pending.now.cards at c.look_if.new.self.state c.settle-came.new.state _ c.settle-came.new.pending.cards
           c.look_if.ensures.state (sym c.settle-came.ensures.came) _ c.settle-came.ensures.waited;
-      words = λ some. ap (λ (x : Account). x.words.items) c.look_if.ensures.rest ∙ at.words (λ none. some (segment ∙ none));
-      unchanged = λ some v inside left.
+      words = λ some long.
+          ap (λ (x : Account). x.words.items) c.look_if.ensures.rest ∙ at.words (λ none. some (segment ∙ none)) (size long);
+      unchanged = λ long some v inside left.
           ap (λ (x : Account). slice_index x.words.items v) c.look_if.ensures.rest
           ∙ left-is ds n b m a c.args.pending.now.signals c.args.pending.now.cards at c.look_if.new.self.state c.settle-came.new.state _ c.settle-came.new.pending.cards
           c.look_if.ensures.state (sym c.settle-came.ensures.came) _ (may-is _ c.look_if.new.self.last a.last c.look_if.new.self.state c.changeable-self.ensures last)
-          (λ none. some (segment ∙ none)) v inside left;
+          (λ none. some (segment ∙ none)) (size long) v inside left;
     }
 
 pub settle-came-requires : goal.settle-came-requires

@@ -32,7 +32,7 @@ returns-clause-lines g c ds n left b m xs cards is going =
     c.enter_next-border.ensures.ends c.enter_next-border.ensures.begins c.enter_next-border.ensures.last going c.end_of-end.result c.end_of-end.ensures) c.in_ok-write_row.ensures.lines)
     (same_lines _ _ _ _ _
     (crossed ds n left b m c.args.self.now xs cards is c.enter_next-border.new.self c.enter_next-border.result c.enter_next-border.ensures.rest c.enter_next-border.ensures.border
-    c.enter_next-border.ensures.ends c.enter_next-border.ensures.begins c.enter_next-border.ensures.last c.row_number.result c.as_slice.result.now c.as_slice-2.result.now
+    c.enter_next-border.ensures.ends c.enter_next-border.ensures.begins c.enter_next-border.ensures.last c.requires.size c.row_number.result c.as_slice.result.now c.as_slice-2.result.now
     c.row_number.ensures.number c.as_slice.ensures.value c.as_slice-2.ensures.value
     (issue-after ds n left b m c.args.self.now xs cards is c.enter_next-border.new.self c.enter_next-border.result c.enter_next-border.ensures.rest c.enter_next-border.ensures.border
     c.enter_next-border.ensures.ends c.enter_next-border.ensures.begins c.enter_next-border.ensures.issue)) c.write_border.ensures.lines)

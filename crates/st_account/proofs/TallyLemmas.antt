@@ -1,0 +1,146 @@
+-- Lemmas on the last completed entry as a row of the tables.
+use Rattle.std.specs.Prelude.{nat_eq, length, Option}
+use Rattle.std.proofs.lemmas.Bool.Decides.{nat_tests}
+use Rattle.std.proofs.lemmas.List.{append-nil}
+use Rattle.std.proofs.Common.{◌≡◌, ◌≢◌, ℕ, zero, suc, ◌+◌, ◌≤◌, ◌<◌, ◌^◌, false, List, [], ◌∷◌, ◌++◌, refl, sym, ◌∙◌, ap, subst, arith}
+use Rattle.st_state.specs.Machine.{Machine}
+use Rattle.st_rows.specs.Ranges.{AreDelaysUpTo, IsTight, IsEntryInTime}
+use Rattle.st_rows.specs.Rows.{row_of_entry, issue_after_entry}
+use Rattle.st_rows.specs.declared.entry.Entry.{Entry}
+use Rattle.st_rows.specs.declared.issue.IssueState.{IssueState}
+use Rattle.st_rows.specs.declared.issue.EntryTicks.{EntryTicks}
+use Rattle.st_rows.specs.declared.uses.Use.{Use}
+use Rattle.st_rows.proofs.Laws.{rows_are_in_order, completions_are_bounded}
+use Rattle.st_segment.specs.Entries.{entry}
+use Rattle.st_plain.specs.Looking.{level_wait}
+use Rattle.st_lines.specs.EntryLines.{charges_of_entry}
+use Rattle.st_lines.specs.Waited.{AddsWaits}
+use Rattle.st_lines.specs.declared.facts.EntryDone.{EntryDone}
+use Rattle.st_lines.specs.declared.lines.Why.{Why}
+use Rattle.st_reasons.specs.declared.sums.WaitTotals.{WaitTotals}
+use Rattle.st_tally.specs.Slots.{AreTablesWithin, IsInOrder}
+use Rattle.st_tally.specs.Tally.{TalliedRow, IsTally}
+use Rattle.st_tally.specs.declared.tables.Tables.{Tables}
+use Rattle.st_account.specs.declared.last.Last.{Last}
+use Rattle.st_account.specs.Standing.{charges_kept}
+use Rattle.st_account.specs.Tallying.{done_kept, kept_rows, IsOrdered, IsTallyReady, AddsKeptRow}
+use Rattle.st_account.proofs.StallLemmas.{row-reach}
+
+pub kept-rows-none : (k : ℕ) (l : Last) (end : Option ℕ) (w : Why) → k ≡ 0 → kept_rows k l end w ≡ []
+unfolding kept_rows
+kept-rows-none k l end w none = rw none refl
+
+pub kept-rows-some : (k : ℕ) (l : Last) (end : Option ℕ) (w : Why) → k ≢ 0
+    → kept_rows k l end w ≡ record { done = done_kept l end; why = w; uses = l.uses.items; before = l.before.items } ∷ []
+unfolding kept_rows
+kept-rows-some zero l end w some = absurd (some refl)
+kept-rows-some (suc k) l end w some = rw (not-zero k) refl
+  where
+    not-zero : (k : ℕ) → nat_eq (suc k) 0 ≡ false
+    not-zero k = grind (arith, nat_tests)
+
+-- the row does not depend on the issue state of the next entry
+kept-rows-same : (k : ℕ) (l j : Last) (end : Option ℕ) (w : Why) → j ≡ record l { issue = j.issue; past = j.past } → kept_rows k j end w ≡ kept_rows k l end w
+unfolding kept_rows
+kept-rows-same k l j end w same = ap (λ x. kept_rows k x end w) same
+
+-- ---- before a row is added
+
+pub ready-same : (k : ℕ) (l j : Last) (t : Tables) → j ≡ record l { issue = j.issue; past = j.past } → IsTallyReady k l t → IsTallyReady k j t
+ready-same k l j t same h =
+    subst (λ x. IsTallyReady k x t) (sym same) (record {
+      ordered = λ some.
+          let o = h.ordered some in
+          record { order = record { later = o.order.later; ready = o.order.ready; early = o.order.early; reach = o.order.reach }; at = o.at; wait = o.wait };
+      first = h.first;
+      within = h.within;
+      ticks = h.ticks;
+    })
+
+pub order-is : (k : ℕ) (l : Last) (end : Option ℕ) (t : Tables) (d : EntryDone) → k ≢ 0 → IsTallyReady k l t → d ≡ done_kept l end → IsInOrder d
+order-is k l end t d some h is =
+    let o = h.ordered some in
+    subst IsInOrder (sym is) (record { later = o.order.later; ready = o.order.ready; early = o.order.early; reach = o.order.reach })
+
+pub ticks-fit : (k : ℕ) (l : Last) (end : Option ℕ) (t : Tables) (d : EntryDone) → k ≢ 0 → IsTallyReady k l t → d ≡ done_kept l end
+    → t.level_ticks + d.row.level_wait < 2 ^ 64
+ticks-fit k l end t d some h is =
+    let wait : d.row.level_wait ≡ l.done.row.level_wait = ap (λ (x : EntryDone). x.row.level_wait) is in
+    omega (arith, wait, h.ticks, (h.ordered some).wait)
+
+pub within-is : (k : ℕ) (l : Last) (end : Option ℕ) (t : Tables) (d : EntryDone) → IsTallyReady k l t → d ≡ done_kept l end → AreTablesWithin d.before t
+within-is k l end t d h is = subst (λ (x : EntryDone). AreTablesWithin x.before t) (sym is) h.within
+
+-- ---- a row is added
+
+pub row-none : (k : ℕ) (l : Last) (end : Option ℕ) (w : Why) (t : Tables) → k ≡ 0 → IsTallyReady k l t → AddsKeptRow k l end w t t
+row-none k l end w t none h = record {
+  tally = λ xs is. subst (λ ys. IsTally ys t) (sym (ap (λ ys. xs ++ ys) (kept-rows-none k l end w none) ∙ append-nil xs)) is;
+  size = refl;
+  ticks = omega arith;
+  within = h.first none;
+}
+
+pub row-some : (k : ℕ) (l : Last) (end : Option ℕ) (w : Why) (us bs : List Use) (d : EntryDone) (old new : Tables) → k ≢ 0 → IsTallyReady k l old → d ≡ done_kept l end
+    → us ≡ l.uses.items → bs ≡ l.before.items
+    → ((xs : List TalliedRow) → IsTally xs old → IsTally (xs ++ record { done = d; why = w; uses = us; before = bs } ∷ []) new)
+    → length new.cards.items ≡ length old.cards.items → new.level_ticks ≡ old.level_ticks + d.row.level_wait → AreTablesWithin d.row.ticks.c new
+    → AddsKeptRow k l end w old new
+row-some k l end w us bs d old new some h is used earlier tally size ticks within =
+    let o = h.ordered some in
+    let wait : d.row.level_wait ≡ l.done.row.level_wait = ap (λ (x : EntryDone). x.row.level_wait) is in
+    record {
+      tally = λ xs told.
+          subst (λ ys. IsTally (xs ++ ys) new)
+          (ap (λ (x : EntryDone). record { done = x; why = w; uses = us; before = bs } ∷ []) is
+          ∙ ap (λ vs. record { done = done_kept l end; why = w; uses = vs; before = bs } ∷ []) used
+          ∙ ap (λ vs. record { done = done_kept l end; why = w; uses = l.uses.items; before = vs } ∷ []) earlier
+          ∙ sym (kept-rows-some k l end w some))
+          (tally xs told);
+      size = size;
+      ticks = omega (arith, ticks, wait, o.wait);
+      within = subst (λ t. AreTablesWithin t new) (ap (λ (x : EntryDone). x.row.ticks.c) is ∙ o.at) within;
+    }
+
+pub waits-added : (l : Last) (end : Option ℕ) (us bs : List Use) (d : EntryDone) (old new : WaitTotals) → d ≡ done_kept l end
+    → AddsWaits us bs d.before (charges_of_entry d) old new → AddsWaits us bs l.done.before (charges_kept l) old new
+waits-added l end us bs d old new is = subst (λ (x : EntryDone). AddsWaits us bs x.before (charges_of_entry x) old new) is
+
+pub row-same : (k : ℕ) (l j : Last) (end until : Option ℕ) (w : Why) (old new : Tables) → j ≡ record l { issue = j.issue; past = j.past } → end ≡ until
+    → AddsKeptRow k j end w old new → AddsKeptRow k l until w old new
+row-same k l j end until w old new same is h = record {
+  tally = λ xs told.
+      subst (λ ys. IsTally (xs ++ ys) new) (kept-rows-same k l j end w same ∙ ap (λ e. kept_rows k l e w) is) (h.tally xs told);
+  size = h.size;
+  ticks = subst (λ (x : Last). new.level_ticks ≤ old.level_ticks + x.tick) same h.ticks;
+  within = subst (λ (x : Last). AreTablesWithin x.tick new) same h.within;
+}
+
+-- ---- the next entry
+
+bounded : (ds : List ℕ) → AreDelaysUpTo 255 ds → (n : ℕ) (f : IssueState) (e : Entry) → IsEntryInTime e → IsTight 255 f → f.c ≤ 2 ^ 63 → (row_of_entry ds n f e).c < 2 ^ 64
+unfolding row_of_entry issue_after_entry
+bounded ds are n f e fits tight early = omega (arith, completions_are_bounded.bound 255 n ds f e are fits tight, early)
+
+pub entry-ordered : (ds : List ℕ) → AreDelaysUpTo 255 ds → (n : ℕ) (s : Machine) (l j : Last) (taken : Option ℕ) → l.tick ≤ l.issue.c → l.issue.c ≤ 2 ^ 63 → IsTight 255 l.issue
+    → IsEntryInTime (entry taken s) → j.done.before ≡ l.tick
+    → j.done.start ≡ l.issue.c → j.done.row.ticks ≡ row_of_entry ds n l.issue (entry taken s) → j.done.row.level_wait ≡ level_wait ds n l.issue (entry taken s)
+    → j.tick ≡ j.done.row.ticks.c → IsOrdered j
+unfolding level_wait
+entry-ordered ds are n s l j taken early soon tight fits since opened is_row is_wait at =
+    let e = entry taken s in
+    let r : j.done.row.ticks.r ≡ (row_of_entry ds n l.issue e).r = ap (λ (x : EntryTicks). x.r) is_row in
+    let c : j.done.row.ticks.c ≡ (row_of_entry ds n l.issue e).c = ap (λ (x : EntryTicks). x.c) is_row in
+    let done = rows_are_in_order.done ds n l.issue e fits in
+    let ready = rows_are_in_order.ready ds n l.issue e in
+    let level = rows_are_in_order.levels ds n l.issue e in
+    record {
+      order = record {
+        later = omega (arith, since, early, c, done.1);
+        ready = omega (arith, r, c, done.0);
+        early = omega (arith, c, bounded ds are n l.issue e fits tight soon);
+        reach = row-reach ds n s l j.tick j.done.before j.done.start taken j.done.row.ticks early since opened is_row at ∙ at;
+      };
+      at = sym at;
+      wait = omega (arith, is_wait, at, c, done.0, ready, level);
+    }

@@ -1,0 +1,18 @@
+use Rattle.std.specs.Prelude.{min}
+use Rattle.std.proofs.Common.{sym, ◌∙◌}
+use Rattle.st_lines.specs.Origins.{origin_at}
+use Rattle.st_account.specs.Settling.{at_hand}
+use Rattle.st_account.proofs.RoundLemmas.{rows-fail, rows-written}
+use Rattle.st_account.proofs.running.write_ledger_rows.Goals as goal
+
+pub returns-in_err-write_machine : goal.returns-in_err-write_machine
+returns-in_err-write_machine g c =
+    rows-fail (origin_at c.args.ready.origins) c.args.ready.delays.list c.args.ready.levels (min c.args.most c.args.controls.now.budget) c.args.skipped
+    (at_hand c.args.ready.state c.args.controls.now.signals c.args.ready.cards) _ _ _ (c.delays.ensures ∙ sym c.requires.delays) _ c.from_residual.result
+    c.from_residual.ensures.0 c.in_err-write_machine.ensures
+
+pub returns : goal.returns
+returns g c =
+    rows-written (origin_at c.args.ready.origins) c.args.ready.delays.list c.args.ready.levels (min c.args.most c.args.controls.now.budget) c.args.skipped
+    (at_hand c.args.ready.state c.args.controls.now.signals c.args.ready.cards) _ _ _ (c.delays.ensures ∙ sym c.requires.delays) _ _ c.write_run.result
+    c.budget_of.result c.first_row.result c.budget_of.ensures.value c.first_row.ensures c.in_ok-write_machine.ensures c.write_run.ensures.lines

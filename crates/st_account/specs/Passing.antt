@@ -1,0 +1,43 @@
+-- The lines that are written in a run of which some rows may be skipped. `until` counts the rows up
+-- to the first one that is written; it is 0 once all lines are written. As in LedgerRows, `start`
+-- is the line of the start of the last entry's segment.
+use Rattle.std.specs.Prelude.{ℕ, zero, suc, if◌then◌else◌, List, [], ◌∷◌, ◌++◌, Option}
+use Rattle.st_state.specs.Machine.{Machine}
+use Rattle.st_run.specs.Moments.{Moment, next_state}
+use Rattle.st_rows.specs.declared.uses.Use.{Use}
+use Rattle.st_lines.specs.Lines.{start_line}
+use Rattle.st_lines.specs.BorderLines.{whole_state_lines}
+use Rattle.st_lines.specs.declared.origins.Origin.{Origin}
+use Rattle.st_lines.specs.declared.writing.Border.{Border}
+use Rattle.st_account.specs.declared.last.Last.{Last}
+use Rattle.st_account.specs.LedgerRows.{start_after, rows_from}
+use Rattle.st_account.specs.LedgerSums.{end_lines}
+use Rattle.st_account.specs.Standing.{kept_lines}
+use Rattle.st_account.specs.Text.{segment_end_at, segment_lines, last_lines, lines_from}
+
+-- the lines of a run from a moment on
+unfoldable pub lines_until : ℕ → (Machine → ℕ → Option Origin) → List ℕ → ℕ → ℕ → ℕ → Machine →
+    List Use → List (List ℕ) → Moment → List (List ℕ)
+lines_until zero o ds n left k b us start m = lines_from o ds n left k b us m
+lines_until (suc skipped) o ds n left k b us start m = rows_from o ds n left skipped k us start m
+
+-- the lines between the last entry and the next one, with those of the last entry
+unfoldable pub passed_lines : ℕ → (Machine → ℕ → Option Origin) → List ℕ → ℕ → ℕ → ℕ → Machine →
+    Last → List (List ℕ) → Moment → List (List ℕ)
+passed_lines zero o ds n left k b l start m =
+    kept_lines k l (segment_end_at left m) ++ segment_lines o ds n k b m
+passed_lines (suc zero) o ds n left k b l start m =
+    whole_state_lines (next_state m) ++ start_after k start m
+passed_lines (suc (suc more)) o ds n left k b l start m = []
+
+-- the lines of the end of the run, with those of the last entry
+unfoldable pub ended_lines : ℕ → (Machine → ℕ → Option Origin) → List ℕ → ℕ → ℕ → ℕ → Machine →
+    Last → Moment → List (List ℕ)
+ended_lines zero o ds n left k b l m =
+    kept_lines k l (segment_end_at left m) ++ last_lines o ds n k b m
+ended_lines (suc skipped) o ds n left k b l m = end_lines m
+
+-- the line of the start of segment k, from the border at which it begins; none before segment 1
+abbrev pub line_of_start : ℕ → Border → List (List ℕ)
+line_of_start k border =
+    if border.begins then start_line k border.start border.waited border.why ∷ [] else []

@@ -1,0 +1,71 @@
+-- The facts that the code has of the tables of a run, to which the last completed entry is still to
+-- be added.
+use Rattle.std.specs.Prelude.{ℕ, ◌≡◌, ◌≢◌, ◌+◌, ◌≤◌, ◌<◌, ◌^◌, nat_eq, if◌then◌else◌, List, [], ◌∷◌, ◌++◌, length, Option, None}
+use Rattle.st_lines.specs.declared.facts.EntryDone.{EntryDone}
+use Rattle.st_lines.specs.declared.lines.Why.{Why}
+use Rattle.st_lines.specs.declared.lines.Why.TheVariants.{Run}
+use Rattle.st_tally.specs.Slots.{AreTablesWithin, IsInOrder}
+use Rattle.st_tally.specs.Tally.{TalliedRow, IsTally}
+use Rattle.st_tally.specs.declared.tables.Tables.{Tables}
+use Rattle.st_account.specs.declared.last.Last.{Last}
+use Rattle.st_account.specs.declared.tallying.Tally.{Tally}
+
+-- the last completed entry, whose segment ends at tick `end` or continues
+abbrev pub done_kept : Last → Option ℕ → EntryDone
+done_kept l end = record {
+  n = l.done.n;
+  address = l.done.address;
+  origin = l.done.origin;
+  row = l.done.row;
+  mispredicted = l.mispredicted;
+  before = l.done.before;
+  start = l.done.start;
+  end = end;
+  because = l.because;
+}
+
+-- the row of the last completed entry, whose segment begins for the reason w, and ends at tick
+-- `end` or continues; none before the first entry
+unfoldable pub kept_rows : ℕ → Last → Option ℕ → Why → List TalliedRow
+kept_rows k l end w =
+    if nat_eq k 0 then []
+    else record {
+      done = done_kept l end;
+      why = w;
+      uses = l.uses.items;
+      before = l.before.items;
+    } ∷ []
+
+-- the ticks of the last completed entry are in order, and it waited for a level for no longer than
+-- until its completion
+pub record IsOrdered (l : Last) : Type 0 where
+  pub order : IsInOrder (done_kept l None)
+  pub at : l.done.row.ticks.c ≡ l.tick
+  pub wait : l.done.row.level_wait ≤ l.tick
+
+-- the last completed entry can be added to the tables
+pub record IsTallyReady (k : ℕ) (l : Last) (t : Tables) : Type 0 where
+  pub ordered : k ≢ 0 → IsOrdered l
+  pub first : k ≡ 0 → AreTablesWithin l.tick t
+  pub within : AreTablesWithin l.done.before t
+  pub ticks : t.level_ticks + l.tick < 2 ^ 64
+
+-- the row of the last completed entry is added to the tables
+pub record AddsKeptRow (k : ℕ) (l : Last) (end : Option ℕ) (w : Why) (old new : Tables) :
+    Type 0 where
+  pub tally : (xs : List TalliedRow) → IsTally xs old → IsTally (xs ++ kept_rows k l end w) new
+  pub size : length new.cards.items ≡ length old.cards.items
+  pub ticks : new.level_ticks ≤ old.level_ticks + l.tick
+  pub within : AreTablesWithin l.tick new
+
+-- the tables of no rows
+pub record AreEmptyTables (t : Tables) : Type 0 where
+  pub tally : IsTally [] t
+  pub within : AreTablesWithin 0 t
+  pub ticks : t.level_ticks ≡ 0
+
+-- the tables before the first entry
+pub record IsEmptyTally (t : Tally) : Type 0 where
+  pub tables : AreEmptyTables t.tables
+  pub why : t.why ≡ Run
+  pub dropped : t.dropped ≡ 0

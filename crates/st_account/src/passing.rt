@@ -1,0 +1,157 @@
+//! Passes from each entry of a run to the next one, where some rows are skipped.
+ghost use Rattle.std.specs.Prelude.{◌≡◌, ◌≢◌, List, true, false, ℕ, ◌+◌, ◌≤◌, ◌^◌, ◌++◌, if◌then◌else◌, length, All, IsOk};
+ghost use Rattle.st_bits.specs.declared.limits.TheConstants.{MOST_DELAY, MOST_INSTRUCTIONS};
+ghost use Rattle.st_bits.specs.Storage.{words_of_storage};
+ghost use Rattle.st_card.specs.declared.control_cards.Signal.{Signal as SignalOf};
+ghost use Rattle.st_io.specs.Lines.{WritesLines};
+ghost use Rattle.st_lines.specs.BorderLines.{whole_state_lines};
+ghost use Rattle.st_lines.specs.Changes.{IsCopyBehind};
+ghost use Rattle.st_lines.specs.Origins.{origin_at};
+ghost use Rattle.st_reasons.specs.Words.{IsReadInTime};
+ghost use Rattle.st_rows.specs.Ranges.{IsTight};
+ghost use Rattle.st_run.specs.Moments.{Moment, next_issue};
+ghost use Rattle.st_state.specs.Machine.{Machine};
+ghost use Rattle.st_account.specs.LedgerRows.{start_after};
+ghost use Rattle.st_account.specs.Passing.{passed_lines, ended_lines, line_of_start};
+ghost use Rattle.st_account.specs.Standing.{IsWaiting, AddsKeptWaits, IsBehindMoment};
+ghost use Rattle.st_account.specs.Text.{run_ends, segment_after, words_before};
+
+use crate::account::Account;
+use st_io::{Failed, Sink};
+use st_lines::{Border, Why, write_start, write_whole_state};
+use st_state::State;
+
+/// The border before the first segment: none begins there.
+pub(crate) fn no_border() -> Border
+    ensures { result.begins ≡ false }
+{
+    Border {
+        ends: false,
+        begins: false,
+        start: 0,
+        waited: false,
+        why: Why::Run,
+        taken: None,
+        done: 0,
+    }
+}
+
+// Keeps a border at which a segment begins.
+fn keep_start(border: &Border, start: &mut Border)
+    ensures { start.new ≡ (if border.now.begins then border.now else start.old) }
+{
+    if border.begins {
+        *start = *border;
+    }
+}
+
+// Writes the state before the first row that is written, and the start of its segment k.
+fn write_first<K: Sink>(out: &mut K, state: &State, start: &Border, k: u32) -> Result<(), Failed>
+    ensures { WritesLines (K.output out.old) (K.output out.new)
+        (whole_state_lines state.now ++ line_of_start k start.now) result }
+{
+    write_whole_state(out, state)?;
+    write_start(out, start, k)
+}
+
+/// Passes from the last entry to the next one. If `until` is 0, the lines of the last entry and of
+/// the events after it are written; if it is 1, the next entry is the first one that is written,
+/// and otherwise nothing is written. `start` is the border at which the last entry's segment began,
+/// and afterwards that of the next one's.
+pub(crate) fn pass_to_next<K: Sink>(
+    out: &mut K,
+    account: &mut Account,
+    until: u64,
+    start: &mut Border,
+) -> Result<(), Failed>
+    requires few { account.old.state.done ≤ MOST_INSTRUCTIONS }
+    requires number { account.old.k ≤ MOST_INSTRUCTIONS }
+    requires early { account.old.last.tick ≤ 2 ^ 62 }
+    requires dropped { length account.old.behind.ahead.found.items ≤ 8 }
+    requires soon { All (λ t. t ≤ account.old.last.tick + MOST_DELAY)
+        account.old.behind.banks.ticks }
+    requires past { account.old.last.past ≡ account.old.last.issue.past }
+    requires tight { IsTight MOST_DELAY account.old.last.issue }
+    requires done { account.old.last.issue.c ≡ account.old.last.tick }
+    requires size { length account.old.words.items ≡ words_of_storage }
+    requires left { IsCopyBehind account.old.k account.old.behind.may account.old.words.items
+        account.old.state }
+    requires waiting { IsWaiting account.old.last account.old.waiting.totals }
+
+    ensures lines { (ds : List ℕ) (n left : ℕ) (b : Machine) (m : Moment)
+        (xs : List SignalOf) (cards : List (List ℕ)) →
+        IsBehindMoment ds n left b m account.old xs cards → run_ends left m ≡ false →
+        WritesLines (K.output out.old) (K.output out.new)
+        (passed_lines until (origin_at account.old.origins) ds n left account.old.k b
+        account.old.last (line_of_start account.old.k start.old) m) result }
+    ensures start { (ds : List ℕ) (n left : ℕ) (b : Machine) (m : Moment)
+        (xs : List SignalOf) (cards : List (List ℕ)) →
+        IsBehindMoment ds n left b m account.old xs cards → run_ends left m ≡ false →
+        until ≢ 0 → line_of_start account.new.k start.new
+        ≡ start_after account.old.k (line_of_start account.old.k start.old) m }
+    ensures number { (ds : List ℕ) (n left : ℕ) (b : Machine) (m : Moment)
+        (xs : List SignalOf) (cards : List (List ℕ)) →
+        IsBehindMoment ds n left b m account.old xs cards →
+        account.new.k ≡ segment_after account.old.k m }
+    ensures issue { (ds : List ℕ) (n left : ℕ) (b : Machine) (m : Moment)
+        (xs : List SignalOf) (cards : List (List ℕ)) →
+        IsBehindMoment ds n left b m account.old xs cards → run_ends left m ≡ false →
+        account.new.last.issue ≡ next_issue m }
+    ensures past { account.new.last.past ≡ account.new.last.issue.past }
+    ensures tick { account.new.last.tick ≡ account.old.last.tick }
+    ensures tight { IsTight MOST_DELAY account.new.last.issue }
+    ensures order { account.new.last.tick ≤ account.new.last.issue.c }
+    ensures bound { account.new.last.issue.c ≤ account.new.last.tick + 9 }
+    ensures words { IsOk result → account.new.words.items ≡ account.old.state.words }
+    ensures size { IsOk result → length account.new.words.items ≡ words_of_storage }
+    ensures state { account.new.state ≡ account.old.state }
+    ensures origins { account.new.origins ≡ account.old.origins }
+    ensures sums { account.new.sums ≡ account.old.sums }
+    ensures earlier { (ds : List ℕ) (n left : ℕ) (b : Machine) (m : Moment)
+        (xs : List SignalOf) (cards : List (List ℕ)) →
+        IsBehindMoment ds n left b m account.old xs cards → IsOk result →
+        account.new.last.uses.items ≡ words_before m account.old.last.uses.items }
+    ensures read { IsOk result → All IsReadInTime account.new.last.uses.items }
+    ensures waits { IsOk result → AddsKeptWaits account.old.k account.old.last
+        account.old.waiting.totals account.new.waiting.totals }
+{
+    if until == 0 {
+        return account.write_to_next(out);
+    }
+    let border = account.skip_to_next();
+    keep_start(&border, start);
+    if until == 1 {
+        return write_first(out, &account.state, start, account.k);
+    }
+    Ok(())
+}
+
+/// Ends the run. If `until` is 0, the lines of the last entry and of the events after it are
+/// written too.
+pub(crate) fn finish_run<K: Sink>(
+    out: &mut K,
+    account: &mut Account,
+    until: u64,
+) -> Result<(), Failed>
+    requires few { account.old.state.done ≤ MOST_INSTRUCTIONS }
+    requires dropped { length account.old.behind.ahead.found.items ≤ 8 }
+    requires size { length account.old.words.items ≡ words_of_storage }
+    requires left { IsCopyBehind account.old.k account.old.behind.may account.old.words.items
+        account.old.state }
+    requires waiting { IsWaiting account.old.last account.old.waiting.totals }
+
+    ensures lines { (ds : List ℕ) (n left : ℕ) (b : Machine) (m : Moment)
+        (xs : List SignalOf) (cards : List (List ℕ)) →
+        IsBehindMoment ds n left b m account.old xs cards → run_ends left m ≡ true →
+        WritesLines (K.output out.old) (K.output out.new)
+        (ended_lines until (origin_at account.old.origins) ds n left account.old.k b
+        account.old.last m) result }
+    ensures sums { account.new.sums ≡ account.old.sums }
+    ensures waits { IsOk result → AddsKeptWaits account.old.k account.old.last
+        account.old.waiting.totals account.new.waiting.totals }
+{
+    if until == 0 {
+        return account.finish(out);
+    }
+    account.finish_sums(out)
+}

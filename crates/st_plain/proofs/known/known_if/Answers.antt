@@ -1,0 +1,12 @@
+use Rattle.std.proofs.Common.{ap, ◌∙◌}
+use Rattle.st_prep.specs.declared.entries.Needs.{Needs}
+use Rattle.st_plain.specs.Looking.{side_at}
+use Rattle.st_plain.specs.declared.known.Known.{Known}
+use Rattle.st_plain.proofs.known.known_if.Goals as goal
+
+pub returns-then-wanted-clause-side : goal.returns-then-wanted-clause-side
+returns-then-wanted-clause-side c = ap (λ (k : Known). k.side) c.known_of.ensures
+
+pub returns-clause-side : goal.returns-clause-side
+unfolding side_at
+returns-clause-side c = ap (λ (n : Needs). n.index_read) c.requires.needs

@@ -1,0 +1,13 @@
+pub mod Headings
+pub mod Tally
+pub mod TallyLines
+pub mod Slots
+pub mod Laws
+pub use Rattle.st_io.specs.Lines
+pub use Rattle.st_ledger.specs.Charges
+pub use Rattle.st_ledger.specs.Totals
+pub use Rattle.st_lines.specs.EntryLines
+pub use Rattle.st_lines.specs.Waited
+pub use Rattle.st_lines.specs.WaitLines
+pub use Rattle.st_reasons.specs.Sums
+pub use Rattle.st_text.specs.Bytes
