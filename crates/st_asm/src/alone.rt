@@ -1,4 +1,12 @@
-//! The bits that a single statement assembles to.
+//! The bits that a single statement assembles to, without a job around it: the disassembler
+//! (`st_dis`) decides by it whether an instruction's statement gives the instruction's bits again.
+//!
+//! `emitted_alone` in specs/Alone.antt defines the result, from the definitions of the passes, and
+//! pins it; the clauses say that the call returns exactly that. The bounds of `EmittedBits` are no
+//! clause here: they hold by `fits` of `placing_of` (places.rt) and by the clause of `bits_of`
+//! (emitting.rt). The location counts only in a check of storage, and is the first location of a
+//! job. The private functions are the passes for one statement; their split is free;
+//! `emitted_alone` and `emitted_with` have proofs in proofs/alone, which follow them.
 
 ghost use Rattle.std.specs.Prelude.{◌≡◌, ◌≤◌, length};
 ghost use Rattle.st_asm.specs.Alone as spec;

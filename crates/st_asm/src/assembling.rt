@@ -1,4 +1,12 @@
-//! Assembles a job.
+//! Assembles a job: from the bytes of a deck to an image of storage, a start, a listing, symbols
+//! and requests.
+//!
+//! `st_top` and `st_account` make the calls and run the result. `assembly` in specs/Assembly.antt
+//! defines the result or the refused card; `ok` and `err` say that the calls return exactly that,
+//! or `NoMemory`. `sound` (specs/Sound.antt) says that image, start and controls meet the machine's
+//! preconditions, and `faultless` that texts are printable. The defaults of budget and delay are
+//! figures of the definition and of docs/strap.md, so pinned. Not proved: speed and memory used.
+//! The bodies are free; the proof of `assemble_cards` is in proofs/assembling.
 
 ghost use Rattle.std.specs.Prelude.{◌≡◌, ◌<◌, ◌^◌, All, None, IfOk, IfErr, length, ◌==◌, if◌then◌else◌};
 ghost use Rattle.st_card.specs.Cards.{cards_of};
@@ -107,6 +115,7 @@ fn with_defaults(mut controls: Controls) -> Result<Controls, AsmError>
     Ok(controls)
 }
 
+// The budget, or the usual one if none is set.
 fn budget_or_usual(budget: u64) -> u64
     ensures { result ≡ (if budget == 0 then 1000 else budget) }
 {

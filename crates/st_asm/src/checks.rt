@@ -1,4 +1,12 @@
-//! The faults of the value pass.
+//! The faults of the value pass: addresses out of range, values that do not fit, wrong boundaries,
+//! and bits outside of storage.
+//!
+//! `value_fault` in specs/Checks.antt defines the fault of a statement with known values; the
+//! clause says that the call returns exactly that, in this order of checks. Values are in bits.
+//! valuing.rt and alone.rt call it, and the checks are the preconditions of emitting.rt. A law in
+//! `st_laws` has the figures of the limits, and docs/strap.md too. A new kind of statement needs
+//! its case of `value_fault` there and its cases here. The split into functions is free. Checks and
+//! their order are pinned by the definition and vectors/faults.txt.
 
 ghost use Rattle.std.specs.Prelude.{◌≡◌, ◌≤◌, ◌^◌};
 ghost use Rattle.st_asm.specs.Checks as spec;
@@ -68,6 +76,7 @@ fn in_range(s: &CompactStatement, v: Values) -> bool
     }
 }
 
+// Whether a number is a bit address, 0 to 2^24 - 1.
 fn is_address(a: i64) -> bool
     ensures { result ≡ spec.is_address a }
 {
@@ -93,6 +102,7 @@ fn fits(s: &CompactStatement, v: Values) -> bool
     }
 }
 
+// Whether the value, the count and the flags of an index word fit in their fields.
 fn fits_index_word(value: i64, count: u64, flags: u64) -> bool
     ensures { result ≡ spec.fits_index_word value count flags }
 {
@@ -117,6 +127,7 @@ fn on_boundary(s: &CompactStatement, v: Values) -> bool
     }
 }
 
+// Whether a bit address is a multiple of a unit.
 fn is_multiple(unit: u64, a: i64) -> bool
     requires { 1 ≤ unit }
     ensures { result ≡ spec.is_multiple unit a }

@@ -1,4 +1,13 @@
-//! The bits that a statement assembles to.
+//! The bits that a statement assembles to: those of an instruction, of a number, or of an index
+//! word.
+//!
+//! `bits_of` in specs/Emitting.antt defines them; the clauses say that the call returns exactly
+//! these, below 2 to the number of bits of the statement. Instructions are encoded by `st_format`,
+//! which is proved to decode to them again. The list of LVS is in the first 16 of the 19 bits of
+//! its address. Required is that values, in bits, fit, which checks.rt decides before. valuing.rt
+//! and alone.rt call it. A new kind of statement needs a case of `bits_of` here and one there; the
+//! private functions are free; a change of `bits_of` needs one in proofs/emitting as well. The bits
+//! are pinned by the definition and the vectors.
 
 ghost use Rattle.std.specs.Prelude.{◌≡◌, ◌<◌, ◌^◌, unsigned_abs, IsTrue, None};
 ghost use Rattle.st_format.specs.Formats.{IsShape, second_half};

@@ -1,5 +1,12 @@
 //! The form pass: it checks each card by itself, collects the requests of control cards, and finds
 //! the END card.
+//!
+//! It is the first of the three passes; assembling.rt calls `form_pass`, and the name pass takes
+//! its cards. `form_pass` in specs/Forming.antt defines the result or the refused card; the clauses
+//! say that the call returns exactly that, or that memory ran out. Statements are parsed in
+//! `st_strap`, control cards in `st_card`. The bodies are free; the loop of `read_cards` has its
+//! proof in proofs/forming. The result is pinned by the definition, docs/strap.md and
+//! vectors/faults.txt.
 
 ghost use Rattle.std.specs.Prelude.{◌≡◌, ◌≤◌, ◌+◌, length, All, IfOk, IfErr, OnOk, Option};
 ghost use Rattle.st_bits.specs.declared.limits.TheConstants.{MOST_CARDS};
@@ -28,6 +35,8 @@ pub(crate) struct Deck {
 // The form pass over the cards of a job.
 pub(crate) fn form_pass(alloc: Global, job: &[u8], cards: &[Card]) -> Result<Deck, AsmError>
     requires texts { All (IsCardOf job.now) cards.now }
+    // `split` of `st_card` returns at most this many cards: those of a job, or one card more, which
+    // has the fault `TooManyCards`.
     requires few { length cards.now ≤ MOST_CARDS + 1 }
     ensures ok { IfOk result (λ d. spec.form_pass job.now cards.now ≡ Ok (spec.found_in d)) }
     ensures err { IfErr result (Explains (spec.form_pass job.now cards.now)) }
@@ -53,6 +62,7 @@ fn read_cards(alloc: Global, job: &[u8], cards: &[Card]) -> Result<Deck, AsmErro
 {
     let mut deck = empty_deck(alloc);
     let mut rest = cards;
+    // Proofs name the loop by its label.
     'cards: while let [card, after @ ..] = rest {
         if let Err(stop) = add_card(&mut deck, job, *card) {
             return Err(stop.at(card.number));

@@ -1,4 +1,10 @@
-//! A card as the form pass hands it to the later passes.
+//! A card as the form pass hands it to the later passes: its number, name and parsed statement.
+//!
+//! Columns are counted from 1: the name is in columns 2 to 9, the statement in 10 to 72.
+//! specs/Lines.antt defines both texts, and each clause says that the call returns exactly that;
+//! `short` bounds their lengths for the callers. The columns are pinned by the definition and by
+//! docs/strap.md; the bodies are free; a change of `statement_field` needs one in proofs/line as
+//! well.
 
 ghost use Rattle.std.specs.Prelude.{◌≡◌, ◌≤◌, length};
 ghost use Rattle.st_asm.specs.Lines as spec;

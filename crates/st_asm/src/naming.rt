@@ -1,4 +1,12 @@
 //! The name pass: it defines names and assigns a location to each card.
+//!
+//! It is the second of the three passes; assembling.rt calls `name_pass`, and the value pass takes
+//! its table and its locations. `name_pass` in specs/Naming.antt defines the result or the refused
+//! card; the clauses say that the call returns exactly that, or that memory ran out. `kept` is its
+//! invariant, that list and table agree and locations are below 2^24. Locations are bit addresses.
+//! MOST_NAMES has its figure in a law of `st_laws`; FIRST_LOCATION is part of the definition. The
+//! result is pinned by the definition, docs/strap.md and the vectors. The bodies are free;
+//! proofs/naming follows `name_line`, `name_lines` and `name_pass`.
 
 ghost use Rattle.std.specs.Prelude.{◌≡◌, ◌<◌, ◌^◌, ℕ, All, IfOk, IfErr, OnOk, false, ◌++◌, ◌∷◌, []};
 ghost use Rattle.st_asm.specs.Answers.{Stops, Explains};
@@ -22,7 +30,7 @@ use std::alloc::Global;
 /// The most names that a job may define.
 pub const MOST_NAMES: usize = 4_000;
 
-// The bit address of the first location: word 32.
+// The bit address of the first location: word 32, the first that is not a register.
 pub(crate) const FIRST_LOCATION: u32 = 64 * 32;
 
 /// A symbol: a name that a card defines.
@@ -73,6 +81,7 @@ fn name_lines(alloc: Global, all: &Symbols, lines: &[ReadCard]) -> Result<Names,
 {
     let mut names = no_names(alloc);
     let mut rest = lines;
+    // Proofs name the loop by its label.
     'lines: while let [line, after @ ..] = rest {
         if let Err(stop) = name_line(&mut names, all, line) {
             return Err(stop.at(line.card));
@@ -162,6 +171,7 @@ fn is_earlier(symbols: &Symbols, statement: &Option<CompactStatement>) -> bool
     }
 }
 
+// Whether the names in a statement's expressions are defined by earlier cards, if they must be.
 fn is_statement_earlier(symbols: &Symbols, statement: &CompactStatement) -> bool
     requires { IsWellFormed statement.now }
     ensures { result ≡ spec.is_statement_earlier symbols.now statement.now }
@@ -210,6 +220,7 @@ fn place_and_behind(
     }
 }
 
+// The location of a statement, and the location counter after it.
 fn place_and_behind_statement(
     symbols: &Symbols,
     location: u32,

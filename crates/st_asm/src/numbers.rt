@@ -1,4 +1,11 @@
-//! Numbers as the bits of fields.
+//! Numbers as the bits of fields, as the pseudo-operation DD assembles them: binary or decimal,
+//! signed or unsigned.
+//!
+//! specs/Numbers.antt defines which numbers a form holds (`holds`) and the bits (`field_bits_of`);
+//! each clause says that the call returns exactly that. `st_laws` proves that the operations of the
+//! machine read the number again. A form has 1 to 64 bits, bytes of 1 to 8. checks.rt and
+//! emitting.rt call it; the private functions are free; a change needs one in proofs/numbers, which
+//! follows most bodies. The bits are pinned by the definition, docs/strap.md and the vectors.
 
 ghost use Rattle.std.specs.Prelude.{◌≡◌, ◌*◌, ◌^◌, ◌<◌, ◌≤◌, IsTrue};
 ghost use Rattle.st_asm.specs.Numbers as spec;

@@ -1,4 +1,12 @@
-//! The locations of statements, and how statements change the location counter.
+//! The locations of statements, and how statements change the location counter, a bit address below
+//! 2^24.
+//!
+//! naming.rt assigns locations by it, and checks.rt and emitting.rt ask for the number of bits.
+//! specs/Places.antt defines the effect of each kind of statement, its location, and the counter
+//! after it, modulo 2^24; each clause says that the call returns exactly that. Overflow is no error
+//! here: checks.rt refuses bits outside of storage. A new kind of statement needs a case of
+//! `placing_of` here and of `placing_of` there. The bodies are free. Locations are pinned by the
+//! definitions, docs/strap.md and the vectors.
 
 ghost use Rattle.std.specs.Prelude.{◌≡◌, ◌<◌, ◌≤◌, ◌^◌, IfSome};
 ghost use Rattle.st_asm.specs.Places as spec;
@@ -11,6 +19,7 @@ use st_strap::{CompactStatement, Statement};
 // The number of bits of a half-word.
 const HALF: u32 = 32;
 
+// The number of bits of a word.
 const WORD: u32 = 64;
 
 // The effect of a statement on the location counter.

@@ -1,4 +1,10 @@
-//! The errors of the assembler.
+//! The errors of the assembler: for callers (`st_top`, `st_account`), and between the passes.
+//!
+//! A pass stops with a fault or for lack of memory; the card's number is added where the pass knows
+//! it. specs/Answers.antt relates both errors to the specified results: `Explains` says that a
+//! refusal is exactly the specified one, and that `NoMemory` may take the place of any result.
+//! There is no third error. The errors are pinned by these relations and by the callers; the body
+//! of `at` is free.
 
 ghost use Rattle.std.specs.Prelude.{◌≡◌};
 ghost use Rattle.st_asm.specs.Answers as spec;
@@ -18,7 +24,9 @@ pub enum AsmError {
 // Why a pass stops at a card.
 #[derive(Clone, Copy)]
 pub(crate) enum PassStop {
+    // The card has this fault.
     Faulty(Fault),
+    // Memory ran out.
     NoMemory,
 }
 

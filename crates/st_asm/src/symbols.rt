@@ -1,4 +1,11 @@
 //! The names in a statement's expressions, and whether they are defined.
+//!
+//! naming.rt and alone.rt call it. specs/Symbols.antt defines which names a statement has
+//! (`accepts_all` is about each of them); the clauses say that the calls return exactly that. A
+//! table is `Symbols` of `st_expr`; of the one that `names_in` makes only the names count. A new
+//! kind of statement needs a case of `knows_all`, one of `accepts_all` there, and one in values.rt.
+//! The results are pinned by the definitions. The form of the search is free; a change of `knows`,
+//! `add_name` and `names_in` needs one in proofs/symbols as well.
 
 ghost use Rattle.std.specs.Prelude.{◌≡◌, ◌||◌, List, ℕ, IfOk, OnOk};
 ghost use Rattle.st_text.specs.Tables.{is_same};
@@ -55,6 +62,7 @@ pub(crate) fn names_in(alloc: Global, lines: &[ReadCard]) -> Result<Symbols, NoM
 {
     let mut names = Symbols::new(alloc);
     let mut rest = lines;
+    // Proofs name the loop by its label.
     'lines: while let [line, after @ ..] = rest {
         if let Some(name) = line.name {
             add_name(&mut names, name)?;

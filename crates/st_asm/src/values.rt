@@ -1,4 +1,11 @@
-//! The values of a statement's expressions.
+//! The values of a statement's expressions, in bits, under a symbol table.
+//!
+//! All statements have at most two expressions, so two numbers serve all: naming.rt uses the first
+//! for locations, checks.rt and emitting.rt use both. `values_of` in specs/Values.antt defines
+//! them, and each clause says that the call returns exactly that. Undefined names count as 0; that
+//! never shows, since the name pass refuses them. A new kind of statement needs a case of
+//! `values_of` here and one there. The definition pins the values; the split into functions is
+//! free.
 
 ghost use Rattle.std.specs.Prelude.{◌≡◌, ◌<◌, ◌^◌, pos};
 ghost use Rattle.st_asm.specs.Values as spec;
@@ -10,7 +17,9 @@ use st_strap::{CompactStatement, Statement};
 // expression.
 #[derive(Clone, Copy)]
 pub(crate) struct Values {
+    // The value of the first expression.
     pub first: i64,
+    // The value of the second expression.
     pub second: i64,
 }
 
@@ -45,6 +54,7 @@ pub(crate) fn values_of(symbols: &Symbols, statement: &CompactStatement) -> Valu
     }
 }
 
+// The values of a statement with one expression.
 fn value_alone(symbols: &Symbols, e: &ExprText) -> Values
     ensures { result ≡ record { first = spec.value_in symbols.now e.now; second = pos 0 } }
 {
@@ -54,6 +64,7 @@ fn value_alone(symbols: &Symbols, e: &ExprText) -> Values
     }
 }
 
+// The values of a statement with two expressions.
 fn two_values(symbols: &Symbols, e: &ExprText, f: &ExprText) -> Values
     ensures { result ≡ record {
       first = spec.value_in symbols.now e.now;
@@ -66,6 +77,7 @@ fn two_values(symbols: &Symbols, e: &ExprText, f: &ExprText) -> Values
     }
 }
 
+// The value of an expression, 0 if a name is not defined.
 fn value_in(symbols: &Symbols, e: &ExprText) -> i64
     ensures { result ≡ spec.value_in symbols.now e.now }
 {

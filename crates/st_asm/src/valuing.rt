@@ -1,4 +1,13 @@
-//! The value pass: it assembles the image, the start, and the rows of the listing.
+//! The value pass: it evaluates expressions, and assembles the image, the start, and the rows of
+//! the listing.
+//!
+//! It is the last of the three passes; assembling.rt calls `value_pass`. `value_pass` in
+//! specs/Valuing.antt defines the result or the refused card; the clauses say that the call returns
+//! exactly that, or that memory ran out. `sound` is its invariant: the image has all words of
+//! storage, registers are 0, and rows are in range. Locations are bit addresses, the start is a
+//! half-word address. Two cards may assemble to one place: the later one counts, as the definition
+//! has it. The result is pinned by the definition, docs/strap.md and the vectors. The bodies are
+//! free; proofs/valuing follows `emit`, `value_pass` and `put_bits`.
 
 ghost use Rattle.std.specs.Prelude.{◌≡◌, ◌<◌, ◌≤◌, ◌^◌, ◌++◌, ◌∷◌, [], All, IfOk, IfErr, OnOk, IsTrue, None, length, unwrap_or, unsigned_abs, if◌then◌else◌};
 ghost use Rattle.st_asm.specs.Answers.{Stops, Explains};
@@ -67,6 +76,7 @@ pub(crate) fn value_pass(
     };
     let mut rest = lines;
     let mut places_left = places;
+    // Proofs name the loop by its label.
     'lines: while let [line, after @ ..] = rest {
         let [place, places_after @ ..] = places_left else {
             return Ok(layout);

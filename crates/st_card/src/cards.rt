@@ -1,4 +1,11 @@
 //! The cards of a job: its lines, each with its number, kind and fault.
+//!
+//! `split` is the first step of every command that reads a deck. `cards_of` in specs/Cards.antt
+//! defines the cards; the clause `cards` says that the call returns exactly these, and `texts` that
+//! each lies within the job and agrees with its text. Cards are counted from 1; offsets and lengths
+//! are in bytes. MOST_CHARACTERS and COLUMNS are figures of the definition and of docs/strap.md.
+//! The bodies are free, but proofs in proofs/cards follow `split` and `first_line`. The cards of a
+//! job are pinned by the definition, docs/strap.md and the vectors.
 
 ghost use Rattle.std.specs.Prelude.{◌≡◌, ◌+◌, ◌-◌, ◌^◌, ◌<◌, ◌≤◌, ℕ, length, [], ◌∷◌, ◌++◌, OnOk, All, MatchOption, IfSome, IfOk};
 ghost use Rattle.std.specs.Str.Lines.{strip_carriage_return};
@@ -69,6 +76,7 @@ pub fn split(alloc: Global, job: &[u8]) -> Result<Vec<Card>, NoMemory>
     let mut cards = Vec::new(alloc);
     let mut number = 1;
     let mut rest = job;
+    // Proofs name the loop by its label.
     'lines: while let Some((line, after)) = first_line(rest) {
         let start = (job.len() - rest.len()) as u32;
         push_card(&mut cards, card_at(number, start, line))?;
@@ -137,6 +145,7 @@ fn card_at(number: u32, start: u32, text: &[u8]) -> Card
     }
 }
 
+// The kind of the card with this text.
 fn kind_of(text: &[u8]) -> CardKind
     ensures { result ≡ spec.kind_of text.now }
 {
@@ -150,6 +159,7 @@ fn kind_of(text: &[u8]) -> CardKind
     }
 }
 
+// The fault that card `number` with this text has regardless of the other cards, if it has one.
 fn fault_of(number: u32, text: &[u8]) -> Option<Fault>
     ensures { result ≡ spec.fault_of number text.now }
 {
@@ -176,6 +186,7 @@ fn first_column(text: &[u8]) -> u8
     }
 }
 
+// Whether a text has only blanks; true for an empty text.
 fn is_blank(text: &[u8]) -> bool
     ensures { result ≡ spec.is_blank text.now }
 {

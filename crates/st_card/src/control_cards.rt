@@ -1,4 +1,13 @@
-//! The requests of a job's control cards.
+//! The requests of a job's control cards: budget, delays, signals, dumps and what the report shows.
+//!
+//! The assembler adds a card at a time (`add`), an object text a line at a time (`ask`), and
+//! `st_run`, `st_telling` and `st_top` read the result. specs/Controls.antt defines the requests
+//! with one more card; `Settles` and the clauses of `add` say that exactly these are the new ones,
+//! or that the card is refused and nothing changed. `limits` in specs/Limits.antt are kept. A new
+//! request needs a field here, a keyword, its cases in specs/Controls.antt, and its line in
+//! written.rt (docs/changing.md). Which cards are accepted is pinned by the definition,
+//! docs/strap.md and vectors/controls.txt. The bodies are free; proofs/control_cards follows
+//! `delays_in` and `add`.
 
 ghost use Rattle.std.specs.Prelude.{◌≡◌, ◌≤◌, [], ◌∷◌, length, Some, None, if◌then◌else◌, OnOk, OnErr, IfErr};
 ghost use Rattle.std.specs.List.{list_all};
@@ -70,6 +79,7 @@ pub struct Controls {
 impl Model for Controls {
     ghost use Rattle.st_card.specs.Controls.{Asked};
 
+    // Contracts see all fields, the lists without their capacities.
     ghost Value = { Asked };
 
     ghost view = { λ c. record {
@@ -230,6 +240,7 @@ impl Controls {
         self.ask(keyword, numbers.as_slice())
     }
 
+    // Adds `/BUDGET n`.
     fn add_budget(&mut self, numbers: &[u64]) -> Addition
         ensures { Settles self.old self.new (spec.with_budget self.old numbers.now) result }
     {
@@ -242,6 +253,7 @@ impl Controls {
         }
     }
 
+    // Adds `/DELAYS d d ..`.
     fn add_delays(&mut self, numbers: &[u64]) -> Addition
         requires { length numbers.now ≤ 36 }
         ensures { Settles self.old self.new (spec.with_delays self.old numbers.now) result }
@@ -255,6 +267,7 @@ impl Controls {
         }
     }
 
+    // Adds `/SIGNAL count indicator`.
     fn add_signal(&mut self, numbers: &[u64]) -> Addition
         ensures { Settles self.old self.new (spec.with_signal self.old numbers.now) result }
     {
@@ -274,6 +287,7 @@ impl Controls {
         }
     }
 
+    // Adds `/DUMP from to`.
     fn add_dump(&mut self, numbers: &[u64]) -> Addition
         ensures { Settles self.old self.new (spec.with_dump self.old numbers.now) result }
     {
@@ -287,6 +301,7 @@ impl Controls {
         }
     }
 
+    // Adds `/SNAP tick`.
     fn add_snap(&mut self, numbers: &[u64]) -> Addition
         ensures { Settles self.old self.new (spec.with_snap self.old numbers.now) result }
     {
@@ -299,6 +314,7 @@ impl Controls {
         }
     }
 
+    // Adds `/BACK k`.
     fn add_back(&mut self, numbers: &[u64]) -> Addition
         ensures { Settles self.old self.new (spec.with_back self.old numbers.now) result }
     {
@@ -332,6 +348,7 @@ fn delays_in(numbers: &[u64]) -> Option<ArrayVec<u8, 36>>
 {
     let mut delays = ArrayVec::new();
     let mut rest = numbers;
+    // Proofs name the loop by its label.
     'numbers: while let [number, after @ ..] = rest {
         if !(1..=MOST_DELAY).contains(number) {
             return None;

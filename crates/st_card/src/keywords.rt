@@ -1,5 +1,11 @@
 //! The requests that control cards and object texts can make, and the keywords and numbers of
 //! control cards.
+//!
+//! `keywords` and `card_numbers` in specs/Controls.antt define the table and the numbers of a
+//! card's words; the clauses say that the calls return exactly that, so the table here is proved to
+//! be that one. A keyword is pinned by the definition, docs/strap.md and the vectors. A number has
+//! 1 to 12 digits. Only control_cards.rt uses the private calls; `st_object` uses `Keyword` for its
+//! lines. The bodies are free; the loop of `read_numbers` has its proof in proofs/keywords.
 
 ghost use Rattle.std.specs.Prelude.{◌≡◌, ◌≤◌, length};
 ghost use Rattle.std.specs.Option.{option_map};
@@ -54,6 +60,7 @@ pub enum Addition {
     NoMemory,
 }
 
+// The keywords of control cards.
 const KEYWORDS: [(&[u8], Keyword); 10] = [
     (b"/BUDGET", Keyword::Budget),
     (b"/DELAYS", Keyword::Delays),
@@ -70,6 +77,7 @@ const KEYWORDS: [(&[u8], Keyword); 10] = [
 // The numbers of a control card: 72 columns hold at most 36 words.
 pub(crate) type Numbers = ArrayVec<u64, 36>;
 
+// The request of a keyword; `None` for any other word.
 pub(crate) fn keyword_of(word: &[u8]) -> Option<Keyword>
     ensures { result ≡ row_of word.now keywords }
 {
@@ -83,6 +91,7 @@ pub(crate) fn read_numbers(text: &[u8]) -> Option<Numbers>
 {
     let mut numbers = ArrayVec::new();
     let mut rest = text;
+    // Proofs name the loop by its label.
     'words: while let Some((word, after)) = first_word(rest) {
         numbers.push(card_number(word)?);
         rest = after;

@@ -1,4 +1,5 @@
-//! The cards of a job and the requests of its control cards, by the rules of `docs/strap.md`.
+//! The cards of a job and the requests of its control cards, by the rules of `docs/strap.md`. What
+//! statement cards say is parsed in `st_strap`.
 #![tactic(auto)]
 
 mod cards;

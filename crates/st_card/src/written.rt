@@ -1,4 +1,11 @@
-//! The text of requests, one request a line: as control cards, and as lines of an object text.
+//! The text of requests, one request a line: as control cards, for the disassembler (`st_dis`), and
+//! as lines of an object text (`st_object`).
+//!
+//! specs/Written.antt defines each line and their order; the clauses say that a call appends
+//! exactly these, or fails for lack of memory. The order and the texts are pinned by it: both
+//! readers accept these lines, as `st_dis` and `st_object` prove. A listing (`/LIST`) is not
+//! written. A new request needs a variant of `Control`, its line in specs/Written.antt and here.
+//! The bodies are free, but proofs/written follows most of them.
 
 ghost use Rattle.std.specs.Prelude.{◌≡◌, ◌≤◌, ◌++◌, [], ◌∷◌, OnOk, map, codes, decimal, length};
 ghost use Rattle.arrayvec.specs.ArrayString.{array_string_len};
@@ -140,6 +147,7 @@ fn push_where(
     push_line(text, form, control)
 }
 
+// Appends the line of the budget, if there is one.
 fn push_budget(text: &mut Vec<u8>, form: ControlForm, budget: u64) -> Result<(), AllocError>
     ensures { let lines = spec.unless_zero budget (spec.control_line form (asks.Budget budget)) in
         OnOk result (text.new.items ≡ text.old.items ++ spec.text_of_lines lines) }
@@ -150,16 +158,19 @@ fn push_budget(text: &mut Vec<u8>, form: ControlForm, budget: u64) -> Result<(),
     push_line(text, form, Control::Budget(budget))
 }
 
+// Appends a line for each delay.
 fn push_delays(text: &mut Vec<u8>, form: ControlForm, delays: &[u8]) -> Result<(), AllocError>
     ensures { let lines = map (λ d. spec.control_line form (asks.Delay d)) delays.now in
         OnOk result (text.new.items ≡ text.old.items ++ spec.text_of_lines lines) }
 {
+    // Proofs name the loops by their labels.
     'delays: for ticks in delays {
         push_line(text, form, Control::Delay(u64::from(*ticks)))?;
     }
     Ok(())
 }
 
+// Appends a line for each signal.
 fn push_signals(text: &mut Vec<u8>, form: ControlForm, signals: &[Signal]) -> Result<(), AllocError>
     ensures { let lines = map
         (λ s. spec.control_line form (asks.Signal s.count s.indicator)) signals.now in
@@ -172,6 +183,7 @@ fn push_signals(text: &mut Vec<u8>, form: ControlForm, signals: &[Signal]) -> Re
     Ok(())
 }
 
+// Appends a line for each part of storage.
 fn push_dumps(text: &mut Vec<u8>, form: ControlForm, dumps: &[(u32, u32)]) -> Result<(), AllocError>
     ensures { let lines = map (λ p. spec.control_line form (asks.Dump p.0 p.1)) dumps.now in
         OnOk result (text.new.items ≡ text.old.items ++ spec.text_of_lines lines) }
@@ -183,6 +195,7 @@ fn push_dumps(text: &mut Vec<u8>, form: ControlForm, dumps: &[(u32, u32)]) -> Re
     Ok(())
 }
 
+// Appends a line for each snapshot.
 fn push_snaps(text: &mut Vec<u8>, form: ControlForm, snaps: &[u64]) -> Result<(), AllocError>
     ensures { let lines = map (λ t. spec.control_line form (asks.Snap t)) snaps.now in
         OnOk result (text.new.items ≡ text.old.items ++ spec.text_of_lines lines) }
@@ -193,6 +206,7 @@ fn push_snaps(text: &mut Vec<u8>, form: ControlForm, snaps: &[u64]) -> Result<()
     Ok(())
 }
 
+// Appends the line of the steps back, if there are any.
 fn push_back(text: &mut Vec<u8>, form: ControlForm, back: u8) -> Result<(), AllocError>
     ensures { let lines = spec.unless_zero back (spec.control_line form (asks.Back back)) in
         OnOk result (text.new.items ≡ text.old.items ++ spec.text_of_lines lines) }

@@ -1,4 +1,13 @@
-//! Counts the cards of a deck.
+//! Counts the cards of a deck, so that a program with too many is refused before anything is
+//! written.
+//!
+//! disassembling.rt makes the call `card_count`. `card_count` in specs/Deck.antt defines the number
+//! as the length of the list of cards that writing.rt writes, so the two modules cannot disagree;
+//! each clause `count` says that the call returns exactly the length of its part of the list. A
+//! word that is not zero has one or two statement cards, with a location card in front if the word
+//! before it is zero; END and the control cards follow. Pinned by that definition: all counts.
+//! Free: all bodies and their split, and the bounds `few`, which only have to keep sums below 2^32.
+//! The proof of the loop, in proofs/counting, follows `count_words` and names 98,304 in figures.
 
 ghost use Rattle.std.specs.Prelude.{◌≡◌, ◌≤◌, ◌+◌, ◌*◌, ℕ, List, [], length, if◌then◌else◌};
 ghost use Rattle.st_bits.specs.declared.limits.TheConstants.{WORDS};
@@ -13,7 +22,8 @@ use crate::spelling::{half_spelling, left_half, right_half};
 use st_card::Controls;
 use st_expr::Symbols;
 
-// Whether a word is two half-word instructions, each of which has a spelling.
+// Whether a word is two half-word instructions, each of which has a spelling. The first half of a
+// full-word instruction has none.
 fn is_pair(symbols: &Symbols, word: u64) -> bool
     requires { symbols.now ≡ [] }
     ensures { length (statements_of word) ≡ (if result then 2 else 1) }
@@ -22,7 +32,8 @@ fn is_pair(symbols: &Symbols, word: u64) -> bool
         && half_spelling(symbols, right_half(word)).is_some()
 }
 
-// The number of cards of a word that is not zero; `before` is the word before it.
+// The number of cards of a word that is not zero, at most one location card and two statements;
+// `before` is the word before it.
 fn count_filled(symbols: &Symbols, before: u64, word: u64) -> u32
     requires { symbols.now ≡ [] }
     ensures count { result ≡ length (spec.location_cards 0 before) + length (statements_of word) }
@@ -43,7 +54,8 @@ fn count_placed(symbols: &Symbols, before: u64, word: u64) -> u32
     count_filled(symbols, before, word)
 }
 
-// The number of cards of words.
+// The number of cards of words. The word before the first counts as zero, so a location card begins
+// the first run of words.
 fn count_words(symbols: &Symbols, words: &[u64]) -> u32
     requires symbols { symbols.now ≡ [] }
     requires few { length words.now ≤ WORDS }
@@ -53,6 +65,7 @@ fn count_words(symbols: &Symbols, words: &[u64]) -> u32
     let mut count = 0;
     let mut before = 0;
     let mut rest = words;
+    // Proofs name the loop by its label.
     'words: while let [word, after @ ..] = rest {
         count += count_placed(symbols, before, *word);
         before = *word;
@@ -61,7 +74,9 @@ fn count_words(symbols: &Symbols, words: &[u64]) -> u32
     count
 }
 
-// The number of control cards up to those of parts of storage.
+// The number of control cards up to those of parts of storage: one for the budget, and one for each
+// delay, signal and part. By the limits of `st_card` they are at most 8,209; 9,000 is a round bound
+// above.
 fn count_orders(controls: &Controls) -> u32
     requires { IsWithinLimits controls.now }
     ensures count { result ≡ length (orders (control_line Card) controls.now) }
@@ -80,7 +95,8 @@ fn count_mark(asked: bool) -> u32
     if asked { 1 } else { 0 }
 }
 
-// The number of control cards from the trace on.
+// The number of control cards from the trace on: trace, timing, timetable, snapshots and steps
+// back. By the limits of `st_card` they are at most 68; 100 is a round bound above.
 fn count_shows(controls: &Controls) -> u32
     requires { IsWithinLimits controls.now }
     ensures count { result ≡ length (shows (control_line Card) controls.now) }
@@ -90,7 +106,9 @@ fn count_shows(controls: &Controls) -> u32
     marks + controls.snaps.len() as u32 + u32::from(controls.back != 0)
 }
 
-// The number of cards in the deck of a program. The symbol table is empty.
+// The number of cards in the deck of a program with these words of storage. The symbol table is
+// empty. The 1 is the END card, which has the start, a half-word address, so `start` is needed only
+// to state the clause: the number is equal for each.
 #[tactic(auto, unfolding(crate::specs::Deck::card_count))]
 pub(crate) fn card_count(symbols: &Symbols, words: &[u64], start: u32, controls: &Controls) -> u32
     requires symbols { symbols.now ≡ [] }
@@ -98,7 +116,7 @@ pub(crate) fn card_count(symbols: &Symbols, words: &[u64], start: u32, controls:
     requires limits { IsWithinLimits controls.now }
     ensures count { result ≡ spec.card_count (spec.program words.now start controls.now) }
 
-    // Each word has 64 bits.
+    // Each word has 64 bits; the proof of `disassemble` bounds the length of the deck by it.
     ensures words { AreWords words.now }
 {
     count_words(symbols, words) + 1 + count_orders(controls) + count_shows(controls)

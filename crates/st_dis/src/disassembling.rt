@@ -1,4 +1,11 @@
-//! Disassembles a program into a deck.
+//! Disassembles a program into a deck of cards that assembles to it.
+//!
+//! `st_top` makes the call. `deck_text` in specs/Deck.antt defines the deck; the clauses say that
+//! the call returns exactly that, at most 2,000,000 bytes, or an error: more than 20,000 cards,
+//! with their number, or no memory. That the deck assembles to the program, with its start and
+//! requests, is a law of specs/Laws.antt, proved from the assembler's definitions. The body is
+//! free: any that returns this deck. The deck is pinned by the definition, docs/disassembly.md and
+//! vectors/decks.txt. The proof of `disassemble`, in proofs/disassembling, follows its body.
 
 ghost use Rattle.std.specs.Prelude.{◌≡◌, ◌≤◌, IfOk, IfErr, length};
 ghost use Rattle.st_bits.specs.declared.limits.TheConstants.{LONGEST_JOB, MOST_CARDS};

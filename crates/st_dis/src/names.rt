@@ -1,4 +1,11 @@
-//! The mnemonics and modifiers of instructions.
+//! The mnemonics and modifiers of instructions, which texts.rt and pieces.rt put into statements.
+//!
+//! specs/Names.antt defines them, mnemonics from the tables in specs/Operations.antt of
+//! `st_format`; the clause `name` says that a call returns exactly that text, and `short` bounds
+//! its length in bytes, so that a statement fits its line. So the texts here are proved to be those
+//! tables. A new operation is a row of such a table and a case of the function here. The texts are
+//! pinned by the definitions, docs/strap.md and vectors/decks.txt. Free: the form of the matches,
+//! and `short`, as long as pieces.rt and texts.rt are proved with it.
 
 ghost use Rattle.std.specs.Prelude.{◌≡◌, ◌≤◌, length};
 ghost use Rattle.st_text.specs.Numerals.{flag};
@@ -122,7 +129,8 @@ pub(crate) fn move_name(swap: bool) -> &'static str
     if swap { "SWAP" } else { "T" }
 }
 
-// The part of a bit branch's mnemonic that gives the change of the bit.
+// The part of a bit branch's mnemonic that gives the change of the bit: 1 clears it, 2 sets it, 3
+// inverts it, and 0 leaves it.
 pub(crate) fn change_name(change: u8) -> &'static str
     ensures name { result.now ≡ spec.change_name change }
     ensures short { length result.now ≤ 1 }
@@ -151,7 +159,7 @@ pub(crate) fn order_name(write: bool) -> &'static str
     if write { "WR" } else { "RD" }
 }
 
-// The mode of a field in a data description.
+// The mode of a field in a data description: decimal or binary, without a sign byte or with one.
 pub(crate) fn mode_name(decimal: bool, unsigned: bool) -> &'static str
     ensures name { result.now ≡ spec.mode_name decimal unsigned }
     ensures short { length result.now ≤ 2 }
@@ -164,7 +172,8 @@ pub(crate) fn mode_name(decimal: bool, unsigned: bool) -> &'static str
     }
 }
 
-// The text of a progressive form.
+// The text of a progressive form by its number, that of the P field of an instruction, 0 to 7; 0 is
+// none.
 pub(crate) fn form_name(p: u8) -> &'static str
     ensures name { result.now ≡ spec.form_name p }
     ensures short { length result.now ≤ 7 }

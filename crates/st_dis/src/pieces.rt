@@ -1,4 +1,12 @@
-//! Appends the parts of an instruction's text.
+//! Appends the parts of an instruction's text: fields, index parts, data descriptions, truth
+//! tables.
+//!
+//! texts.rt composes statements of them. specs/Texts.antt defines each part; the clause `text` says
+//! that exactly that is appended, and `room` bounds its length, by which callers prove that a
+//! statement fits a line of 128 bytes. Addresses are bit or half-word addresses and are written as
+//! word.bit. The figures of `room` are upper bounds: 3 for a number below 256, and else the sum for
+//! the parts. The texts are pinned by the definitions and vectors/decks.txt; the bodies are free;
+//! `push_listed_fields` has its proof in proofs/pieces, which follows it.
 
 ghost use Rattle.std.specs.Prelude.{◌≡◌, ◌+◌, ◌*◌, ◌≤◌, ◌<◌, ◌++◌, [], decimal, if◌then◌else◌};
 ghost use Rattle.arrayvec.specs.ArrayString.{array_string_len};
@@ -95,7 +103,8 @@ fn push_offset_field(line: &mut Line, offset: u8)
     push_number_field(line, u32::from(offset));
 }
 
-// Whether a list of index words has index word k.
+// Whether a list of index words has index word k. A list is an address of 19 bits, the first of
+// which is that of index word 0.
 fn has_index(address: u32, k: u8) -> bool
     requires { k ≤ 18 }
     ensures { result ≡ spec.has_index address k }
@@ -131,7 +140,8 @@ fn push_listed_field(line: &mut Line, k: u8, address: u32)
     push_index_field(line, k);
 }
 
-// Appends the digits of a truth table.
+// Appends the digits of a truth table: the results for 00, 01, 10 and 11, the first the highest bit
+// of `truth`.
 pub(crate) fn push_truth(line: &mut Line, truth: u8)
     requires { array_string_len line.old + 4 ≤ 128 }
     ensures text { line.new.bytes ≡ line.old.bytes ++ names.truth_digits truth }
@@ -143,7 +153,7 @@ pub(crate) fn push_truth(line: &mut Line, truth: u8)
     line.push_str(digit(truth % 2 == 1));
 }
 
-// Appends a data description.
+// Appends a data description: the mode, the length in bits, and the byte size in bits.
 pub(crate) fn push_description(line: &mut Line, decimal: bool, unsigned: bool, length: u8, byte: u8)
     requires { array_string_len line.old + 26 ≤ 128 }
     ensures text { line.new.bytes ≡ line.old.bytes

@@ -1,4 +1,12 @@
-//! The choice of instructions that have a spelling.
+//! The choice of instructions that have a spelling: those whose statement assembles to exactly
+//! their bits. All others are written as numbers, `DD`.
+//!
+//! counting.rt and writing.rt ask it for each word or half of a word. specs/Spelling.antt defines
+//! the choice; each clause says that the call returns exactly that. Each text is assembled again
+//! (`emitted_alone` of `st_asm`) to decide, which is also why the deck of a program is right by a
+//! law. A word is 64 bits, its left half the first 32. That the symbol table is empty is required,
+//! since no card of the deck has a name. The choice is pinned by the definition,
+//! docs/disassembly.md and vectors/decks.txt; the bodies are free.
 
 ghost use Rattle.std.specs.Prelude.{◌≡◌, ◌/◌, ◌%◌, ◌^◌, []};
 ghost use Rattle.std.specs.Option.{option_map};
@@ -10,7 +18,7 @@ use st_expr::Symbols;
 use st_format::{Instr, decode};
 use st_text::Line;
 
-// The most characters of a statement on a card.
+// The most characters of a statement on a card, columns 10 to 72; a figure of the definition.
 const MOST_CHARACTERS: usize = 63;
 
 // The first half-word of a word.
@@ -61,7 +69,8 @@ pub(crate) fn half_spelling(symbols: &Symbols, half: u32) -> Option<Line>
     spelling_of(symbols, decoded.instr, wanted)
 }
 
-// The text of an instruction, if the instruction is valid and the text assembles to these bits.
+// The text of an instruction, if the instruction is valid and the text assembles to the bits
+// `wanted`.
 #[tactic(auto, unfolding(crate::specs::Spelling::spelling_of))]
 fn spelling_of(symbols: &Symbols, instr: Instr, wanted: EmittedBits) -> Option<Line>
     requires { symbols.now ≡ [] }

@@ -1,4 +1,11 @@
-//! The texts of instructions.
+//! The texts of instructions as statements, without a name or a comment.
+//!
+//! spelling.rt asks for them. `instruction_text` in specs/Texts.antt defines the text; each clause
+//! says that the call returns exactly that. It may be wrong for bits that no statement gives;
+//! spelling.rt then refuses it. A new kind of instruction needs a case of `instruction_text` and
+//! one of `text_of`. The fields have the names of `Instr` in `st_format`: `j` and `i` are numbers
+//! of index words, addresses are in bits or half-words. Texts are pinned by the definition,
+//! docs/disassembly.md and vectors/decks.txt; the split into functions is free.
 
 ghost use Rattle.std.specs.Prelude.{◌≡◌};
 ghost use Rattle.st_dis.specs.Texts as spec;

@@ -1,4 +1,10 @@
-//! Writes a deck.
+//! Writes a deck: the cards of words that are not zero, END, and the control cards.
+//!
+//! disassembling.rt makes the call `push_deck`. specs/Deck.antt defines the cards; each clause says
+//! that exactly these are appended, or that memory ran out. A run of words begins with a card SLC,
+//! a word is one full-word statement, two half-word ones, or a number. Cards and their order are
+//! pinned by the definition, docs/disassembly.md and vectors/decks.txt; the split into functions is
+//! free; the loop of `push_words` has its proof in proofs/writing, which follows it.
 
 ghost use Rattle.std.specs.Prelude.{◌≡◌, ◌≤◌, ◌++◌, [], ◌∷◌, OnOk, map, codes, decimal, length};
 ghost use Rattle.st_bits.specs.declared.limits.TheConstants.{WORDS};
@@ -12,7 +18,7 @@ use st_expr::Symbols;
 use st_text::{Line, open_line, push_decimal, push_half_address, push_short_decimal};
 use std::alloc::AllocError;
 
-// The columns before a statement.
+// The columns before a statement, which begins in column 10; pinned by `statement_card`.
 const BLANKS: &[u8] = b"         ";
 
 // Appends a card.
@@ -61,7 +67,7 @@ fn push_statements(deck: &mut Vec<u8>, symbols: &Symbols, word: u64) -> Result<(
     }
 }
 
-// Appends a card that sets the location counter to word `w`, if the word before is zero.
+// Appends a card that sets the location counter to word `w`, if the word before, `before`, is zero.
 fn push_location(deck: &mut Vec<u8>, w: u32, before: u64) -> Result<(), AllocError>
     ensures { OnOk result (deck.new.items
         ≡ deck.old.items ++ text_of_lines (spec.location_cards w before)) }
@@ -75,7 +81,7 @@ fn push_location(deck: &mut Vec<u8>, w: u32, before: u64) -> Result<(), AllocErr
     push_statement(deck, &text)
 }
 
-// Appends the cards of a word; `before` is the word before it.
+// Appends the cards of word `w`, the bits `word`; `before` is the word before it.
 fn push_placed(
     deck: &mut Vec<u8>,
     symbols: &Symbols,
@@ -94,7 +100,7 @@ fn push_placed(
     push_statements(deck, symbols, word)
 }
 
-// Appends the cards of words.
+// Appends the cards of words, the first of which is word 0; the word before it counts as zero.
 fn push_words(deck: &mut Vec<u8>, symbols: &Symbols, words: &[u64]) -> Result<(), AllocError>
     requires symbols { symbols.now ≡ [] }
     requires few { length words.now ≤ WORDS }
@@ -104,6 +110,7 @@ fn push_words(deck: &mut Vec<u8>, symbols: &Symbols, words: &[u64]) -> Result<()
     let mut w = 0;
     let mut before = 0;
     let mut rest = words;
+    // Proofs name the loop by its label.
     'words: while let [word, after @ ..] = rest {
         push_placed(deck, symbols, w, before, *word)?;
         w += 1;
@@ -113,7 +120,7 @@ fn push_words(deck: &mut Vec<u8>, symbols: &Symbols, words: &[u64]) -> Result<()
     Ok(())
 }
 
-// Appends the END card.
+// Appends the END card with the start, a half-word address.
 fn push_end(deck: &mut Vec<u8>, start: u32) -> Result<(), AllocError>
     ensures { OnOk result (deck.new.items
         ≡ deck.old.items ++ text_of_lines (spec.statement_card (spec.end_text start) ∷ [])) }

@@ -220,7 +220,7 @@ pub record StatementsInFigures : Type 0 where
   pub most_count : MOST_COUNT ≡ 262143
   pub most_flags : MOST_FLAGS ≡ 7
 
--- the words that the statements of a generated deck use: the address of the first, and their number
+-- the words that statements of a generated deck name: the address of the first, and their number
 pub record DrawnWordsInFigures : Type 0 where
   pub first : FIRST_DRAWN_WORD ≡ 4096
   pub count : DRAWN_WORDS ≡ 256

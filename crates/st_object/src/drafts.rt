@@ -1,4 +1,13 @@
-//! The program that the lines of an object text have described so far.
+//! The program that the lines of an object text have described so far, and which line may come
+//! next.
+//!
+//! reading.rt adds lines to a draft. specs/Draft.antt defines the draft with a further line, if
+//! that may come next; the clauses (`Settles`) say that the new draft is exactly that one, or that
+//! the line is refused or memory ran out. Words are stored from word 0 on, with zeros between;
+//! addresses are word addresses, a start is a half-word address. A new kind of line needs a case of
+//! `stands` and `put` here, and its cases in items.rt, order.rt, meaning.rt and spelling.rt. Which
+//! line may come next is pinned by the definition and docs/object-text.md. The bodies are free;
+//! proofs/drafts follows `none_stands` and `are_met`.
 
 ghost use Rattle.std.specs.Prelude.{◌≡◌, ◌≤◌, ◌-◌, ◌++◌, [], ◌∷◌, length, vec_len, replicate, true, Some, OnOk};
 ghost use Rattle.st_object.specs.Draft as spec;
@@ -13,22 +22,28 @@ use st_card::{Addition, Control, Controls, Keyword};
 use std::alloc::{AllocError, Global};
 use std::marker::Model;
 
-// The number of half-words at which a program may start.
+// The number of half-words at which a program may start, 2^19: one more than the greatest start.
 const STARTS: u64 = 1 << 19;
 
 // The contents of the lines read so far.
 #[derive(Drop)]
 pub(crate) struct Draft {
+    // Whether the first line has been read.
     pub(crate) begun: bool,
+    // The start, a half-word address.
     pub(crate) start: Option<u32>,
+    // The words from word 0 up to the last that has been read.
     pub(crate) words: Vec<u64>,
+    // The requests.
     pub(crate) controls: Controls,
+    // Whether the last line has been read.
     pub(crate) ended: bool,
 }
 
 impl Model for Draft {
     ghost use Rattle.st_object.specs.Draft.{Draft};
 
+    // Contracts see all fields, the words as a list.
     ghost Value = { Draft };
 
     ghost view = { λ d. record {
@@ -76,6 +91,7 @@ impl Draft {
         ensures { result ≡ are_met (spec.has_line self.now) kinds.now }
     {
         let mut rest = kinds;
+        // Proofs name the loops by their labels.
         'kinds: while let [kind, after @ ..] = rest {
             if !self.is_met(*kind) {
                 return false;
@@ -174,6 +190,7 @@ impl Draft {
         self.controls.ask(keyword, numbers)
     }
 
+    // Adds the line OBJECT.
     fn put_object(&mut self) -> Addition
         ensures { Settles self.new (Some (record self.old { begun = true })) result }
     {
@@ -181,6 +198,7 @@ impl Draft {
         Addition::Added
     }
 
+    // Adds the start, if it is a half-word address of the first 2^18 words.
     fn put_start(&mut self, half: u64) -> Addition
         ensures { Settles self.new (spec.with_start self.old half) result }
     {
@@ -192,6 +210,7 @@ impl Draft {
         }
     }
 
+    // Adds a word, if it is allowed at its address.
     fn put_word(&mut self, address: u64, word: u64) -> Addition
         ensures { Settles self.new (spec.draft_with_word self.old address word) result }
     {
@@ -202,6 +221,7 @@ impl Draft {
         }
     }
 
+    // Adds the line FIN.
     fn put_fin(&mut self) -> Addition
         ensures { Settles self.new (Some (record self.old { ended = true })) result }
     {

@@ -1,5 +1,8 @@
 //! Object texts: writes a program as text in the format of `docs/object-text.md`, and reads it
 //! back.
+//!
+//! `st_top` makes the calls. Laws in specs/Laws.antt: each text is the object text of exactly one
+//! program, or has exactly one bad line.
 #![tactic(auto, using(st_bits::specs::Storage::words_of_storage_is), unfolding(crate::specs::Draft::draft_with_value, crate::specs::Draft::has_place, crate::specs::Draft::is_whole, crate::specs::Lines::line_text, crate::specs::Object::read_text))]
 
 mod drafts;

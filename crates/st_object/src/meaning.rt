@@ -1,4 +1,11 @@
-//! Parses the lines of an object text.
+//! Parses the lines of an object text, each by itself.
+//!
+//! reading.rt makes the call `item_in`. specs/Meaning.antt defines the item of a line; the clauses
+//! say that each call returns exactly that. The parser is loose (leading zeros, other letters), and
+//! `item_in` then compares the line with the only spelling of its item, so a line is accepted if
+//! and only if it is spelled right. The keywords are pinned by the definition, docs/object-text.md
+//! and the vectors. The split into functions is free; proofs/meaning follows `hex_in` and
+//! `parts_at`.
 
 ghost use Rattle.std.specs.Prelude.{◌≡◌, ◌≤◌, ◌<◌, ◌%◌, ◌^◌, IfSome};
 ghost use Rattle.std.specs.Option.{option_map};
@@ -68,6 +75,7 @@ fn hex_in(text: &[u8]) -> u64
 {
     let mut number = 0;
     let mut rest = text;
+    // Proofs name the loop by its label.
     'digits: while let [digit, after @ ..] = rest {
         number = number % (1 << 60) * 16 + u64::from(hex_digit_in(*digit));
         rest = after;
@@ -91,6 +99,7 @@ fn start_in(text: &[u8]) -> Option<Item>
     Some(Item::Start(2 * word + bit / 32))
 }
 
+// Parses a signal: a number of completed instructions, and an indicator.
 fn signal_in(text: &[u8]) -> Option<Item>
     ensures { result ≡ spec.item_behind kinds.Signal text.now }
 {
@@ -98,6 +107,7 @@ fn signal_in(text: &[u8]) -> Option<Item>
     Some(Item::Ask(Control::Signal(count, indicator)))
 }
 
+// Parses a part of storage: its first and last word address.
 fn dump_in(text: &[u8]) -> Option<Item>
     ensures { result ≡ spec.item_behind kinds.Dump text.now }
 {

@@ -1,4 +1,11 @@
-//! The order of the lines in an object text.
+//! The order of the lines in an object text: the position of each kind, and whether it repeats or
+//! is required.
+//!
+//! drafts.rt decides by it which line may come next. specs/Order.antt has this table, and the
+//! clause of `row` says that they agree; docs/object-text.md and the vectors pin it too. ORDER has
+//! the kinds by position; the clauses of drafts.rt are proved with it. A new kind of line is a row
+//! of `row_of_kind` there and of `row` and ORDER here, and moves the positions after it. The form
+//! of the match is free.
 
 ghost use Rattle.std.specs.Prelude.{◌≡◌, ◌<◌};
 ghost use Rattle.st_object.specs.Order as spec;

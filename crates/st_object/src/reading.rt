@@ -1,4 +1,11 @@
-//! Reads an object text.
+//! Reads an object text: the program that it contains, or the number of its bad line.
+//!
+//! `st_top` makes the call. `read_text` in specs/Object.antt defines the result; `ok` and `err` say
+//! that the call returns exactly that, or `NoMemory`. Besides, the text is the object text of the
+//! program (`same`), and a refusal names the first line with which no object text can begin
+//! (`first`). Lines are counted from 1. The bodies are free, but the proof in proofs/reading
+//! follows the loop. The result is pinned by the definition, docs/object-text.md and
+//! vectors/objects.txt.
 
 ghost use Rattle.std.specs.Prelude.{◌≡◌, ◌+◌, ◌<◌, ◌^◌, IfOk, IfErr, Ok};
 ghost use Rattle.st_card.specs.declared.faults.Fault.TheVariants.{BadObjectCard};
@@ -108,6 +115,7 @@ fn read(alloc: Global, text: &[u8]) -> Result<Image, ObjectError>
     let mut draft = Draft::new(alloc);
     let mut card = 1;
     let mut rest = text;
+    // Proofs name the loop by its label.
     'lines: while let Some((line, after)) = cut(rest, b'\n') {
         match add_line(&mut draft, line) {
             Addition::Added => {}

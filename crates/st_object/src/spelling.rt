@@ -1,4 +1,9 @@
-//! The spelling of the lines of an object text.
+//! The spelling of the lines of an object text, one text for each item, without its line end.
+//!
+//! writing.rt writes them, and meaning.rt compares lines with them. `line_text` in specs/Lines.antt
+//! defines each text, and the clauses say that the call returns exactly that. Words of storage have
+//! 16 hexadecimal digits, all other numbers are decimal. The texts are pinned by the definition,
+//! docs/object-text.md and vectors/objects.txt; the bodies are free.
 
 ghost use Rattle.std.specs.Prelude.{◌≡◌, ◌++◌, codes, decimal};
 ghost use Rattle.st_text.specs.Numerals.{hex_word, half_address};

@@ -1,4 +1,11 @@
-//! Writes an object text.
+//! Writes an object text, the program's words, start and requests as lines.
+//!
+//! `st_top` makes the call; `IsProgram` of specs/Object.antt is its precondition: the ranges of an
+//! `Image` (images.rt). `object_text` there defines the text; the clause `text` says that the call
+//! returns exactly that, and `again` that it is read as the program. Only words that are not zero
+//! have a line. The lines and their order are pinned by the definition, docs/object-text.md and
+//! vectors/objects.txt; the split into private functions is free; a change of `write_object`,
+//! `push_object` and `push_words` needs one in proofs/writing as well.
 
 ghost use Rattle.std.specs.Prelude.{◌≡◌, ◌++◌, [], ◌∷◌, OnOk, IfOk, Ok};
 ghost use Rattle.st_card.specs.Written.{unless_zero};
@@ -37,6 +44,7 @@ fn push_words(text: &mut Vec<u8>, words: &[u64]) -> Result<(), AllocError>
     ensures { OnOk result
         (text.new.items ≡ text.old.items ++ lines.object_text_of (lines.word_lines 0 words.now)) }
 {
+    // Proofs name the loop by its label.
     'words: for (address, word) in words.iter().enumerate() {
         push_filled(text, address as u64, *word)?;
     }

@@ -1,4 +1,14 @@
-//! The result of a call of the program.
+//! The result of a call of the program: the status, which is the exit status of the process, and
+//! the extent of the run in instructions and ticks.
+//!
+//! program.rt and its helpers make it; `crates/stretch` turns the status into the exit code, by the
+//! numbers here, which `docs/running.md` lists. specs/Answers.antt defines what was read and
+//! written for each status (`Did`, `Writes`).
+//!
+//! Pinned by `number_of` (specs/Exit.antt of `stretch`): the numbers 0 to 6. A new status needs its
+//! case in these definitions. `NoMemory` is
+//! returned without a proof that memory ran out; every other status only with its cause. There is
+//! no code but `without_run`.
 ghost use Rattle.std.specs.Prelude.{◌≡◌};
 
 /// The result of a call of `stretch`. The number is the program's exit status.

@@ -1,5 +1,15 @@
 //! A second machine that repeats the run of the first by itself, and whose last steps can be
-//! undone.
+//! undone: the machine of `/BACK k`, the request for the state k instructions (1 to 64) before the
+//! end.
+//!
+//! execution.rt creates it with room for k steps (the depth of `Back`), and reporting.rt runs it
+//! after the report and shows the state. Its steps are plain: one instruction after the other,
+//! without the levels and ticks of the first machine. It takes the signals and cards of the job;
+//! prints are discarded.
+//!
+//! Proved: at the end it is where the run ended, and after `rewind` in the state that many steps
+//! before (specs/Beside.antt, specs/StepsBack.antt; proofs/beside has the three loops). Pinned by
+//! `IsKept`: a card is undone with the step before it. Free: that the run is made twice.
 ghost use Rattle.std.specs.Prelude.{
   ◌≡◌,
   ◌+◌,
@@ -37,17 +47,23 @@ use std::marker::Model;
 /// A machine with its last steps recorded, so that they can be undone. Its prints are discarded.
 #[derive(Drop)]
 pub struct Noted {
+    /// The state of the machine.
     pub state: State,
+    /// Its last steps, at most as many as the depth of the ring buffer: the number of steps that
+    /// `/BACK` requests, 1 to 64. After fewer instructions all steps are there.
     pub steps: Back,
 }
 
 /// A second machine with its external events: signals, and cards of the reader.
 #[derive(Drop)]
 pub struct MachineBeside<'a> {
+    // The machine and its last steps.
     noted: Noted,
+    // The signals and cards that are still to come.
     pending: PendingEvents<'a>,
 }
 
+// Contracts see a pair: the machine with its external events, and the recorded steps.
 impl<'a> Model for MachineBeside<'a> {
     ghost use Rattle.st_top.specs.Beside.{Beside};
 
@@ -67,7 +83,8 @@ impl<'a> MachineBeside<'a> {
     ghost use Rattle.std.specs.List.{AllPass};
     ghost use Rattle.st_card.specs.Limits.{is_signal};
 
-    /// A second machine with this state, these external events, and these recorded steps.
+    /// A second machine with this state, these external events, and these recorded steps. Each
+    /// signal has a count of at most 10,000,000 instructions and an indicator 0 to 13.
     pub fn new(state: State, signals: &'a [Signal], cards: Hopper, steps: Back) -> MachineBeside<'a>
         requires { AllPass is_signal signals.now }
         ensures scene { result.0 ≡ record {
@@ -92,7 +109,10 @@ impl<'a> MachineBeside<'a> {
 }
 
 // Writes the words of a card to the eight words from the word address `w`, and records each with
-// the newest step.
+// the newest step. Words below 32 are registers, which no card changes: the area of a reader's
+// order begins at 32 or above, by the invariant of the state. `IsFreshStep`: there is a newest
+// step, and no word was put since; it has room for eight words. The states that steps back restore
+// (`states_before`) do not change.
 fn put_card(steps: &mut Back, machine: &mut State, w: u32, card: &[u64; 8])
     requires above { 32 ≤ w }
     requires inside { w + 8 ≤ words_of_storage }
@@ -109,6 +129,8 @@ fn put_card(steps: &mut Back, machine: &mut State, w: u32, card: &[u64; 8])
 }
 
 // The reader's order takes effect as in `st_exec::read_in`, and the words of the card are recorded.
+// The reader must have an order, and there must be room for a card (`IsFreshStep`). Without a card
+// the order is removed, and the indicator of the end of the cards is turned on.
 fn read_noted(steps: &mut Back, machine: &mut State, card: Option<[u64; 8]>)
     requires order { IsSome machine.old.reader }
     requires fresh { IsFreshStep steps.old.kept }
@@ -133,12 +155,18 @@ impl ExternalEvents for Noted {
     ghost use Rattle.st_top.specs.Beside.{IsOpen, IsKept};
     ghost use Rattle.st_top.specs.BesideLaws.{kept-both};
 
+    // The plain state of the machine.
     ghost state = { λ n. n.state };
 
+    // An event may come: the depth is 1 to 64, and if the reader has an order, there is a newest
+    // step since which no word was put.
     ghost is_open = { IsOpen };
 
+    // An event keeps the depth and the states that steps back restore, and the machine open.
     ghost leaves = { IsKept };
 
+    // The three laws that the trait requires: no event changes nothing, an event keeps the machine
+    // open, and two events in turn are one.
     ghost leaves_same = { λ _. (refl, refl, λ now. now) };
 
     ghost stays_open = { λ _ _ _ kept now. kept.2 now };
@@ -161,11 +189,14 @@ impl ExternalEvents for Noted {
         st_exec::print_out(&mut self.state)
     }
 
+    // A wait ends nothing here: only an overlapped machine has a segment to end.
     fn rest(&mut self) {}
 }
 
 // Makes the transition between two steps: the due signals and orders, and the events that may end a
-// wait. Prints are discarded.
+// wait. Prints are discarded. `IsBesideReady` is `is_open` of the machine; `IsMoved`: afterwards it
+// is ready, in the scene (state, signals and cards) of the definition, and steps back restore the
+// same states.
 fn pass_interlude(second: &mut MachineBeside)
     requires { IsBesideReady second.old }
     ensures { IsMoved second.old second.new (run.interlude second.old.0).scene }
@@ -173,7 +204,9 @@ fn pass_interlude(second: &mut MachineBeside)
     between(&mut second.noted, &mut second.pending);
 }
 
-// Makes the next step of a machine that is not at rest.
+// Makes the next step of a machine that is not at rest, and records it. `IsStepped`: afterwards the
+// machine is in the next scene of the plain run, and steps back also restore the state before,
+// up to the depth. `few` keeps the count of instructions in its 63 bits.
 fn step(second: &mut MachineBeside)
     requires few { second.old.0.machine.done < 2 ^ 63 }
     requires ready { IsBesideReady second.old }
@@ -189,7 +222,10 @@ fn is_resting(second: &MachineBeside) -> bool
     is_at_rest(&second.noted.state)
 }
 
-// Runs to the end: at rest, or with the budget used up.
+// Runs to the end: at rest, or with the budget used up. `budget` is a number of instructions, at
+// most 10,000,000. At the start no instruction is complete and the machine is ready
+// (`IsBesideAtStart`); at the end it has made the whole run (`HasMadeRun`). The loop has its label
+// for its proof only.
 fn run_to_end(second: &mut MachineBeside, budget: u64)
     requires start { IsBesideAtStart second.old }
     requires limit { budget ≤ MOST_INSTRUCTIONS }
@@ -212,6 +248,9 @@ fn run_to_end(second: &mut MachineBeside, budget: u64)
 }
 
 /// Runs the second machine to the end, if there is one: at rest, or with the budget used up.
+/// `budget` is the number of instructions that the job requests at most, that of the first run.
+/// There is a second machine if and only if steps back are requested; `back` in the clause is their
+/// number.
 pub fn run_beside(second: &mut Option<MachineBeside>, budget: u64)
     requires start { IfSome second.old IsBesideAtStart }
     requires limit { budget ≤ MOST_INSTRUCTIONS }
@@ -224,7 +263,8 @@ pub fn run_beside(second: &mut Option<MachineBeside>, budget: u64)
     }
 }
 
-// Undoes all recorded steps.
+// Undoes all recorded steps: the state becomes the oldest that steps back restore, or stays if
+// there is none.
 fn undo_all(steps: &mut Back, machine: &mut State)
     ensures { machine.new ∷ [] ≡ take 1
         (states_before steps.old.kept machine.old ++ machine.old ∷ []) }
@@ -235,7 +275,8 @@ fn undo_all(steps: &mut Back, machine: &mut State)
     }
 }
 
-/// Undoes all recorded steps, the newest first, and returns their number, at most 64.
+/// Undoes all recorded steps, the newest first, and returns their number: the requested one, or the
+/// number of completed instructions if that is less; at most 64.
 pub fn rewind(second: &mut MachineBeside) -> u8
     requires { IsBesideReady second.old }
     ensures count { result ≡ length second.old.1.kept }

@@ -1,4 +1,13 @@
-//! Parses the words of a command line.
+//! Parses the words of a command line: one command, and for `soak` a seed and a number of cards.
+//!
+//! program.rt calls `read_words`. A word is plain if it is not empty and does not begin with `-`;
+//! numbers have at most 20 digits. `clap`, a library with contracts, assigns the words to
+//! arguments.
+//!
+//! Proved: the command is `command_of` in specs/Command.antt, or None if there is none. `NoMemory`
+//! is the only error, and no clause says that it comes only for that cause. A new command is a word
+//! in `command_named_by`, a case of `Command` and of `command_named`, and its function in
+//! program.rt. Free: the parser.
 ghost use Rattle.std.specs.Prelude.{◌≡◌, ◌<◌, ◌≤◌, IfOk, MatchOption, None, Ok, false, true, length, map, option_map};
 ghost use Rattle.std.specs.List.{list_all};
 ghost use Rattle.std.specs.String.{string_bytes};
@@ -38,10 +47,11 @@ pub enum Command {
 // The most words of a command line.
 const MOST_WORDS: usize = 3;
 
-// The most digits of a number.
+// The most digits of a number, as many as 2^64 - 1 has. `number_between` pins it.
 const MOST_DIGITS: usize = 20;
 
-/// The most drawn cards of a generated deck.
+/// The most drawn cards of a generated deck. The law `most` of specs/Laws.antt and docs/deck.md
+/// have this number too.
 pub const MOST_MADE_CARDS: u64 = 4_000;
 
 // Whether a word can be an argument: it is not empty and does not begin with `-`.
@@ -54,7 +64,7 @@ fn is_plain(word: &str) -> bool
     }
 }
 
-// Whether each word can be an argument.
+// Whether each word can be an argument. The label of the loop serves only its proof.
 fn are_plain(words: &[String]) -> bool
     ensures { result ≡ list_all is_plain_of (map string_bytes words.now) }
 {

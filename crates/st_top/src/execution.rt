@@ -1,4 +1,12 @@
 //! Runs of jobs: the listing, if it is requested, followed by the report of the run.
+//!
+//! program.rt calls `execute` for an assembled job, and `execute_loaded` for an object text, whose
+//! reader is empty. All memory is allocated before the first line, so a job writes nothing if
+//! memory runs out.
+//!
+//! Proved: the lines are `ran_by` and `loaded_by` of specs/Output.antt, the answer has the moment
+//! of the end or of the line that failed, and the ticks keep the bound of `KeepsTime`. Pinned by
+//! these: the order of listing and report, and four levels (`LEVELS`). Free: the allocations.
 ghost use Rattle.std.specs.Prelude.{◌≡◌, ◌≤◌, ◌<◌, ◌^◌, None, Ok, All, IfOk, IfSome, OnOk, OnErr, [], ◌++◌, length};
 ghost use Rattle.st_bits.specs.Storage.{IsImage};
 ghost use Rattle.st_asm.specs.Assembly.{assembly_parts};
@@ -37,6 +45,7 @@ use std::alloc::Global;
 // A prepared run, whose report has not begun.
 #[derive(Drop)]
 struct RunWithSecond<'a> {
+    // The run on the overlapped machine.
     run: Run<'a, LEVELS>,
     // The machine that follows the run and can undo steps, if steps back are requested.
     second: Option<MachineBeside<'a>>,
@@ -120,7 +129,9 @@ fn beside<'a>(
 }
 
 // Allocates all memory of a run: of the machine with an image, a start and controls, and of the
-// reader with the cards of a job. The only error is a failed allocation.
+// reader with the cards of a job. The only error is a failed allocation. An image has all words of
+// storage, its register words 0; `start` is a half-word address; the controls are requests that
+// control cards can make, with a budget of at least 1 and at least one delay.
 fn prepare<'a>(
     alloc: Global,
     job: &Job,
@@ -182,7 +193,9 @@ fn answer_run<K: Sink>(
 }
 
 /// Runs an assembled job from its start and writes its report. For a generated deck, the line of
-/// its seed and its number of cards comes first. Nothing is written if memory runs out.
+/// its seed and its number of cards comes first. Nothing is written if memory runs out. `sound` and
+/// `good` hold of each assembled job: it has an image, a start, one row of the listing for each
+/// card, and controls within their limits, and no card has a fault.
 #[tactic(auto, using(st_bits::specs::Storage::words_of_storage_is, crate::proofs::Times::keeps_still))]
 pub fn execute<K: Sink>(alloc: Global, job: &Job, program: &Assembled, out: &mut K) -> Answer
     requires sound { IsAssemblySound (length (cards_of job.now.text.now))
@@ -225,7 +238,8 @@ fn answer_loaded<K: Sink>(
     answer_of(written, moment)
 }
 
-/// Runs a loaded program from its start, with an empty reader, and writes its report.
+/// Runs a loaded program from its start, with an empty reader, and writes its report. The program
+/// is one that an object text can contain (`IsProgram`).
 #[tactic(auto, using(st_bits::specs::Storage::words_of_storage_is, crate::proofs::Times::keeps_still))]
 pub fn execute_loaded<K: Sink>(alloc: Global, program: &Image, out: &mut K) -> Answer
     requires { IsProgram program.now }

@@ -1,4 +1,10 @@
-//! A job with its cards.
+//! A job with its cards: the bytes of its text, split once, for the assembler, the listing and the
+//! reader.
+//!
+//! program.rt splits the job; execution.rt and listing.rt read it. `made` is the seed and the
+//! number of cards of a generated deck (`soak`). The ghost field carries the proof that the cards
+//! are those of the text, so that no caller proves it again; a change of either needs that proof. A
+//! further field is free.
 ghost use Rattle.std.specs.Prelude.{◌≡◌};
 ghost use Rattle.st_card.specs.Cards.{cards_of};
 

@@ -1,4 +1,14 @@
-//! Errors before the first line of output: those of the layers below as one type.
+//! Errors before the first line of output: those of the layers below as one type, so that `?` joins
+//! them.
+//!
+//! program.rt turns them into statuses: a refusal into its line and status 1, the others into a
+//! status without output. Cards and lines are numbered from 1.
+//!
+//! Proved: each conversion gives the error of specs/Layers.antt (clause `from_gives`). Pinned by
+//! `of_disassembly` there: a deck of the disassembler with too many cards is refused at the first
+//! card over the limit. A new error of a layer needs its case in the conversion here and in its
+//! definition in that file; a new variant also one in `Halts` and `Tries` of that file and in the
+//! matches of program.rt. The texts of `error` are free: no program prints them.
 ghost use Rattle.std.specs.Prelude.{◌≡◌};
 ghost use Rattle.st_top.specs.Layers.{of_reading, of_assembly, of_object, of_disassembly};
 
@@ -14,7 +24,7 @@ use thiserror::Error;
 #[derive(Debug, Drop, Error)]
 pub enum LayerError {
     /// A card of the job, a line of the object text or a card of its deck is refused. Each is
-    /// numbered from 1.
+    /// numbered from 1; `fault` says what is wrong with it.
     #[error("card {card} is refused")]
     Refused { card: u32, fault: Fault },
     /// The job has more than 2,000,000 bytes.
@@ -28,6 +38,7 @@ pub enum LayerError {
     NoMemory,
 }
 
+// Each conversion maps the variants one by one; `e` is the error of the layer, `made` the result.
 impl From<ReadError> for LayerError {
     ghost from_gives = { λ e made. made ≡ of_reading e };
 

@@ -1,4 +1,12 @@
-//! Writes the object text of a job and the deck of a program, line by line.
+//! Writes the object text of a job and the deck of a program, line by line, for the commands
+//! `assemble` and `disassemble`.
+//!
+//! program.rt calls these. `st_object` and `st_dis` build the whole text first, which is all the
+//! memory that is needed; then each line is a write of its own. A line end is byte 10.
+//!
+//! Proved: the lines are `object_text_lines` of specs/ObjectText.antt or those of `disassembled_by`
+//! in specs/Output.antt; together with the answer, `Writes`. An object text has no request for a
+//! listing (`image_of`); that is pinned by `program_in`. Free: the loops.
 ghost use Rattle.std.specs.Prelude.{◌≡◌, ◌+◌, ◌≤◌, Ok, length, take};
 ghost use Rattle.st_asm.specs.Assembly.{assembly_parts};
 ghost use Rattle.st_text.specs.Pieces.{pieces_of};
@@ -45,7 +53,8 @@ fn with_end<'a>(text: &'a [u8], line: &[u8]) -> &'a [u8]
     text.split_at(line.len() + 1).0
 }
 
-// Writes the lines of a text that have a line end, including the line end.
+// Writes the lines of a text that have a line end, including the line end. The label of the loop
+// serves only its proof.
 fn write_ended<K: Sink>(out: &mut K, text: &[u8]) -> Result<(), Failed>
     ensures { WritesLines (K.output out.old) (K.output out.new)
         (whole_lines (pieces_of 10 text.now)) result }
@@ -74,7 +83,8 @@ fn answer_text<K: Sink>(out: &mut K, text: &[u8]) -> Answer
     }
 }
 
-/// Writes the object text of a program line by line. All memory is allocated first.
+/// Writes the object text of a program line by line. All memory is allocated first. The program is
+/// one that an object text can contain (`IsProgram`).
 pub fn answer_object<K: Sink>(alloc: Global, program: &Image, out: &mut K) -> Answer
     requires { IsProgram program.now }
     ensures writes { Writes result.status (K.output out.old) (K.output out.new)

@@ -1,4 +1,13 @@
 //! The call of the whole program, and one function for each of its commands.
+//!
+//! `crates/stretch` calls `stretch`. Commands are parsed by command.rt, the job is read at once (at
+//! most 2,000,000 bytes), and each function assembles, loads, runs or writes. The first error of a
+//! layer is returned as `LayerError`.
+//!
+//! Proved, as the theorem of the program: for each status, the bytes that were read and the lines
+//! that were written (`IsAnswer` in specs/Answers.antt), when `Usage` comes, and which lines delays
+//! can change. `docs/THEOREM.md` reads it in words. Free: the bodies. A new command is a case of
+//! `output_of`, of `Command`, and of `try_job`.
 ghost use Rattle.std.specs.Prelude.{◌≡◌, ◌<◌, ◌≤◌, ◌^◌, None, false, map, length};
 ghost use Rattle.std.specs.List.{list_all};
 ghost use Rattle.std.specs.String.{string_bytes};
@@ -164,7 +173,8 @@ fn answer<S: Source, K: Sink>(alloc: Global, command: Command, job: &mut S, out:
     }
 }
 
-// Generates a deck and runs it. Writes the refusal if the deck is refused.
+// Generates a deck and runs it. Writes the refusal if the deck is refused. No job is read, so the
+// two errors of reading do not come (`Halts`).
 #[tactic(auto, using(st_bits::specs::Storage::words_of_storage_is, crate::proofs::Times::keeps_still))]
 fn answer_made<K: Sink>(alloc: Global, number: u64, cards: u32, out: &mut K) -> Answer
     requires { cards ≤ MOST_MADE_CARDS }
@@ -181,7 +191,8 @@ fn answer_made<K: Sink>(alloc: Global, number: u64, cards: u32, out: &mut K) -> 
     }
 }
 
-// Executes a command. Returns the answer.
+// Executes a command. Returns the answer. A `soak` command has at most 4,000 drawn cards
+// (`IsWithinCards`).
 fn act<S: Source, K: Sink>(alloc: Global, command: Command, job: &mut S, out: &mut K) -> Answer
     requires { IsWithinCards command }
     ensures { Acted command result.status

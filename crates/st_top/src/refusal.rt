@@ -1,4 +1,9 @@
-//! The line that a refused job prints.
+//! The line that a refused job prints: the number of the card, from 1, and the name of its fault.
+//!
+//! program.rt calls `refuse` for a refused job, object text or generated deck; it is the whole
+//! output. Proved: the line is `refusal_output` of specs/Output.antt, and the status is `Refused`,
+//! or `WriteFault` if the write fails. The names of faults are those of `st_card`, the form of the
+//! line that of `st_report`. Free: the body.
 ghost use Rattle.std.specs.Prelude.{◌≡◌, [], ◌∷◌};
 ghost use Rattle.st_card.specs.Faults.{name_of};
 ghost use Rattle.st_io.specs.Lines.{WritesLines};

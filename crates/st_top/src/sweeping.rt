@@ -1,4 +1,12 @@
-//! Runs of a job on machines of one to eight levels, and their lines.
+//! Runs of a job on machines of one to eight levels, and their lines, for the command `sweep`.
+//!
+//! program.rt calls `execute_sweep`; `st_sweep` makes the runs, with an empty reader. The lines are
+//! `LEVELS n TICKS t` for n from 1 to 8, and `CALM 1` or `CALM 0`. The answer has the extent of the
+//! run on eight levels.
+//!
+//! Proved: the lines are `swept_by` of specs/Output.antt, and the ticks keep the bound of
+//! `KeepsTime`. Pinned by `sweep_lines`: the order of the lines. Nothing is written if memory runs
+//! out. Free: the bodies.
 ghost use Rattle.std.specs.Prelude.{◌≡◌, ℕ, List, ◌+◌, ◌≤◌, ◌<◌, ◌^◌, Ok, [], ◌∷◌, IfOk, length};
 ghost use Rattle.st_bits.specs.Storage.{IsImage};
 ghost use Rattle.st_asm.specs.Assembly.{assembly_parts};
@@ -20,7 +28,8 @@ use st_sweep::{Swept, SweptJob, sweep};
 use st_telling::put;
 use std::alloc::Global;
 
-// Writes the lines of machines with `n` levels, `n + 1` levels and so on, given their ticks.
+// Writes the lines of machines with `n` levels, `n + 1` levels and so on, given their ticks; the
+// last has at most 8 levels.
 #[tactic(auto, using(st_io::proofs::Progress::wrote_nothing))]
 fn write_levels<K: Sink>(out: &mut K, n: u8, ticks: &[u64]) -> Result<(), Failed>
     requires { n + length ticks.now ≤ 9 }
