@@ -1,5 +1,9 @@
-//! The program: it passes standard input, standard output and the words of the command line to
-//! `draw`.
+//! The program `chart`: it passes standard input, standard output and the words of the command line
+//! to `draw` of `st_draw`, which does all the work.
+//!
+//! Proved here: the exit code of a status is the number that specs/Exit.antt gives it. Not proved:
+//! that `main` connects the right streams; that is what these lines say. Nothing else uses this
+//! crate. The numbers are pinned by specs/Exit.antt and docs/chart.md; the body of `exit` is free.
 #![tactic(auto)]
 
 ghost use Rattle.std.specs.Prelude.{◌≡◌};
@@ -11,6 +15,7 @@ use st_io::{NoWords, StdSink, StdSource, words};
 use std::io;
 use std::process::ExitCode;
 
+// Words that are not UTF-8 count as a bad command line.
 fn main(rt: HostRuntime) -> ExitCode {
     let words = match words(&rt) {
         Ok(words) => words,

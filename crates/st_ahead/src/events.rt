@@ -1,4 +1,14 @@
-//! The results of the machine's calls, and the view of the machine.
+//! The results of the machine's calls, and the view of the machine: `Event` is the result of
+//! `tick`, `Row` of `run_to`, `Settled` of `settle`, and `View` of `view`.
+//!
+//! `st_run` turns rows and decisions into events, and `st_time` formats rows and views. Ticks count
+//! from 0 at the start of the run; addresses are half-word addresses. A level is an entry
+//! (instruction) in flight, prepared and not complete.
+//!
+//! There is no code here. specs/Calls.antt defines when each result is returned (`IsEvent`,
+//! `answer`), and specs/Shown.antt the view (`view_at_tick`); the clauses of machine.rt promise
+//! these. A new variant or field needs its case there, in machine.rt, and where callers match it:
+//! `st_run`, `st_time`, `st_telling`. Eight is the largest number of levels.
 
 /// A row of the timetable: a completed entry.
 #[derive(Clone, Copy, Debug, Default, PartialEq, Eq)]

@@ -1,5 +1,14 @@
-//! The look-ahead of a machine: levels, the issue state after them, a log of reads, and the fetch
-//! unit.
+//! The look-ahead of a machine: levels (entries in flight: prepared, not complete), the issue state
+//! after them (the input of the timetable), a log of reads, and the fetch unit; and its start and
+//! end with a segment, the entries between two flushes.
+//!
+//! machine.rt calls `new`, `end` and `give_up`; other files of this crate advance it. A segment
+//! starts one tick after the completion that ended the last one, plus one for each flushed level.
+//!
+//! Proved: the next segment is open (`IsOpened` in specs/Forecast.antt), at that tick and with the
+//! banks of the reads that are accepted before `now` (`answers_before`), or idle banks if no entry
+//! completed. Pinned: these ticks, by `opening_issue`. Free: whether the fetch unit is rebuilt or
+//! reused.
 ghost use Rattle.std.specs.Prelude.{◌≡◌, ℕ, ◌+◌, ◌≤◌, ◌-◌, ◌^◌, Option, All, List};
 ghost use Rattle.st_bits.specs.Indicators.{IsIndicatorIfAny};
 ghost use Rattle.st_bits.specs.declared.limits.TheConstants.{MOST_DELAY};

@@ -1,4 +1,15 @@
-//! The view of the look-ahead, and the place of its next entry.
+//! The view of the look-ahead, and the place of its next entry: the calls by which machine.rt shows
+//! levels (entries in flight), lends them, and sets the table instruction of an interrupt.
+//!
+//! A level is shown with its address (half-words), its P (tick of preparation), the index word that
+//! it changed early with the old content, and whether its operands have arrived by the tick that is
+//! shown. `st_run` shows these in snapshots. `stand` only sets the place: machine.rt calls it when
+//! the segment has just ended, so that no word of the next entry is requested yet.
+//!
+//! Proved: a view is `level_shown` of specs/Shown.antt if the levels are the entries in flight
+//! (`AreAhead` of `st_ring`), which `IsInside` keeps in machine.rt. What that means for a run is in
+//! laws of `st_refine`: `TheStateIsSplit` for views, `LevelsAreLent` for `ring` and `index`; see
+//! `docs/inside.md`. Pinned: `ready` is by R of the row, without forwarded words. Free: the bodies.
 ghost use Rattle.std.specs.Prelude.{◌≡◌, ◌≤◌, ℕ, List, map, get_or, Option, None, Some, option_map};
 ghost use Rattle.st_state.specs.Machine.{Machine};
 ghost use Rattle.st_rows.specs.declared.issue.IssueState.{IssueState as IssueStateOf};

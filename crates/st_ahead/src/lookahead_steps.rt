@@ -1,4 +1,12 @@
-//! Advances the look-ahead to the next tick.
+//! Advances the look-ahead to the next tick, for a caller that settles (decides after) each tick:
+//! entries with P, the tick of preparation, at this tick become levels, entries in flight.
+//!
+//! machine.rt calls `go_on` when a decision is to continue. Most ticks prepare nothing, and are
+//! left at once by the first test.
+//!
+//! Proved: the look-ahead is that of the next tick (`IsLookahead` in specs/Forecast.antt), if it
+//! was that of this tick before. Free: the test, which only saves time; lookahead_going.rt does the
+//! work.
 ghost use Rattle.std.specs.Prelude.{◌≡◌, ℕ, ◌+◌, ◌<◌, ◌≤◌, ◌^◌, true, Option};
 ghost use Rattle.st_rows.specs.declared.issue.IssueState.{IssueState as IssueStateOf};
 

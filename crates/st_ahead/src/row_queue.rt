@@ -1,5 +1,13 @@
 //! A queue of rows: the executed instructions, with their ticks, that a run has passed over and
 //! nobody has taken yet.
+//!
+//! `Machine::run_to` fills it, and `st_run` takes the rows out as events. Room is made for 64 rows
+//! at a time, so that many instructions run between two events.
+//!
+//! Proved: each call is one of a list with room (`queue_with` in specs/RowsDone.antt); a row
+//! without room is dropped, as `st_run` asks where it needs only the last row. The number 64 is in
+//! the clauses, and in `ROWS` of `st_run`; any other would do if all change. Free: the array and
+//! its three marks.
 ghost use Rattle.std.specs.Prelude.{◌≡◌, ◌==◌, [], ◌∷◌, length, MatchOption};
 ghost use Rattle.st_ahead.specs.RowsDone.{queue_with};
 

@@ -1,4 +1,10 @@
-//! A recorded step, and the words that were put after it.
+//! A recorded step, and the words that were put after it: those of a card that the reader brought
+//! before the next step.
+//!
+//! back.rt keeps these in its ring, and undoing.rt undoes them, the puts from the last to the
+//! first, then the step. Proved: `noted` adds a put at the end (`step_with_word` in
+//! specs/Undone.antt). Pinned: at most eight puts (`IsStepSound`), as many as a card has words. The
+//! arrays could be larger, with the definition.
 ghost use Rattle.std.specs.Prelude.{◌≡◌, ◌≤◌};
 ghost use Rattle.st_back.specs.Undone.{step_with_word as noted_of};
 

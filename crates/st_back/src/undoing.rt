@@ -1,4 +1,13 @@
-//! The undoing of a step.
+//! The undoing of a step: storage, registers, counter, flags, count and orders become those before
+//! it.
+//!
+//! `undo` restores in reverse order of the writes: the puts of a card, the words that the entry
+//! wrote, words 0 to 31, and the rest. back.rt calls it, and `st_plain` after it has looked at
+//! predicted entries, with a record by `keep`.
+//!
+//! Proved: the state is `state_undone` of specs/Undone.antt, and after a completion of the recorded
+//! entry this is the state before it (clause `undone` of `keep`, also with another counter). A new
+//! field of `State` has to be restored in `restore_rest`, or that proof fails. Free: the loops.
 ghost use Rattle.std.specs.Prelude.{◌≡◌, ◌+◌, ◌≤◌, ℕ};
 ghost use Rattle.st_bits.specs.Storage.{words_of_storage};
 ghost use Rattle.st_state.specs.Machine.{Machine};

@@ -1,4 +1,11 @@
-//! Base 2: the parts of results that depend on the base.
+//! Base 2: the parts of the results of binary operations that decimal ones have otherwise, for
+//! `operate` of `st_field`.
+//!
+//! `base` in specs/BinaryResult.antt defines what each method returns, and each method is proved by
+//! the clauses of the trait `Base`, which it inherits. Magnitudes are binary numbers: up to 128
+//! bits in the accumulator, up to 64 in a field. Multiply takes the low 64 bits of the accumulator
+//! from the offset; divide puts the remainder in its register. The bodies are free. The results are
+//! pinned by the definition, docs/operations.md and vectors/binary.txt.
 ghost use Rattle.std.specs.Prelude.{◌≡◌, ◌≤◌, ◌<◌, ◌%◌, ◌^◌, ℕ};
 ghost use Rattle.st_field.specs.Numbers.{exceeds as exceeds_of};
 ghost use Rattle.st_field.specs.Fields.{IsBinaryShape};
@@ -44,36 +51,47 @@ fn multiplied(taken: &Taken, mag: u128, on: u64) -> Done
 pub struct Two;
 
 impl Base for Two {
+    // The definition of what each method returns.
     ghost base = { base_two };
 
+    // The precondition of each method: 1 to 64 bits, bytes of 1 to 8, a signed field with at least
+    // one byte, and an offset of 0 to 127.
     ghost Allows = { IsBinaryShape };
 
+    // Magnitudes have at most 128 bits; a sum may have a carry.
     ghost limit = { 2 ^ 128 };
 
+    // The accumulator as a binary number.
     fn whole(taken: &Taken) -> u128 {
         taken.acc.mag
     }
 
+    // The accumulator from the offset.
     fn part(taken: &Taken) -> u128 {
         taken.acc.mag >> taken.shape.offset
     }
 
+    // The magnitude of the field.
     fn value(taken: &Taken) -> u64 {
         taken.field.mag
     }
 
+    // The magnitude of the field, as a register stores it.
     fn content(taken: &Taken) -> u64 {
         taken.field.mag
     }
 
+    // BTR, binary transit.
     fn transit(_taken: &Taken) -> u64 {
         indicator(BINARY_TRANSIT)
     }
 
+    // The magnitude of the field, shifted left by the offset.
     fn at_place(taken: &Taken) -> Kept {
         shift(u128::from(taken.field.mag), taken.shape.offset)
     }
 
+    // The accumulator from the offset, cut to the magnitude bits of the field.
     fn stored(taken: &Taken) -> Kept {
         cut(
             taken.acc.mag >> taken.shape.offset,
@@ -81,6 +99,7 @@ impl Base for Two {
         )
     }
 
+    // The low 128 bits of a sum.
     fn summed(_taken: &Taken, sum: Sum) -> Kept {
         Kept {
             bits: sum.number.mag,
@@ -89,6 +108,7 @@ impl Base for Two {
         }
     }
 
+    // The low bits of a sum, as many as the field has for its magnitude.
     #[tactic(auto, using(st_field::proofs::FieldLemmas::kept))]
     fn replaced(taken: &Taken, sum: Sum) -> Kept {
         let bits = magnitude_bits(&taken.shape);
@@ -98,6 +118,7 @@ impl Base for Two {
         }
     }
 
+    // The product of the low 64 bits of the accumulator from the offset and the field.
     fn multiply(taken: &Taken) -> Done {
         let factor = taken.acc.mag >> taken.shape.offset;
         let mag = u128::from(low_bits(factor, 64)) * u128::from(taken.field.mag);
@@ -105,6 +126,8 @@ impl Base for Two {
         multiplied(taken, mag, on)
     }
 
+    // The product of the factor register and the field, shifted left by the offset, is added to the
+    // accumulator.
     fn multiply_and_add(taken: &Taken, ft: u64) -> Done {
         let Taken { acc, field, shape } = taken;
         let product = shift(u128::from(ft) * u128::from(field.mag), shape.offset);
@@ -116,6 +139,8 @@ impl Base for Two {
         in_accumulator(with_number(acc, sum.number), sum.number.mag, on)
     }
 
+    // The accumulator from the offset is divided by the field; the remainder goes to its register.
+    // A divisor of zero only turns on ZD.
     fn divide(taken: &Taken) -> Done {
         if taken.field.mag == 0 {
             let ind = Ind {
@@ -133,6 +158,7 @@ impl Base for Two {
         }
     }
 
+    // The field, as decimal digits, is loaded from digit offset / 4 on.
     fn convert(taken: &Taken) -> Done {
         let (mag, is_lost) = place_digits(taken.field.mag, taken.shape.offset / 4);
         load(Aligned {

@@ -1,4 +1,10 @@
-//! Decimal numbers that are shifted by digits.
+//! A decimal shift of a number, for load converted: the binary field becomes 32 decimal digits in
+//! the accumulator.
+//!
+//! base.rt makes the call. `place` is the digit at which the number begins, 0 to 31. The clauses
+//! are the definition: the product by 10^place modulo 10^32, and whether the product has more
+//! digits. The body avoids the full product, which may need more than 128 bits; its form is free,
+//! with proofs/PlaceLemmas.antt. The results are pinned by the clauses.
 ghost use Rattle.std.specs.Prelude.{◌≡◌, ◌<◌, ◌*◌, ◌%◌, ◌^◌, nat_le};
 
 use st_field::power_of_ten;

@@ -1,5 +1,7 @@
 //! Binary operations on fields: their results in the accumulator, the field, the registers and the
 //! indicators. `docs/variable-fields.md` has the rules.
+//!
+//! `st_exec` makes the call `binary`, and is given the types of `st_field` from here.
 #![tactic(auto, unfolding(crate::specs::BinaryResult::conversion_result, crate::specs::BinaryResult::product, crate::specs::BinaryResult::product_added, crate::specs::BinaryResult::quotient_result, crate::specs::BinaryResult::result))]
 
 mod base;

@@ -1,4 +1,10 @@
 //! The parts of an index word: value, count and refill address.
+//!
+//! Bits 0-23 are the magnitude of the value, bit 24 its sign (one is minus, and minus zero reads as
+//! 0), bits 28-45 the count, and bits 46-63 the refill address; bits 25-27 are flags and are kept.
+//! specs/IndexWord.antt defines these places, and each clause says that the call returns exactly
+//! that part, or the word with only that part replaced. The places are pinned there; the bodies are
+//! free. `st_index`, `st_prep` and the assembler use the calls.
 ghost use Rattle.std.specs.Prelude.{◌≡◌, ◌<◌, ◌≤◌, ◌^◌, unsigned_abs};
 ghost use Rattle.st_bits.specs.IndexWord.{index_value as value_by, count_of as count_by, refill_of as refill_by, index_word_with_value as with_value_of, with_count as with_count_of, with_refill as with_refill_of};
 
@@ -31,7 +37,7 @@ pub fn refill_of(x: u64) -> u32
 }
 
 /// The index word with `r` as its value: the magnitude modulo 2^24, and a minus sign if r is
-/// negative.
+/// negative. The magnitude of `r` is at most 2^28, that of a sum of sixteen values.
 pub fn with_value(x: u64, r: i32) -> u64
     requires { unsigned_abs r ≤ 2 ^ 28 }
     ensures { result ≡ with_value_of x r }

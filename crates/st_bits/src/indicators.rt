@@ -1,4 +1,11 @@
-//! The numbers of the indicators: indicator n is bit n of the indicator register.
+//! The numbers of the indicators: indicator n is bit n of the indicator register (register word
+//! 11), bit 0 leftmost. An indicator is a condition code or the cause of an interrupt.
+//!
+//! The numbers are those of the machine's rules (docs/machine.md, docs/interrupts.md). Definitions
+//! of several crates name these constants, and the law `IndicatorsInFigures` in specs/Laws.antt of
+//! `st_laws` pins all figures, so none is free; a new name needs its figure there. Nothing is
+//! proved here, since there is no function. Numbers that are missing have no name in this machine,
+//! except PG1 to PG6, which follow PG0.
 
 /// MK, machine check.
 pub const MACHINE_CHECK: u8 = 0;
@@ -26,7 +33,7 @@ pub const UNIT_CHECK: u8 = 10;
 pub const END_EXCEPTION: u8 = 11;
 /// EOP, end of operation: a transfer took effect.
 pub const END_OF_OPERATION: u8 = 12;
-/// CS, channel signal: the last of those that a signal from outside can turn on.
+/// CS, channel signal: the last of those, from MK on, that a signal from outside can turn on.
 pub const CHANNEL_SIGNAL: u8 = 13;
 /// OP, operation code invalid.
 pub const OPERATION_INVALID: u8 = 15;

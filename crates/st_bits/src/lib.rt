@@ -1,5 +1,8 @@
 //! Words, fields, register words and index words. `docs/machine.md` and `docs/index-words.md` have
 //! the rules.
+//!
+//! All crates of the machine and of the assembler use them. specs/ has a definition for each call,
+//! and nothing here has a state.
 #![tactic(auto)]
 
 mod fields;

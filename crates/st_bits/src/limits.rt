@@ -1,4 +1,10 @@
 //! Limits: the size of storage and the greatest sizes and numbers that a job may use.
+//!
+//! A job beyond a limit is refused by the crate that reads it (`st_card`, `st_asm`, `st_top`).
+//! Definitions name these constants, and their figures are pinned by the laws `LimitsInFigures` and
+//! `ControlsInFigures` in specs/Laws.antt of `st_laws`, and by docs/strap.md. WORDS is fixed by the
+//! machine, and LAST_WORD is one less. The other limits are this project's choice and may change:
+//! with those laws, the page, the vectors, and new proofs in the crates that use the limit.
 
 /// The number of words of storage.
 pub const WORDS: u32 = 98_304;

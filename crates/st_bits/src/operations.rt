@@ -1,5 +1,12 @@
 //! The operations by name. The number of a variant is the operation's number in the instruction, as
 //! the table in `st_format` has it.
+//!
+//! The comments of the variants say in short what each operation does; docs/operations.md has the
+//! rules, and the definitions of `st_prep`, `st_exec`, `st_field` and `st_conn` are binding.
+//! Nothing is proved here. The numbers are pinned: `st_format` is proved with them, and the
+//! instruction bits of all vectors contain them. A new operation begins with a variant here and its
+//! row in specs/Operations.antt of `st_format`. Only a name is free to change, together with the
+//! definitions that use it.
 
 /// An operation of the half-word format outside the branch group.
 ///

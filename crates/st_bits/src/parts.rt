@@ -1,4 +1,12 @@
-//! Consecutive bits within one word, named by the first bit (0 is leftmost) and their number.
+//! Consecutive bits within one word, named by the first bit (0 is leftmost) and their number, 1 to
+//! 64.
+//!
+//! Fields, index words, registers and decoders are composed of these calls. specs/Bits.antt defines
+//! each result twice: as a number by division (`part`, `with_part`), and as a list of bits
+//! (`field`, `put`); the clauses prove both, so callers may use either. The bodies are free.
+//! Callers must prove that no bit is past bit 63. The results are pinned by the definitions, on
+//! which most definitions of the machine rest. proofs/parts follows the bodies of `part` and
+//! `with_part`.
 ghost use Rattle.std.specs.Prelude.{◌≡◌, ◌+◌, ◌<◌, ◌≤◌, ◌^◌};
 ghost use Rattle.st_bits.specs.Bits.{bits as bits_of, field, kept_bits as kept_of, num, part as part_of, put, with_part as with_part_of};
 

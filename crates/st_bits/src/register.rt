@@ -1,4 +1,12 @@
-//! The register words, which are the first words of storage: their addresses and their fixed bits.
+//! The register words, which are the words 0 to 31 of storage: their addresses and their fixed
+//! bits.
+//!
+//! `fix_register` is applied by each write to a register (in `st_state`). `register_word` in
+//! specs/Registers.antt defines which bits keep what is written and which are fixed; the clause
+//! says that the call returns exactly that. The addresses are those of the machine's rules
+//! (docs/machine.md); definitions of several crates name them, and the law `RegistersInFigures` of
+//! `st_laws` pins the figures. The body of `fix_register` is free. Reads need no call: a register
+//! holds only what such a write has left.
 ghost use Rattle.std.specs.Prelude.{◌≡◌, ◌<◌};
 ghost use Rattle.st_bits.specs.Registers.{register_word};
 
@@ -33,7 +41,7 @@ pub const FIRST_INDEX_WORD: u32 = 16;
 /// The address of the first word that is not a register.
 pub const FIRST_STORAGE_WORD: u32 = 32;
 
-// The bits of the mask register that are always one.
+// The bits of the mask register that are always one, 0 to 19; a figure of `register_word`.
 const ALWAYS_MASKED: u64 = 0xFFFF_F000_0000_0000;
 
 /// The contents of register word `w`, 0 to 31, after `value` is written to it.

@@ -1,16 +1,25 @@
 //! The size of storage, and the indicators as bits of a word. `docs/machine.md` has the rules.
+//!
+//! An `Ind` is part of the result of nearly all operations: `st_exec` applies it to the indicator
+//! register by `turned` of `st_state`. specs/Indicators.antt and specs/Storage.antt define the
+//! results here, and each clause says that the call returns exactly that. `number_of_words` exists
+//! so that proofs see the size as a name, not as a figure. Pinned: the size, by
+//! `words_of_storage_is` in specs/Storage.antt and the law `LimitsInFigures` of `st_laws`; the bit
+//! of an indicator, by its definition and docs/machine.md; the two words of `Ind` and the error, by
+//! the clauses of most crates. Free: the bodies of both calls.
 ghost use Rattle.std.specs.Prelude.{◌≡◌, ◌<◌};
 ghost use Rattle.st_bits.specs.Indicators.{indicator as indicator_of};
 ghost use Rattle.st_bits.specs.Storage.{words_of_storage};
 
 use crate::limits::WORDS;
 
-/// An allocation of memory failed.
+/// An allocation of memory failed. Most crates return this error; the programs report it.
 #[derive(Clone, Copy, Debug, PartialEq, Eq)]
 pub struct NoMemory;
 
 /// Indicators to turn on and to turn off. Indicator n, 0 to 63, is the bit of value 2^(63 - n). An
-/// indicator in both words is turned on.
+/// indicator in both words is turned on: `turned_bit` in specs/Interrupts.antt of `st_state`
+/// defines so, and the call `turned` there is proved to do so.
 #[derive(Clone, Copy, Debug, Default, PartialEq, Eq)]
 pub struct Ind {
     /// The indicators to turn on.

@@ -1,4 +1,8 @@
-//! The initial state of the tests.
+//! The initial state of the tests: an image of zeros, with the instruction counter at word 32.
+//!
+//! overlapped.rt, plain.rt and snapshots.rt store their programs in it. Proved: no instruction is
+//! complete, which their calls require; the only error is a failed allocation. Half-word address 64
+//! is the left half of word 32, the first that may be fetched.
 ghost use Rattle.std.specs.Prelude.{◌≡◌, ℕ, length, slice_index, IfOk};
 
 use st_bits::WORDS;

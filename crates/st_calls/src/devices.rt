@@ -1,6 +1,10 @@
 //! Tests of properties of the devices that no clause states: how often a reader or a writer is
 //! called, how many bytes each call requests or hands over, and that the readers and writers of the
 //! standard library can be used.
+//!
+//! The devices are those of `st_io`. The numbers are 4,096 bytes a read, and one byte past the
+//! limit. No proof pins these properties, only these tests; a change of the piece size in `st_io`
+//! changes the numbers here. Cases may be added.
 ghost use Rattle.st_io.specs.Memory.{sure_input};
 
 use st_io::{Failed, ReadError, Sink, Source, StdSink, StdSource, SureSource, read_all, write_all};
@@ -8,10 +12,13 @@ use std::io;
 use std::io::{ErrorKind, Read, Write};
 use std::test::Fail;
 
-// A source that records how many bytes each read requests.
+// A source that records how many bytes each read requests. Contracts see the source within
+// (`input`), whose reads prove the clauses of `Source`.
 #[derive(Drop)]
 struct Asking {
+    // The source that is read.
     source: SureSource,
+    // The number of bytes that each read requests, in order.
     asked: Vec<usize>,
 }
 
@@ -86,6 +93,7 @@ fn an_error_is_answered_and_not_tried_again(rt: HostRuntime) -> Result<(), Fail>
 // A writer that takes at most three bytes a call, and records how many bytes it was given.
 #[derive(Drop)]
 struct Counting {
+    // The number of bytes of each call, in order.
     handed: Vec<usize>,
 }
 

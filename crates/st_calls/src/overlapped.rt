@@ -1,5 +1,10 @@
 //! A test that stops a machine between two entries, as no run does, and compares it with an
 //! independent model.
+//!
+//! A multiplication of 12 ticks and an addition that runs ahead of it are in flight at tick 10;
+//! `stop` has to flush both and restore the index word. The expected numbers are those of the model
+//! in `model/`. The small contracts only carry the protocol of the calls from one helper to the
+//! next. Nothing is proved of the numbers; other programs may be tested in this way.
 ghost use Rattle.std.specs.Prelude.{◌≡◌, ◌+◌, ◌<◌, ◌≤◌, true, false, IfOk};
 
 use crate::blank;

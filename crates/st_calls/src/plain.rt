@@ -1,5 +1,9 @@
 //! Tests that no run covers: the decoding of the floating group, the budget of a generated deck,
 //! and a step of a plain state.
+//!
+//! Bits and counts are worked out by hand from `docs/instructions.md` and `docs/deck.md`. Each test
+//! is independent of the others, and may be moved or extended. Nothing is proved here, except that
+//! the calls may be made.
 
 use crate::blank;
 use st_exec::{Step, one};

@@ -1,5 +1,10 @@
 //! Tests of banks, held words and levels, call by call; the machine itself plans its reads and its
 //! levels in place.
+//!
+//! The expected ticks are worked out by hand from the rules of `docs/timetable.md`: for banks in
+//! the table `READS`, with delays of 3 and 5 ticks in turn. Contracts prove these calls; the tests
+//! check that the definitions mean what the page says. Values may be added; a changed rule changes
+//! the tables.
 ghost use Rattle.std.specs.Prelude.{◌<◌};
 ghost use Rattle.st_ring.specs.OneLevel.{HasNumber};
 
@@ -99,7 +104,8 @@ fn a_fifth_word_drops_the_oldest_and_a_store_changes_answered_ones(rt: HostRunti
     assert!(rt; !hold.held(42));
 }
 
-// A level that is prepared at a tick and changes an index word.
+// A level that is prepared at tick `p` and changes the index word `number` from `kept` to `word`.
+// The clause says that its index word has a number below 16, which `push` requires.
 fn changing(p: u64, number: u8, kept: u64, word: u64) -> Level
     requires { number < 16 }
     ensures { HasNumber result }

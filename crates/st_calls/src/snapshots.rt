@@ -1,4 +1,10 @@
 //! Tests that compare the snapshots of a run with single steps of a plain state.
+//!
+//! A snapshot shows the committed state with the index words of the entries in flight. The test
+//! makes these from plain steps: the state after the completed instructions, and, for the index
+//! words, predicted steps after it. Ticks are 3 to 41, on four levels with delays of one tick. The
+//! clauses of `st_run` prove it for all runs; here it is seen on one job. Job and ticks may be
+//! others, if the assertions on counts hold.
 ghost use Rattle.std.specs.Prelude.{◌≡◌, true};
 ghost use Rattle.std.specs.List.{AllPass};
 ghost use Rattle.std.specs.List.Sorted.{IsStrictlyIncreasing};

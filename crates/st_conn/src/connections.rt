@@ -1,4 +1,11 @@
-//! The result of a connective.
+//! The result of a connective, an operation that combines the bits of a field and of the
+//! accumulator by a truth table of four bits.
+//!
+//! `st_exec` makes the call `connective` and writes the result. `connection` in
+//! specs/Connection.antt defines it; the clause `done` says that the call returns exactly that, and
+//! `field` that written bits fit the field. The counts go to register word 7: leading zeros in bits
+//! 17-23, ones in bits 44-50. The private functions are free. The result is pinned by the
+//! definition, docs/connectives.md and vectors/connectives.txt.
 ghost use Rattle.std.specs.Prelude.{◌≡◌, ◌<◌, ◌≤◌, ◌^◌, IfSome, false};
 ghost use Rattle.st_bits.specs.declared.operations.ConnKind.{ConnKind};
 ghost use Rattle.st_field.specs.Indicators.{partial_field as partial_field_of, by_number as by_number_of};

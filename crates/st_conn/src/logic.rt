@@ -1,4 +1,11 @@
 //! The result bits of a connective, and their counts.
+//!
+//! specs/Connective.antt defines the n result bits as a list, each from one bit of the field and
+//! one of the accumulator; the clauses of `connect` say that its number and its counts are those of
+//! exactly this list. The code computes 64 positions at once; this form is free, as long as the
+//! clauses of the private functions, which are about single bits, are proved. connections.rt is the
+//! only caller. The results are pinned by the definition and vectors/connectives.txt. proofs/logic
+//! follows the bodies of most functions.
 ghost use Rattle.std.specs.Prelude.{◌≡◌, ℕ, ◌+◌, ◌*◌, ◌%◌, ◌<◌, ◌≤◌, ◌^◌, sum};
 ghost use Rattle.std.specs.Int.{bit_at};
 ghost use Rattle.st_bits.specs.Bits.{bits as bits_of, num};

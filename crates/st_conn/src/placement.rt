@@ -1,4 +1,10 @@
-//! The insertion of bits into the accumulator.
+//! The insertion of bits into the accumulator, for a connective whose result goes there.
+//!
+//! `accumulator_bits` and `is_one_lost` in specs/Connective.antt define the results by single bits;
+//! the clauses say that the call returns exactly that. Bits are named by weight: the rightmost has
+//! weight 0. The shifts and masks are free; their proofs are by bits (proofs/Places.antt).
+//! connections.rt is the only caller. The results are pinned by the definitions and
+//! vectors/connectives.txt.
 ghost use Rattle.std.specs.Prelude.{◌≡◌, ℕ, ◌+◌, ◌<◌, ◌≤◌, ◌^◌, ◌↔◌, IsTrue, if◌then◌else◌};
 ghost use Rattle.std.specs.Int.{bit_at};
 ghost use Rattle.st_bits.specs.Bits.{num};

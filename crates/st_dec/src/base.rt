@@ -1,4 +1,15 @@
-//! Base 10: the parts of results that depend on the base.
+//! Base 10: the parts of the results of decimal operations that binary ones have otherwise.
+//! `operate` of `st_field` runs an operation on a field of storage by these methods.
+//!
+//! A digit of a field is a byte of 4 to 8 bits: the low four are its code, the others its zone,
+//! which sums leave as it is. The accumulator has 32 codes. The offset counts its bits from the
+//! right; digit offset / 4 is the digit place, where the last digit of the field is. A `Taken` has
+//! the inputs; a `Kept` has bits to be stored, their value, and `is_lost`, whether a digit did not
+//! fit; a `Done` is a whole result. All methods inherit the clauses of the trait `Base`: they
+//! require that the shape has whole bytes of at least 4 bits (`Allows`) and that the field fits it,
+//! and say that the result is the one in `base` of specs/DecimalResult.antt. That definition,
+//! docs/operations.md and vectors/decimal.txt pin the results. All bodies are free; that of
+//! `at_place` has its proof in proofs/base.
 ghost use Rattle.std.specs.Prelude.{◌^◌};
 ghost use Rattle.st_dec.specs.DecimalOperand.{IsDecimalShape};
 ghost use Rattle.st_dec.specs.DecimalResult.{base as base_ten};
@@ -17,32 +28,42 @@ use st_field::{Base, Done, Kept, Taken, align, digits_value, load, shift};
 pub struct Ten;
 
 impl Base for Ten {
+    // The definition of what each method returns.
     ghost base = { base_ten };
 
+    // The precondition of each method: the field is a whole number of bytes, each of 4 to 8 bits.
     ghost Allows = { IsDecimalShape };
 
+    // Values of 32 digits, also with codes of 10 to 15, are below this, so no sum has a carry.
     ghost limit = { 2 ^ 127 };
 
+    // The value of all 32 digits of the accumulator.
     fn whole(taken: &Taken) -> u128 {
         whole_value(taken.acc.mag)
     }
 
+    // The value of the digits of the accumulator from the digit place on to the left.
     fn part(taken: &Taken) -> u128 {
         value_from_place(&taken.acc, &taken.shape)
     }
 
+    // The value of the digits of the field.
     fn value(taken: &Taken) -> u64 {
         field_value(&taken.field, &taken.shape)
     }
 
+    // The codes of the field, as a register stores them.
     fn content(taken: &Taken) -> u64 {
         codes(&taken.field, &taken.shape)
     }
 
+    // DTR, decimal transit, the indicator of a load of the transit register (register word 15); it
+    // does not depend on the inputs.
     fn transit(_taken: &Taken) -> u64 {
         indicator(DECIMAL_TRANSIT)
     }
 
+    // The codes of the field, shifted left to the digit place; codes beyond the 32nd are lost.
     fn at_place(taken: &Taken) -> Kept {
         let codes = codes(&taken.field, &taken.shape);
         let codes = shift(u128::from(codes), 4 * digit_place(&taken.shape));
@@ -52,12 +73,16 @@ impl Base for Ten {
         }
     }
 
+    // The accumulator from the digit place as the field stores it, each digit with the zone of the
+    // accumulator; lost are nonzero codes to the left of these.
     fn stored(taken: &Taken) -> Kept {
         let mag = stored_magnitude(&taken.acc, &taken.shape);
         let is_lost = is_code_lost(&taken.acc, &taken.shape);
         in_field(&taken.field, &taken.shape, mag, is_lost)
     }
 
+    // The last 32 decimal digits of a sum, which do not depend on the inputs; lost is a sum of
+    // 10^32 or more.
     fn summed(_taken: &Taken, sum: Sum) -> Kept {
         let (bits, is_lost) = to_decimal(sum.number.mag, 32);
         Kept {
@@ -67,22 +92,28 @@ impl Base for Ten {
         }
     }
 
+    // The last digits of a sum, as many as the field has; zones do not change.
     fn replaced(taken: &Taken, sum: Sum) -> Kept {
         with_digits(&taken.field, &taken.shape, sum.number.mag)
     }
 
+    // Loads the transit register, from which a routine of the program multiplies.
     fn multiply(taken: &Taken) -> Done {
         load_transit(&taken.acc, &taken.field, &taken.shape)
     }
 
+    // Loads the transit register, as `multiply` does. The factor register, `_ft`, has no effect
+    // here: the routine reads it.
     fn multiply_and_add(taken: &Taken, _ft: u64) -> Done {
         load_transit(&taken.acc, &taken.field, &taken.shape)
     }
 
+    // Loads the transit register, from which a routine of the program divides.
     fn divide(taken: &Taken) -> Done {
         load_transit(&taken.acc, &taken.field, &taken.shape)
     }
 
+    // The value of the field, as a binary number, is loaded into the accumulator from bit `offset`.
     fn convert(taken: &Taken) -> Done {
         let value = u128::from(field_value(&taken.field, &taken.shape));
         let value = shift(value, taken.shape.offset);

@@ -6,6 +6,11 @@
 //! field, byte of 5   zcccc zcccc zcccc
 //! codes              cccccccccccc
 //! ```
+//!
+//! specs/DecimalOperand.antt and specs/DigitLists.antt define digits as lists; each clause says
+//! that the call returns the number of exactly that list. base.rt and its helpers use the clauses.
+//! A field has at most 16 digits. The results are pinned by the definitions and
+//! vectors/decimal.txt; the bodies are free, but proofs/digits follows most of them.
 ghost use Rattle.std.specs.Prelude.{◌≡◌, ◌-◌, ◌*◌, ◌<◌, ◌≤◌, ◌^◌, nat_le};
 ghost use Rattle.st_field.specs.Fields.{HasRoom, magnitude_bits as magnitude_bits_of};
 ghost use Rattle.st_dec.specs.DigitLists.{bytes, number_of_bytes, decimal as decimal_of};

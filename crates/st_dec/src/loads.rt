@@ -1,4 +1,10 @@
-//! Loads of a decimal field into the transit register.
+//! The load of a decimal field into the transit register, by which decimal multiply, multiply and
+//! add, and divide begin; a program completes them.
+//!
+//! `transit_set` in specs/DecimalResult.antt defines the result, and the clause says that the call
+//! returns exactly that: codes of four bits in the transit register, and the indicator DTR. Only
+//! base.rt calls it; the body is free. The result is pinned by the definition and
+//! vectors/decimal.txt.
 ghost use Rattle.std.specs.Prelude.{◌≡◌};
 ghost use Rattle.st_field.specs.Fields.{HasRoom};
 ghost use Rattle.st_dec.specs.DecimalOperand.{IsDecimalShape};

@@ -1,4 +1,11 @@
 //! The value of a decimal field, and digits stored in it.
+//!
+//! A field is a magnitude of at most 64 bits, whose bytes have 4 to 8 bits, the low four a digit.
+//! specs/DecimalOperand.antt and specs/DecimalResult.antt define each result, and each clause says
+//! that the call returns exactly that; digits that do not fit are cut off and reported by
+//! `is_lost`. base.rt and loads.rt use the calls; the bodies are free; a change of `with_digits`
+//! and `field_value` needs one in proofs/operand as well. The results are pinned by the
+//! definitions.
 ghost use Rattle.std.specs.Prelude.{◌≡◌, ◌<◌, ◌^◌};
 ghost use Rattle.st_field.specs.Fields.{HasRoom, magnitude_bits as magnitude_bits_of};
 ghost use Rattle.st_dec.specs.DecimalOperand.{IsDecimalShape, field_value as field_value_of};

@@ -1,4 +1,9 @@
-//! Each decimal operation on a field.
+//! Each decimal operation on a field: the one call of this crate, which `st_exec` makes.
+//!
+//! `result` in specs/DecimalResult.antt defines the result; the clause `done` says that the call
+//! returns exactly that, and `field` that written bits fit the field. The result is pinned by the
+//! definition, docs/operations.md and vectors/decimal.txt. The body is free, but its proof, in
+//! proofs/operations, follows it.
 ghost use Rattle.std.specs.Prelude.{◌≡◌, ◌<◌, ◌^◌, IfSome};
 ghost use Rattle.st_dec.specs.DecimalOperand.{IsDecimalShape};
 ghost use Rattle.st_dec.specs.DecimalResult.{result as decimal_result};

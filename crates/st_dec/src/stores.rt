@@ -1,4 +1,13 @@
-//! Stores into a decimal field.
+//! Stores of the accumulator into a decimal field, without the sign.
+//!
+//! The digits are those from the digit place on: `shape.offset` / 4 digits from the right end of
+//! the accumulator, whose digits have four bits. Required is a decimal shape (`IsDecimalShape`): a
+//! field of 1 to 64 bits in whole bytes of 4 to 8 bits. Each digit gets the zone of the
+//! accumulator, four bits of its sign byte, cut to the bits that a byte has beside its digit.
+//! `stored_magnitude` in specs/DecimalResult.antt and `codes_left_out` in specs/DecimalOperand.antt
+//! define the results, and each clause says that the call returns exactly that. Only base.rt calls
+//! them; the bodies are free; a change of `stored_magnitude` and `is_code_lost` needs one in
+//! proofs/stores as well. The results are pinned by the definitions and vectors/decimal.txt.
 ghost use Rattle.std.specs.Prelude.{◌≡◌, ◌<◌, ◌-◌, ◌%◌, ◌^◌};
 ghost use Rattle.st_field.specs.Fields.{magnitude_bits as magnitude_bits_of, zone_of};
 ghost use Rattle.st_dec.specs.DecimalOperand.{IsDecimalShape, codes_left_out, any_code};

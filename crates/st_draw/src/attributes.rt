@@ -1,4 +1,8 @@
-//! The attributes of an element: its class, its position, and its size.
+//! The attributes of an SVG element: its class, its position, and its size.
+//!
+//! element.rt composes elements of them. specs/Element.antt defines each text; the clause says that
+//! exactly it is appended, or that memory ran out. Numbers are in units of the drawing, which is
+//! 640 wide. Names and order are pinned by the definition and by SVG; the bodies are free.
 ghost use Rattle.std.specs.Prelude.{◌≡◌, ◌++◌, IfOk};
 ghost use Rattle.st_draw.specs.Element.{attribute, element_front, corner, size, ends};
 

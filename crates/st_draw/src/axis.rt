@@ -1,4 +1,10 @@
-//! The axis of a chart: the ticks that it shows, and the position of a tick on it.
+//! The axis of a chart: the ticks (clock cycles) that it shows, and the position of a tick on it.
+//!
+//! sheet.rt uses it for SVG, terminal.rt for text, with other widths. specs/Axis.antt defines the
+//! axis, its marks and positions; each clause says that the call returns exactly that, and `inside`
+//! that a position is within its room. A step is 1, 2 or 5 times a power of ten, and a tick before
+//! the axis is at its left end. The scale is pinned by the definition and by the vectors of charts;
+//! the bodies are free, with proofs in proofs/axis that follow the loops.
 ghost use Rattle.std.specs.Prelude.{◌≡◌, ◌+◌, ◌^◌, ◌≤◌, ◌<◌, ◌++◌, IfOk};
 ghost use Rattle.st_draw.specs.Axis as spec;
 
@@ -46,6 +52,7 @@ fn lowest(entries: &[DrawnEntry]) -> u64
 {
     let mut low = u64::MAX;
     let mut rest = entries;
+    // Proofs name the loops by their labels.
     'entries: while let [entry, after @ ..] = rest {
         low = low.min(first_tick(entry));
         rest = after;
@@ -66,7 +73,8 @@ fn highest(entries: &[DrawnEntry]) -> u64
     high
 }
 
-// The first of 1, 2, 5, 10, 20, .. times `unit` that divides a span into at most five steps.
+// The first of 1, 2, 5, 10, 20, .. times `unit` that divides a span into at most five steps. `fuel`
+// bounds the calls, one for each power of ten; 20 powers suffice for spans below 2^64.
 fn step_from(fuel: u8, unit: u64, span: u64) -> u64
     requires { 1 ≤ unit }
     ensures value { result ≡ spec.step_from fuel unit span }
@@ -88,7 +96,8 @@ fn step_from(fuel: u8, unit: u64, span: u64) -> u64
     }
 }
 
-/// The axis of entries, at least `least` ticks long.
+/// The axis of entries, at least `least` ticks long. A low tick is rounded down to a multiple of
+/// the step.
 pub fn axis_of(entries: &[DrawnEntry], least: u64) -> Axis
     requires { 1 ≤ least }
     ensures value { result ≡ spec.axis entries.now least }

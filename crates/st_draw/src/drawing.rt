@@ -1,4 +1,13 @@
-//! The chart of a timetable as SVG.
+//! The chart of a timetable as SVG, a picture of 640 units in width with a row of 16 units for each
+//! entry.
+//!
+//! program.rt makes the call `draw_svg`. `svg` in specs/Drawing.antt defines the elements in order
+//! and their bytes; the clauses say that the call returns exactly these, or that memory ran out.
+//! Laws in specs/Laws.antt say that each element is closed and that no text of a report becomes
+//! markup. Figures and texts are pinned by the definition and by the vectors of charts. A new
+//! element needs its place in `svg` there and in `draw_svg` here; the split into functions is free;
+//! a change of `push_rows`, `push_grid` and `push_waiting_keys` needs one in proofs/drawing as
+//! well.
 #![tactic(auto, unfolding(crate::specs::Drawing::bars, crate::specs::Drawing::caption, crate::specs::Drawing::chart, crate::specs::Drawing::drawing, crate::specs::Drawing::ending_keys, crate::specs::Drawing::foot, crate::specs::Drawing::legend, crate::specs::Drawing::line_keys, crate::specs::Drawing::mark, crate::specs::Drawing::picture_front, crate::specs::Drawing::remark, crate::specs::Drawing::row_elements, crate::specs::Drawing::svg, crate::specs::Drawing::waiting_keys), using(crate::proofs::Elements::elements_joined, crate::proofs::Elements::elements_one))]
 
 ghost use Rattle.std.specs.Prelude.{◌≡◌, ◌+◌, ◌^◌, ◌≤◌, ◌<◌, ◌++◌, IfOk, codes, decimal, max, ◌-◌};
@@ -18,7 +27,9 @@ use std::alloc::{AllocError, Global};
 // An entry, and the y of its row's upper edge.
 #[derive(Clone, Copy)]
 struct DrawnRow {
+    // The y of the row's upper edge.
     y: u128,
+    // The entry.
     entry: DrawnEntry,
 }
 
@@ -69,6 +80,7 @@ fn push_grid(
         ++ elements_text (spec.grid sheet.now ticks.now)) }
 {
     let mut rest = ticks;
+    // Proofs name the loops by their labels.
     'ticks: while let [tick, after @ ..] = rest {
         push_mark(alloc, out, sheet, *tick)?;
         rest = after;

@@ -1,4 +1,10 @@
-//! The elements of a chart.
+//! The elements of an SVG chart: box, bar, line, text, and the text of a card.
+//!
+//! drawing.rt and frame.rt draw by these calls only. `element_text` in specs/Element.antt defines
+//! the bytes of each element; the clauses say that exactly these are appended, or that memory ran
+//! out. Texts are escaped here, so no caller can forget it. A law in specs/Laws.antt says that each
+//! element is closed. The bytes are pinned by the definition; a new kind of element is a case of
+//! `element_text`, one in specs/WellFormed.antt, and a function here. The bodies are free.
 #![tactic(auto, unfolding(crate::specs::Element::box_title, crate::specs::Element::card_content, crate::specs::Element::content, crate::specs::Element::element_text, crate::specs::Element::shown_card, crate::specs::Element::title_end))]
 
 ghost use Rattle.std.specs.Prelude.{◌≡◌, ◌++◌, IfOk};
@@ -12,7 +18,9 @@ use std::alloc::AllocError;
 /// The position of a text: the x of its left end, right end or middle, and the y of its base line.
 #[derive(Clone, Copy)]
 pub struct Point {
+    /// The x, in units of the drawing.
     pub x: u128,
+    /// The y, in units of the drawing, downwards.
     pub y: u128,
 }
 

@@ -1,5 +1,14 @@
-//! The parts around the rows of a chart: its background, the note beside the axis, and the keys of
-//! the legend.
+//! The parts around the rows of an SVG chart: its background, the note beside the axis, and the
+//! keys of the legend.
+//!
+//! drawing.rt makes the calls. specs/Drawing.antt defines the elements; each clause says that
+//! exactly these are appended, or that memory ran out. Positions are in units of the drawing,
+//! downwards; `requires` bounds them, so that sums do not overflow. A `Sheet` (sheet.rt) has what
+//! all rows share: the left end of the axis and the y of the last row's lower end; `IsSheet` bounds
+//! both. The `across` and `down` of an `Area` are the size of a box, and the end point of a line.
+//! The letters are classes of the chart's style: `p` its ground, `c` and `m` texts that begin, or
+//! have their middle, at x. Figures and texts are pinned by the definition and by vectors/pictures;
+//! the split into functions is free.
 ghost use Rattle.std.specs.Prelude.{◌≡◌, ◌+◌, ◌^◌, ◌<◌, ◌++◌, IfOk, codes};
 ghost use Rattle.st_draw.specs.Element.{elements_text, element_text, Text};
 ghost use Rattle.st_draw.specs.Drawing as spec;
@@ -49,7 +58,7 @@ fn push_meaning(out: &mut Vec<u8>, x: u16, y: u128, meaning: &[u8]) -> Result<()
     push_text(out, b"c", spot, meaning)
 }
 
-/// Appends a box of the legend with its meaning.
+/// Appends a box of the legend, of a class of styles, at (x, y), with its meaning to the right.
 pub fn push_box_key(
     out: &mut Vec<u8>,
     class: &[u8],
@@ -71,7 +80,7 @@ pub fn push_box_key(
     push_meaning(out, x, y, meaning)
 }
 
-/// Appends a line of the legend with its meaning.
+/// Appends a line of the legend, of a class of styles, at (x, y), with its meaning to the right.
 pub fn push_line_key(
     out: &mut Vec<u8>,
     class: &[u8],

@@ -1,4 +1,11 @@
-//! The fixed texts with which each chart begins.
+//! The fixed texts with which each SVG chart begins.
+//!
+//! drawing.rt writes them, with the height of the chart between. `preamble` and `styles` in
+//! specs/Drawing.antt are these texts, and the clauses say that they agree byte by byte. So a
+//! change of a colour is a change of the definition, of the text here and of vectors/pictures, and
+//! the length in the type is that of the text; nothing else is free. The classes: w and t wait for
+//! operands and for the turn, e executes, d is dropped, i an interrupt, s a snapshot, g a mark, p
+//! the background, n and m texts.
 ghost use Rattle.std.specs.Prelude.{◌≡◌};
 ghost use Rattle.st_draw.specs.Drawing as spec;
 

@@ -1,4 +1,11 @@
-//! The program: it reads a report and writes a chart.
+//! The program `chart`, apart from standard input and output: it reads a report and writes a chart.
+//!
+//! The `main` of `chart` makes the call `draw`. specs/Answers.antt defines the effect by the
+//! meaning of the words and the status; the clauses say which bytes were read, and that exactly the
+//! chart's bytes were written, a proper prefix of them, or none. REPORT_LIMIT is a figure of that
+//! definition. A new kind of picture needs its word in words.rt and a case of `picture_of` in both.
+//! Not proved: speed and memory used. The effect is pinned by the definition, docs/chart.md and
+//! vectors/pictures. The split is free; proofs/program follows `draw_report` and `rows_in`.
 ghost use Rattle.std.specs.Prelude.{◌≡◌, ◌↔◌, IfOk, None, map, nat_eq, if◌then◌else◌};
 ghost use Rattle.std.specs.String.{string_bytes};
 ghost use Rattle.st_draw.specs.Answers as spec;
@@ -22,6 +29,7 @@ fn rows_in(entries: &[DrawnEntry]) -> u64
 {
     let mut count = 0;
     let mut rest = entries;
+    // Proofs name the loop by its label.
     'entries: while let [entry, after @ ..] = rest {
         if matches!(entry, DrawnEntry::Done { .. }) {
             count += 1;

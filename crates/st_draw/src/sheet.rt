@@ -1,4 +1,10 @@
-//! The sheet on which the rows of a chart are drawn.
+//! The sheet on which the rows of an SVG chart are drawn: its axis, its horizontal extent and its
+//! height.
+//!
+//! drawing.rt and frame.rt use it. `sheet` and `x_of` in specs/Drawing.antt define it; each clause
+//! says that the call returns exactly that, and `good` that positions are bounded. Units are those
+//! of the drawing, 640 across; a character takes 7, a row 16. The figures are pinned by the
+//! definition and by vectors/pictures; the bodies are free.
 ghost use Rattle.std.specs.Prelude.{◌≡◌, ◌≤◌};
 ghost use Rattle.st_draw.specs.Drawing as spec;
 ghost use Rattle.st_draw.specs.Drawing.{IsSheet};

@@ -1,4 +1,8 @@
-//! The exit statuses of the program.
+//! The exit statuses of the program `chart`.
+//!
+//! specs/Answers.antt defines the effect of a call for each status, and specs/Exit.antt of `chart`
+//! has the numbers, with which the exit code is proved to agree. The numbers are pinned by this
+//! proof and by docs/chart.md, as users' scripts rely on them; nothing here is free.
 
 /// The status of a call of `draw`. The number is the program's exit status.
 #[derive(Clone, Copy, Debug, PartialEq, Eq)]

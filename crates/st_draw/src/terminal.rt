@@ -1,4 +1,11 @@
-//! The chart of a timetable as lines of text.
+//! The chart of a timetable as lines of text for a terminal.
+//!
+//! program.rt makes the call `draw_text`. `page_text` in specs/Terminal.antt defines the bytes; the
+//! clauses say that the call returns exactly these, or that memory ran out. A line has three
+//! columns and 60 characters for the axis. Texts of a report are made printable. Characters and
+//! columns are pinned by the definition, docs/chart.md and the vectors of charts; the split into
+//! functions is free; a change of `push_many`, `push_entries` and `push_scale` needs one in
+//! proofs/terminal as well.
 ghost use Rattle.std.specs.Prelude.{◌≡◌, ◌-◌, ◌≤◌, ◌++◌, IfOk, max, replicate};
 ghost use Rattle.st_draw.specs.Terminal as spec;
 
@@ -160,6 +167,7 @@ fn push_entries(
         ++ spec.entry_lines page.now report.now entries.now) }
 {
     let mut rest = entries;
+    // Proofs name the loops by their labels.
     'entries: while let [entry, after @ ..] = rest {
         push_entry(alloc, out, page, report, *entry)?;
         rest = after;

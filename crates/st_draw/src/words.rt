@@ -1,4 +1,11 @@
-//! Parses the words of the command line.
+//! Parses the words of the command line of `chart`: a kind of picture, and the numbers of the first
+//! and the last row, all optional.
+//!
+//! program.rt makes the call `read_words`. `picture_choice` in specs/Words.antt defines the
+//! meaning; the clause says that the call returns exactly that. Rows are numbered from 1. ROW_LIMIT
+//! is a figure of the definition and of docs/chart.md: a longer part is cut to 200 rows. A new kind
+//! is a variant, a row of `kind_named` in both, and a case in program.rt. The meaning is pinned by
+//! the definition and docs/chart.md; the bodies are free.
 ghost use Rattle.std.specs.Prelude.{◌≡◌, map};
 ghost use Rattle.std.specs.String.{string_bytes};
 ghost use Rattle.st_draw.specs.Words as spec;
@@ -20,7 +27,9 @@ pub enum PictureKind {
 /// The requested chart.
 #[derive(Clone, Copy)]
 pub struct Choice {
+    /// The kind of chart.
     pub kind: PictureKind,
+    /// The rows, at most 200.
     pub part: RowRange,
 }
 

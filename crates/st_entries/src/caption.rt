@@ -1,4 +1,11 @@
-//! The texts of an entry: the three in front of its bars, and the title of its bars.
+//! The texts of an entry (an executed or a dropped instruction, an interrupt, a snapshot): the
+//! three in front of its bars, and the title of its bars.
+//!
+//! Charts of `st_draw` and the log here show them. specs/Caption.antt defines each text; the
+//! clauses say that a call returns exactly that, or that memory ran out. CARD_LIMIT is a figure of
+//! the definitions, and a law in `st_laws` compares the names of indicators with the system
+//! symbols. Texts are pinned by the definitions, docs/chart.md and the vectors; the bodies are
+//! free; a change of `push_title` and `widest` needs one in proofs/caption as well.
 ghost use Rattle.std.specs.Prelude.{◌≡◌, ◌≤◌, ◌++◌, IfOk, decimal};
 ghost use Rattle.st_entries.specs.Caption as spec;
 
@@ -116,6 +123,7 @@ pub fn widest(report: &[u8], entries: &[DrawnEntry]) -> usize
 {
     let mut most = 0;
     let mut rest = entries;
+    // Proofs name the loop by its label.
     'entries: while let [entry, after @ ..] = rest {
         most = most.max(third_text(report, *entry).len().min(CARD_LIMIT));
         rest = after;

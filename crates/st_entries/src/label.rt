@@ -1,4 +1,12 @@
-//! The text of a card, from the listing at the beginning of a report.
+//! The text of the card that was assembled to the bits at an address, from the listing at the
+//! beginning of a report.
+//!
+//! caption.rt makes the call `label_at`. `label` in specs/Label.antt defines the text; each clause
+//! says that the call returns exactly that. The columns are those of the listing
+//! (specs/Listing.antt of `st_report`): card in 1 to 5, location in 7 to 15, bits from 17, text
+//! from 34. The text is pinned by the definition and docs/chart.md. No clause compares the two
+//! crates, so a changed listing has to be changed here as well. The search is a scan; its form is
+//! free; a change of the loop of `label_at` needs one in proofs/label as well.
 ghost use Rattle.std.specs.Prelude.{◌≡◌};
 ghost use Rattle.st_entries.specs.Label as spec;
 ghost use Rattle.st_entries.specs.Report.{place_in_report};
@@ -53,6 +61,7 @@ pub fn label_at(report: &[u8], here: ReportAddress) -> &[u8]
     ensures { result.now ≡ spec.label report.now here }
 {
     let mut rest = report;
+    // Proofs name the loop by its label.
     'lines: while let Some((line, after)) = cut(rest, b'\n') {
         if !is_listed(line) {
             return &[];

@@ -1,5 +1,8 @@
 //! The entries of the timetable in a report: their texts, and their events as a log for a pipeline
 //! viewer. `docs/chart.md` has the rules. Calls that allocate memory fail only if memory runs out.
+//!
+//! `st_draw` makes the calls. Input is any text, also one that is no report of `stretch`; the laws
+//! of specs/Laws.antt say what holds for each.
 #![tactic(auto, unfolding(crate::specs::Caption::first_text, crate::specs::Caption::indicator_names, crate::specs::Caption::indicator_text, crate::specs::Caption::second_text, crate::specs::Caption::third_text, crate::specs::Caption::title, crate::specs::Caption::with_dots, crate::specs::Caption::words_with_number, crate::specs::Label::card_text, crate::specs::Label::is_listed, crate::specs::Label::label, crate::specs::Label::emits, crate::specs::Log::begin_lines, crate::specs::Log::change_lines, crate::specs::Log::log, crate::specs::Log::log_end_lines, crate::specs::Log::moment_lines, crate::specs::Moments::happenings, crate::specs::Moments::moments_of, crate::specs::Report::dropped_item, crate::specs::Report::item, crate::specs::Report::number_in_report, crate::specs::Report::place_in_report, crate::specs::Report::row_item, crate::specs::Report::word_in_line, crate::specs::Timetable::timetable))]
 
 mod caption;

@@ -1,4 +1,12 @@
-//! A log of the events of a timetable's entries, for a pipeline viewer.
+//! A log of the events of a timetable's entries, in the format Kanata of pipeline viewers: which
+//! stage each entry begins and ends at each tick.
+//!
+//! `st_draw` makes the call `write_log`. `log` in specs/Log.antt defines the bytes; the clauses say
+//! that the call returns exactly these, or that memory ran out. Stages are W (waits for operands),
+//! T (waits for its turn), X (executes), D (dropped), I (interrupt) and S (snapshot). Besides,
+//! events are in the order of ticks (specs/Laws.antt). Texts and stages are pinned by the
+//! definition and docs/chart.md; the split into functions is free; a change of the loop of
+//! `push_moments` needs one in proofs/log as well.
 ghost use Rattle.std.specs.Prelude.{◌≡◌, ◌++◌, IfOk};
 ghost use Rattle.st_entries.specs.Log as spec;
 
@@ -138,6 +146,7 @@ fn push_moments(
 {
     let mut tick = start;
     let mut rest = moments;
+    // Proofs name the loop by its label.
     'moments: while let [moment, after @ ..] = rest {
         push_moment(alloc, out, report, tick, moment)?;
         tick = moment.tick;

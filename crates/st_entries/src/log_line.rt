@@ -1,4 +1,9 @@
-//! The lines of a log.
+//! The lines of a log in the format Kanata, each one call; fields are separated by tabs.
+//!
+//! log.rt decides which lines a log has. specs/Log.antt defines each line; the clause says that
+//! exactly this line is appended, or that memory ran out. Ticks are what the format calls cycles,
+//! and numbers of entries count from 0. The texts are pinned by the definition, by viewers that
+//! read them, and by the vectors; the bodies are free.
 #![tactic(auto, unfolding(crate::specs::Log::heading, crate::specs::Log::label_line, crate::specs::Log::log_end_line, crate::specs::Log::log_entry_line, crate::specs::Log::log_front, crate::specs::Log::log_label, crate::specs::Log::cycles_line, crate::specs::Log::stage_line))]
 
 ghost use Rattle.std.specs.Prelude.{◌≡◌, ◌++◌, IfOk};
@@ -25,7 +30,7 @@ pub fn push_opening(out: &mut Vec<u8>, tick: u64) -> Result<(), AllocError>
     out.extend_from_slice(b"\n")
 }
 
-/// Appends the number of ticks that pass, unless it is 0.
+/// Appends the number of ticks that pass from one tick to another, unless it is 0.
 pub fn push_cycles(out: &mut Vec<u8>, from: u64, to: u64) -> Result<(), AllocError>
     ensures { IfOk result (λ _. out.new.items ≡ out.old.items ++ spec.cycles_line from to) }
 {
@@ -59,7 +64,8 @@ pub fn push_label_line(out: &mut Vec<u8>, number: u64, text: &[u8]) -> Result<()
     out.extend_from_slice(b"\n")
 }
 
-/// Appends that a stage of the entry with a number begins, `S`, or ends, `E`.
+/// Appends that a stage of the entry with a number begins or ends: `sign` is `S` or `E`, `stage`
+/// the name of the stage.
 pub fn push_stage(
     out: &mut Vec<u8>,
     sign: &[u8],
@@ -77,8 +83,8 @@ pub fn push_stage(
     out.extend_from_slice(b"\n")
 }
 
-/// Appends that the entry with a number leaves the pipeline, with its row's number: retired, `0`,
-/// or flushed, `1`.
+/// Appends that the entry with a number leaves the pipeline, with its row's number; `how` is `0`
+/// for retired, `1` for flushed.
 pub fn push_end_line(out: &mut Vec<u8>, number: u64, row: u64, how: &[u8]) -> Result<(), AllocError>
     ensures { IfOk result (λ _. out.new.items ≡ out.old.items
         ++ spec.log_end_line number row how.now) }

@@ -1,4 +1,11 @@
 //! The events of a timetable's entries, in the order of ticks.
+//!
+//! log.rt makes the call `happenings`. specs/Moments.antt defines the events and their order
+//! (`in_order`, a stable sort); the clauses say that the call returns exactly these, or that memory
+//! ran out. A report may have ticks in any order, so each event is put at the earliest tick that is
+//! not before the events preceding it. The sorting call is free, as long as equal ticks keep their
+//! order. The order is pinned by the definition. proofs/moments follows `moments_of`,
+//! `sort_entries` and `sort_moments`.
 ghost use Rattle.std.specs.Prelude.{◌≡◌, ◌++◌, ◌∷◌, [], IfOk};
 ghost use Rattle.st_entries.specs.Phases.{first_tick as first_tick_of};
 ghost use Rattle.st_entries.specs.Moments as spec;
@@ -23,10 +30,13 @@ pub enum LogStep {
 /// An event of an entry at a tick.
 #[derive(Clone, Copy)]
 pub struct LogMoment {
+    /// The tick of the event.
     pub tick: u64,
     /// The number of the entry; entries are numbered in the order in which they begin.
     pub number: u64,
+    /// The event.
     pub step: LogStep,
+    /// The entry.
     pub entry: DrawnEntry,
 }
 
@@ -149,6 +159,7 @@ fn moments_of(alloc: Global, entries: &[DrawnEntry]) -> Result<Vec<LogMoment>, A
     let mut out = Vec::new(alloc);
     let mut number = 0;
     let mut rest = entries;
+    // Proofs name the loop by its label.
     'entries: while let [entry, after @ ..] = rest {
         push_moments_of(&mut out, number, *entry)?;
         number += 1;

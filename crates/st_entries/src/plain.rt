@@ -1,4 +1,10 @@
-//! Numbers and texts in printable characters.
+//! Numbers and texts in printable characters, appended to a list of bytes.
+//!
+//! Charts and logs show texts of a report by these calls only, so no control character of a report
+//! reaches a terminal. specs/Plain.antt defines the text; each clause says that exactly it is
+//! appended, or that memory ran out. A law in specs/Laws.antt says that it is printable. The bodies
+//! are free; a change of the loop of `push_plain` needs one in proofs/plain as well. The text is
+//! pinned by the definition.
 ghost use Rattle.std.specs.Prelude.{◌≡◌, ◌++◌, IfOk, decimal};
 ghost use Rattle.st_entries.specs.Plain as spec;
 
@@ -28,6 +34,7 @@ pub fn push_plain(out: &mut Vec<u8>, text: &[u8]) -> Result<(), AllocError>
     ensures { IfOk result (λ _. out.new.items ≡ out.old.items ++ spec.plain_text text.now) }
 {
     let mut rest = text;
+    // Proofs name the loop by its label.
     'bytes: while let [byte, after @ ..] = rest {
         out.push(plain_byte(*byte))?;
         rest = after;

@@ -1,4 +1,12 @@
-//! Parses the lines of a report that describe its timetable.
+//! Parses the lines of a report that describe its timetable: `ROW`, `DROP`, `INT` and `SNAP`.
+//!
+//! timetable.rt makes the call `item_of` for each line. specs/Report.antt defines the contents of a
+//! line, read leniently: only the keywords and numbers at their places count. Each clause says that
+//! the call returns exactly that. `st_report` writes these lines, and no law compares the two, but
+//! vectors of charts do. Addresses are words and bits, ticks are clock cycles, all below 2^64. A
+//! new line of the timetable needs a variant here and a case both of the definition and of
+//! `item_of`. The bodies are free. The lines are pinned by the definition and docs/report.md. The
+//! loop of `piece` has its proof in proofs/report, which follows it.
 ghost use Rattle.std.specs.Prelude.{◌≡◌};
 ghost use Rattle.st_entries.specs.Report as spec;
 
@@ -7,7 +15,9 @@ use st_text::{cut, number_up_to};
 /// An address in a report: a word, and a bit in it.
 #[derive(Clone, Copy)]
 pub struct ReportAddress {
+    /// The number of the word.
     pub word: u64,
+    /// The bit in the word, 0 leftmost; 0 or 32 in reports.
     pub bit: u64,
 }
 

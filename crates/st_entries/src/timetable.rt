@@ -1,4 +1,12 @@
-//! The requested part of the timetable that the lines of a report describe.
+//! The requested part of the timetable that the lines of a report describe: the entries to be
+//! drawn.
+//!
+//! `st_draw` makes the call `read_timetable`. specs/Timetable.antt defines the timetable after each
+//! line; the clauses say that the call returns exactly that, or that memory ran out. Rows are
+//! executed instructions, numbered from 1; entries that are no rows belong to the row before them.
+//! The turn of a row is computed here: the tick at which its operands have arrived and the row
+//! before it is complete. The bodies are free, but proofs in proofs/timetable follow the loops. The
+//! result is pinned by the definition, docs/chart.md and vectors/pictures.
 ghost use Rattle.std.specs.Prelude.{◌≡◌, ◌++◌, IfOk, [], reverse};
 ghost use Rattle.st_entries.specs.Phases.{first_tick as first_tick_of};
 ghost use Rattle.st_entries.specs.Timetable as spec;
@@ -108,6 +116,7 @@ fn push_dropped(
         ≡ entries.old.items ++ reverse dropped.old.items) }
     ensures none { IfOk result (λ _. dropped.new.items ≡ []) }
 {
+    // Proofs name the loops by their labels.
     'entries: while let Some(entry) = dropped.pop() {
         entries.push(entry)?;
     }

@@ -1,4 +1,12 @@
-//! The cards in the card reader.
+//! The cards in the card reader, a device that the program of a job reads by the order RD: the
+//! comment cards after its last statement card.
+//!
+//! `st_run` fills the reader and takes a card for each read; `st_top` and `st_account` pass it on.
+//! specs/Reader.antt defines the cards of a job and their eight words; the clauses say that the
+//! reader has exactly these, and that `next` takes the first. Contracts see a list of cards, so the
+//! queue is free; `empty` allocates nothing. Columns 2 to 65 are pinned by the definition,
+//! docs/machine.md and the vectors. proofs/hopper follows the bodies of `of_cards` and
+//! `behind_statements`.
 
 ghost use Rattle.std.specs.Prelude.{◌≡◌, ◌^◌, ◌<◌, ◌≤◌, [], ◌∷◌, ◌++◌, length, MatchOption, IfOk, OnOk};
 ghost use Rattle.st_card.specs.Cards.{IsCardOf, cards_of};
@@ -16,6 +24,7 @@ use std::marker::Model;
 /// blanks for missing columns.
 #[derive(Drop)]
 pub struct Hopper {
+    // `None` for a reader without cards, which needs no allocation.
     cards: Option<VecDeque<[u64; 8]>>,
 }
 
@@ -24,6 +33,7 @@ impl Model for Hopper {
     ghost use Rattle.std.specs.Prelude.{ℕ, List, []};
     ghost use Rattle.std.specs.Option.{option_map_or};
 
+    // The list of the remaining cards, the next one first, each a list of eight words.
     ghost Value = { List (List ℕ) };
 
     ghost view = { λ hopper. option_map_or (λ cards. cards.items) hopper.cards [] };
@@ -82,6 +92,7 @@ fn behind_statements(cards: &[Card]) -> &[Card]
     ensures { result.now ≡ spec.behind_statements cards.now }
 {
     let mut count = cards.len();
+    // Proofs name the loop by its label.
     'cards: while count > 0 {
         if is_statement(cards[count - 1].kind) {
             return cards.split_at(count).1;

@@ -1,4 +1,11 @@
-//! The text that the printer prints.
+//! The text of a print. The printer is a device, to which the order WR of a job's program sends
+//! eight words.
+//!
+//! `st_run` makes the call, and the report has the text in a line PRT. `line_of_words` in
+//! specs/Printer.antt defines it; the clause says that the call returns exactly that, and
+//! `printable` that a report has no other bytes. 64 characters and the blank for unprintable bytes
+//! are pinned by the definition and docs/machine.md; the bodies are free, but proofs in
+//! proofs/printer follow the loops.
 
 ghost use Rattle.std.specs.Prelude.{◌≡◌, ◌+◌, ◌<◌, ◌≤◌, ◌++◌, IsTrue};
 ghost use Rattle.arrayvec.specs.ArrayString.{array_string_len};

@@ -1,4 +1,14 @@
-//! The second half of an instruction: its effect, given its operands.
+//! The second half of an instruction, the completion of a prepared entry: its effect on the state,
+//! given its operands, and the counter after it.
+//!
+//! `st_ring` completes a level with `complete_in`, as plain steps do; kept.rt completes an entry
+//! with `complete`, which takes the operands from its caller. In order: the interrupt of a table
+//! instruction is taken, the speculative change of an index word is applied, the effect is applied,
+//! and the counter (a half-word address) and the count of instructions are updated.
+//!
+//! Proved: the state after is `state_after_completion` in specs/Completion.antt, and for the next
+//! entry of a state it is its execution (clause `step`). The order of these four is pinned by that
+//! definition; the split into functions is free.
 ghost use Rattle.std.specs.Prelude.{◌≡◌, ℕ, ◌<◌, ◌^◌, false, Option};
 ghost use Rattle.st_prep.specs.Entry.{reads};
 ghost use Rattle.st_prep.specs.Plan.{plan};

@@ -1,4 +1,13 @@
-//! The execution of one entry, from its preparation to its completion.
+//! The execution of one entry (instruction) at once, from its preparation to its completion, and
+//! the reading of its operand words.
+//!
+//! `execute` is a plain step without the choice whether an interrupt comes, which step.rt makes.
+//! `read_operands` gives up to 32 words, those of a transmission; it also reads the old contents of
+//! written words for kept.rt.
+//!
+//! Proved: the new state is `state_after_execution` in specs/Completion.antt; the operands are the
+//! words of the two runs in order, and 0 after them. Fewer than 2^63 instructions must be complete,
+//! so that the count fits. Free: both bodies.
 ghost use Rattle.std.specs.Prelude.{◌≡◌, ℕ, ◌+◌, ◌-◌, ◌<◌, ◌≤◌, ◌^◌, slice_index};
 ghost use Rattle.st_bits.specs.Indicators.{IsIndicatorIfAny};
 ghost use Rattle.st_state.specs.Machine.{word as word_of};

@@ -1,4 +1,13 @@
-//! The test whether a prepared entry is mispredicted.
+//! The test whether a prepared entry (instruction) is mispredicted: every branch on an indicator
+//! (BI) is predicted not taken, so it is mispredicted if it is taken. Then the entries that ran
+//! ahead of it are flushed.
+//!
+//! `st_ring`, `st_sweep` and `st_account` call it before the entry completes; the indicators are
+//! those after its speculative change.
+//!
+//! Proved: the result is `is_mispredicted` in specs/Completion.antt. Pinned by it: serializing and
+//! suppressed entries are never mispredicted. Another prediction would change that definition and
+//! `predicted_state` next to it.
 ghost use Rattle.std.specs.Prelude.{◌≡◌};
 ghost use Rattle.st_prep.specs.Ranges.{IsPrepared};
 ghost use Rattle.st_exec.specs.Completion.{is_mispredicted as is_mispredicted_of};

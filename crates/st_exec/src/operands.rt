@@ -1,4 +1,14 @@
-//! Operands: fields of the operand words, and the accumulator.
+//! Operands: fields of 1 to 64 bits in the one or two operand words of an entry (instruction), at a
+//! bit address.
+//!
+//! Used by completing.rt, effects.rt and fields.rt. The operand words come from the caller, but a
+//! register (word below 32) is read from the state, because the entry's speculative change can
+//! write it before its operands are read.
+//!
+//! Proved: the field is the one that the state has at that address (`field_at` in
+//! specs/Operand.antt), if operands above the registers are words of the state (`AreRead`). Two
+//! operands suffice here; transmissions, which read more, copy words in the state itself. Free: the
+//! bodies.
 ghost use Rattle.std.specs.Prelude.{◌≡◌, ◌+◌, ◌*◌, ◌<◌, ◌≤◌, ◌^◌, length, slice_index};
 ghost use Rattle.st_bits.specs.Storage.{words_of_storage};
 ghost use Rattle.st_state.specs.Machine.{word as word_of};

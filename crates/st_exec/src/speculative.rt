@@ -1,4 +1,10 @@
-//! The changes that an entry makes before its operands are read.
+//! The changes that an entry (instruction) makes before its operands are read, applied to the
+//! architectural state when it completes: the interrupt of a table instruction is taken, an index
+//! word changes, and indicators turn on or off.
+//!
+//! completing.rt calls both functions; `st_prep` computes the changes. Proved: the states are
+//! `state_at_entry` of `st_prep` and `state_with_speculative_changes` in specs/Completion.antt.
+//! Free: the bodies; the index word and the indicators are different words.
 ghost use Rattle.std.specs.Prelude.{◌≡◌, ◌<◌, IfSome};
 ghost use Rattle.st_bits.specs.Indicators.{IsIndicatorIfAny};
 ghost use Rattle.st_prep.specs.Plan.{state_at_entry};

@@ -1,4 +1,13 @@
 //! One step of the machine: the instruction at the program counter, or an interrupt.
+//!
+//! Plain machines make their runs of these steps, and the overlapped machine uses `interrupt` and
+//! `is_at_rest` for its decisions between entries; its results are proved equal to these steps
+//! (`st_refine`).
+//!
+//! Proved: each result is `step`, `interrupt`, `rests` or `address` in specs/Step.antt. Pinned: an
+//! interrupt comes before the instruction, it is the leftmost pending indicator, and a machine that
+//! waits makes no step until one is pending. No call allocates; the count of completed instructions
+//! must be below 2^63.
 ghost use Rattle.std.specs.Prelude.{◌≡◌, ◌<◌, ◌^◌};
 ghost use Rattle.st_bits.specs.Indicators.{IsIndicatorIfAny};
 ghost use Rattle.st_exec.specs.Step.{interrupt as interrupt_of, address as address_of, rests, IsStep};

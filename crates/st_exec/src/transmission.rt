@@ -1,5 +1,10 @@
-//! Copies and exchanges of words, one word at a time: if the areas overlap, a moved word can be
-//! moved again.
+//! Copies and exchanges of words (the operations T and SWAP), one word at a time: if the areas
+//! overlap, a moved word can be moved again.
+//!
+//! carrying.rt calls them; `count` is 1 to 16, and both areas lie in storage (`AreRuns`), registers
+//! included, whose fixed bits stay. Proved: the state is `state_with_copy` or `state_with_exchange`
+//! of specs/Effect.antt. The order, one word at a time from the first, is pinned by these
+//! definitions, because overlapping areas show it; a block copy would be wrong.
 ghost use Rattle.std.specs.Prelude.{◌≡◌};
 ghost use Rattle.st_exec.specs.Effect.{AreRuns, state_with_copy, state_with_exchange};
 

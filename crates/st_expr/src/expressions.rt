@@ -1,4 +1,13 @@
-//! Parses an expression.
+//! Parses an expression: a sum of numbers and names, as most fields of a card are, for addresses,
+//! values and numbers of bits.
+//!
+//! specs/Expression.antt defines the parts of a text between its signs, and `expr_of`, the terms or
+//! the fault; the clauses say that `read_expr` returns exactly that. No program calls `read_expr`;
+//! docs/CLAIMS.md offers it. Programs call the `pub(crate)` functions through `ExprText`
+//! (texts.rt), with which `st_strap` reads fields. A text of 63 bytes has at most 32 terms, which
+//! is the capacity of `Expr`. Faults are found in one pass and terms in another; this split is
+//! free, and proofs/expressions follows it. docs/strap.md has the rules. The terms and faults are
+//! pinned by the definition, vectors/forms.txt and vectors/faults.txt.
 
 ghost use Rattle.std.specs.Prelude.{◌≡◌, ◌+◌, ◌≤◌, Bool, [], ◌∷◌, length, Ok, Err, IfOk, IfErr, MatchOption};
 ghost use Rattle.st_expr.specs.Expression as spec;
@@ -48,6 +57,7 @@ pub(crate) fn check_parts(minus: bool, text: &[u8]) -> Result<(), Fault>
 {
     let mut large = false;
     let mut left = Some((minus, text));
+    // Proofs name the loops by their labels.
     'parts: while let Some((_, text)) = left {
         let (word, behind) = first_part(text);
         match read_atom(word) {

@@ -1,4 +1,6 @@
 //! Expressions and their symbols, by the rules of `docs/strap.md`.
+//!
+//! `st_strap` parses fields with them, `st_asm` has the symbol table and takes values.
 #![tactic(auto)]
 
 mod expressions;

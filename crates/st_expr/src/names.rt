@@ -1,4 +1,9 @@
-//! Names: 1 to 8 upper-case letters and digits, the first a letter.
+//! Names of symbols on cards: 1 to 8 upper-case letters and digits, the first a letter.
+//!
+//! specs/Name.antt defines names, system words and padding, and each clause says that the call
+//! returns exactly that. Symbols are stored with eight bytes, so the longest name is pinned by the
+//! type `[u8; 8]` in many crates, and names by the definition and docs/strap.md; the bodies are
+//! free. `st_strap` and `st_asm` use the calls.
 
 ghost use Rattle.std.specs.Prelude.{◌≡◌, ◌≤◌, length};
 ghost use Rattle.std.specs.List.{list_all};
@@ -26,6 +31,7 @@ pub(crate) fn is_system_word(text: &[u8]) -> bool
     }
 }
 
+// Whether all bytes are upper-case letters or digits; true for an empty text.
 fn all_name_bytes(text: &[u8]) -> bool
     ensures { result ≡ list_all spec.is_name_byte text.now }
 {

@@ -1,4 +1,11 @@
-//! The system symbols: words that begin with `$` and have fixed values.
+//! The system symbols: words that begin with `$` and have fixed values, bit addresses of registers,
+//! index words and indicators.
+//!
+//! `system_symbols` in specs/System.antt lists them from the machine's rules; the clause says that
+//! a look-up here gives what one in that list gives, for each word. A new symbol is a row in both.
+//! The order of rows here has no effect as long as names differ, but the proof compares the lists
+//! row by row. terms.rt is the only caller. The form of the search is free. The symbols are pinned
+//! by the list, docs/strap.md and the vectors.
 
 ghost use Rattle.std.specs.Prelude.{◌≡◌};
 ghost use Rattle.st_text.specs.Tables.{row_of};

@@ -1,4 +1,11 @@
-//! The terms of an expression.
+//! The terms of an expression: names, system symbols and numbers.
+//!
+//! specs/Term.antt defines the reading of a piece of text (`atom_of`): a name, a system word, `w`
+//! or `w.b`, which is the bit address 64w + b, a number too large, or none of these; the clauses
+//! say that the call returns exactly that. LAST_ADDRESS and LAST_BIT are named in the definitions,
+//! and a law in `st_laws` has their figures. `$` words that are no system symbol count as names,
+//! which no card defines. The bodies are free; a change of `read_place` needs one in proofs/terms
+//! as well. The readings are pinned by the definition, docs/strap.md and the vectors.
 
 ghost use Rattle.std.specs.Prelude.{◌≡◌, ◌≤◌, length};
 ghost use Rattle.st_text.specs.Bytes.{period};
@@ -10,7 +17,7 @@ use crate::names::{is_name, is_system_word, padded};
 use crate::system::system_value;
 use st_text::{Reading, cut, read_number};
 
-/// The last word address that a field of 18 bits can hold; it is past the end of storage.
+/// The last word address that a field of 18 bits can hold, 2^18 - 1; it is past the end of storage.
 pub const LAST_ADDRESS: u64 = 262_143;
 
 /// The number of the last bit of a word.
@@ -35,8 +42,10 @@ pub struct Term {
 }
 
 impl Default for Term {
+    // The definition of the default value.
     ghost is_default = { spec.IsZero };
 
+    /// The term that adds nothing.
     fn default() -> Term {
         Term {
             minus: false,
@@ -48,8 +57,11 @@ impl Default for Term {
 // The reading of one piece of an expression: an atom, a number that is too large, or no atom.
 #[derive(Clone, Copy)]
 pub(crate) enum AtomReading {
+    // It is neither a name nor a number.
     Bad,
+    // It is a number above the greatest that is allowed.
     Large,
+    // It is this atom.
     Good(Atom),
 }
 

@@ -1,4 +1,11 @@
-//! Expressions that are kept as text.
+//! Expressions that are kept as text: 64 bytes in place of 32 terms. The statements of a job
+//! (`st_strap`, `st_asm`) keep their fields so.
+//!
+//! Contracts see an `ExprText` as the list of its terms, as if they were kept. Proved: `read`
+//! accepts the texts that `read_expr` accepts, with equal faults; `terms` and `value` are those of
+//! that list. That the terms are parsed again at each use is free to change, and so is the private
+//! layout. The loop of `sum_of` has its proof in proofs/texts. The results are pinned by the
+//! definitions of expressions.rt.
 
 ghost use Rattle.std.specs.Prelude.{◌≡◌, ◌+◌, ◌≤◌, ◌*◌, ◌^◌, ℕ, ℤ, pos, ◌-ℤ◌, ◌≤ℤ◌, Bool, List, ◌∷◌, length, take, IfSome};
 ghost use Rattle.arrayvec.specs.ArrayVec.{ArrayVec as ListOf};
@@ -23,10 +30,12 @@ pub struct ExprText {
 }
 
 impl Model for ExprText {
+    // Contracts see the list of its terms.
     ghost Value = { ListOf TermOf };
 
     ghost view = { λ e. record { items = spec.terms_of (spec.parts (take e.length e.bytes)) } };
 
+    // The text is no longer than the array.
     ghost invariant = { λ e. e.length ≤ 63 };
 }
 

@@ -1,4 +1,12 @@
-//! Symbols, and the values of expressions.
+//! The symbol table of a job, and the values of expressions under it.
+//!
+//! The assembler (`st_asm`) defines symbols in its name pass; values of fields it takes by
+//! `ExprText` (texts.rt), term by term. specs/Value.antt defines the sum of terms and the effect of
+//! a definition; each clause says that the call returns exactly that. Contracts see the table as a
+//! list of names with values, in the order of definition; the map in it is free. Values are in
+//! bits: a symbol is a bit address. Sums of at most 32 terms below 2^32 cannot overflow, which
+//! `low` and `high` prove. The values are pinned by the definitions. proofs/values follows the
+//! bodies of `define_in` and `sum_of`.
 
 ghost use Rattle.std.specs.Prelude.{◌≡◌, ◌≤◌, ◌*◌, ◌^◌, ℤ, pos, ◌-ℤ◌, ◌≤ℤ◌, [], length, None, IfOk, OnErr, IfSome};
 ghost use Rattle.st_text.specs.Tables.{row_of};
@@ -14,12 +22,14 @@ use std::marker::Model;
 /// A symbol table: names with their values, which are bit addresses, in the order of definition.
 #[derive(Drop)]
 pub struct Symbols {
+    // Names, padded with blanks, with bit addresses; the map keeps the order of insertion.
     values: IndexMap<[u8; 8], u32>,
 }
 
 impl Model for Symbols {
     ghost use Rattle.std.specs.Prelude.{List, ℕ};
 
+    // Contracts see names with their values, the oldest first.
     ghost Value = { List (List ℕ × ℕ) };
 
     ghost view = { λ s. s.values.entries };
@@ -83,6 +93,7 @@ pub fn value_of(e: &Expr, s: &Symbols) -> Option<i64>
     sum_of(e.as_slice(), s)
 }
 
+// The sum of the terms.
 fn sum_of(terms: &[Term], symbols: &Symbols) -> Option<i64>
     requires { length terms.now ≤ 32 }
     ensures value { result ≡ spec.sum_of_terms symbols.now terms.now }
@@ -99,6 +110,7 @@ fn sum_of(terms: &[Term], symbols: &Symbols) -> Option<i64>
     }
 }
 
+// The value of a term, with its sign.
 pub(crate) fn term_value(term: Term, symbols: &Symbols) -> Option<i64>
     ensures value { result ≡ spec.term_value symbols.now term }
     ensures low { IfSome result (λ n. (pos 0 -ℤ pos (2 ^ 32)) ≤ℤ n) }
@@ -108,6 +120,7 @@ pub(crate) fn term_value(term: Term, symbols: &Symbols) -> Option<i64>
     Some(if term.minus { -value } else { value })
 }
 
+// The number, or the value of the name.
 fn atom_value(atom: Atom, symbols: &Symbols) -> Option<u32>
     ensures { result ≡ spec.atom_value symbols.now atom }
 {

@@ -1,4 +1,12 @@
-//! The contents of held words, stored separately from their plan.
+//! The contents of the four held instruction words, stored separately from their plan (fetched.rt),
+//! which has their addresses and ticks.
+//!
+//! held.rt puts both together; no program does, since the machines take contents from the state.
+//! Place 0 belongs to the newest request.
+//!
+//! Proved: each call is a map over the four places (`content_answered`, `content_patched` of
+//! specs/Planned.antt); a store changes a word only if it is answered. Pinned: four places, as many
+//! as `HeldWords` has. Free: the bodies. `Hold` needs it, which `docs/CLAIMS.md` offers.
 ghost use Rattle.std.specs.Prelude.{◌≡◌, None, Some, if◌then◌else◌, ◌∷◌, replicate, take, map, zip};
 ghost use Rattle.std.specs.Option.{option_map};
 ghost use Rattle.st_fetch.specs.Planned.{content_answered, content_patched};

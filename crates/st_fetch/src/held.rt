@@ -1,5 +1,12 @@
 //! The held instruction words with their contents: an instruction buffer that can be used by
 //! itself. The machine of the programs has `HeldWords`, without contents.
+//!
+//! `st_calls` tests it. Word addresses; the tick of an answer is the caller's. A word is requested,
+//! then answered, then can be patched by a store; the fifth request drops the oldest.
+//!
+//! Proved: each call is its definition in specs/HeldWords.antt, over the list of at most four
+//! words, the oldest first. Free: the arrays and the search, as long as the view `oldest_first`
+//! gives that list. Pinned: four words. `docs/CLAIMS.md` offers `Hold`, so it stays.
 ghost use Rattle.std.specs.Prelude.{◌≡◌, ◌≤◌, [], length, false, true, if◌then◌else◌, ◌==◌, Some};
 ghost use Rattle.st_fetch.specs.HeldWords.{is_held, words_after_request, words_after_answer, answer_of, found, words_after_store};
 ghost use Rattle.st_fetch.specs.Planned.{with_its_content};

@@ -1,4 +1,11 @@
-//! The queue of pending reads, first in, first out.
+//! The queue of pending reads, first in, first out: a memory request queue of at most 40 reads.
+//!
+//! No program uses it: `st_rows` computes the ticks of reads in their order, without a queue. Each
+//! `Want` has a word address and the earliest tick; the purpose is the caller's number.
+//!
+//! Proved: the calls are those of a list (push at the end, pop at the front). `push` needs room,
+//! and `pop` a read, so no call fails. Free: `WANTS`, and the ring, as long as `window` gives the
+//! list. `docs/CLAIMS.md` offers the queue, so it stays.
 ghost use Rattle.std.specs.Prelude.{◌≡◌, ◌≤◌, ◌<◌, ◌*◌, ◌%◌, [], ◌∷◌, ◌++◌, length, drop, slice_get, ◌==◌};
 
 use std::marker::Model;

@@ -1,4 +1,10 @@
-//! The accumulator with its sign byte.
+//! The accumulator with its sign byte: 128 bits, which are words 8 and 9 of storage, and word 10.
+//!
+//! `operations.rt` and the two bases compute with it; `st_exec` assembles it from the registers and
+//! writes it back. specs/Results.antt defines each result (`number_in`, `with_number`,
+//! `addend_from`, `stored_field`), and each clause says that the call returns exactly that. What
+//! the 128 bits mean, a binary number or 32 decimal digits, is the base's affair. The bodies are
+//! free. The results are pinned by the definitions.
 ghost use Rattle.std.specs.Prelude.{◌≡◌, ◌<◌, ◌^◌};
 ghost use Rattle.st_field.specs.Fields.{HasRoom, magnitude_bits};
 ghost use Rattle.st_field.specs.Results.{number_in, with_number as with_number_of, addend_from as addend_of, stored_field as stored_field_of};

@@ -1,4 +1,14 @@
-//! The inputs of an operation on a field, and the operations that depend on the base, 2 or 10.
+//! The inputs of an operation on a field, and the trait of the two bases: `Two` in `st_bin` and
+//! `Ten` in `st_dec`.
+//!
+//! `operate` in operations.rt has the part of all operations that both bases share, and calls these
+//! methods for the rest. specs/Bases.antt defines `InBase`, the values that a base gives for given
+//! inputs; each base states its own (`base`), and its methods are proved to return them. Each
+//! method requires `IsTaken` of specs/Bases.antt: the shape is valid in this base (`Allows`), and
+//! the parts of the field fit it. `large` requires that a sum with a carry occurs only if `limit`
+//! is above 2^127. Pinned: the clauses, by `operate` and both bases. Free: the body of `take`, and
+//! `limit`, as long as values are below it. A method that is added here needs a field of `InBase`
+//! and a body in both bases.
 ghost use Rattle.std.specs.Prelude.{◌≡◌, ◌<◌, ◌%◌, ◌^◌, ℕ, true};
 ghost use Rattle.st_field.specs.Fields.{IsBinaryShape, HasRoom, magnitude_bits};
 ghost use Rattle.st_field.specs.Numbers.{exceeds};

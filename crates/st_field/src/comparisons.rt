@@ -1,4 +1,9 @@
 //! Comparisons of the accumulator with a field, given their order as numbers.
+//!
+//! Only operations.rt uses them. specs/Comparisons.antt defines each result, and each clause says
+//! that the call returns exactly that: only indicators change, AL, AE and AH above all. Indicators
+//! are bits of a word, indicator n the bit of value 2^(63 - n). The bodies are free. The results
+//! are pinned by the definitions, docs/operations.md and the vectors.
 ghost use Rattle.std.specs.Prelude.{◌≡◌, ◌<◌, ◌^◌};
 ghost use Rattle.st_field.specs.Comparisons.{comparison_result, compared_if_equal, compared_for_range};
 

@@ -1,4 +1,10 @@
-//! Conversion between 32 decimal digits and numbers, and powers of ten.
+//! Conversion between 32 decimal digits, four bits each and the last one in the low bits, and
+//! numbers; and powers of ten.
+//!
+//! `st_bin` and `st_dec` use these calls where a number changes its radix. specs/Digits.antt
+//! defines both directions; each clause says that the call returns exactly that, and that a number
+//! below 10^32 is converted forth and back. The bodies are free, but proofs in proofs/digits follow
+//! the loops. The results are pinned by the definitions.
 ghost use Rattle.std.specs.Prelude.{◌≡◌, ◌<◌, ◌≤◌, ◌^◌};
 ghost use Rattle.st_field.specs.Digits.{value_of_digits, digits_of};
 
@@ -9,6 +15,7 @@ pub fn digits_value(digits: u128) -> u128
     let mut value = 0;
     let mut rest = digits;
     let mut weight = 1;
+    // Proofs name the loop by its label.
     'places: while rest != 0 {
         value += rest % 16 * weight;
         rest /= 16;

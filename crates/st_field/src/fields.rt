@@ -1,4 +1,10 @@
-//! Binary fields: magnitude, sign, flags and zone.
+//! Fields of an operation, taken apart into magnitude, sign, flags and zone, and put together.
+//!
+//! A field is 1 to 64 bits of storage, here one number. `IsBinaryShape`, `field_of` and
+//! `field_bits` in specs/Fields.antt define its valid shapes, its parts and its bits; the clauses
+//! say that reading and writing return exactly these, and that a field that is read is written with
+//! the same bits. The layout below is pinned by them; the bodies are free, but proofs/fields
+//! follows them.
 //!
 //! ```text
 //! unsigned   mmmmmmmm mmmmmmmm

@@ -1,4 +1,10 @@
 //! The indicators that an operation on a field turns on and off.
+//!
+//! Indicator n is the bit of value 2^(63 - n) of a word; an `Ind` has the bits to turn on and those
+//! to turn off. specs/Indicators.antt defines each result, and each clause says that the call
+//! returns exactly that. The bounds (`on` below 2^63, as `requires`) ensure that sums of indicators
+//! do not overflow. All operations of `st_field`, `st_bin`, `st_dec` and `st_conn` end here. The
+//! numbers are those of `st_bits` and pinned; the bodies are free.
 ghost use Rattle.std.specs.Prelude.{◌≡◌, ◌<◌, ◌≤◌, ◌^◌};
 ghost use Rattle.st_field.specs.Indicators.{flag_indicators as flag_indicators_of, number_indicators as number_indicators_of};
 ghost use Rattle.st_field.specs.Indicators.{by_number as by_number_of, without_number as without_number_of, by_order as by_order_of};
@@ -13,21 +19,28 @@ use st_bits::indicators::{
 use st_bits::{Ind, indicator};
 use std::cmp::Ordering;
 
-// The bits of the indicators that more than one function uses.
+// The indicators as bits, as the functions below add them. MOP, to-memory operation.
 const TO_MEMORY: u64 = 1 << (63 - TO_MEMORY_OPERATION);
 
+// RLZ, result less than zero.
 const LESS: u64 = 1 << (63 - RESULT_LESS);
 
+// RZ, result zero.
 const ZERO: u64 = 1 << (63 - RESULT_ZERO);
 
+// RGZ, result greater than zero.
 const GREATER: u64 = 1 << (63 - RESULT_GREATER);
 
+// RN, result negative.
 const NEGATIVE: u64 = 1 << (63 - RESULT_NEGATIVE);
 
+// AL, accumulator low.
 const LOW: u64 = 1 << (63 - ACCUMULATOR_LOW);
 
+// AE, accumulator equal.
 const EQUAL: u64 = 1 << (63 - ACCUMULATOR_EQUAL);
 
+// AH, accumulator high.
 const HIGH: u64 = 1 << (63 - ACCUMULATOR_HIGH);
 
 /// LC if a carry is lost, otherwise 0.

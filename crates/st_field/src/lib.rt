@@ -1,5 +1,8 @@
-//! Common parts of operations on fields: fields of storage, the accumulator, signed numbers and
-//! result indicators. `docs/variable-fields.md` has the rules.
+//! Operations on fields as binary (`st_bin`) and decimal (`st_dec`) share them: fields of storage,
+//! the accumulator, signed numbers and result indicators. `docs/variable-fields.md` has the rules.
+//!
+//! Nothing here reads storage or registers: inputs are values, and a result, `Done`, says what
+//! `st_exec` has to write.
 #![tactic(auto, unfolding(crate::specs::Bases::fields, crate::specs::Bases::numbers_compared, crate::specs::Bases::store_result))]
 
 pub mod accumulator;

@@ -1,4 +1,10 @@
 //! Loads of the accumulator, of the factor register and of the transit register.
+//!
+//! Only operations.rt and the bases use them. specs/Results.antt defines each result
+//! (`load_result`, `loaded_with_flags`, `transit_loaded`, `factor_loaded`), and each clause says
+//! that the call returns exactly that. `on` are indicators as bits; below 2^63, so that result
+//! indicators can be added. The bodies are free. The results are pinned by the definitions,
+//! docs/operations.md and the vectors.
 ghost use Rattle.std.specs.Prelude.{◌≡◌, ◌<◌, ◌^◌};
 ghost use Rattle.st_field.specs.Results.{load_result, loaded_with_flags, transit_loaded, factor_loaded};
 

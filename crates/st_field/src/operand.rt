@@ -1,4 +1,9 @@
 //! The operand of an operation, stored numbers, and the operand aligned with the accumulator.
+//!
+//! A field is aligned when its last bit is at the bit of value 2^offset of the accumulator.
+//! specs/Results.antt defines each result, and each clause says that the call returns exactly that.
+//! operations.rt and the two bases use these calls. What is cut off is never an error: `is_lost`
+//! turns on an indicator. The bodies are free. The results are pinned by the definitions.
 ghost use Rattle.std.specs.Prelude.{◌≡◌, ◌<◌, ◌≤◌, ◌^◌, ◌*◌};
 ghost use Rattle.st_field.specs.Results.{signed_operand as operand_of, number_of_field, number_cut as cut_of, aligned_operand};
 

@@ -1,4 +1,12 @@
-//! The operations on fields, for any base.
+//! The operations on fields, for any base: 2 in `st_bin`, 10 in `st_dec`, each of which calls
+//! `operate`.
+//!
+//! `result_of` in specs/Bases.antt defines the result of each operation from the values of the
+//! base; the clause says that `operate` returns exactly that. The private functions are the parts
+//! of which operations consist, each with its definition there. A new operation needs a case of
+//! `result_of`, one here, and its variant in `st_bits`; the split into private functions is free.
+//! Registers and indicators are inputs, and `Done` holds all effects. The results are pinned by the
+//! definition, docs/operations.md and vectors/binary.txt and decimal.txt.
 ghost use Rattle.std.specs.Prelude.{◌≡◌, ◌<◌, ◌%◌, ◌^◌, ℕ, true};
 ghost use Rattle.st_field.specs.Fields.{IsBinaryShape, magnitude_bits};
 ghost use Rattle.st_field.specs.Numbers.{exceeds};

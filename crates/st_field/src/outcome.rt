@@ -1,4 +1,10 @@
-//! The result of an operation on a field.
+//! The result of an operation on a field: all that it changes, as values that `st_exec` writes.
+//!
+//! `None` says that a register or the field does not change. `done_with`, `in_accumulator` and
+//! `in_field` in specs/Results.antt define the three usual results, and each clause says that the
+//! call returns exactly that. The fields of `Done` are part of many definitions, of connectives
+//! (`st_conn`) too, so a further field touches all of them; the bodies are free. The results are
+//! pinned by the definitions.
 ghost use Rattle.std.specs.Prelude.{◌≡◌, ◌<◌, ◌^◌};
 ghost use Rattle.st_field.specs.Fields.{IsBinaryShape, HasRoom};
 ghost use Rattle.st_field.specs.Results.{done_with as done_with_of, in_accumulator as in_accumulator_of, in_field as in_field_of};

@@ -1,4 +1,12 @@
-//! Decoding: from the bits of an instruction to the instruction.
+//! Decoding: from the bits of an instruction, one or two half-words, to the instruction.
+//!
+//! Preparation decodes by `decode` (`st_prep`), or by `format_of` and then `decode_as` (`st_next`),
+//! which together are `decode`. specs/Formats.antt defines the result (`decoded_entry`); the
+//! clauses say that the call returns exactly that, for all bits, that all fields are in range, and
+//! that encoding gives the same bits again. Invalid bits are no error: they are a value, which the
+//! machine suppresses. The split into formats is for speed, and free in its form. The result is
+//! pinned by the definition, docs/instructions.md and the vectors. proofs/decoding follows the
+//! bodies of `decode_as` and `decode`.
 ghost use Rattle.std.specs.Prelude.{◌≡◌, ℕ, None, Some, if◌then◌else◌};
 ghost use Rattle.st_format.specs.Halves.{is_full as has_ones};
 ghost use Rattle.st_format.specs.Operations.{full_op as full_op_of};
@@ -63,6 +71,7 @@ pub fn format_of(first: u32, second: u32) -> Format
     }
 }
 
+// The format of a half-word instruction.
 #[inline(always)]
 fn half_format(first: u32) -> Format
     ensures { (second : ℕ) → spelled_as result first second ≡ half_word first }
@@ -80,6 +89,7 @@ fn half_format(first: u32) -> Format
     }
 }
 
+// The format of a full-word instruction.
 #[inline(always)]
 fn whole_format(first: u32, second: u32) -> Format
     ensures { spelled_as result first second ≡ full_word (full_op_of second) first second }
@@ -107,6 +117,7 @@ fn ruled(op: FullOp, first: u32, second: u32) -> Format
     }
 }
 
+// The format of a full word with this operation: `NoWhole` if its bits break a rule.
 #[inline(always)]
 fn checked(op: FullOp, first: u32, second: u32) -> Format
     ensures { spelled_as result first second ≡ full_word (Some op) first second }

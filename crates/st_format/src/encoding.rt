@@ -1,4 +1,12 @@
-//! Encoding: from an instruction to its bits.
+//! Encoding: from an instruction to its bits, for the assembler, which emits them, and for
+//! `st_plain`.
+//!
+//! specs/Formats.antt defines the bits (`first_half`, `second_half`); the clauses say that the call
+//! returns exactly these, and `decodes` that they decode to the instruction again. Required is that
+//! all fields are in range (`IsShape`). The private functions compute sums of shifted fields; their
+//! form is free, as long as those clauses are proved. The bits are pinned by the definitions,
+//! docs/instructions.md and the vectors. The proof of `encode`, in proofs/encoding, follows its
+//! body.
 ghost use Rattle.std.specs.Prelude.{◌≡◌, ◌+◌, ◌*◌, ◌<◌, ◌^◌, ℕ, unwrap_or, is_some};
 ghost use Rattle.st_format.specs.Halves.{is_full, half_bits as half_bits_of, first_bits as first_bits_of, second_half_bits as field_bits_of, second_bits as second_bits_of};
 ghost use Rattle.st_format.specs.Operations.{full_number as full_number_of};
@@ -24,6 +32,7 @@ pub fn encode(instr: &Instr) -> (u32, Option<u32>)
     pack(instr)
 }
 
+// As `encode`; a function of its own, so that the clauses about decoding are proved from its two.
 fn pack(instr: &Instr) -> (u32, Option<u32>)
     requires { IsShape instr.now }
     ensures first { result.0 ≡ first_half instr.now }

@@ -1,4 +1,10 @@
 //! The fields of an instruction by their bits. Bits 32-63 are those of the second half-word.
+//!
+//! Decoding and the rules of validity read fields by these calls only. specs/Halves.antt defines
+//! the bits of each field; the clause `value` says that the call returns exactly that, and the
+//! others bound it. The places are those of the two formats in lib.rt and are pinned by
+//! specs/Halves.antt; the shifts are free. `half` is any half-word, `first` a first one, `second` a
+//! second one. The proof of `part`, in proofs/fields, follows its body.
 ghost use Rattle.std.specs.Prelude.{◌≡◌, ◌+◌, ◌<◌, ◌≤◌, ◌^◌};
 ghost use Rattle.st_format.specs.Halves.{half_word_part as part_of, later as later_of, is_full as is_full_of, i_of, address_of, j_of, operation_of, bit_address_of, second_address_of, p_of, length_of, byte_of, offset_of, k_of, words_moved, or_greatest as or_greatest_of};
 

@@ -1,4 +1,13 @@
-//! Instructions and their fields.
+//! Instructions and their fields: the values to which bits decode and from which the assembler
+//! encodes.
+//!
+//! `IsShape` in specs/Formats.antt has the range of each field. Decoding is proved to yield such
+//! values, and encoding requires them. Field names are shared by the variants: `i` is the index
+//! word that modifies the address, `j` the index word that is worked on, `sense` the value of the
+//! bit for which a branch is taken. Variants and fields are pinned by the definitions of most
+//! crates: a new kind of instruction is a variant here, with its cases in specs/Formats.antt,
+//! decoding.rt and encoding.rt; `st_prep`, `st_exec` and `st_dis` then need theirs. The bodies are
+//! free.
 use crate::operations::{FullOp, UNUSED};
 use st_bits::{BranchOp, ConnKind, HalfOp, VflOp};
 
@@ -124,13 +133,16 @@ pub enum Format {
 /// An instruction and its length in half-words, 1 or 2.
 #[derive(Clone, Copy, Debug, PartialEq, Eq)]
 pub struct Decoded {
+    /// The instruction, or its bits if they are invalid.
     pub instr: Instr,
+    /// Its length: 1 half-word, or 2.
     pub halves: u8,
 }
 
 impl Default for Instr {
     ghost use Rattle.st_format.specs.Formats.{IsBlank};
 
+    // The definition of the default value.
     ghost is_default = { IsBlank };
 
     /// An invalid half-word.
@@ -146,6 +158,7 @@ impl Default for Instr {
 impl Default for Decoded {
     ghost use Rattle.st_format.specs.Formats.{IsBlankDecoded};
 
+    // The definition of the default value.
     ghost is_default = { IsBlankDecoded };
 
     /// An invalid half-word.

@@ -1,4 +1,10 @@
-//! The operations by their numbers.
+//! The operations of both formats by their numbers in the instruction, in both directions.
+//!
+//! specs/Operations.antt has the tables of numbers and mnemonics and defines each look-up by them;
+//! each clause says that the call returns exactly that, so the matches here are proved to be those
+//! tables. Numbers are pinned by the tables and the vectors. Decoding goes from a number to an
+//! operation, `None` if there is none; encoding goes back. The form of the matches is free. A law
+//! of `st_laws` has the figures of the three constants.
 ghost use Rattle.std.specs.Prelude.{◌≡◌, ◌<◌};
 ghost use Rattle.st_format.specs.Operations.{half_op as half_op_of, branch_op as branch_op_of, full_op as full_op_of, kind as kind_of, half_number as half_number_of, branch_number as branch_number_of, vfl_number as vfl_number_of, kind_number as kind_number_of, numbered_op as numbered_op_of, writes_field as writes_field_of};
 
@@ -18,6 +24,7 @@ pub const UNUSED: u8 = 12;
 pub enum FullOp {
     /// An operation on a field.
     Variable(VflOp),
+    /// A connective.
     Connective(ConnKind),
     /// T, or SWAP if `swap` is true.
     Transmission { swap: bool },
@@ -97,6 +104,7 @@ pub fn full_op(second: u32) -> Option<FullOp>
     }
 }
 
+// The operation with this number in bits 55-59, connectives excluded.
 #[inline(always)]
 fn numbered_op(number: u32) -> Option<FullOp>
     requires { number < 32 }
@@ -134,6 +142,7 @@ fn numbered_op(number: u32) -> Option<FullOp>
     }
 }
 
+// The kind of connective with this number in bits 56-57.
 #[inline(always)]
 fn kind(number: u32) -> Option<ConnKind>
     requires { number < 4 }

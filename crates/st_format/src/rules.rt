@@ -1,4 +1,12 @@
-//! The rules by which bits are an invalid instruction.
+//! The rules by which the bits of a full word with a known operation are an invalid instruction:
+//! unused bits that are not zero, wrong sizes of a field, a wrong progressive form, a wrong count
+//! of an order.
+//!
+//! `breaks_rules` in specs/Validity.antt defines them, one definition for each private function
+//! here; each clause says that the call returns exactly that. Decoding makes an invalid instruction
+//! of such bits. `st_mnemonic` uses `misfits_field` for the fields of cards. A new rule is a
+//! definition and a case of `breaks_rules` there, and a function and a case here. The bodies are
+//! free. The rules are pinned by the definitions, docs/instructions.md and the vectors.
 ghost use Rattle.std.specs.Prelude.{◌≡◌};
 ghost use Rattle.st_format.specs.Validity.{breaks_rules as breaks_rules_of, unused_in_kind as unused_in_kind_of, unused_k as unused_k_of, unused_marks as unused_marks_of, misfits, has_misfit as has_misfit_of, misuses_p, has_misused_p as has_misused_p_of, miscounts, has_miscount as has_miscount_of};
 
@@ -20,6 +28,7 @@ pub fn breaks_rules(op: FullOp, first: u32, second: u32) -> bool
         || has_miscount(op, second)
 }
 
+// Bits 58-59 of a connective, which must be zero; 0 for other operations.
 #[inline(always)]
 fn unused_in_kind(op: FullOp, second: u32) -> u32
     ensures { result ≡ unused_in_kind_of op second }
@@ -30,6 +39,7 @@ fn unused_in_kind(op: FullOp, second: u32) -> u32
     }
 }
 
+// The K field, which must be zero except in a transmission; 0 for a transmission.
 #[inline(always)]
 fn unused_k(op: FullOp, second: u32) -> u8
     ensures { result ≡ unused_k_of op second }
@@ -40,6 +50,7 @@ fn unused_k(op: FullOp, second: u32) -> u8
     }
 }
 
+// Those of bits 52-54 that the operation does not use, which must be zero.
 #[inline(always)]
 fn unused_marks(op: FullOp, second: u32) -> u32
     ensures { result ≡ unused_marks_of op second }
@@ -53,6 +64,7 @@ fn unused_marks(op: FullOp, second: u32) -> u32
     }
 }
 
+// Whether the field of an operation on a field has a wrong size; false for other operations.
 #[inline(always)]
 fn has_misfit(op: FullOp, second: u32) -> bool
     ensures { result ≡ has_misfit_of op second }
@@ -78,6 +90,7 @@ pub fn misfits_field(decimal: bool, unsigned: bool, length: u8, byte: u8) -> boo
     (decimal && (byte < 4 || length % byte != 0)) || (!unsigned && length < byte)
 }
 
+// Whether the progressive form of an operation on a field is wrong; false for other operations.
 #[inline(always)]
 fn has_misused_p(op: FullOp, first: u32, second: u32) -> bool
     ensures { result ≡ has_misused_p_of op first second }
@@ -93,6 +106,8 @@ fn has_misused_p(op: FullOp, first: u32, second: u32) -> bool
     }
 }
 
+// An immediate operand (form 1) cannot be written and has at most 24 bits; forms 2 to 7 need an
+// index word.
 #[inline(always)]
 fn misuses_form(writes: bool, p: u8, length: u8, i: u8) -> bool
     ensures { result ≡ misuses_p writes p length i }
@@ -100,6 +115,7 @@ fn misuses_form(writes: bool, p: u8, length: u8, i: u8) -> bool
     (p == 1 && (writes || length > 24)) || (p >= 2 && i == 0)
 }
 
+// Whether the count of an order is out of range; false for other operations.
 #[inline(always)]
 fn has_miscount(op: FullOp, second: u32) -> bool
     ensures { result ≡ has_miscount_of op second }
@@ -110,6 +126,7 @@ fn has_miscount(op: FullOp, second: u32) -> bool
     }
 }
 
+// Whether the count of an order is outside 1 to 1,000.
 #[inline(always)]
 fn is_miscount(count: u32) -> bool
     ensures { result ≡ miscounts count }

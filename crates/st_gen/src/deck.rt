@@ -1,4 +1,12 @@
-//! The cards of the deck.
+//! The cards of the deck that the command `soak` makes from a seed: drawn statements, BEW and END,
+//! then control cards.
+//!
+//! specs/Deck.antt defines the deck as a list of bytes, `made_deck`; proved is that the call
+//! returns exactly that, at most 40 bytes for a card and 300 more, or an error if memory ran out.
+//! The private functions append one part each and have the same kind of clause. The deck of a seed
+//! is pinned by specs/Deck.antt, docs/deck.md and the vectors: a changed draw changes every deck.
+//! The split into functions is free; a change of `push_drawn_cards`, `push_delay_cards` and
+//! `make_deck` needs one in proofs/deck as well.
 
 ghost use Rattle.std.specs.Prelude.{◌≡◌, ◌+◌, ◌*◌, ◌≤◌, ◌++◌, OnOk, IfOk, length};
 ghost use Rattle.st_gen.specs.Deck.{next_number, after_card, after_cards, card, drawn_card, drawn_cards, control, delay_card, delay_cards, closing_cards, made_deck};
@@ -40,6 +48,7 @@ fn push_drawn_cards(
     ensures ok { OnOk result
         (deck.new.items ≡ deck.old.items ++ drawn_cards count generator.old.x) }
 {
+    // Proofs name the loops by their labels.
     'cards: for _ in 0..count {
         push_drawn_card(deck, generator)?;
     }

@@ -1,15 +1,24 @@
-//! The random number generator.
+//! The random number generator: a linear congruential generator of 64 bits, for the draws of a
+//! deck.
+//!
+//! `next_number` and `below` in specs/Deck.antt define its step and a draw, and the clauses say
+//! that a call makes exactly one step and returns exactly that number. The two constants are
+//! figures of that definition and of docs/deck.md, so they are pinned: others would change every
+//! deck. Only the form of the body is free.
 
 ghost use Rattle.std.specs.Prelude.{◌≡◌, ◌<◌};
 ghost use Rattle.st_gen.specs.Deck.{next_number, below};
 
+// The factor of a step, Knuth's for 64 bits; pinned by `next_number`.
 const MULTIPLIER: u64 = 6_364_136_223_846_793_005;
 
+// The summand of a step; pinned by `next_number`.
 const INCREMENT: u64 = 1_442_695_040_888_963_407;
 
 // A linear congruential generator with its current state.
 #[derive(Drop)]
 pub(crate) struct Generator {
+    // The state, at first the seed.
     pub(crate) x: u64,
 }
 

@@ -1,4 +1,6 @@
-//! Makes a deck of cards from a seed, for `soak`, by the rules of `docs/deck.md`.
+//! Makes a deck of cards from a seed, for the command `soak`, by the rules of `docs/deck.md`.
+//!
+//! `st_top` makes the one public call.
 #![tactic(auto, unfolding(crate::specs::Deck::control, crate::specs::Deck::delay_cards))]
 
 mod deck;

@@ -1,4 +1,11 @@
-//! The statements of the drawn cards.
+//! The statements of the drawn cards, as text from the operation on.
+//!
+//! `statement` in specs/Deck.antt defines the text of each form from the generator's state, and
+//! `letters` how many numbers it draws; the clauses say that a call returns exactly that text and
+//! makes exactly these draws. So texts and the order of draws are pinned, by the definition and
+//! docs/deck.md; the split into functions is free. Drawn words are 4,096 to 4,351, figures of a law
+//! of `st_laws`; the instructions of a deck of at most 4,000 cards end before them. `st_laws`
+//! proves that the assembler accepts all these statements.
 
 ghost use Rattle.std.specs.Prelude.{◌≡◌, ◌≤◌, ◌++◌, length};
 ghost use Rattle.st_gen.specs.Deck.{number_after, field_operands, statement, letters};
@@ -13,6 +20,7 @@ pub const FIRST_DRAWN_WORD: u32 = 4_096;
 /// The number of words that drawn statements use.
 pub const DRAWN_WORDS: u32 = 256;
 
+// LVI: index word 1 to 7, a word.
 fn load_value(generator: &mut Generator) -> Line
     ensures drawn { generator.new.x ≡ number_after 2 generator.old.x }
     ensures text { result.bytes ≡ statement LoadValue generator.old.x }
@@ -25,6 +33,7 @@ fn load_value(generator: &mut Generator) -> Line
     text
 }
 
+// V+I: index word 1 to 7, 0 to 3 words.
 fn add_value(generator: &mut Generator) -> Line
     ensures drawn { generator.new.x ≡ number_after 2 generator.old.x }
     ensures text { result.bytes ≡ statement AddValue generator.old.x }
@@ -37,6 +46,7 @@ fn add_value(generator: &mut Generator) -> Line
     text
 }
 
+// L: a whole word.
 fn load_word(generator: &mut Generator) -> Line
     ensures drawn { generator.new.x ≡ number_after 1 generator.old.x }
     ensures text { result.bytes ≡ statement LoadWord generator.old.x }
@@ -65,6 +75,7 @@ fn field_operation(operation: &str, generator: &mut Generator) -> Line
     text
 }
 
+// M+1: a signed field of 8 to 64 bits.
 fn add_one(generator: &mut Generator) -> Line
     ensures drawn { generator.new.x ≡ number_after 3 generator.old.x }
     ensures text { result.bytes ≡ statement AddOne generator.old.x }
@@ -78,6 +89,7 @@ fn add_one(generator: &mut Generator) -> Line
     text
 }
 
+// *: an unsigned field of 1 to 64 bits at index word 1 to 7, in the progressive form V+I.
 fn multiply(generator: &mut Generator) -> Line
     ensures drawn { generator.new.x ≡ number_after 2 generator.old.x }
     ensures text { result.bytes ≡ statement Multiply generator.old.x }

@@ -1,4 +1,11 @@
-//! Changes of an index word.
+//! Changes of an index word, and the effective address, for preparation (`st_prep`).
+//!
+//! An index word holds a signed value of 24 bits and a sign, a count of 18 bits and a refill
+//! address. specs/IndexChange.antt defines each result, and each clause says that the call returns
+//! exactly that; besides, parts that do not change are proved unchanged. Refills are only announced
+//! here (`refill`): the caller reads the word. The private helpers are free; the numbers of the
+//! progressive forms are those of the instruction's P field and are pinned. The proof of
+//! `add_value`, in proofs/change, follows its body.
 ghost use Rattle.std.specs.Prelude.{◌≡◌, ◌<◌, ◌≤◌, ◌^◌, unsigned_abs, ◌==◌, ◌&&◌};
 ghost use Rattle.st_bits.specs.Bits.{part};
 ghost use Rattle.st_bits.specs.IndexWord.{index_value as value, count_of as count};

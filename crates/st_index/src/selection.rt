@@ -1,4 +1,9 @@
-//! The sum of selected index values.
+//! The sum of selected index values, which the operation LVS loads.
+//!
+//! The list has 16 bits, one for each index word. `selected_sum` in specs/IndexChange.antt defines
+//! the sum; the clause `value` says that the call returns exactly that, and `bound` that it cannot
+//! overflow. The body is free, but the proof in proofs/selection follows its loop. Used by
+//! `st_prep`. The result is pinned by the definition, docs/index-words.md and vectors/index.txt.
 ghost use Rattle.std.specs.Prelude.{◌≡◌, ◌<◌, ◌≤◌, ◌^◌, ◌-◌, ◌*◌, unsigned_abs};
 ghost use Rattle.std.specs.Int.{bit_at};
 ghost use Rattle.st_bits.specs.Bits.{bits};

@@ -1,4 +1,11 @@
-//! A buffer in memory that takes bytes without allocating.
+//! A buffer in memory that takes bytes without allocating, for the sinks in memory (`mem.rt` and
+//! `sure.rt`).
+//!
+//! Contracts see `Reserved` (specs/Memory.antt): the bytes, and the room, the number of further
+//! bytes. Proved: `append` adds exactly the piece and takes its length from the room, and the
+//! vector's capacity always covers bytes and room, so that no call allocates or fails.
+//! Crate-private, so only these two modules depend on its clauses. Free: the fields and all bodies.
+//! Pinned by specs/Memory.antt: what `Reserved` shows.
 ghost use Rattle.std.specs.Prelude.{◌≡◌, ◌+◌, ◌-◌, ◌≤◌, ◌++◌, length, vec_len, vec_capacity};
 
 use std::marker::Model;
@@ -14,10 +21,12 @@ impl Model for Buffer {
     ghost use Rattle.std.specs.Prelude.{◌≤◌, ◌+◌, vec_len, vec_capacity};
     ghost use Rattle.st_io.specs.Memory.{Reserved};
 
+    // Contracts see the bytes and the room.
     ghost Value = { Reserved };
 
     ghost view = { λ b. record { bytes = b.bytes.items; room = b.room } };
 
+    // The vector has capacity for its bytes and the room; each call keeps this.
     ghost invariant = { λ b. vec_len b.bytes + b.room ≤ vec_capacity b.bytes };
 }
 
@@ -33,12 +42,14 @@ impl Buffer {
         Buffer { bytes, room }
     }
 
+    // The number of further bytes that can be appended.
     pub(crate) fn room(&self) -> usize
         ensures { result ≡ self.now.room }
     {
         self.room
     }
 
+    // Appends a piece, which must not be longer than the room.
     pub(crate) fn append(&mut self, piece: &[u8])
         requires { length piece.now ≤ self.old.room }
         ensures bytes { self.new.bytes ≡ self.old.bytes ++ piece.now }
@@ -48,12 +59,14 @@ impl Buffer {
         self.room -= piece.len();
     }
 
+    // All bytes, the oldest first.
     pub(crate) fn bytes(&self) -> &[u8]
         ensures { result.now ≡ self.now.bytes }
     {
         &self.bytes
     }
 
+    // The vector of all bytes.
     pub(crate) fn into_bytes(self) -> Vec<u8>
         ensures { result.items ≡ self.bytes }
     {

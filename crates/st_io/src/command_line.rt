@@ -1,4 +1,9 @@
-//! The arguments of the command line.
+//! The arguments of the command line, read from the process by the `main` of each program
+//! (`stretch`, `ledger`, `chart`).
+//!
+//! No clause says which arguments are returned, so nothing is proved about their values, only that
+//! no call panics. The body is free. The two errors are pinned by the programs, which map each to
+//! an exit status in their `main`.
 use std::env::{self, Env};
 use std::io::{self, ErrorKind};
 

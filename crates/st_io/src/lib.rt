@@ -1,5 +1,8 @@
 //! Input and output of bytes: a source and a sink that count their faults, and the calls that read
 //! a whole source and write a whole piece. `docs/edge.md` has the rules.
+//!
+//! Only the programs, and tests in `st_calls`, use the standard devices; the crates between are
+//! generic over `Source` and `Sink`, so that their clauses hold for each implementation.
 #![tactic(auto)]
 
 ghost use Rattle.std.specs.Prelude.{◌≡◌};
@@ -26,7 +29,7 @@ pub use sure::{SureSink, SureSource};
 #[derive(Clone, Copy, Debug, PartialEq, Eq)]
 pub struct Failed;
 
-// Counts a fault and returns the error. The count saturates.
+// Adds 1 to a count of faults, which saturates at 2^64 - 1, and returns the error.
 fn count_fault(faults: &mut u64) -> Failed
     ensures { faults.new ≡ count_after faults.old 1 }
 {

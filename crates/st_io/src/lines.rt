@@ -1,5 +1,10 @@
-//! The writing of lines, each a list of bytes: which lines are written, and in which one the
-//! writing stopped.
+//! The writing of a line, a list of bytes with its line end. All lines of reports and ledgers are
+//! written by it, most of those of a report through `put` of `st_report`.
+//!
+//! `WritesLines` in specs/Lines.antt defines which lines a sink has after a call, and in which one
+//! the writing stopped after an error; proved is exactly that, for a list of one line. Callers'
+//! clauses are about the list of all their lines and use this one at each step. The definition is
+//! pinned by all of them; the body is free, with its proof in proofs/lines.
 ghost use Rattle.std.specs.Prelude.{[], ◌∷◌};
 ghost use Rattle.st_io.specs.Lines.{WritesLines};
 

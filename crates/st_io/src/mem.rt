@@ -1,4 +1,11 @@
-//! A source and a sink in memory with planned failures, for tests.
+//! A source and a sink in memory with planned failures, for tests of programs (`st_calls`).
+//!
+//! The plan is a list of numbers of calls, from 1: the call with such a number fails and moves no
+//! byte. specs/Memory.antt defines the views that contracts see: the remaining or written bytes,
+//! the count of faults, the calls made, and the room of the sink in bytes. Proved: a call fails if
+//! and only if this is planned (or the sink is full), else it moves as many bytes as there are, or
+//! as there is room for. Free: the private fields and all bodies. Pinned: the clauses, by the tests
+//! and the traits `Source` and `Sink`, whose clauses these calls prove too.
 ghost use Rattle.std.specs.Prelude.{◌≡◌, ◌+◌, ◌-◌, ◌≤◌, ◌↔◌, min, length, take, vec_len, vec_capacity, MatchResult, IfOk, OnErr, IsErr, IsTrue};
 ghost use Rattle.st_io.specs.Count.{count_after};
 ghost use Rattle.st_io.specs.Input.{Gave, GaveNothing};
@@ -12,19 +19,23 @@ use std::marker::Model;
 // A counter of calls, with the numbers of the calls that fail.
 #[derive(Debug, Drop)]
 struct Calls {
+    // The calls made so far; the count saturates.
     made: u64,
+    // The numbers, from 1, of the calls that fail.
     fails: Vec<u32>,
 }
 
 impl Model for Calls {
     ghost use Rattle.st_io.specs.Memory.{CallPlan};
 
+    // Contracts see the calls made, and the numbers of those that fail.
     ghost Value = { CallPlan };
 
     ghost view = { λ c. record { made = c.made; fails = c.fails.items } };
 }
 
 impl Calls {
+    // A counter before the first call.
     fn new(fails: Vec<u32>) -> Calls
         ensures { result ≡ record { made = 0; fails = fails.items } }
     {
@@ -53,6 +64,7 @@ pub struct MemSource {
 impl Model for MemSource {
     ghost use Rattle.st_io.specs.Memory.{MemoryInput};
 
+    // Contracts see the remaining bytes, the number read, the faults and the calls.
     ghost Value = { MemoryInput };
 
     ghost view = { λ s. record {
@@ -82,6 +94,7 @@ impl MemSource {
 }
 
 impl Source for MemSource {
+    // The state of a source in the clauses of `Source`.
     ghost input = { memory_input };
 
     /// Reads as many bytes as the buffer has room for, or all that remain.
@@ -118,6 +131,7 @@ pub struct MemSink {
 impl Model for MemSink {
     ghost use Rattle.st_io.specs.Memory.{MemoryOutput};
 
+    // Contracts see the written bytes, the room in bytes, the faults and the calls.
     ghost Value = { MemoryOutput };
 
     ghost view = { λ s. record {
@@ -161,6 +175,7 @@ impl MemSink {
 }
 
 impl Sink for MemSink {
+    // The state of a sink in the clauses of `Sink`.
     ghost output = { memory_output };
 
     /// Writes as much of the piece as there is room for.

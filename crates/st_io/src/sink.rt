@@ -1,4 +1,13 @@
 //! The interface of sinks of bytes, and the call that writes a whole piece.
+//!
+//! Sinks are `StdSink` (a device), `SureSink` (memory, no failures) and `MemSink` (planned
+//! failures). specs/Output.antt defines the state of a sink that contracts see: the written bytes,
+//! if they are known, and the number of failed writes. Each implementation proves the clauses of
+//! `write`; `write_all` is proved from these clauses only, so it holds for each sink: after an
+//! error a proper prefix of the piece is written, never other bytes. Its termination is proved by
+//! the clause `some`. A changed clause of `write` has to be proved in all three. The clauses of
+//! `write` are pinned by everything that is generic over a sink. The body of `write_all` is free,
+//! with the proof of its loop in proofs/sink.
 ghost use Rattle.std.specs.Prelude.{◌≡◌, ◌<◌, ◌≤◌, [], length, take, MatchResult, IfOk, IsOk};
 ghost use Rattle.st_io.specs.Output.{OutputState, Wrote, WroteNothing, WroteFront};
 

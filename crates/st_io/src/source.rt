@@ -1,4 +1,13 @@
 //! The interface of sources of bytes, and the call that reads a whole source.
+//!
+//! Sources are `StdSource` (a device), `SureSource` (memory, no failures) and `MemSource` (planned
+//! failures). specs/Input.antt defines the state of a source that contracts see: the remaining
+//! bytes, if they are known, the number of bytes read, and the number of failed reads. Each
+//! implementation proves the clauses of `read`; `read_all` is proved from these only: it returns
+//! all remaining bytes, at most `limit`, or an error with its cause. The programs read a job or a
+//! report by it, each with its own limit. `PIECE` is free: no clause depends on it. The clauses of
+//! `read` are pinned by everything that is generic over a source. The loop of `read_all` has its
+//! proof in proofs/source, which follows it.
 ghost use Rattle.std.specs.Prelude.{◌≤◌, length, MatchResult, IfOk};
 ghost use Rattle.st_io.specs.Input.{InputState, Gave, GaveNothing, CameWhole, IsCause};
 
@@ -44,6 +53,7 @@ pub fn read_all<S: Source>(alloc: Global, s: &mut S, limit: u32) -> Result<Vec<u
     let limit = limit as usize;
     let mut all = Vec::new(alloc);
     let mut buffer = [0; PIECE];
+    // Proofs name the loop by its label.
     'reading: loop {
         let room = PIECE.min(limit + 1 - all.len());
         let piece = &mut buffer[..room];

@@ -1,5 +1,11 @@
 //! Sources and sinks over the readers and writers of the standard library: the boundary to real
-//! devices.
+//! devices. The `main` of a program creates them, and tests of `st_calls`.
+//!
+//! Proved: each call passes on exactly the bytes of one call of the device (`passes_on`), and
+//! counts an error as a fault; counts saturate at 2^64 - 1. Not proved: what a device does with the
+//! bytes; for that there are the contracts of the standard library. The fields are private, and
+//! specs/Devices.antt has the views that contracts see. Free: the fields and bodies. Pinned: the
+//! clauses, by the traits `Source` and `Sink` and by the `main` of each program.
 ghost use Rattle.std.specs.Prelude.{◌≡◌, ◌<◌, ◌≤◌, length, take, MatchResult, IfOk, OnErr, None};
 ghost use Rattle.std.specs.Io.KnownBytes.{ReadConsumes, WriteAppends};
 ghost use Rattle.st_io.specs.Count.{count_after};
@@ -15,7 +21,9 @@ use std::io::{Read, Write};
 #[derive(Debug, Drop)]
 pub struct StdSource<R> {
     reader: R,
+    // The number of bytes read; the count saturates.
     taken: u64,
+    // The number of failed reads.
     faults: u64,
 }
 
@@ -34,8 +42,10 @@ impl<R: Read> StdSource<R> {
 }
 
 impl<R: Read> Source for StdSource<R> {
+    // The state of a source in the clauses of `Source`.
     ghost input = { device_input };
 
+    /// Reads by one call of the reader.
     fn read(&mut self, buf: &mut [u8]) -> Result<usize, Failed>
         ensures bound { IfOk result (λ n. n ≤ length buf.new) }
         ensures outcome { MatchResult result
@@ -61,6 +71,7 @@ impl<R: Read> Source for StdSource<R> {
 #[derive(Debug, Drop)]
 pub struct StdSink<W> {
     writer: W,
+    // The number of failed writes.
     faults: u64,
 }
 
@@ -75,8 +86,10 @@ impl<W: Write> StdSink<W> {
 }
 
 impl<W: Write> Sink for StdSink<W> {
+    // The state of a sink in the clauses of `Sink`.
     ghost output = { device_output };
 
+    /// Writes by one call of the writer.
     fn write(&mut self, piece: &[u8]) -> Result<usize, Failed>
         ensures bound { IfOk result (λ n. n ≤ length piece.now) }
         ensures some { IfOk result (λ n. 0 < length piece.now → 0 < n) }

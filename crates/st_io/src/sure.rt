@@ -1,4 +1,12 @@
-//! A source and a sink in memory that never fail.
+//! A source and a sink in memory that never fail, for callers without devices, such as the tests of
+//! `st_calls`.
+//!
+//! specs/Memory.antt defines the views that contracts see: the remaining or written bytes, and how
+//! many further bytes there is room for. Proved: `read` returns exactly the next bytes; `write`
+//! takes each piece whole, and contracts know the bytes as long as they fit the capacity of the
+//! given vector. After a piece beyond it the sink keeps nothing. No call allocates. No program here
+//! uses `SureSink`; its clauses are promises to other users (docs/promises.txt). The bodies are
+//! free; that of `read` has its proof in proofs/sure. The clauses are pinned by the traits too.
 ghost use Rattle.std.specs.Prelude.{◌≡◌, ◌≤◌, ◌-◌, ◌↔◌, ◌++◌, min, length, take, drop, vec_len, vec_capacity, IfOk, IsSome, IfSome, Ok, Some, option_map, option_copied, vec_items};
 ghost use Rattle.st_io.specs.Input.{Gave};
 ghost use Rattle.st_io.specs.Output.{Wrote};
@@ -12,7 +20,9 @@ use std::marker::Model;
 /// fails.
 #[derive(Debug, Drop)]
 pub struct SureSource {
+    // All bytes, also those that have been read.
     bytes: Vec<u8>,
+    // The number of bytes that have been read.
     taken: usize,
 }
 
@@ -20,10 +30,12 @@ impl Model for SureSource {
     ghost use Rattle.std.specs.Prelude.{◌≤◌, length, drop};
     ghost use Rattle.st_io.specs.Memory.{SureInput};
 
+    // Contracts see the remaining bytes, and the number of those read.
     ghost Value = { SureInput };
 
     ghost view = { λ s. record { left = drop s.taken s.bytes.items; taken = s.taken } };
 
+    // No more bytes are read than there are.
     ghost invariant = { λ s. s.taken ≤ length s.bytes.items };
 }
 
@@ -38,6 +50,7 @@ impl SureSource {
 }
 
 impl Source for SureSource {
+    // The state of a source in the clauses of `Source`.
     ghost input = { sure_input };
 
     /// Reads as many bytes as the buffer has room for, or all that remain.
@@ -56,6 +69,7 @@ impl Source for SureSource {
 /// first piece for which there is no room, its bytes are no longer known.
 #[derive(Debug, Drop)]
 pub struct SureSink {
+    // The written bytes; `None` after a piece for which there was no room.
     buffer: Option<Buffer>,
 }
 
@@ -64,6 +78,7 @@ impl Model for SureSink {
     ghost use Rattle.std.specs.Option.{option_map_or};
     ghost use Rattle.st_io.specs.Memory.{SureOutput};
 
+    // Contracts see the written bytes, if they are known, and the room in bytes.
     ghost Value = { SureOutput };
 
     ghost view = { λ s. record {
@@ -102,6 +117,7 @@ impl SureSink {
 }
 
 impl Sink for SureSink {
+    // The state of a sink in the clauses of `Sink`.
     ghost output = { sure_output };
 
     /// Takes the whole piece.

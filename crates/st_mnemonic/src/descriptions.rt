@@ -1,4 +1,12 @@
-//! Data descriptions: modes, lengths and byte sizes in parentheses.
+//! Data descriptions: modes, lengths and byte sizes in parentheses after a mnemonic, as
+//! `(BU,64,8)`.
+//!
+//! `st_strap` makes the call `described_in`. specs/Describing.antt defines the modes, the form that
+//! a group spells, and which operations allow it; each clause says that the call returns exactly
+//! that, so the table here is proved to be that one. Lengths are 1 to 64 bits, byte sizes 1 to 8. A
+//! new mode is a row there and here. The split into functions is free, and docs/strap.md has the
+//! rules. Descriptions are pinned by the definitions, docs/strap.md and the vectors. The proof of
+//! `in_pieces`, in proofs/descriptions, follows its body.
 
 ghost use Rattle.std.specs.Prelude.{◌≡◌, ◌≤◌, length, IfSome};
 ghost use Rattle.std.specs.Option.{option_and_then};
@@ -39,6 +47,7 @@ pub enum Description {
     Floating { unnormalized: bool },
 }
 
+// The modes by their words.
 const MODES: [(&[u8], Mode); 6] = [
     (
         b"B",
@@ -85,6 +94,7 @@ fn default_form() -> Form
     }
 }
 
+// The mode with this word; `None` if there is none.
 fn mode_of(word: &[u8]) -> Option<Mode>
     ensures { result ≡ row_of word.now spec.modes }
 {
@@ -115,6 +125,8 @@ fn in_mode(mode: Mode, more: &[FieldText]) -> Option<Description>
     }
 }
 
+// The description of a mode of fields: the length is 64 bits and the byte size the usual one,
+// unless they are given.
 fn in_form(decimal: bool, unsigned: bool, more: &[FieldText]) -> Option<Description>
     ensures { result ≡ spec.in_mode (Mode.Field decimal unsigned) (texts more.now) }
 {
@@ -134,6 +146,7 @@ fn in_form(decimal: bool, unsigned: bool, more: &[FieldText]) -> Option<Descript
     }))
 }
 
+// The byte size in bits that a description without one means.
 fn usual_byte(decimal: bool) -> u8
     ensures { result ≡ spec.usual_byte decimal }
 {
@@ -164,6 +177,7 @@ fn in_pieces(text: &[u8]) -> Option<Description>
     in_fields(pieces(text).as_slice())
 }
 
+// The description of the pieces between the commas of a group.
 fn in_fields(fields: &[FieldText]) -> Option<Description>
     ensures { result ≡ spec.in_pieces (texts fields.now) }
 {
@@ -186,6 +200,8 @@ fn may_have(op: Operation, form: Form) -> bool
     }
 }
 
+// The number of the normalized floating operation with the mnemonic of an operation on a field;
+// `None` if there is none.
 fn floating_number(op: Operation) -> Option<u8>
     ensures value { result ≡ spec.floating_number op }
     ensures bound { IfSome result (λ n. n ≤ 6) }

@@ -1,4 +1,10 @@
-//! The form of a field: its data description and progressive form.
+//! The form of a field in storage, as a card writes it: its data description and its progressive
+//! form.
+//!
+//! Plain values without an invariant: by the definitions that descriptions.rt and forms.rt are
+//! proved to follow, they are in range. `st_strap` keeps them in statements, and `st_asm` encodes
+//! them; the definitions of these crates pin the fields, so nothing here is free. Nothing is proved
+//! here.
 
 /// The form of a field in storage.
 #[derive(Clone, Copy, Debug, PartialEq, Eq)]

@@ -1,4 +1,11 @@
-//! Progressive forms, and the choice of the group that is the data description.
+//! Progressive forms, groups as `(V+I)` after the data description, and the choice of the group
+//! that is the data description.
+//!
+//! `st_strap` makes both public calls for each card. specs/Forming.antt defines the forms with
+//! their numbers, the two parts of the text, and which operations allow a form; each clause says
+//! that the call returns exactly that. The numbers are those of the P field of an instruction, and
+//! are pinned by the definition, docs/strap.md and vectors/forms.txt. `shorter` ensures that what
+//! follows still fits 63 bytes. The split into functions is free.
 
 ghost use Rattle.std.specs.Prelude.{◌≡◌, ◌≤◌, length};
 ghost use Rattle.std.specs.Option.{option_and_then};
@@ -12,6 +19,7 @@ use crate::parts::{begins_with, ends_with, group_length};
 use st_format::{FullOp, writes_field};
 use st_text::row_of;
 
+// The progressive forms by their groups without the closing parenthesis.
 const FORMS: [(&[u8], u8); 7] = [
     (b"(IM", 1),
     (b"(V+I", 2),
@@ -74,6 +82,7 @@ pub fn progressed(op: Operation, form: Form, text: &[u8]) -> (Option<Form>, &[u8
     }
 }
 
+// The form with the progressive form that a group spells, if the operation allows it.
 fn with_group(op: Operation, form: Form, group: &[u8]) -> Option<Form>
     ensures { result ≡ option_and_then (spec.form_with_number op form)
         (spec.form_number group.now) }
@@ -81,6 +90,7 @@ fn with_group(op: Operation, form: Form, group: &[u8]) -> Option<Form>
     with_number(op, form, form_number(group)?)
 }
 
+// The form with progressive form `number`, if the operation allows it.
 fn with_number(op: Operation, form: Form, number: u8) -> Option<Form>
     ensures { result ≡ spec.form_with_number op form number }
 {
@@ -119,12 +129,14 @@ fn may_have_form(op: Operation, length: u8, p: u8) -> bool
     p == 0 || (may_progress(op) && (p != 1 || (!writes(op) && length <= 24)))
 }
 
+// Whether an operation may have a progressive form: only operations on fields and connectives.
 fn may_progress(op: Operation) -> bool
     ensures { result ≡ spec.may_progress op }
 {
     matches!(op, Operation::Vfl { .. } | Operation::Connect { .. })
 }
 
+// Whether an operation writes its field.
 fn writes(op: Operation) -> bool
     ensures { result ≡ spec.is_field_written op }
 {

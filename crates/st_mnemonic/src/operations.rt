@@ -1,4 +1,11 @@
-//! The operations by their mnemonics.
+//! The operations by their mnemonics, the words with which statements begin.
+//!
+//! `st_strap` makes the call `operation_of` for each card. specs/Table.antt defines the tables,
+//! from those of `st_format`, and the operation of a word; each clause says that the call returns
+//! exactly that, so the tables here are proved to be those. A new mnemonic is a row in both. The
+//! order of the three look-ups in `listed_operation` is free, since no word is in two tables.
+//! Mnemonics are pinned by the definition, docs/strap.md and vectors/mnemonics.txt. The proof of
+//! `listed_operation`, in proofs/operations, follows its body.
 
 ghost use Rattle.std.specs.Prelude.{◌≡◌, false};
 ghost use Rattle.std.specs.Option.{option_or};
@@ -56,6 +63,7 @@ pub enum Operation {
     End,
 }
 
+// Operations on an index word and an address.
 const INDEX_OPERATIONS: [(&[u8], HalfOp); 24] = [
     (b"LX", HalfOp::Lx),
     (b"LV", HalfOp::Lv),
@@ -83,6 +91,7 @@ const INDEX_OPERATIONS: [(&[u8], HalfOp); 24] = [
     (b"CBR", HalfOp::Cbr),
 ];
 
+// Operations on a field; with a final N they are negated.
 const FIELD_OPERATIONS: [(&[u8], VflOp); 20] = [
     (b"L", VflOp::L),
     (b"LWF", VflOp::Lwf),
@@ -106,6 +115,7 @@ const FIELD_OPERATIONS: [(&[u8], VflOp); 20] = [
     (b"LCV", VflOp::Lcv),
 ];
 
+// All others, except the connectives.
 const OTHER_OPERATIONS: [(&[u8], Operation); 32] = [
     (b"LVS", Operation::Sum),
     (b"R", Operation::Refill),
@@ -213,12 +223,14 @@ const OTHER_OPERATIONS: [(&[u8], Operation); 32] = [
     (b"END", Operation::End),
 ];
 
+// The kinds of connectives.
 const KINDS: [(&[u8], ConnKind); 3] = [
     (b"C", ConnKind::C),
     (b"CM", ConnKind::Cm),
     (b"CT", ConnKind::Ct),
 ];
 
+// The truth tables of connectives: the results for 00, 01, 10 and 11.
 const TRUTH_TABLES: [(&[u8], u8); 16] = [
     (b"0000", 0),
     (b"0001", 1),
@@ -268,30 +280,35 @@ fn listed_operation(word: &[u8]) -> Option<Operation>
     other_operation(word)
 }
 
+// The operation of a word in the third table.
 fn other_operation(word: &[u8]) -> Option<Operation>
     ensures { result ≡ row_of word.now spec.other_operations }
 {
     row_of(&OTHER_OPERATIONS, word)
 }
 
+// The operation on an index word that a word names.
 fn index_operation(word: &[u8]) -> Option<Operation>
     ensures { result ≡ spec.index_operation word.now }
 {
     index_row(word).map(Operation::Half)
 }
 
+// The row of a word in the first table.
 fn index_row(word: &[u8]) -> Option<HalfOp>
     ensures { result ≡ row_of word.now spec.index_operations }
 {
     row_of(&INDEX_OPERATIONS, word)
 }
 
+// The operation on a field that a word names; `negated` is passed on.
 fn field_operation(word: &[u8], negated: bool) -> Option<Operation>
     ensures { result ≡ spec.field_operation negated word.now }
 {
     field_row(word).map(|op| Operation::Vfl { op, negated })
 }
 
+// The row of a word in the second table.
 fn field_row(word: &[u8]) -> Option<VflOp>
     ensures { result ≡ row_of word.now spec.field_operations }
 {
@@ -322,12 +339,14 @@ fn connective(word: &[u8]) -> Option<Operation>
         .map(|(kind, table)| Operation::Connect { kind, table })
 }
 
+// The kind of connective with this word.
 fn kind_row(word: &[u8]) -> Option<ConnKind>
     ensures { result ≡ row_of word.now spec.connective_kinds }
 {
     row_of(&KINDS, word)
 }
 
+// The truth table with these digits.
 fn table_row(digits: &[u8]) -> Option<u8>
     ensures { result ≡ row_of digits.now spec.truth_tables }
 {

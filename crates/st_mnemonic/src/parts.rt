@@ -1,4 +1,11 @@
-//! The text of a statement, cut into its parts.
+//! The text of a statement, cut into its parts: operation, groups in parentheses, and fields
+//! between commas.
+//!
+//! A statement is columns 10 to 72 of a card, at most 63 bytes, which bounds all texts here.
+//! specs/Text.antt defines the parts, and each clause says that the call returns exactly that; the
+//! tables of operations and forms are not known here. `st_strap`, descriptions.rt and forms.rt use
+//! the calls. The bodies are free; proofs/parts follows `stop`, `ends_with` and the two loops. The
+//! parts are pinned by the definitions and docs/strap.md.
 
 ghost use Rattle.std.specs.Prelude.{◌≡◌, ◌≤◌, ◌==◌, not, length, take, filter};
 ghost use Rattle.st_text.specs.Bytes.{blank, comma};
@@ -59,6 +66,7 @@ fn without_blanks(text: &[u8]) -> ArrayVec<u8, 63>
 {
     let mut kept = ArrayVec::new();
     let mut rest = text;
+    // Proofs name the loops by their labels.
     'bytes: while let [byte, after @ ..] = rest {
         if *byte != b' ' {
             kept.push(*byte);

@@ -214,7 +214,7 @@ module _ (ds : List ℕ) (n now : ℕ) (f : IssueState) (x : List ℕ) (s : Mach
             kept = kept;
           }
 
--- its index-side word is told
+-- the observer hears of its index-side word
 pub plan-tells : {A : Type 0} (noted : List Use → A → A) (ds : List ℕ) (n : ℕ) (f : IssueState) (before after : FetchUnit) (m o : A) → before.planned ≡ false
     → IsPlannedAs ds n f before after → o ≡ noted (told ds f.past (index_uses ds f before.entry)) m → IsToldFurther noted ds f before after m o
 plan-tells noted ds n f before after m o un made one =

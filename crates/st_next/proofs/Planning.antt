@@ -71,7 +71,7 @@ module _ (ds : List ℕ) (n : ℕ) (f : IssueState) (x : List ℕ) (s : Machine)
       ∙ ap (words_told ds f nothing) unread.2
       ∙ nothing-told ds f
 
-  -- behind the call
+  -- after the call
   module _ (now later : ℕ) (after : FetchUnit) (goes : GoesOnTo ds n now f x s fresh after later) (are : AreDelaysUpTo 255 ds) (issue : IsIssueInTime f)
       (late : f.c + 1792 ≤ later) where
     abbrev e : Entry

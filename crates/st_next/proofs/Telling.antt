@@ -1,4 +1,4 @@
--- An observer is told of the words of the entry that is prepared next, one after another.
+-- An observer is notified of the words of the entry that is prepared next, in order.
 use Rattle.std.specs.Prelude.{if◌then◌else◌, ◌==◌}
 use Rattle.std.proofs.Common.{◌≡◌, ℕ, zero, suc, ◌+◌, ◌≤◌, max, Bool, true, false, List, [], ◌∷◌, ◌++◌, map, append_assoc, refl, sym, subst, ◌∙◌, ap, arith}
 use Rattle.std.proofs.Math.Nat.{add-zero, zero-add, suc-add}
@@ -58,7 +58,7 @@ module _ (ds : List ℕ) (past : List Past) (from : ℕ) where
       uses-more s v n 1
       ∙ ap (λ k. run_uses s v n ++ next_use (fetch_words ds past s from v n) k ∷ []) (sym (place (is_some n e)))
 
-  -- one word more behind those of a run
+  -- one word more after those of a run
   told-word : (s : Fetching) (run : WordRun) (w : ℕ) → (1 ≤ run.len → w ≡ run.first + run.len)
       → told ds past (run_uses s (run_with_word run w).first (run_with_word run w).len)
       ≡ told ds past (run_uses s run.first run.len) ++ told ds past (next_use (fetch_words ds past s from run.first run.len) w ∷ [])
@@ -112,7 +112,7 @@ module _ (ds : List ℕ) (f : IssueState) (own target : WordRun) (w : ℕ) where
       ap (λ us. own_told own ++ us) (told-word ds f.past waits own_words target w place)
       ∙ sym (append_assoc (own_told own) (told ds f.past (run_uses ds f.past waits own_words target.first target.len)) _)
 
--- ---- all that is told so far
+-- ---- all words that the observer knows so far
 
 pub told-fetches : (ds : List ℕ) (f : IssueState) (next : FetchUnit) → next.planned ≡ false → told_so_far ds f next ≡ words_told ds f next.entry.own next.entry.target
 told-fetches ds f next un =

@@ -1,4 +1,4 @@
--- The words of the entry that is prepared next, as an observer is told of them.
+-- The words of the entry that is prepared next, as an observer is notified of them.
 use Rattle.std.specs.Prelude.{ℕ, ◌≡◌, if◌then◌else◌, List, [], ◌++◌}
 use Rattle.st_rows.specs.Rows.{own_uses, target_uses, index_uses, words_tick}
 use Rattle.st_rows.specs.Supplies.{told}
@@ -32,7 +32,7 @@ told_so_far ds f next =
     then told ds f.past (uses ds f.past (unused bus 0) (wish_of next.entry.side next.formed.a))
     else [])
 
--- more words are requested for it, in this order, and the observer is told of them
+-- more words are requested for it, in this order, and the observer is notified of them
 pub record IsToldFurther {W : Type 0} (noted : List Use → W → W) (ds : List ℕ) (f : IssueState)
     (before after : FetchUnit) (watch new : W) : Type 0 where
   pub used : List Use

@@ -1,4 +1,22 @@
-//! The fetch unit: the entry that is prepared next, to the extent that it is known.
+//! The fetch unit: the entry (instruction) that is prepared next, to the extent that it is known
+//! while older ones are in flight. `docs/timetable.md` has the rules, `docs/inside.md` the calls.
+//!
+//! `plan_before` requests instruction words until one is written by an entry that completes at
+//! `due` or later; `prepare` completes the preparation at its tick P, with the word of storage that
+//! an index change takes. `plan` does both for a state without entries in flight. The caller passes
+//! the committed state, the issue state and the index words with early changes (`PlanContext`);
+//! ticks and addresses are those of `st_rows`.
+//!
+//! The look-ahead of `st_ahead` calls `new`, `restart`, `plan_before` and `prepare`; it also sets
+//! `place`, and lets `st_rows` go on with `words`. For the ledger `st_plain` calls `new` and
+//! `plan`, and `st_account` keeps a unit. All three read other fields.
+//!
+//! Proved: for every state before the entry that agrees with the known part (`IsStateBefore` in
+//! specs/Known.antt) what is known stays that state's entry (`IsNext` in specs/Progress.antt), with
+//! its A and P; `prepare` gives its plan (`IsPlanAtItsTick` in specs/Going.antt). `plan_before`
+//! stops only if nothing more can be known (`Rests`). That the reads come first in the row, and
+//! that no entry is planned too late, is in specs/Laws.antt. Pinned: the order of requests. Free:
+//! inlining, and the shortcut `spelled`, whose gain is measured and not proved.
 ghost use Rattle.std.specs.Prelude.{◌≡◌, ℕ, ◌+◌, ◌-◌, ◌<◌, ◌≤◌, true, false, max, take, map, List, [], ◌∷◌, ◌++◌, Option, IfSome, is_none, is_some, get_or, if◌then◌else◌};
 ghost use Rattle.st_bits.specs.Indicators.{IsIndicatorIfAny};
 ghost use Rattle.st_bits.specs.Storage.{words_of_storage};
@@ -66,9 +84,13 @@ pub struct FetchUnit {
 /// state, the issue state before the entry, and the index words with all early changes.
 #[derive(Clone, Copy)]
 pub struct PlanContext<'a, 'b> {
+    /// The delays and the number of levels of the machine.
     pub timing: Timing<'a>,
+    /// The committed state, whose words are the known contents.
     pub state: &'a State,
+    /// The issue state before the entry.
     pub issue: &'b IssueState,
+    /// The index words with the early changes of all levels.
     pub index: &'b [u64; 16],
 }
 
@@ -306,9 +328,9 @@ impl FetchUnit {
         true
     }
 
-    /// Plans the next entry of a state after an issue state, or the table instruction of an interrupt
-    /// by the indicator in `table`, whatever entry was known before, and completes its preparation.
-    /// The index words of `context` are those of its state.
+    /// Plans the next entry of a state after an issue state, or the table instruction of an
+    /// interrupt by the indicator in `table`, and completes its preparation. The entry that was
+    /// known before is forgotten. The index words of `context` are those of its state.
     pub fn plan<W: Watch>(
         &mut self,
         table: Option<u8>,
@@ -509,7 +531,8 @@ impl FetchUnit {
 
     // The instruction with its format, if its own words so far contain all of it and it is not EX.
     // This is a shortcut for `given` that each entry takes: without it a simulated instruction
-    // costs 400 more in tight, 280 in mixed and 250 in various.
+    // costs 400 more host instructions in tight, 280 in mixed and 250 in various, the jobs of
+    // `bench/count`.
     fn spelled(&self, state: &State) -> Option<Spelled>
         requires place { IsPlace self.now.place }
         requires words { IsEntryInTime (words_alone self.now.entry.own self.now.entry.target) }
@@ -559,8 +582,8 @@ impl FetchUnit {
     }
 
     // Prepares the entry with this instruction, without its index-side word. In the branches of
-    // frequent instructions the format is known, and is not tested again: 300 of the gain of
-    // `spelled` in tight, 180 in mixed and 150 in various.
+    // frequent instructions the format is known, and is not tested again: 300 of the host
+    // instructions that `spelled` gains in tight, 180 in mixed and 150 in various.
     fn prepare_spelled(&mut self, spelled: Spelled, x: &[u64; 16], state: &State)
         requires place { IsPlace self.old.place }
         requires format { spelled_as spelled.format spelled.first spelled.second

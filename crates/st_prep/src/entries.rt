@@ -1,4 +1,21 @@
-//! Entries: their places, needs, and prepared form.
+//! The data structures of preparation: the place of an entry, the words fetched there, its needs,
+//! and the prepared entry, which `st_exec` completes and a look-ahead level of `st_ring` holds.
+//! `docs/machine.md` ("How an instruction is prepared") has the rules.
+//!
+//! An entry is one instruction on its way; EX and its target are one. Addresses of words,
+//! half-words (below 2^19) and bits (below 2^24) all are `u32`: each field says which. There is no
+//! code here, and no invariant: the makers promise the ranges of `Ranges` in specs/ (`IsPlace`,
+//! `IsFetched`, `IsFetching`, `IsNeeds`, `IsRuns`, `IsResolvedEntry`, `IsPrepared`). Law, for every
+//! state: `PlansAreInRange` in specs/Laws.antt.
+//!
+//! fetching.rt makes `Place`, `Fetched` and `Fetching`, runs.rt `Words`, speculative.rt
+//! `IndexChange`, and preparation.rt the rest. `st_ahead` makes a `Place` too, and `st_next` a
+//! `Fetched`. `ResolvedEntry` stays in this crate. `st_exec`, `st_next`, `st_ring`, `st_ahead`,
+//! `st_back`, `st_sweep` and the ledger read `Prepared`.
+//!
+//! A new field of an entry needs its value in `Plan` of specs/ and in preparation.rt, for a
+//! suppressed entry too; one of `Fetched` needs it in `Reading` of specs/, in fetching.rt and in
+//! `st_next`.
 use st_bits::Ind;
 use st_format::{Decoded, Instr};
 

@@ -1,4 +1,14 @@
-//! The checks before an instruction is executed.
+//! The checks before an instruction is executed. The first check that an entry fails gives the
+//! indicator with which it is suppressed: it does nothing but turn that indicator on.
+//!
+//! The order is: a forbidden instruction word, an invalid operation, EX of EX (EX executes the
+//! instruction at its address), a forbidden index-side word (the word of storage that changes or is
+//! compared with an index word), forbidden operand words, forbidden written words, and the
+//! forbidden area of an order.
+//!
+//! Used by preparation.rt. Proved: `fault` is the definition of this name in specs/Checks.antt,
+//! with just this order, so the order is pinned; the bodies are free. `AREA` is pinned too: an
+//! order moves eight words.
 ghost use Rattle.std.specs.Prelude.{◌≡◌, ◌<◌, ◌^◌};
 ghost use Rattle.std.specs.Option.{option_or};
 ghost use Rattle.st_bits.specs.Indicators.{IsIndicatorIfAny};

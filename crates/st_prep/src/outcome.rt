@@ -1,4 +1,14 @@
-//! The counter after an entry, the value that it stores, its cost, and whether it is serializing.
+//! Parts of an entry (one instruction) that follow from its instruction: the counter after it (a
+//! half-word address), the value that it stores, its cost in ticks, and whether it is serializing
+//! (waits for all before it and holds back all after it).
+//!
+//! Used by preparation.rt. Branches on a bit or an indicator are decided only at completion, in
+//! `st_exec`; here the counter is that of the next instruction.
+//!
+//! Proved: each result is the definition in specs/Entry.antt: `counter_after`, `value_stored`,
+//! `cost`, `is_serial_operation`. Another cost is a change in that definition too, and
+//! `OutcomeLemmas` of proofs/ holds costs between 1 and 24. A new operation needs its case here
+//! only where the last arm does not fit.
 ghost use Rattle.std.specs.Prelude.{◌≡◌, ◌<◌, ◌^◌};
 ghost use Rattle.st_prep.specs.Entry.{counter_behind as next_of, after_count as after_count_of, after_half as after_half_of, after_branch as after_branch_of, counter_after as after_of};
 ghost use Rattle.st_prep.specs.Entry.{stored_part as stored_part_of, value_stored as value_of, binary_cost as binary_cost_of, decimal_cost as decimal_cost_of, cost as cost_of, is_serial_operation as acts_alone_of};
@@ -34,6 +44,7 @@ fn after_count(x: u64, e: u32, following: u32) -> u32
     }
 }
 
+/// The counter after a half-word instruction: only a branch on a count changes it.
 #[inline(always)]
 fn after_half(op: HalfOp, x: u64, e: u32, following: u32) -> u32
     ensures { result ≡ after_half_of op x e following }
@@ -44,6 +55,7 @@ fn after_half(op: HalfOp, x: u64, e: u32, following: u32) -> u32
     }
 }
 
+/// The counter after a branch: BE and BD jump too, BEW and NOP do not.
 #[inline(always)]
 fn after_branch(op: BranchOp, counter: u32, e: u32, following: u32) -> u32
     requires counter { counter < 2 ^ 19 }
@@ -101,6 +113,7 @@ pub fn value(instr: &Instr, x: &[u64; 16], following: u32) -> u64
     }
 }
 
+/// The ticks of a binary operation on a field.
 #[inline(always)]
 fn binary_cost(op: VflOp) -> u8
     ensures { result ≡ binary_cost_of op }
@@ -112,6 +125,7 @@ fn binary_cost(op: VflOp) -> u8
     }
 }
 
+/// The ticks of a decimal operation on a field.
 #[inline(always)]
 fn decimal_cost(op: VflOp) -> u8
     ensures { result ≡ decimal_cost_of op }

@@ -1,4 +1,13 @@
-//! The words that an entry reads and writes.
+//! The words that an entry (one instruction) reads and writes, as two runs of consecutive words, by
+//! its instruction and its effective address (a bit address).
+//!
+//! Registers, words below 32, count among them. Words past storage can occur; the checks of
+//! faults.rt then suppress the entry.
+//!
+//! Used by preparation.rt; `st_exec` and `st_lines` use the public tests. Proved: the results are
+//! `reads`, `words_written`, `has_register` and `is_register` of specs/Entry.antt, and runs have at
+//! most 16 words (`IsRuns`). Their order is pinned: operands are read, and forwarded, in this
+//! order. A new operation that reads or writes needs its case here and there.
 ghost use Rattle.std.specs.Prelude.{◌≡◌, ◌<◌, ◌^◌};
 ghost use Rattle.st_prep.specs.Entry.{no_words, one_run as one_run_of, two_runs as two_runs_of, field_words as field_words_of, operand_words as operand_words_of, words_moved_from as words_moved_from_of, words_moved_to as words_moved_to_of};
 ghost use Rattle.st_prep.specs.Entry.{is_index_store as is_index_store_of, reads_field as reads_field_of, reads as reads_of, words_written as writes_of, has_register as has_register_of, is_register as is_register_of};
@@ -17,6 +26,7 @@ pub fn none() -> Words
     one_run(0, 0)
 }
 
+/// The `len` words from the word `first`.
 #[inline(always)]
 fn one_run(first: u32, len: u8) -> Words
     ensures { result ≡ one_run_of first len }
@@ -29,6 +39,7 @@ fn one_run(first: u32, len: u8) -> Words
     }
 }
 
+/// The `len` words from the word `first`, then as many from the word `first2`.
 #[inline(always)]
 fn two_runs(first: u32, first2: u32, len: u8) -> Words
     ensures { result ≡ two_runs_of first first2 len }
@@ -56,6 +67,7 @@ fn field_words(e: u32, length: u8) -> Words
     one_run(e / 64, len)
 }
 
+/// The words of the operand of `length` bits; none in form 1, whose operand is the address itself.
 #[inline(always)]
 fn operand_words(p: u8, e: u32, length: u8) -> Words
     requires { e < 2 ^ 24 }

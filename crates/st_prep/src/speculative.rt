@@ -1,4 +1,12 @@
-//! Speculative changes: the changes by an instruction before its operands are read.
+//! Speculative changes: the change of one index word and of indicators that an instruction makes
+//! when it is prepared, before its operands are read and before it is known to complete.
+//!
+//! `x` are the sixteen index words, `e` is the effective address (a bit address), and `read` is the
+//! content of the index-side word: the word of storage that the change takes, for example that of
+//! LX. Used by preparation.rt; levels keep the old word (`IndexChange::kept`) to undo the change.
+//!
+//! Proved: the results are `side` and `change` of specs/SpeculativeChanges.antt, case by case, so
+//! each operation's arm is pinned by its arm there. Free: the bodies.
 ghost use Rattle.std.specs.Prelude.{◌≡◌, ◌<◌, ◌^◌, slice_index};
 ghost use Rattle.st_prep.specs.SpeculativeChanges.{refill_word as refill_word_of, half_side as half_side_of, progressive_side as progressive_side_of, side as side_of};
 ghost use Rattle.st_prep.specs.SpeculativeChanges.{without_change, change_of_comparison as compared_of, change_of_index as changed_of, half_change as half_change_of, progressive_change as progressive_change_of, change as change_of};
@@ -24,8 +32,11 @@ pub struct SpeculativeChange {
 /// The fields of a half-word instruction that determine its change of index word `j`.
 #[derive(Clone, Copy, Debug, PartialEq, Eq)]
 pub struct Half {
+    /// The operation.
     pub op: HalfOp,
+    /// The address part, a half-word address below 2^19; LVS takes a list of index words from it.
     pub address: u32,
+    /// The number of the index word, 0 to 15.
     pub j: u8,
 }
 
@@ -98,6 +109,7 @@ pub fn side(instr: &Instr, x: &[u64; 16], e: u32) -> Option<u32>
     }
 }
 
+/// No change of an index word or of an indicator.
 #[inline(always)]
 fn no_change() -> SpeculativeChange
     ensures { result ≡ without_change }

@@ -261,9 +261,10 @@ pub record LevelsAreUnwound : Type 0 where
 
 -- The view of a machine is its state together with the entries in flight. The levels are in the
 -- first k places, oldest first (`level`, `behind`), at most as many as the machine has (`few`,
--- `eight`). The count of completed instructions is the state's (`done`). The index words are those
--- after k entries in flight, the first of them the table instruction if an interrupt was taken
--- (`index`); without entries in flight they are the committed ones (`none`). Each level shows the
+-- `eight`). The count of completed instructions is the state's (`done`). The index words are
+-- those after the speculative changes of the entries in flight, the first of them the table
+-- instruction if an interrupt was taken (`index`); without entries in flight they are the committed
+-- ones (`none`). Each level shows the
 -- address of its entry, the number of the index word that it changes, and that word before its own
 -- step, along predicted states (`level`). The tick is that of the last tick made, where the first
 -- is number 0 (`tick`). The sequence of predicted states starts from the state (`state`, `ended`),

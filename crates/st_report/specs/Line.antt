@@ -68,8 +68,8 @@ ticks_line t = codes "TICKS " ++ decimal t ++ lf
 abbrev pub time_line : ℕ → List ℕ
 time_line t = codes "TIME " ++ decimal t ++ lf
 
--- the line of the row of the n-th completed instruction: prepared at tick p, ready at tick r,
--- completed at tick c
+-- the line of the row of the n-th completed instruction: prepared at tick p, its operand words
+-- there by tick r, completed at tick c
 abbrev pub row_line : ℕ → ℕ → ℕ → ℕ → ℕ → List ℕ
 row_line n address p r c =
     codes "ROW " ++ decimal n ++ codes " " ++ half_address address
@@ -90,8 +90,8 @@ abbrev pub change_text : Option (ℕ × ℕ) → List ℕ
 change_text None = codes "-"
 change_text (Some change) = decimal change.0 ++ codes " OLD " ++ hex_word change.1
 
--- the line of a level: its instruction's address, its speculative change, and whether its result is
--- ready
+-- the line of a level: its instruction's address, its speculative change, and whether its operand
+-- words have arrived
 abbrev pub lev_line : ℕ → Option (ℕ × ℕ) → Bool → List ℕ
 lev_line address index ready =
     codes "LEV " ++ half_address address ++ codes " X " ++ change_text index

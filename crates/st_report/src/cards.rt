@@ -1,4 +1,12 @@
-//! The lines of the listing.
+//! The lines of the listing, with which a report begins if a card `/LIST` requests it: one for each
+//! card, then one for each symbol.
+//!
+//! `st_top` writes them. specs/Listing.antt defines the bytes of both lines, with their columns;
+//! proved is that each call returns exactly these bytes. Locations and values of symbols are bit
+//! addresses, and a card assembles to at most 64 bits. The columns are pinned by the definition,
+//! docs/report.md and the vectors; `st_entries` parses them. The private helpers are free. A card
+//! text is at most 80 bytes of ASCII, so that a line fits its 128 bytes. proofs/cards follows the
+//! bodies of `push_text`, `push_blanks` and `shown_bits`.
 
 ghost use Rattle.std.specs.Prelude.{◌≡◌, ◌+◌, ◌-◌, ◌^◌, ◌<◌, ◌≤◌, ◌++◌, length, IsAscii, max};
 ghost use Rattle.arrayvec.specs.ArrayString.{array_string_len};
@@ -12,7 +20,7 @@ use st_text::{
 };
 use std::str;
 
-// Appends bytes unchanged.
+// Appends bytes of ASCII unchanged.
 fn push_text(line: &mut Line, text: &[u8])
     requires ascii { IsAscii text.now }
     requires room { array_string_len line.old + length text.now ≤ 128 }

@@ -1,4 +1,9 @@
-//! The line of a completed entry.
+//! The line of a completed entry (an executed instruction): a buffer that `fill_trc` and `fill_row`
+//! fill again for each entry, so that no entry needs a new line.
+//!
+//! `st_telling` keeps one for a whole run. The four `KeptDigits` only save work: no clause names
+//! them, and the bytes of a line do not depend on them. So their number and use are free. `bytes`
+//! is pinned by the clauses of `fill_trc` and `fill_row`. Proved is only that a new line is empty.
 
 ghost use Rattle.std.specs.Prelude.{◌≡◌, []};
 
@@ -11,9 +16,13 @@ use crate::kept::KeptDigits;
 pub struct EntryLine {
     /// The bytes of the line.
     pub bytes: LineFromEnd,
+    // The leading digits of the entry's number.
     pub(crate) number: KeptDigits,
+    // Those of the tick P.
     pub(crate) p: KeptDigits,
+    // Those of the tick R.
     pub(crate) r: KeptDigits,
+    // Those of the tick C.
     pub(crate) c: KeptDigits,
 }
 

@@ -1,4 +1,11 @@
-//! A line that is composed from its end.
+//! A line that is composed from its end, for the lines of each executed instruction in reports and
+//! ledgers, where speed counts.
+//!
+//! Contracts see a line as the list of its bytes so far. Each `put` is proved to put exactly its
+//! text in front of them; decimals and addresses are those of `decimal` and of specs/Numerals.antt
+//! in `st_text`. The clauses `room` bound the length, and callers prove by them that a line never
+//! exceeds ROOM, 192 bytes, which clauses and proofs name as a figure. The fast paths are free: the
+//! clauses are only about bytes. Not proved: speed. The texts are pinned by the clauses.
 
 ghost use Rattle.std.specs.Prelude.{◌≡◌, ◌+◌, ◌*◌, ◌<◌, ◌≤◌, ◌++◌, [], length, drop, codes, decimal};
 ghost use Rattle.st_text.specs.Numerals.{half_address};
@@ -7,13 +14,14 @@ use crate::kept::{KeptDigits, two_digits, zeros_before};
 use itoa::write_digits;
 use std::marker::Model;
 
-// The capacity of a line.
+// The capacity of a line in bytes; the clauses of each writer prove that its lines fit.
 const ROOM: usize = 192;
 
 /// A line of at most 192 bytes that is composed from its end: each piece is put before the previous
 /// ones. So the digits of a number are written to their final place, and the line is never moved.
 #[derive(Debug, Drop)]
 pub struct LineFromEnd {
+    // The line is these bytes from `start` on.
     bytes: [u8; ROOM],
     start: usize,
 }
@@ -21,10 +29,12 @@ pub struct LineFromEnd {
 impl Model for LineFromEnd {
     ghost use Rattle.std.specs.Prelude.{ℕ, List, ◌≤◌, drop};
 
+    // The bytes of the line so far.
     ghost Value = { List ℕ };
 
     ghost view = { λ l. drop l.start l.bytes };
 
+    // The line begins within the array.
     ghost invariant = { λ l. l.start ≤ 192 };
 }
 

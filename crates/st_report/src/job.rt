@@ -1,4 +1,9 @@
-//! The lines about the job as it was submitted.
+//! The lines about the job as it was submitted: `SOAK` for a generated deck, `CARD` for a refused
+//! one.
+//!
+//! specs/Line.antt defines their bytes (`soak_line`, `fault_line`), and proved is that each call
+//! returns exactly these. The texts are pinned there, in docs/report.md and by the vectors; the
+//! bodies are free. `st_top` and `st_account` write the lines.
 
 ghost use Rattle.std.specs.Prelude.{◌≡◌};
 ghost use Rattle.st_report.specs.Line.{fault_line, soak_line};

@@ -1,4 +1,12 @@
-//! The leading digits that a number shares with numbers close to it.
+//! The leading digits that a number shares with numbers close to it, so that a counter which grows
+//! by small steps is mostly written without a division.
+//!
+//! Contracts see a `KeptDigits` as the number that its digits form, that is n / 100. Proved: `past`
+//! is below 100 if and only if n has these leading digits, and `digits` are the decimal digits of
+//! that number. Only `LineFromEnd` and its users need it. ROOM and MOST belong together: a number
+//! below 10^18 has at most 16 digits without its last two. They are also figures in the invariant
+//! and in proofs/kept. Free: the bodies and this way to save a division, with those proofs, since
+//! no line depends on it. Pinned by the clauses: the digits.
 
 ghost use Rattle.std.specs.Prelude.{◌≡◌, ◌↔◌, ◌+◌, ◌*◌, ◌/◌, ◌^◌, ◌<◌, ◌≤◌, drop, decimal};
 ghost use Rattle.st_report.specs.Line.{two_digits as two_digits_of};
@@ -6,7 +14,7 @@ ghost use Rattle.st_report.specs.Line.{two_digits as two_digits_of};
 use itoa::write_digits;
 use std::marker::Model;
 
-// The two decimal digits of each number below 100.
+// The two decimal digits of each number below 100; pinned by the clause of `two_digits`.
 static PAIRS: [u8; 200] = *b"00010203040506070809101112131415161718192021222324\
     25262728293031323334353637383940414243444546474849\
     50515253545556575859606162636465666768697071727374\
@@ -33,10 +41,12 @@ pub struct KeptDigits {
 impl Model for KeptDigits {
     ghost use Rattle.std.specs.Prelude.{◌≡◌, ℕ, ◌*◌, ◌/◌, ◌^◌, ◌<◌, ◌≤◌, drop, decimal};
 
+    // The number n / 100 that the digits form.
     ghost Value = { ℕ };
 
     ghost view = { λ k. k.hundred / 100 };
 
+    // The digits are those of that number, which has 1 to 16 of them.
     ghost invariant = { λ k. (k.start ≤ 16) × (drop k.start k.digits ≡ decimal (k.hundred / 100))
         × (100 ≤ k.hundred) × (k.hundred < 10 ^ 18) × (k.hundred ≡ 100 * (k.hundred / 100)) };
 }

@@ -1,4 +1,12 @@
-//! The lines of the chart and of a snapshot.
+//! The lines of the chart (`ROW`, `DROP`) and of a snapshot (`SNAP`, `LEV`), all about the
+//! overlapped machine and its ticks.
+//!
+//! specs/Line.antt defines the bytes of each line; proved is that each call returns or writes
+//! exactly these, with the line end. This module knows nothing of the machine: `st_time` takes the
+//! numbers from it. Addresses are half-word addresses, times are ticks, a clock cycle each.
+//! `fill_row` is the fast form of `line_row`; its form is free. The texts are pinned by the
+//! definitions, docs/report.md and the vectors. The proof of `fill_row`, in proofs/levels, follows
+//! its body.
 
 ghost use Rattle.std.specs.Prelude.{◌≡◌, ◌+◌, ◌≤◌, ◌++◌};
 ghost use Rattle.arrayvec.specs.ArrayString.{array_string_len};
@@ -18,14 +26,14 @@ pub struct EntryRow {
     pub address: u32,
     /// The tick at which the instruction was prepared.
     pub p: u64,
-    /// The tick at which its result was ready.
+    /// The tick by which the operand words that it reads had arrived.
     pub r: u64,
     /// The tick at which the instruction completed.
     pub c: u64,
 }
 
 /// `ROW n a P p R r C c`: the n-th completed instruction, its half-word address, and the ticks at
-/// which it was prepared, its result was ready, and it completed.
+/// which it was prepared, its operand words had arrived, and it completed.
 pub fn line_row(row: &EntryRow) -> Line
     ensures { result.bytes ≡ row_line row.now.number row.now.address row.now.p row.now.r row.now.c }
 {
@@ -104,8 +112,8 @@ fn push_change(line: &mut Line, index: Option<(u8, u64)>)
 
 /// `LEV a X x OLD hhhhhhhhhhhhhhhh READY r`, or `LEV a X - READY r`: an entry in flight. The
 /// address is a half-word address; the index is the number, below 16, of the index word that the
-/// entry changed speculatively, and the word before that change. `ready` is true if its result is
-/// ready.
+/// entry changed speculatively, and the word before that change. `ready` is true if all operand
+/// words that it reads have arrived.
 pub fn line_lev(address: u32, index: Option<(u8, u64)>, ready: bool) -> Line
     ensures { result.bytes ≡ lev_line address index ready }
 {

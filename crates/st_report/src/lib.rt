@@ -1,6 +1,9 @@
 //! The lines of the report and of the listing, by the rules of `docs/report.md`: one call per line,
 //! each including its line end. The lines that may occur for each instruction are written to a line
 //! that is composed from its end.
+//!
+//! `st_telling`, `st_time`, `st_top` and the crates of the ledger decide which lines there are;
+//! here is only how each is written. specs/Line.antt and specs/Listing.antt define their bytes.
 #![tactic(auto)]
 
 mod cards;

@@ -1,4 +1,8 @@
-//! Pieces of lines that only the report uses.
+//! A piece of a line that only the report uses: a register's number in a line `REG`.
+//!
+//! The clause says that exactly `two_digits` of specs/Line.antt is appended. It needs room for 20
+//! bytes, since each of the two digits is written by a call that needs room for ten. The text is
+//! pinned by that definition, docs/report.md and the vectors; the body is free.
 
 ghost use Rattle.std.specs.Prelude.{◌≡◌, ◌+◌, ◌≤◌, ◌++◌};
 ghost use Rattle.arrayvec.specs.ArrayString.{array_string_len};

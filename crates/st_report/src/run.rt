@@ -1,4 +1,10 @@
-//! The lines about the run.
+//! The lines about the run: trace, prints, interrupts, their ticks, the end and the counts.
+//!
+//! specs/Line.antt defines the bytes of each line; proved is that each call returns exactly these,
+//! with the line end. `st_telling` writes most of them, `st_lines` some in the ledger, `st_top` the
+//! `BACK` line. Counts are of completed instructions, ticks are clock cycles. A new line needs a
+//! definition there and a function here. Texts are pinned by docs/report.md and the vectors; bodies
+//! are free; a change of `fill_trc_anew` and `fill_trc` needs one in proofs/run as well.
 
 ghost use Rattle.std.specs.Prelude.{◌≡◌};
 ghost use Rattle.st_report.specs.Line.{trc_line, prt_line, int_line, time_line, end_line, done_line, ticks_line, back_line};

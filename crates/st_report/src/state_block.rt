@@ -1,4 +1,10 @@
-//! The lines of the state block.
+//! The lines of the state block, which a report has at the end of a run and at requested moments:
+//! program counter, interrupts, registers and dumped storage.
+//!
+//! specs/Line.antt defines the bytes of each line; proved is that each call returns exactly these,
+//! with the line end. Which lines a block has, and in what order, is defined in `st_telling`. Words
+//! are shown as 16 hexadecimal digits. The bodies are free, the texts pinned by docs/report.md and
+//! the vectors.
 
 ghost use Rattle.std.specs.Prelude.{◌≡◌};
 ghost use Rattle.st_report.specs.Line.{ic_line, en_line, reg_line, dump_line, mem_line};

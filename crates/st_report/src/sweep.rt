@@ -1,4 +1,10 @@
-//! The lines of a sweep, a job on machines of one to eight levels.
+//! The lines of the command `sweep`, which runs a job on machines of one to eight look-ahead levels
+//! (places for entries that are in flight).
+//!
+//! specs/Line.antt defines their bytes (`levels_line`, `calm_line`), and proved is that each call
+//! returns exactly these. A run is calm if more levels cannot make it slower; `st_sweep` decides
+//! this. Written by `st_top`; `st_lines` has the first line in the ledger too. The texts are pinned
+//! by the definitions, docs/report.md and the vectors; the bodies are free.
 
 ghost use Rattle.std.specs.Prelude.{◌≡◌};
 ghost use Rattle.st_report.specs.Line.{levels_line, calm_line};

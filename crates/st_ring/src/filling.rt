@@ -1,4 +1,13 @@
-//! The operand words that arrive in the slots of levels.
+//! The operand words that arrive in the slots of levels (entries in flight): the first two operand
+//! words of an entry, as soon as storage has answered them.
+//!
+//! levels.rt calls `fill_all` when a tick is over. The contents come from the state: no older level
+//! writes a word that has arrived. Completion does not use the slots; they belong to the ring that
+//! a machine lends to readers.
+//!
+//! Proved: each level becomes `level_with_words` of specs/Slots.antt, at arrival ticks of its
+//! planned row; a register arrives when the entry is prepared, and transmissions have no slots.
+//! Free: the early tests, which save time. Pinned: two slots.
 ghost use Rattle.std.specs.Prelude.{◌≡◌, ◌≢◌, ℕ, ◌+◌, ◌<◌, ◌≤◌, true, length, slice_get, slice_set, All, None, Some, Option};
 ghost use Rattle.st_prep.specs.Ranges.{IsPrepared};
 ghost use Rattle.st_ring.specs.declared.level.Level.{Level as LevelOf};

@@ -1,4 +1,12 @@
-//! A level of the look-ahead.
+//! A level of the look-ahead: an entry that is prepared and not completed, with its P and the
+//! operand words that have arrived.
+//!
+//! ring.rt keeps eight of these and calls the two functions here, which write a level in place;
+//! filling.rt puts words in. Ticks count from the start of the run. `r` is a running maximum, and R
+//! of the row is in the planned row (plans.rt).
+//!
+//! Proved: the level is `prepared_at` or `level_with_word` of specs/OneLevel.antt. A new field
+//! needs its value there, and in `Default`, which marks an unused slot. Free: the bodies.
 ghost use Rattle.std.specs.Prelude.{◌≡◌, ◌<◌};
 ghost use Rattle.st_ring.specs.OneLevel.{level_with_word as filled_of, prepared_at};
 

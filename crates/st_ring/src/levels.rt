@@ -1,4 +1,15 @@
-//! The levels of a machine: they are pushed, filled, completed and undone.
+//! The levels of a machine, its entries in flight (prepared, not complete): they are pushed,
+//! filled, completed and undone, together with their planned rows and the index words with early
+//! changes.
+//!
+//! `st_ahead` makes these calls: an entry is pushed at its P (tick of preparation), completed at
+//! its C, and all are undone when a flush ends their segment. The caller passes the committed state
+//! and the plan of `st_rows`.
+//!
+//! Proved, for all delays: levels that are the entries in flight after a state (`AreAhead` in
+//! specs/Levels.antt) are so after each call; completion is the execution of the next entry of the
+//! state (`IsCompleted`); `undo` restores the index words of the state. Pinned by that: the order,
+//! and when `x` is taken from the state (after a serializing entry). Free: the rings.
 ghost use Rattle.std.specs.Prelude.{◌≡◌, ℕ, ◌<◌, ◌≤◌, ◌^◌, length, Option, None, Some, List, [], ◌∷◌, ◌++◌, slice_get, All, false, true};
 ghost use Rattle.st_bits.specs.Indicators.{IsIndicatorIfAny};
 ghost use Rattle.st_state.specs.Machine.{Machine, IsMachine, word as word_of};

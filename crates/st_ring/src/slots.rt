@@ -1,4 +1,10 @@
-//! Whether an entry is a transmission, and whether it is mispredicted.
+//! Two tests of a prepared entry (instruction) for the levels: whether it is a transmission (T or
+//! SWAP), whose operands have no slots, and whether it is mispredicted, with the counter by which
+//! the entries after it were prepared.
+//!
+//! filling.rt and levels.rt call them. Proved: the results are `is_transmission` of `st_prep` and
+//! `is_mispredicted` of `st_exec`, with the predicted counter, a half-word address. Free: the
+//! bodies.
 ghost use Rattle.std.specs.Prelude.{◌≡◌, None, Some, if◌then◌else◌};
 ghost use Rattle.st_prep.specs.FewWords.{is_transmission as is_transmission_of};
 ghost use Rattle.st_prep.specs.Ranges.{IsPrepared};

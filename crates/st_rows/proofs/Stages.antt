@@ -49,11 +49,11 @@ module _ (most : ℕ) (ds : List ℕ) (are : AreDelaysUpTo most ds) where
   bus_side_if-within (Some there) past b w a m is early = bus-weaker m (m + most + 1) b (omega arith) is
   bus_side_if-within None past b w a m is early = read-within most ds are m (m + most + 1) (omega arith) b w a is early
 
-  pub bus_sided-within : (past : List Past) (b : Bus) (side : Option ℕ) (a m : ℕ) → IsBusWithin m b → a ≤ m
+  pub bus_after_index_read-within : (past : List Past) (b : Bus) (side : Option ℕ) (a m : ℕ) → IsBusWithin m b → a ≤ m
       → IsBusWithin (m + most + 1) (bus_after_index_read ds past b side a)
   unfolding bus_after_index_read behind uses behind_use
-  bus_sided-within past b None a m is early = bus-weaker m (m + most + 1) b (omega arith) is
-  bus_sided-within past b (Some w) a m is early = bus_side_if-within (forwarded_at past w a) past b w a m is early
+  bus_after_index_read-within past b None a m is early = bus-weaker m (m + most + 1) b (omega arith) is
+  bus_after_index_read-within past b (Some w) a m is early = bus_side_if-within (forwarded_at past w a) past b w a m is early
 
   side_if-within : (late : Bool) (past : List Past) (b : Bus) (w a m : ℕ) → ArePastWithin m past → IsBusWithin m b → a ≤ m
       → (answer_if ds b w a (if late then Some (latest_done past w) else None)) ≤ m + most + 1
@@ -134,7 +134,7 @@ module _ (most : ℕ) (ds : List ℕ) (are : AreDelaysUpTo most ds) (f : IssueSt
   bus_a-within =
       let m = f.c + 7 * most + 7 in
       bus-weaker (m + most + 1) (f.c + 8 * most + 8) _ (omega arith)
-      (bus_sided-within most ds are f.past (words_tick ds f e).bus e.side (tick_a ds f e) m (bus-weaker (f.c + 7 * most + 6) m _ (omega arith) fetched-within.bus) a-within)
+      (bus_after_index_read-within most ds are f.past (words_tick ds f e).bus e.side (tick_a ds f e) m (bus-weaker (f.c + 7 * most + 6) m _ (omega arith) fetched-within.bus) a-within)
 
   pub y-within : index_arrival ds f e ≤ f.c + 8 * most + 8
   unfolding index_arrival side_there

@@ -1,4 +1,13 @@
 -- Records of reads, by which the reads can be undone. They are in order, youngest first.
+-- docs/inside.md ("Reads and their log") says what they are for.
+--
+-- bus.rt makes each record (`note`), and log.rt keeps 64 and undoes late ones (`answers_left`).
+-- Clauses of st_rows, st_next, st_plain and st_account say which reads are recorded
+-- (`log_after_reads`); st_ahead and st_account keep `IsLogged` of their log, and st_ahead defines
+-- the banks at an end by `answers_left`; a law of st_refine uses `AreEarly`. Proved, in
+-- LogLaws.antt: ticks of records rise (`AcceptsRise`); undoing late reads leaves the banks as the
+-- early reads do (`UndoneIsMadeBefore`); 64 records are enough if at most 64 reads follow those
+-- after which the bus is free (`FewAreUndone`); reads and ticks keep `IsLogged` (`LogsGoOn`).
 use Rattle.std.specs.Prelude.{ℕ, ◌≡◌, ◌<◌, nat_lt, if◌then◌else◌, List, [], ◌∷◌, ◌++◌, take, All}
 use Rattle.st_banks.specs.Bank.{last_of, answered_at}
 use Rattle.st_rows.specs.BusTimes.{accept_at, Read, after_one}

@@ -1,4 +1,17 @@
-//! The bus: when reads are accepted and answered, and which instruction words are held.
+//! The bus: the one way to the banks of storage, which accepts at most one read a tick, in the
+//! order of the requests; and which instruction words are held (an instruction buffer of four).
+//! `docs/timetable.md` has the rules.
+//!
+//! fetching.rt, reading.rt and issue.rt make their reads here, instruction words and following
+//! words by `request`, others by `read`. Every read is recorded in the log, so that it can be
+//! undone, and reported to an observer (`Watch`), which the ledger needs. Addresses are word
+//! addresses; callers keep all ticks up to 2^64 - 512. issue.rt reads `free` for A, the tick of an
+//! address; at the end of a segment `st_ahead` and `st_account` take `banks` and undo the log.
+//!
+//! Proved: the answers and the bus after them are those of specs/BusTimes.antt, the log (at most
+//! 64 records) is that of specs/Notes.antt, and the observer hears what specs/Supplies.antt has.
+//! Laws of successive reads are in specs/Laws.antt (`ReadsComeInOrder`) and specs/LogLaws.antt.
+//! Pinned: one read a tick, in order, at the latest of want, turn and bank. Free: the bodies.
 ghost use Rattle.std.specs.Prelude.{◌≡◌, ◌-◌, ◌≤◌, ◌^◌, ◌∷◌, [], take, false};
 ghost use Rattle.st_rows.specs.BusTimes.{no_reads, bus_after_read, answer_at, bus_after_request, answer_tick_on};
 ghost use Rattle.st_fetch.specs.Planned.{tick_of};

@@ -1,4 +1,12 @@
-//! The data of an entry that the timetable uses.
+//! The data of an entry (one executed instruction) that the timetable uses: its words, its cost in
+//! ticks, and two properties. The instruction itself plays no part.
+//!
+//! `st_next` fills it in from the prepared entry, and `st_segment` takes the registers out of the
+//! words that are read. Proved: the tests `has` and `any` are those of specs/Entries.antt; `Ranges`
+//! there has the ranges that the calls of issue.rt require (`IsEntryInTime`).
+//!
+//! A new field is a new input of the timetable, and changes `Rows` in specs/ and `entry_with` in
+//! `st_segment`. Runs hold at most 16 words. Free: the bodies of the tests.
 ghost use Rattle.std.specs.Prelude.{◌≡◌};
 ghost use Rattle.st_rows.specs.Entries.{is_in, is_among, has_words};
 

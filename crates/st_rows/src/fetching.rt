@@ -1,4 +1,13 @@
-//! The instruction words of an entry, requested in order.
+//! The progress of an entry (one executed instruction) through its instruction words: each is
+//! requested in order, after the answers of the words before it and after the completion of earlier
+//! entries that write those.
+//!
+//! `st_next` calls `word` for each word; reading.rt continues with the operand words in this
+//! structure. `wanted` has the tick of the first request; ticks are at most 2^64 - 512.
+//!
+//! Proved: the progress after a word is `fetch_word` of specs/Words.antt, and the log and the
+//! observer get that request. Pinned: the next word, and the address, await the completion of each
+//! earlier entry that writes a word so far (`awaited`). Free: the bodies.
 ghost use Rattle.std.specs.Prelude.{◌≡◌, ◌-◌, ◌≤◌, ◌^◌, ◌∷◌, [], max};
 ghost use Rattle.st_fetch.specs.Planned.{tick_of};
 ghost use Rattle.st_rows.specs.Asked.{word_asked};

@@ -1,4 +1,15 @@
-//! The issue state: the input to the timetable row of the next entry.
+//! The issue state, which is the input to the timetable row of the next entry (a scoreboard with
+//! the state of fetch), and the computation of that row.
+//!
+//! `form` gives A and P (address formed, prepared), `fill` gives R and C (operands there,
+//! complete), and `pass` goes to the next entry. `st_next` calls `form`, `st_ahead` calls `fill`
+//! and `pass`, and `st_plain` calls `follow` and `pass`. Ticks count from the start of the run; C
+//! of the last entry is at most 2^63 + 2^20.
+//!
+//! Proved: the row is `row_of_entry`, and the state after it `issue_after_entry`, of
+//! specs/Rows.antt, with all reads in the log (specs/Asked.antt). So each formula here is pinned by
+//! one there. Free: inlining and the split into functions. `docs/changes/timetable.patch` changes a
+//! rule.
 ghost use Rattle.std.specs.Prelude.{◌≡◌, ◌+◌, ◌-◌, ◌≤◌, ◌^◌, ◌++◌, [], ℕ, All, IfSome, List};
 ghost use Rattle.st_bits.specs.declared.limits.TheConstants.{MOST_DELAY};
 ghost use Rattle.st_rows.specs.Asked.{side_asked, operands_asked, runs_asked, inside_asked, following_asked, prepared_asked};
@@ -63,14 +74,18 @@ pub struct Formed {
 /// The next entry, with the delays and the number of levels.
 #[derive(Clone, Copy)]
 pub struct TimedEntry<'a> {
+    /// The entry.
     pub entry: &'a Entry,
+    /// The delays and the number of levels of the machine.
     pub timing: &'a Timing<'a>,
 }
 
 /// An entry whose address is formed, with the delays and the number of levels.
 #[derive(Clone, Copy)]
 pub struct FormedEntry<'a> {
+    /// The entry.
     pub entry: &'a Entry,
+    /// The delays and the number of levels of the machine.
     pub timing: &'a Timing<'a>,
     /// Its ticks so far.
     pub formed: Formed,

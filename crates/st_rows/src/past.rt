@@ -1,4 +1,14 @@
-//! The recent entries of a segment: when they complete, and the words that they write.
+//! The recent entries (instructions) of a segment, which a flush ends: when they complete, and the
+//! words that they write. The next entry awaits or takes words from them, and takes over the level
+//! of one of them.
+//!
+//! issue.rt, fetching.rt and reading.rt ask for the latest writer of a word; `st_plain` and
+//! `st_reasons` ask too, for the ledger. Words below 32 are registers.
+//!
+//! Proved: the answers are `latest_done` and `done_before` of the list of the last eight entries
+//! (specs/Entries.antt, specs/Rows.antt). Free: the bits and bounds, which only save searches, as
+//! long as `IsEntryRing` keeps them true. Pinned: eight entries, the largest number of levels;
+//! older ones do not matter (`OlderEntriesDecideNothing` in specs/Laws.antt).
 ghost use Rattle.std.specs.Prelude.{◌≡◌, ◌∷◌, ℕ, ◌≤◌, take, replicate, true, false};
 ghost use Rattle.st_rows.specs.Entries.{no_runs, is_in, is_outside, latest_done as latest_done_of};
 ghost use Rattle.st_rows.specs.Rows.{done_before as done_before_of};

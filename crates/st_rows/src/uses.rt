@@ -1,4 +1,13 @@
-//! The words that an entry uses, and the source of each.
+//! The words that an entry (one executed instruction) uses, and the source of each: read, held,
+//! forwarded, or a register. The ledger writes them and finds from them why an instruction waited.
+//!
+//! `Uses` is an observer (`Watch`), which the calls of this crate notify of each word in order;
+//! `st_plain` adds the registers. Addresses are word addresses. At most 39 words come, and `push`
+//! ignores words after the 48th.
+//!
+//! Proved: the list is that of `uses_with` in specs/KeptUses.antt; which words these are is in the
+//! clauses `told` of the calls. `ROOM` is 48 in the clauses here and in those of `st_plain` and
+//! `st_reasons`, so another number changes these too. Free: the array.
 ghost use Rattle.std.specs.Prelude.{◌≡◌, ◌≤◌, ◌∷◌, [], length};
 ghost use Rattle.st_rows.specs.KeptUses.{uses_with};
 
@@ -9,7 +18,7 @@ use std::marker::Model;
 pub enum Role {
     /// An instruction word, the entry's own or one of the target of EX.
     Instruction,
-    /// The index-side word.
+    /// The index-side word: the word of storage that a change of an index word takes.
     Index,
     /// An operand word.
     Operand,

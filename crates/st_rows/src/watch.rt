@@ -1,4 +1,13 @@
-//! Observers of the words that an entry requests.
+//! Observers of the words that an entry (instruction) requests: the timetable (this crate's bus.rt,
+//! fetching.rt and issue.rt) notifies one of each word, in order, with its role and source.
+//!
+//! The overlapped machine (`st_next`) uses `Nobody`, so that nothing is stored; the ledger
+//! (`st_plain`) uses `Uses` to list the words. Another observer implements `Watch` with `noted`,
+//! the observer after some words, and proves its laws (`noted_none`, `noted_more`). The calls of
+//! bus.rt, fetching.rt and issue.rt then promise, in their clauses `told`, exactly which words.
+//!
+//! Proved: each method is `noted` of one word. Pinned: three methods for the sources `Read`, `Held`
+//! and `Forwarded` of `Supply`; its fourth, a register, is never requested. Free: the bodies.
 ghost use Rattle.std.specs.Prelude.{◌≡◌, refl, ◌∷◌, ◌++◌, [], List};
 ghost use Rattle.st_rows.specs.Supplies.{writer_back};
 ghost use Rattle.st_rows.specs.KeptUses.{uses_with, uses_with_none, uses_with_more};
@@ -14,7 +23,7 @@ pub trait Watch {
     // The observer after it is notified of these words.
     ghost noted: { List Used → Self → Self };
 
-    /// A word is read.
+    /// Word `w` is read: `read` has the ticks of its request, turn, bank, acceptance and answer.
     fn read(&mut self, role: Role, w: u32, read: &ReadTicks)
         ensures { self.new ≡ noted
             (record { role = role; word = w; supply = from.Read read.now } ∷ []) self.old };
@@ -24,7 +33,8 @@ pub trait Watch {
         ensures { self.new ≡ noted
             (record { role = role; word = w; supply = from.Held answer } ∷ []) self.old };
 
-    /// A word is forwarded from its latest writer, which completes at this tick.
+    /// A word is forwarded from its latest writer in `past`, the last eight entries: `back` entries
+    /// before this one. It completes at this tick.
     fn forwarded(&mut self, role: Role, w: u32, past: &LastEntries, done: u64)
         ensures { self.new ≡ noted (record {
           role = role;

@@ -1,4 +1,12 @@
-//! The initial data of a run other than its state: the requested delays, and the reader of a job.
+//! The initial data of a run other than its state: the requested delays in ticks, and the reader of
+//! a job with its cards.
+//!
+//! `st_top` and `st_account` call both when they prepare a run; these are the calls of this crate
+//! that allocate, and want of memory is their only error.
+//!
+//! Proved: the delays are those of the control cards, and the reader has `reader_cards` of the job
+//! (`st_exch`), each of eight words. Free: the bodies. Pinned by the clause `some`: at least one
+//! delay; `st_asm` puts one in if a job asks for none.
 ghost use Rattle.std.specs.Prelude.{◌≡◌, ◌≤◌, All, IfOk, length};
 ghost use Rattle.st_card.specs.Cards.{cards_of};
 ghost use Rattle.st_card.specs.Limits.{IsWithinLimits};
@@ -11,8 +19,8 @@ use st_card::{Card, Controls};
 use st_exch::Hopper;
 use std::alloc::Global;
 
-/// The delays of storage that control cards request, at least one. The only error is a failed
-/// allocation.
+/// The delays of storage that control cards request, at least one, each from 1 to 255 ticks. The
+/// only error is a failed allocation.
 pub fn delays_asked(alloc: Global, controls: &Controls) -> Result<Delays, NoMemory>
     requires some { 1 ≤ length controls.now.delays }
     requires limits { IsWithinLimits controls.now }

@@ -1,5 +1,15 @@
-//! External events of a machine between two steps: signals, orders of the reader and the printer,
-//! and the end of a wait.
+//! External events of a machine between two steps (two instructions): signals, which turn
+//! indicators on; orders of the reader and the printer, which move eight words; and the end of a
+//! wait.
+//!
+//! `between` works for each machine with `ExternalEvents`: the plain state (`st_sweep`,
+//! `st_account`), the overlapped machine (leaving.rt), and the machine of `/BACK` (`st_top`).
+//! Counts are completed instructions.
+//!
+//! Proved: the machine and the pending events are those after `interlude` of specs/Run.antt, and
+//! the summary says if a card came, if it waited, and what was printed (`HasHappened` in
+//! specs/ExternalEvents.antt). Pinned by `interlude`: due signals first, then the reader, then the
+//! printer, and then, at rest, orders before signals. Free: the bodies.
 ghost use Rattle.std.specs.Prelude.{◌≡◌, false, IsSome};
 ghost use Rattle.std.specs.Option.{option_or};
 ghost use Rattle.st_state.specs.declared.devices.Device.TheVariants.{Reader, Printer};
@@ -24,19 +34,22 @@ pub struct Interlude {
     pub words: Option<[u64; 8]>,
 }
 
+// No event.
 const NOTHING: Interlude = Interlude {
     card: false,
     waited: false,
     words: None,
 };
 
+// The machine was at rest, and nothing else happened yet.
 const A_WAIT: Interlude = Interlude {
     card: false,
     waited: true,
     words: None,
 };
 
-// The reader's order takes effect, with the next card or without one.
+// The reader's order takes effect, with the next card or without one. In all clauses of this file
+// `turn` says that the machine can take an event at this point (`is_open` of the trait).
 fn read_card<M: ExternalEvents>(machine: &mut M, pending: &mut PendingEvents) -> Interlude
     requires order { IsSome (M.state machine.old).reader }
     requires turn { M.is_open machine.old }
@@ -134,7 +147,8 @@ fn serve_at_rest<M: ExternalEvents>(machine: &mut M, pending: &mut PendingEvents
     }
 }
 
-// Takes the due signals from the front.
+// Takes the due signals from the front: those with at most as many instructions as are complete.
+// The labels of this loop and the next serve only their proofs (proofs/between).
 fn take_due_signals<M: ExternalEvents>(machine: &mut M, pending: &mut PendingEvents)
     requires { M.is_open machine.old }
     ensures came { scene_at (M.state machine.new) pending.new

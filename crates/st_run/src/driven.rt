@@ -1,4 +1,12 @@
-//! An overlapped machine with external events.
+//! An overlapped machine with external events: the implementation of `ExternalEvents` for it, and
+//! the signals that are due before the first instruction.
+//!
+//! run.rt, leaving.rt and ticking.rt use `Driven`. Each method is a call of `Machine`; `rest`
+//! settles the tick, which ends the segment (flushes the entries in flight).
+//!
+//! Proved: after an event only the state has changed, and the segment has ended if a card came or
+//! the machine waited (`IsChanged` in specs/Overlapped.antt). Free: the bodies. The laws of the
+//! trait are proved in specs/OverlappedLaws.antt.
 ghost use Rattle.std.specs.Prelude.{◌≡◌, ℕ, List, IfSome};
 ghost use Rattle.std.specs.List.{AllPass};
 ghost use Rattle.st_card.specs.Limits.{is_signal};
@@ -17,7 +25,9 @@ use std::marker::Model;
 // An overlapped machine with the external events that are still to come.
 #[derive(Drop)]
 pub(crate) struct Driven<'a, const N: usize> {
+    // The machine.
     pub machine: Machine<N>,
+    // The signals and cards that are still to come.
     pub pending: PendingEvents<'a>,
 }
 
@@ -47,12 +57,17 @@ impl<const N: usize> ExternalEvents for Machine<N> {
     ghost use Rattle.st_run.specs.Overlapped.{IsChanged};
     ghost use Rattle.st_run.specs.OverlappedLaws.{changed-none, changed-both};
 
+    // The committed state.
     ghost state = { λ m. m.state };
 
+    // An entry has completed at the last tick, its decision is owed, and the run has not ended.
     ghost is_open = { MayServe };
 
+    // Only the state has changed since the completion, and the segment has ended if an event ended
+    // it; the machine was used within its protocol.
     ghost leaves = { IsChanged };
 
+    // The three laws of the trait.
     ghost leaves_same = { changed-none };
 
     ghost stays_open = { λ _ _ _ left may. left.serves may };
@@ -82,7 +97,8 @@ impl<const N: usize> ExternalEvents for Machine<N> {
 }
 
 // Turns on the indicators of the signals that are due at the start of a run, and returns the
-// remaining signals.
+// remaining signals. The machine has made no tick, or an entry has just completed (`MaySignal`).
+// The label of the loop serves only its proof.
 pub(crate) fn due_signals<'a, const N: usize>(
     machine: &mut Machine<N>,
     signals: &'a [Signal],

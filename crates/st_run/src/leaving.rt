@@ -1,4 +1,13 @@
-//! External events between two entries, and the decision whether the run continues.
+//! External events (signals, cards, prints) between two entries (instructions), and the decision
+//! whether the run continues: at rest or with the budget used up it stops, otherwise the machine
+//! settles its tick: it takes an interrupt, flushes after a wrong prediction, or continues.
+//!
+//! progress.rt calls `pass_on` first, which handles the usual case that nothing happens, and
+//! `leave` otherwise. `left` is the number of instructions that may still complete.
+//!
+//! Proved: the decision is that of the timed run (`IsDecided` in specs/Leaving.antt, `IsChoice` in
+//! specs/Between.antt). Pinned: rest comes before the budget. Free: the fast path, which may refuse
+//! at any time (clause `stays`).
 ghost use Rattle.std.specs.Prelude.{◌≡◌, ◌≤◌, true, false, length, map, option_map};
 ghost use Rattle.st_exch.specs.Printer.{line_of_words};
 ghost use Rattle.st_ahead.specs.Overlap.{levels_of};
@@ -43,7 +52,7 @@ pub(crate) fn levels_ahead<const N: usize>(driven: &Driven<N>) -> ArrayVec<(u32,
 }
 
 // The half-word address of each level, oldest first, and the tick at which it was prepared. There
-// are at most eight levels.
+// are at most eight levels. The label of the loop serves only its proof.
 fn levels_in<const N: usize>(ring: &SpecRing<N>) -> ArrayVec<(u32, u64), 8>
     requires { length ring.now ≤ 8 }
     ensures { result.items ≡ map (λ v. (v.prepared.place.address, v.p)) ring.now }
@@ -86,7 +95,8 @@ fn choice(answer: Settled, over: bool) -> (bool, Option<u8>)
 }
 
 // Decides whether and how the run continues, given the remaining budget and whether the segment has
-// ended.
+// ended. The clause `led` of this file says that the machine is used within its protocol: if calls
+// within it lead to the machine before, they lead to the machine after.
 fn decide<const N: usize>(
     driven: &mut Driven<N>,
     left: u64,
@@ -119,7 +129,8 @@ fn decide<const N: usize>(
 }
 
 // Takes the external events between two entries, then decides whether and how the run continues.
-// `left` is the remaining budget.
+// `left` is the remaining budget. An entry has just completed, and its tick is not settled
+// (`IsBehindEntry`).
 pub(crate) fn leave<const N: usize>(driven: &mut Driven<N>, left: u64) -> Decided
     requires { IsBehindEntry driven.old }
     ensures decided { IsDecided left (moment_of driven.old) result driven.new }

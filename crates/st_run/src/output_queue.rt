@@ -1,4 +1,12 @@
-//! The pending events between two entries.
+//! The pending events between two entries (instructions): entries that were prepared ahead and are
+//! flushed, a printed text, and an interrupt, in the order of a report.
+//!
+//! progress.rt fills it after a completion and takes one event for each call of `Run::next`.
+//! Addresses are half-word addresses; there are at most eight flushed entries.
+//!
+//! Proved: the events come in the order of `queued_events` in specs/Telling.antt: the youngest
+//! flushed entry first, then the text, then the interrupt. That definition pins the order,
+//! which is visible in reports. Free: the fields.
 ghost use Rattle.std.specs.Prelude.{◌≡◌, ℕ, [], ◌∷◌, None, MatchOption, IfSome, IsSome, List, true};
 ghost use Rattle.std.specs.Option.{IfNone};
 ghost use Rattle.st_state.specs.Machine.{Machine};
@@ -13,8 +21,11 @@ use std::marker::Model;
 // was prepared, oldest first; the text that is printed; the interrupt that is taken.
 #[derive(Drop)]
 pub(crate) struct OutputQueue {
+    // The flushed entries, oldest first: half-word address and P.
     pub drops: ArrayVec<(u32, u64), 8>,
+    // The text that is printed, if there is one.
     pub text: Option<ArrayString<64>>,
+    // The indicator of the interrupt that is taken, if one is.
     pub taken: Option<u8>,
 }
 

@@ -1,4 +1,13 @@
-//! The external events that are still to come.
+//! The external events that are still to come: the signals of control cards, in order, and the
+//! cards of the reader.
+//!
+//! between.rt takes them when they are due; `st_account`, `st_sweep` and `st_top` make their own. A
+//! signal is due once `count` instructions are complete, and turns on an indicator, 0 to 13. A card
+//! has eight words.
+//!
+//! Proved: each call takes from the two lists what its clause says (`PendingEvents` in
+//! specs/ExternalEvents.antt). Pinned by the clauses `left`: signals and cards are taken from the
+//! front; that signals are sorted is checked where control cards are read. Free: the bodies.
 ghost use Rattle.std.specs.Prelude.{◌≡◌};
 
 use crate::plain::is_signal_due;
@@ -22,6 +31,7 @@ impl<'a> Model for PendingEvents<'a> {
 
     ghost view = { λ c. record { signals = c.signals.now; cards = c.cards } };
 
+    // Each signal has a count of at most 10,000,000 instructions, and an indicator 0 to 13.
     ghost invariant = { λ c. AllPass is_signal c.signals.now };
 }
 

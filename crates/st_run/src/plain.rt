@@ -1,5 +1,11 @@
-//! A machine that executes instructions sequentially, with external events, and reads of the orders
-//! of its devices.
+//! A machine that executes instructions sequentially, with external events: the implementation of
+//! `ExternalEvents` for the plain state, and tests of the orders of its devices.
+//!
+//! `st_sweep` and `st_account` make plain runs with it; leaving.rt and between.rt use the tests for
+//! all machines. Counts are completed instructions.
+//!
+//! Proved: the tests are `is_due` of `st_state` and `signal_due` of specs/ExternalEvents.antt, and
+//! the methods change the state as the trait says, which pins them. Free: the bodies.
 ghost use Rattle.std.specs.Prelude.{◌≡◌, is_none};
 ghost use Rattle.st_state.specs.Orders.{is_due as is_due_of};
 ghost use Rattle.st_run.specs.Run.{order_of};
@@ -10,6 +16,8 @@ use st_card::Signal;
 use st_state::{Device, State, is_due};
 
 impl ExternalEvents for State {
+    // The state is the machine: an event may always come, there is nothing else that it could
+    // change, and so the three laws of the trait hold at once.
     ghost state = { λ s. s };
 
     ghost is_open = { λ _. Unit {0} };
@@ -38,6 +46,7 @@ impl ExternalEvents for State {
         st_exec::print_out(self)
     }
 
+    // A wait ends nothing: a plain state has no entries in flight.
     fn rest(&mut self) {}
 }
 

@@ -1,4 +1,14 @@
-//! The progress of a run, and its next event.
+//! The progress of a run, and its next event: an entry (instruction) is completed, then its events
+//! are queued and returned one at a time; snapshots (the machine as it is at a requested tick) come
+//! at their ticks.
+//!
+//! run.rt and teller.rt call it. `left` is the remaining budget, `tick` the tick of the last
+//! completion; counts and ticks are below 2^63. If no snapshot remains, many entries complete at
+//! once, and their rows are queued.
+//!
+//! Proved: the returned event and the remaining ones are the remaining ones before (`rest_behind`
+//! in specs/Progress.antt, which are `reported_events` of the timed run). Pinned: the order of
+//! events. Free: how many entries go at once, within the 64 rows of the queue.
 ghost use Rattle.std.specs.Prelude.{◌≡◌, ◌+◌, ◌-◌, ◌<◌, ◌≤◌, ◌^◌, ℕ, true, false, if◌then◌else◌, [], ◌∷◌, MatchOption, IfSome, slice_get};
 ghost use Rattle.st_ahead.specs.Overlap.{levels_of};
 ghost use Rattle.st_refine.specs.Reached.{IsLedOn};
@@ -19,7 +29,7 @@ use st_ahead::{Row, RowQueue};
 use st_card::Signal;
 use st_state::done_in;
 
-// The greatest count of completed instructions, 2^63 - 1.
+// The greatest count of completed instructions, 2^63 - 1: all counts are below 2^63.
 const MOST: u64 = (1 << 63) - 1;
 
 // The greatest number of rows that are computed at once, which is the capacity of the queue.
@@ -28,14 +38,28 @@ const ROWS: u64 = 64;
 // A run between two events: the machine with its external events, the remaining snapshots, the
 // remaining budget after the next instruction, the tick of the last completion, the pending events,
 // the last printed text, and the phase.
+//
+// `IsUnderWay` is its invariant: the machine agrees with the phase, no entry is in flight while an
+// interrupt is pending, and the ticks and counts of all remaining events are below 2^63.
+// `IsBeforeNext` is the invariant in the phase before an entry; `IsTold` says that no event is
+// pending. `rest_behind` are the remaining events, `told_ahead` and `told_after` those before an
+// entry and after it. The clause `shut` says that a queue of rows has no room, so that it stays
+// empty; `led`, that the machine is used within its protocol.
 #[derive(Drop)]
 pub(crate) struct Progress<'a, const N: usize> {
+    // The machine with its external events.
     pub driven: Driven<'a, N>,
+    // The ticks of the remaining snapshots, increasing.
     pub snaps: &'a [u64],
+    // The number of instructions that may complete after the next one.
     pub left: u64,
+    // The tick of the last completion, 0 before the first.
     pub tick: u64,
+    // The pending events.
     pub queue: OutputQueue,
+    // The text that was printed last.
     pub printed: ArrayString<64>,
+    // The phase of the run.
     pub turn: RunPhase,
 }
 
@@ -225,7 +249,7 @@ fn go<const N: usize>(run: &mut Progress<N>, rows: &mut RowQueue) -> TimedRunEve
     event_of_row(row)
 }
 
-// The snapshot whose tick has just been made.
+// The snapshot whose tick has just been made (`IsShown`).
 fn show<const N: usize>(run: &mut Progress<N>) -> TimedRunEvent
     requires shown { IsShown run.old.left run.old.tick run.old.snaps.now run.old.driven }
     requires turn { run.old.turn ≡ turns.Before }
@@ -241,7 +265,8 @@ fn show<const N: usize>(run: &mut Progress<N>) -> TimedRunEvent
     at_once(&run.driven, run.tick, RunEvent::Shown(at))
 }
 
-// Queues the events that follow the completion of an entry at a tick; usually there are none.
+// Queues the events that follow the completion of an entry at a tick; usually there are none. The
+// entry has just completed at that tick (`IsLeft`).
 fn leave_entry<const N: usize>(run: &mut Progress<N>, tick: u64)
     requires left { IsLeft run.old.left run.old.snaps.now tick run.old.driven }
     requires turn { run.old.turn ≡ turns.Before }

@@ -1,4 +1,14 @@
-//! A whole run, event by event.
+//! A whole run of a job on the overlapped machine, event by event: the interface of this crate for
+//! reports and sweeps.
+//!
+//! `st_telling` calls `next` or `next_row` for lines, and `pass_entries` where completions have
+//! none; `st_sweep` needs only ticks. The run shows its state, its levels and the last printed text
+//! until the next call. Budgets are 1 to 10,000,000 instructions.
+//!
+//! Proved: the events are `reported_events` of `timed_run` (specs/TimedRun.antt), for all delays
+//! and 1 to 8 levels, and the machine is used within its protocol (`led`). So the ways to ask give
+//! equal events. Pinned by the clauses `rest` and `told`: the events and their order. Free:
+//! everything that `IsUnderWay` of specs/Progress.antt allows.
 ghost use Rattle.std.specs.Prelude.{◌≡◌, ◌≤◌, false, None, [], ◌∷◌, MatchOption, All};
 ghost use Rattle.std.specs.List.{AllPass};
 ghost use Rattle.std.specs.List.Sorted.{IsStrictlyIncreasing};
@@ -78,6 +88,9 @@ impl<'a, const N: usize> Run<'a, N> {
     ghost use Rattle.st_run.specs.Telling.{state_told, told_as, row_told, AreLeftOut, AreLevelsShown};
 
     /// A run from an initial state, with the reader's cards, and the parameters from control cards.
+    /// No instruction has completed, interrupts are disabled, the machine does not wait, and no
+    /// device has an order. Each card has eight words, each signal a count of at most 10,000,000
+    /// and an indicator 0 to 13.
     pub fn new(
         state: State,
         delays: Delays,

@@ -1,4 +1,12 @@
-//! The events of a run.
+//! The events of a run, as `Run::next` returns them: small values, with what an event shows (state,
+//! levels, text) left in the run.
+//!
+//! Addresses are half-word addresses, ticks and counts those of the run. `st_telling` writes a line
+//! or a block for each kind. `told_as` in specs/Telling.antt joins an event with what the run shows
+//! to a `ReportedEvent`, of which the report is defined.
+//!
+//! There is no code here. A new kind of event needs its case there, in progress.rt or
+//! output_queue.rt, and in `Report` of `st_telling`.
 /// An event of a run.
 #[derive(Clone, Copy, Debug)]
 pub enum RunEvent {

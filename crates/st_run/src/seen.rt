@@ -1,4 +1,13 @@
-//! The state of a machine with the index words of its entries in flight.
+//! The state of a machine with the index words (index registers) that its entries in flight,
+//! prepared and not complete, have already changed: the state that a snapshot shows, without a copy
+//! of storage.
+//!
+//! `st_telling` writes the state block from it. Word addresses are below 98,304; words 16 to 31 are
+//! the index words, and come from the look-ahead.
+//!
+//! Proved: each read is that of `with_index_words` of specs/Events.antt. Free: how the two parts
+//! are joined. Pinned by that definition: only index words are shown early; indicators and storage
+//! are those of the committed state.
 ghost use Rattle.std.specs.Prelude.{◌≡◌, ◌<◌, ◌^◌};
 ghost use Rattle.st_bits.specs.declared.limits.TheConstants.{WORDS};
 ghost use Rattle.st_state.specs.Machine.{word as word_of};
@@ -10,7 +19,9 @@ use std::marker::Model;
 /// A state, with the index words of the entries in flight.
 #[derive(Drop)]
 pub struct StateView<'a> {
+    // The committed state.
     state: &'a State,
+    // The sixteen index words, if entries in flight may have changed them.
     index: Option<&'a [u64; 16]>,
 }
 

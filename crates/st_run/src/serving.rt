@@ -1,4 +1,10 @@
-//! The service of a device, for a caller that drives the machine itself between two entries.
+//! The service of a device (card reader or printer), for a caller that drives the overlapped
+//! machine itself between two instructions. No program does: runs use between.rt.
+//!
+//! The caller finds that the device has an order, after a completion whose decision is owed
+//! (`MayServe` of `st_ahead`). Proved: the machine, the remaining cards and the result are those of
+//! `IsServed` in specs/Serving.antt. Free: the body. Texts are those of `st_exch`. `docs/CLAIMS.md`
+//! offers `serve`, so it stays.
 ghost use Rattle.std.specs.Prelude.{IsSome};
 ghost use Rattle.st_ahead.specs.Calls.{MayServe};
 ghost use Rattle.st_run.specs.Run.{order_of};

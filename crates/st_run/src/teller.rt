@@ -1,4 +1,11 @@
-//! A run with a queue of completed rows.
+//! A run with a queue of rows, the ticks of completed instructions: rows are computed in batches
+//! and returned one at a time.
+//!
+//! run.rt calls the functions; progress.rt does the work. Proved: the rows in the queue, followed
+//! by the remaining events of the run, are the events that remain (`rest_with_rows` in
+//! specs/Progress.antt), so that each way to ask for the next event sees all events in order. Free:
+//! when rows are computed; the queue has no room between two calls (clause `shut`), so that nothing
+//! is dropped.
 ghost use Rattle.std.specs.Prelude.{◌≡◌, [], ◌∷◌, MatchOption};
 ghost use Rattle.st_refine.specs.Reached.{IsLedOn};
 ghost use Rattle.st_run.specs.Telling.{row_told, AreLeftOut};
@@ -9,9 +16,12 @@ use crate::run_events::TimedRunEvent;
 use st_ahead::{Row, RowQueue};
 
 // The progress of a run, and the queue of rows that completed but have not been returned as events.
+// `IsUnderWay` is the invariant that progress.rt describes.
 #[derive(Drop)]
 pub(crate) struct Teller<'a, const N: usize> {
+    // The run.
     pub progress: Progress<'a, N>,
+    // The rows that are not returned yet.
     pub rows: RowQueue,
 }
 

@@ -1,4 +1,11 @@
-//! Ticks up to the next completion or snapshot.
+//! Ticks (clock cycles) up to the next completion of an instruction or the next snapshot: the two
+//! ways in which a run calls `Machine::run_to`.
+//!
+//! progress.rt calls `run_until` for one entry and `run_many` for as many as no external event can
+//! follow; counts and ticks are below 2^63. Proved: the ticks made are those of `AreTicked` or
+//! `RunsTo` (specs/Ticking.antt, `st_ahead`), and rows are queued in order. That the entry
+//! completes by the last tick is the clause `in_time` of the caller, from the laws of `st_refine`.
+//! Free: the bodies.
 ghost use Rattle.std.specs.Prelude.{◌≡◌, ◌-◌, ◌<◌, ◌≤◌, ◌^◌, None, IfSome, option_map};
 ghost use Rattle.st_ahead.specs.Overlap.{oldest_row};
 ghost use Rattle.st_refine.specs.Reached.{IsLedOn};
@@ -10,11 +17,12 @@ ghost use Rattle.st_ahead.specs.RowsDone.{queue_with, rows_in_ticks, ticks_passe
 use crate::driven::Driven;
 use st_ahead::{Row, RowQueue};
 
-// The last tick that may be made.
+// The last tick that may be made, one that no run reaches.
 const LAST: u64 = (1 << 63) - 1;
 
 // Makes ticks until an entry completes, and returns its row; or up to the tick of the next snapshot
-// if it is earlier. With a queue without room, no row is queued.
+// if it is earlier. With a queue without room, no row is queued. Before it the last tick is settled
+// and the run continues (`IsBeforeEntry`); no snapshot is earlier than the last tick.
 pub(crate) fn run_until<const N: usize>(
     driven: &mut Driven<N>,
     snap: Option<u64>,

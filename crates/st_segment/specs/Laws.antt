@@ -1,4 +1,11 @@
--- Laws of the entries in flight.
+-- Laws of the entries in flight: of the next entry of a state, and of those after it by predicted
+-- steps, in which a branch on an indicator is not taken. docs/timetable.md has the rules.
+--
+-- All are proved, in proofs/Laws.antt. None speaks of code: that the machine has these entries in
+-- flight is proved in st_ring (`AreAhead`) and st_ahead. Proofs of st_next, st_ring, st_ahead,
+-- st_refine, st_run, st_account and st_causes use the laws or their lemmas, except
+-- `EntriesBehindAreSeen`, which docs/CLAIMS.md names with four others. A changed statement changes
+-- docs/promises.txt.
 use Rattle.std.specs.Prelude.{◌≡◌, ℕ, suc, ◌<◌, ◌≤◌, true, false, ◌++◌, [], ◌∷◌, List, Option, None}
 use Rattle.std.specs.List.{AllZip}
 use Rattle.st_bits.specs.Indicators.{IsIndicatorIfAny}

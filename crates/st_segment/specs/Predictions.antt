@@ -1,4 +1,13 @@
 -- Predicted steps from a state, and the index words after the early changes of their entries.
+-- docs/machine.md ("Running ahead") says which step is predicted.
+--
+-- While its entries are in flight, the machine does not have these states. Definitions of st_ring,
+-- st_ahead, st_refine and st_run, and clauses of levels.rt in st_ring, speak of them, so a change
+-- here changes those and their proofs. Proved, in Laws.antt: each state continues from the one
+-- before (`PredictionsGoOn`); if no entry is serializing, `split_words` are the index words of the
+-- predicted state (`IndexWordsRunAhead`), and words 0 to 6, and words from 32 up that no entry
+-- writes, stay as they are (`PredictionsLeaveTheRest`); a predicted step is the step but for the
+-- counter of a mispredicted branch (`StepsArePredictions`).
 use Rattle.std.specs.Prelude.{ℕ, zero, suc, List, Option, None}
 use Rattle.st_state.specs.Machine.{Machine}
 use Rattle.st_prep.specs.Fetch.{index_words}

@@ -1,4 +1,11 @@
-//! The words that an entry reads from storage, and those that it writes.
+//! The words that an entry (instruction) reads from storage, and those that it writes, from the
+//! words of its preparation: registers (words below 32) make no read and are left out of the words
+//! that are read.
+//!
+//! `st_next` calls these functions when it plans an entry. Runs are consecutive words, at most 16.
+//! Proved: each result is the definition of this name in specs/Entries.antt. Pinned: written
+//! registers are kept, but nothing waits for them, because an entry that uses a register as a word
+//! is serializing. Free: the bodies.
 ghost use Rattle.std.specs.Prelude.{◌≡◌};
 ghost use Rattle.st_segment.specs.Entries.{above_registers as above_registers_of, words_to_read as words_to_read_of, words_to_write as words_to_write_of, side_to_read as side_to_read_of};
 

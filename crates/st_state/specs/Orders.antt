@@ -1,4 +1,11 @@
--- The orders of the reader and the printer.
+-- The orders of the reader and the printer: whether one is due, and which takes effect next. The
+-- rules are in docs/machine.md ("Orders of the reader and of the printer").
+--
+-- The code is proved to give them: `is_due` in devices.rt, `due` and `next_device` in lib.rt. The
+-- definition of a run (`Run` in st_run/specs) serves due orders by `is_due`, the reader's first,
+-- and at rest by `next_device`; `run_to` of st_ahead stops by `is_due`. So a change of `is_due` or
+-- `next_device` changes runs, which vectors/orders.txt tests. `due` is in no run: docs/CLAIMS.md
+-- only offers it. What an order does is defined in `Transfer` of st_exec/specs.
 use Rattle.std.specs.Prelude.{ℕ, Bool, false, nat_le, if◌then◌else◌, Option, None, Some}
 use Rattle.st_state.specs.Machine.{Machine}
 use Rattle.st_state.specs.declared.devices.Order.{Order}

@@ -1,4 +1,13 @@
-//! The reader and the printer, and orders to them.
+//! The two devices, reader and printer, and their orders: pending transfers of eight words between
+//! a device and storage.
+//!
+//! An order takes effect once `due` instructions are complete (`is_due`); `word` is a word address.
+//! The rule is `Orders` in specs/. `RD` and `WR` make orders (`st_exec`), and `st_run` serves them
+//! between two instructions.
+//!
+//! Proved: `is_due` is its definition. That an area lies in storage above the registers is part of
+//! the invariant of `State`, not of `Order`. A third device changes at least `Device`, `State`,
+//! `Orders`, `Transfer` in `st_exec` and `Run` in `st_run`. Free: the body.
 ghost use Rattle.std.specs.Prelude.{◌≡◌};
 ghost use Rattle.st_state.specs.Orders.{is_due as is_due_of};
 

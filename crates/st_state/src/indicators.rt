@@ -1,4 +1,11 @@
-//! The leftmost pending indicator, and updates of the indicators.
+//! The leftmost pending indicator, and updates of the indicators: bits of word 11 that are set by
+//! results and faults, and that can interrupt.
+//!
+//! Indicator n is bit n of a word, and bit 0 is the leftmost. `State` calls both functions, and
+//! `st_exec` calls `turned`.
+//!
+//! Proved: each result is its definition in `Interrupts` of specs/, for all words. The form of the
+//! bodies is free: `leading_zeros` replaces the search from 0 to 63 that the definition describes.
 ghost use Rattle.std.specs.Prelude.{◌≡◌};
 ghost use Rattle.st_bits.specs.Indicators.{IsIndicatorIfAny};
 ghost use Rattle.st_state.specs.Interrupts.{first_from, is_pending, indicator_word as turned_of};

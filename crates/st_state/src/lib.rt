@@ -1,4 +1,12 @@
-//! The architectural state: storage, the program counter and the marks, with its reads and writes.
+//! The architectural state: storage with its registers, the program counter, the flags for enabled
+//! interrupts and for waiting, the count of completed instructions, and the orders of the devices.
+//!
+//! `st_exec`, `st_back` and `st_ahead` read and write it by these calls and the public fields.
+//! Proved: each call has the result or new state of `Machine`, `Boundary`, `Interrupts` and
+//! `Orders` in specs/; the invariant is `IsMachine`. Only `State::new` allocates. How words are
+//! kept is free, as long as `View` in specs/ maps them to a `Machine`. The fixed bits below are
+//! those of `fix_register` in `st_bits`, and the order of the checks in `may` is that of
+//! `forbidden_by`.
 //!
 //! Words 0 to 31 of storage are the registers. A letter is a bit that can be one, `.` is always
 //! zero and `1` always one; bit 0 is leftmost.
@@ -93,8 +101,9 @@ impl State {
     ghost use Rattle.st_state.specs.Boundary.{indicator_of_access, is_protected};
     ghost use Rattle.st_state.specs.Orders.{due as due_of, next_device as next_device_of};
 
-    /// The initial state: storage is the image, all registers are zero except the fixed bits of the
-    /// mask, and the program counter is the half-word address `start`.
+    /// The initial state: storage is the image, of 98,304 words with zeros in words 0 to 31; all
+    /// registers are zero except the fixed bits of the mask; and the program counter is the
+    /// half-word address `start`, below 2^19. The only error is a failed allocation.
     pub fn new(alloc: Global, image: &[u64], start: u32) -> Result<State, NoMemory>
         requires image { IsImage image.now }
         requires counter { start < 2 ^ 19 }
@@ -175,6 +184,8 @@ impl State {
     }
 
     /// The indicator for a forbidden access to the word address `w`, None if the access is allowed.
+    /// An address past storage, or a register that is fetched as an instruction, is invalid;
+    /// protection by the boundary is checked after that.
     #[tactic(auto, unfolding(crate::specs::Boundary::forbidden_by), using(st_bits::specs::Storage::words_of_storage_is))]
     #[inline(always)]
     pub fn may(&self, access: Access, w: u32) -> Option<u8>

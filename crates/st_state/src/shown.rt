@@ -1,4 +1,9 @@
-//! Reads of the state other than words of storage.
+//! Three reads of a state as functions, where a caller's proof needs the clause and not the field:
+//! the program counter (half-words), the interrupt flag, and the count of completed instructions.
+//!
+//! `st_ahead`, `st_run`, `st_lines` and `st_account` call them. Proved: each returns its field of
+//! the state; `counter_in` also provides the invariant `IsMachine`. Free to change: the bodies. The
+//! clauses are pinned by the proofs of these callers.
 ghost use Rattle.std.specs.Prelude.{◌≡◌, ◌<◌, ◌^◌};
 ghost use Rattle.st_state.specs.Machine.{IsMachine};
 

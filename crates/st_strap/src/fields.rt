@@ -1,4 +1,12 @@
-//! Parsers of single fields of a statement.
+//! Parsers of single fields of a statement: index words, addresses with or without an index part,
+//! numbers.
+//!
+//! shapes.rt combines them for each operation. specs/Reading.antt defines the reading of each kind
+//! of field, and specs/Order.antt the order of faults; each clause says that the call returns
+//! exactly that, so the two tables are proved to be those there. Numbers are below 2^64 and are not
+//! checked further here. That `rank` is the number of the variant pins the order of `Fault` in
+//! `st_card`. The results are pinned by the definitions and docs/strap.md; the bodies are free, but
+//! proofs/fields follows some.
 
 ghost use Rattle.std.specs.Prelude.{◌≡◌, ◌≤◌, ◌<◌, length, IfOk, IfSome};
 ghost use Rattle.st_text.specs.Tables.{row_of};
@@ -12,6 +20,7 @@ use st_expr::ExprText;
 use st_mnemonic::{FieldText, begins_with, ends_with};
 use st_text::{Reading, read_number, row_of};
 
+// The fields that name an index word, as the first field of most operations on one.
 const INDEX_FIELDS: [(&[u8], u8); 16] = [
     (b"$X0", 0),
     (b"$X1", 1),
@@ -31,6 +40,7 @@ const INDEX_FIELDS: [(&[u8], u8); 16] = [
     (b"$X15", 15),
 ];
 
+// The index parts of addresses; index word 0 is none, and has no part.
 const INDEX_PARTS: [(&[u8], u8); 15] = [
     (b"($X1)", 1),
     (b"($X2)", 2),
@@ -115,12 +125,14 @@ fn split_index(field: &[u8]) -> (&[u8], &[u8])
     field.split_at(index_start(field))
 }
 
+// The index word that a field names.
 fn field_row(field: &[u8]) -> Option<u8>
     ensures { result ≡ row_of field.now spec.index_fields }
 {
     row_of(&INDEX_FIELDS, field)
 }
 
+// The index word that a nonempty index part names.
 fn part_row(part: &[u8]) -> Option<u8>
     ensures { result ≡ row_of part.now spec.index_parts }
 {

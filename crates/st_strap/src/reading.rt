@@ -1,4 +1,11 @@
-//! Parses a statement.
+//! Parses a statement: name, operation, data description, progressive form and fields of a card.
+//!
+//! The assembler (`st_asm`) makes the call `read_compact` for each statement card, in the form
+//! pass. `statement_of` in specs/Saying.antt defines the statement or the fault, and the clauses
+//! say that both calls return exactly that. Each private function is one step of that definition,
+//! in the order in which faults count. A new operation needs a case in `with_fields` there and
+//! here, and a function in saying.rt. The result is pinned by the definition, docs/strap.md and the
+//! vectors. The split is free; proofs/reading follows `with_text` and `with_fields`.
 
 ghost use Rattle.std.specs.Prelude.{◌≡◌, ◌≤◌, length};
 ghost use Rattle.st_mnemonic.specs.Fields.{texts};
@@ -66,6 +73,7 @@ fn is_misnamed(name: &[u8], op: Option<Operation>) -> bool
     (!name.is_empty() && !is_name(name)) || op.is_some_and(|op| misnames(!name.is_empty(), op))
 }
 
+// Whether a name is present on SLC or END, which allow none, or absent on SYN, which requires one.
 fn misnames(named: bool, op: Operation) -> bool
     ensures { result ≡ spec.misnames named op }
 {

@@ -1,6 +1,12 @@
 //! The statement of each operation, parsed from its form and its fields. Each operation has a
 //! function of its own that is never inlined, so that the large values of the other operations need
 //! not be cleared.
+//!
+//! reading.rt calls them. The clause of each is the case of `with_fields` in specs/Saying.antt for
+//! its operation, and says that the call returns exactly that. Which fields an operation has is
+//! chosen here by a function of shapes.rt, and defined there. The attribute is free: it is for
+//! speed only, which is not proved. The fields of each operation are pinned by the definition,
+//! docs/strap.md and the vectors.
 
 ghost use Rattle.std.specs.Prelude.{◌≡◌};
 ghost use Rattle.st_mnemonic.specs.Fields.{texts};

@@ -1,4 +1,11 @@
-//! Parsers of the field lists of operations.
+//! Parsers of the field lists of operations, one for each list that some operation has.
+//!
+//! saying.rt calls them. specs/Saying.antt has a definition with the name of each function; the
+//! clause says that the call returns exactly that: the values, or the first fault in the order of
+//! specs/Order.antt, where a wrong number of fields is `BadFieldCount`. A new list of fields is a
+//! definition there and a function here. The bodies are free; a change of `index_word_parts`,
+//! `two_addresses_and_number` and `count_and_refill` needs one in proofs/shapes as well. The
+//! results are pinned by the definitions.
 
 ghost use Rattle.std.specs.Prelude.{◌≡◌};
 ghost use Rattle.st_mnemonic.specs.Fields.{texts};
@@ -13,22 +20,29 @@ use st_mnemonic::{FieldText, Form};
 // An address and a number.
 #[derive(Drop)]
 pub(crate) struct AddressAndNumber {
+    // The address, without an index part.
     pub address: ExprText,
+    // The number, below 2^64.
     pub number: u64,
 }
 
 // A refill address and flags.
 #[derive(Drop)]
 pub(crate) struct RefillAndFlags {
+    // The refill address, without an index part.
     pub refill: ExprText,
+    // The flags, below 2^64; 0 if there are none.
     pub flags: u64,
 }
 
 // The fields of an index word after its value: count, refill address and flags.
 #[derive(Drop)]
 pub(crate) struct CountAndRefill {
+    // The count, below 2^64.
     pub count: u64,
+    // The refill address, without an index part.
     pub refill: ExprText,
+    // The flags, below 2^64; 0 if there are none.
     pub flags: u64,
 }
 

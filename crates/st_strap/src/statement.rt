@@ -1,4 +1,11 @@
-//! Statements and their addresses.
+//! Statements and their addresses: the values that a card is parsed to, and that the assembler
+//! places and encodes.
+//!
+//! Addresses are in two representations, `Expr` (terms) and `ExprText` (text), which contracts see
+//! as equal values. Nothing is proved here. The variants and fields are pinned: they are part of
+//! specs/Saying.antt and of most definitions of `st_asm`; a new kind of statement needs its cases
+//! there, in saying.rt and in terms.rt. `at` without an index part is an expression, with one a
+//! `Spot`. The representation `E` is free, as contracts do not see it.
 
 use st_bits::{BranchOp, ConnKind, HalfOp, VflOp};
 use st_expr::{Expr, ExprText};
@@ -16,8 +23,10 @@ pub struct Spot<E = Expr> {
 
 /// A statement: an instruction, or an order to the assembler. `at` is its first address, and
 /// `second` is another one, in bits, without an index part. The numbers `offset`, `count`, `number`
-/// and `flags` are the values read, below 2^64; the assembler checks later whether they fit. `E` is
-/// the representation of addresses: their terms or their texts.
+/// and `flags` are the values read, below 2^64; the assembler checks later whether they fit. A
+/// `form` is the data description of a field, as `(BU,64)` gives it. `negated` says that the
+/// operation inverts the sign of its operand, `sense` for which value of the bit a branch is taken.
+/// `E` is the representation of addresses: their terms or their texts.
 #[derive(Drop, Debug, PartialEq)]
 pub enum Statement<E = Expr> {
     /// An operation on the index word `j`, 0 to 15; EX has `j` 0.
@@ -100,8 +109,8 @@ pub enum Statement<E = Expr> {
         minus: bool,
         number: u64,
     },
-    /// XW: an index word. Its value is in bits and may be negative; the refill is the address of a
-    /// word, in bits.
+    /// XW: an index word. Its value is in bits and may be negative; `count` is its count field, the
+    /// refill is the address of a word, in bits, and `flags` has its three flag bits.
     IndexWord {
         value: E,
         count: u64,

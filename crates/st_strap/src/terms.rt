@@ -1,4 +1,8 @@
-//! Conversion of statements to ones whose addresses are lists of terms.
+//! Conversion of statements to ones whose addresses are lists of terms, for `read_statement`.
+//!
+//! Contracts see both representations as equal values, so the clause is that the result is the
+//! argument: no field is changed or confused. That clause pins the result; the body is free. A new
+//! kind of statement needs a case here. The programs use `read_compact`, without this conversion.
 
 ghost use Rattle.std.specs.Prelude.{◌≡◌};
 

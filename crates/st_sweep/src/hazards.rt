@@ -1,4 +1,12 @@
 //! The test whether a run is hazard-free (`CALM` in a report), made on the plain run.
+//!
+//! sweeping.rt calls `run_plain` and `are_equal`. The run takes signals but no cards; the budget is
+//! at most 10,000,000 instructions. It is hazard-free if all delays are equal, no interrupt is
+//! taken, a wait only ends the run, no branch is mispredicted, and no entry reads data that an
+//! earlier one writes.
+//!
+//! Proved: the result is `is_hazard_free` of specs/HazardFree.antt, by these conditions one by one,
+//! so they are pinned by it. Free: how written words are marked (written.rt).
 ghost use Rattle.std.specs.Prelude.{◌≡◌, ◌==◌, ◌+◌, ◌≤◌, ◌<◌, ◌^◌, ◌&&◌, not, List, [], ◌∷◌, false, is_none};
 ghost use Rattle.std.specs.List.{AllPass, list_all};
 ghost use Rattle.st_bits.specs.declared.limits.TheConstants.{MOST_INSTRUCTIONS};
@@ -54,7 +62,8 @@ fn is_hazard_free(straight: bool, side: bool, words: bool) -> bool
 }
 
 // Makes the next step, and marks the words that it writes beside those of `earlier` entries.
-// Returns whether it is a hazard-free entry after these.
+// Returns whether it is a hazard-free entry after these. The state is not at rest, and fewer than
+// 2^63 instructions are complete.
 fn step(state: &mut State, written: &mut WrittenWords) -> bool
     requires going { rests state.old ≡ false }
     requires few { state.old.done < 2 ^ 63 }
@@ -91,7 +100,7 @@ pub(crate) struct PlainOutcome {
 }
 
 // Runs an initial state, with these signals and without cards, until it is at rest or the budget is
-// used up.
+// used up. Before, no word is marked. The label of the loop serves only its proof.
 pub(crate) fn run_plain(
     state: &mut State,
     signals: &[Signal],

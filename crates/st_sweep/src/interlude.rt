@@ -1,4 +1,10 @@
-//! The transition between two entries of a run without cards, and whether it ends a wait.
+//! The transition between two entries (instructions) of a run without cards, by signals and
+//! devices, and whether it ends a wait, which makes a run not hazard-free.
+//!
+//! hazards.rt calls it before each entry. Signals are due by the count of completed instructions.
+//! Proved: the state and the signals are those after `interlude` of `st_run`, and `quiet` is
+//! `is_hazard_free_interlude` of specs/HazardFree.antt. Free: the bodies; the work is that of
+//! `st_run::between`.
 ghost use Rattle.std.specs.Prelude.{◌≡◌, ◌||◌, not};
 ghost use Rattle.std.specs.List.{AllPass};
 ghost use Rattle.st_card.specs.Limits.{is_signal};

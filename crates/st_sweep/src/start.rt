@@ -1,4 +1,11 @@
-//! Machines before their first entry, and the ticks of their runs.
+//! Machines before their first instruction, and the ticks of their runs, without reports.
+//!
+//! sweeping.rt makes two groups of four machines, and so allocates all memory before the first run;
+//! then each run is made in turn. Ticks are those of the last completion, 0 if there is none.
+//!
+//! Proved: the ticks are `ticks_from` of specs/Starts.antt, for the delays and signals of the job
+//! and each number of levels. `pass_entries` only saves time: it skips completions. Free: the
+//! grouping in fours. A number of levels is a parameter of a type, so each has its call.
 ghost use Rattle.std.specs.Prelude.{◌≡◌, ◌≤◌, ◌<◌, ◌^◌, ℕ, [], ◌∷◌, length, IfOk, IfSome, MatchOption};
 ghost use Rattle.std.specs.List.{AllPass};
 ghost use Rattle.st_bits.specs.Storage.{IsImage};
@@ -19,10 +26,14 @@ use std::marker::Model;
 // A machine before its first entry.
 #[derive(Drop)]
 pub(crate) struct Start {
+    // The initial state.
     state: State,
+    // The delays of reads, in ticks.
     delays: Delays,
 }
 
+// Contracts see the state and the list of delays. `IsFreshStart`: no instruction has completed,
+// interrupts are disabled, the machine does not wait, and no device has an order.
 impl Model for Start {
     ghost use Rattle.st_sweep.specs.Starts.{Start, IsFreshStart};
 
@@ -34,8 +45,9 @@ impl Model for Start {
 }
 
 impl Start {
-    /// The machine with this image, start address and delays. The only error is a failed
-    /// allocation; no later call allocates.
+    /// The machine with this image (all words of storage, its register words 0), start (a half-word
+    /// address) and delays (1 to 4,096 of them, in ticks). The only error is a failed allocation;
+    /// no later call allocates.
     pub fn new(alloc: Global, image: &[u64], start: u32, delays: &[u8]) -> Result<Start, NoMemory>
         requires image { IsImage image.now }
         requires counter { start < 2 ^ 19 }
@@ -68,7 +80,8 @@ fn next_tick<const N: usize>(run: &mut Run<'_, N>) -> Option<u64>
     }
 }
 
-// The tick of the last completion of a run on N levels, 0 if there is none.
+// The tick of the last completion of a run on N levels, 0 if there is none. `budget` is the
+// greatest number of instructions. The label of the loop serves only its proof.
 fn ticks<const N: usize>(start: Start, signals: &[Signal], budget: u64) -> u64
     requires some { 1 ≤ N }
     requires few { N ≤ 8 }

@@ -1,4 +1,12 @@
-//! One job on eight machines, run in sequence.
+//! One job on eight machines, run in sequence, and once more as a plain run to find hazards.
+//!
+//! `st_top` passes the image (98,304 words), the start (a half-word address), delays (ticks),
+//! signals and the budget (instructions). The only error is a failed allocation, which comes before
+//! any run.
+//!
+//! Proved: the result is `side_by_side` of specs/SideBySide.antt, and if the run is hazard-free the
+//! ticks do not rise from one to eight levels (clause `levels`). Pinned by `side_by_side`: eight
+//! numbers in this order, and an empty reader. Free: the order of the runs.
 ghost use Rattle.std.specs.Prelude.{◌≡◌, ◌<◌, ◌≤◌, ◌^◌, true, length, All, IfOk};
 ghost use Rattle.std.specs.List.{AllPass};
 ghost use Rattle.st_bits.specs.Storage.{IsImage};
@@ -19,13 +27,13 @@ use std::alloc::Global;
 /// The job of a sweep. Its reader is empty.
 #[derive(Clone, Copy)]
 pub struct SweptJob<'a> {
-    /// The image of storage.
+    /// The image: all 98,304 words of storage, of which the register words are 0.
     pub image: &'a [u64],
     /// The half-word address at which the program starts.
     pub start: u32,
     /// The delays of reads, 1 to 4,096 of them, each from 1 to 255 ticks.
     pub delays: &'a [u8],
-    /// The signals, in order.
+    /// The signals, in order; each has a count of at most 10,000,000 and an indicator 0 to 13.
     pub signals: &'a [Signal],
     /// The budget: the greatest number of instructions, 1 to 10,000,000.
     pub budget: u64,

@@ -1,4 +1,12 @@
-//! The words that the entries of a run have written so far.
+//! The words that the entries (executed instructions) of a run have written so far, as one mark for
+//! each word of storage (98,304).
+//!
+//! hazards.rt asks whether an entry reads one of them, then adds the words that it writes. `new`
+//! allocates the marks; its only error is a failed allocation.
+//!
+//! Proved: the answers are those of specs/HazardFree.antt for the list of all earlier entries, by
+//! `AreMarks` of specs/Marks.antt: a word is marked if and only if an entry writes it. Free: how
+//! marks are kept, bits for example. Registers are marked too.
 ghost use Rattle.std.specs.Prelude.{◌≡◌, ◌+◌, ◌≤◌, List, [], ◌∷◌, IfOk, length, get_or, false};
 ghost use Rattle.st_prep.specs.Ranges.{IsRuns, AreInside};
 ghost use Rattle.st_rows.specs.declared.entry.WordRuns.{WordRuns};
@@ -14,6 +22,7 @@ use std::marker::Model;
 // The set of words of storage that have been written so far.
 #[derive(Drop)]
 pub(crate) struct WrittenWords {
+    // For each word of storage, whether an entry wrote it.
     marks: Vec<bool>,
 }
 
@@ -36,7 +45,8 @@ fn is_marked(marks: &[bool], w: usize) -> bool
     marks.get(w).copied().unwrap_or(false)
 }
 
-// Whether one of the `len` words from `first` is marked.
+// Whether one of the `len` words from `first` is marked. The labels of this loop and the next serve
+// only their proofs.
 fn has_mark(marks: &[bool], first: u32, len: u8) -> bool
     ensures { (earlier : List WordRuns) → AreMarks earlier marks.now → result
         ≡ are_written earlier first len }
@@ -103,7 +113,8 @@ impl WrittenWords {
         }
     }
 
-    /// Marks the words of two ranges as written.
+    /// Marks the words of two ranges as written: ranges of at most 16 words each, which lie in
+    /// storage.
     pub fn put(&mut self, words: Words)
         requires runs { IsRuns words }
         requires inside { AreInside words }

@@ -1,4 +1,12 @@
-//! The lines of the state block.
+//! The lines of the state block: program counter, interrupt flag, the registers from 2 to 31 that
+//! are not zero, and the requested dumps.
+//!
+//! telling.rt writes it at interrupts, snapshots and the end. A dump is a pair of word addresses,
+//! first and last, in order and below 98,304 (`is_part`). Each line is written by itself; the only
+//! error is a failed write, after which nothing more is written.
+//!
+//! Proved: the lines are `block` of specs/Report.antt, all of them on Ok, the first ones otherwise
+//! (`WritesLines` of `st_io`). `block` pins the order. Free: the loops.
 ghost use Rattle.std.specs.Prelude.{◌+◌, ◌-◌, ◌<◌, ◌≤◌, [], ◌∷◌};
 ghost use Rattle.std.specs.List.{AllPass};
 ghost use Rattle.st_bits.specs.declared.limits.TheConstants.{WORDS};
@@ -26,7 +34,7 @@ fn write_register<K: Sink>(out: &mut K, seen: &StateView<'_>, w: u8) -> Result<(
     put(out, &line_reg(w, word))
 }
 
-// Writes the lines of the nonzero registers.
+// Writes the lines of the nonzero registers among the 30 from 2 to 31.
 fn write_registers<K: Sink>(out: &mut K, seen: &StateView<'_>) -> Result<(), Failed>
     ensures { WritesLines (K.output out.old) (K.output out.new)
         (lines_for (register_lines seen.now) 30 2) result }
@@ -122,7 +130,7 @@ fn write_enabled<K: Sink>(out: &mut K, seen: &StateView<'_>) -> Result<(), Faile
     put(out, &line_en(seen.enabled()))
 }
 
-/// Writes the state block, with the requested dumps.
+/// Writes the state block of the state that is shown, with the requested dumps.
 pub fn write_block<K: Sink>(
     out: &mut K,
     seen: &StateView<'_>,

@@ -1,4 +1,10 @@
-//! The moments of a report.
+//! The moment of a line of a report: the count of completed instructions and the tick of the last
+//! completion when it is written.
+//!
+//! If a write fails, the moment of that line is part of the answer of `stretch` (`done` and `ticks`
+//! of `Answer`), so `st_top` passes a `Moment` through `write_run`. Proved: `start` is 0 and 0. A
+//! third fact about a line would be a field here, in `Event` of `st_io`, and in `moment_told` of
+//! specs/Running.antt.
 ghost use Rattle.std.specs.Prelude.{◌≡◌};
 
 /// The moment at which a line of a report is written.

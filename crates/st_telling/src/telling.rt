@@ -1,4 +1,13 @@
-//! The events of a run as lines of its report.
+//! The events of a run as lines of its report: which lines an event has, by the requests of the job
+//! (`/TRACE`, `/CHART`, `/TIME`, `/DUMP`).
+//!
+//! reporting.rt of `st_top` calls `write_run`. Completions are frequent, so their lines share one
+//! buffer, and they are skipped in the run where they have no line.
+//!
+//! Proved: the lines are those of `report` in specs/Report.antt for the remaining events; after a
+//! failed write they are the first ones, and `moment` is that of the line that failed
+//! (`WritesEvents` in specs/Running.antt). A new kind of event or line changes `parts_at` there.
+//! Free: buffers, inlining, the skipping. Not proved: speed.
 ghost use Rattle.std.specs.Prelude.{◌≡◌, ◌<◌, ◌||◌, [], ◌∷◌, List, length, MatchOption, IfSome};
 ghost use Rattle.std.specs.List.{AllPass};
 ghost use Rattle.st_card.specs.Limits.{is_part};
@@ -24,7 +33,8 @@ use st_report::{
 use st_run::{Run, RunEvent, StateView, TimedRunEvent};
 use st_time::{fill_chart, level_line, snap_line};
 
-/// Writes the state block, with the requested dumps, line by line.
+/// Writes the state block, with the requested dumps, line by line. In all clauses of this file, a
+/// dump is a pair of word addresses, first and last, in order and below 98,304 (`is_part`).
 pub fn write_state<K: Sink>(
     out: &mut K,
     seen: &StateView<'_>,

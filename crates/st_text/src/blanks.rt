@@ -1,4 +1,10 @@
-//! Leading and trailing blanks of a text.
+//! Leading and trailing blanks of a text; a blank is the byte 32, and no other byte counts as one.
+//!
+//! Names of symbols (`st_asm`), texts of cards (`st_entries`), prints and the listing (`st_report`)
+//! lose their blanks by these calls. specs/Blanks.antt defines both results; each clause says that
+//! the call returns exactly that. `blank_next`, that a blank follows the filled part, is a fact
+//! besides. The search is free; a change of `filled_len` and `without_front_blanks` needs one in
+//! proofs/blanks as well. Both results are pinned by the definitions.
 
 ghost use Rattle.std.specs.Prelude.{◌≡◌, ◌<◌, ◌≤◌, length, take, slice_index};
 ghost use Rattle.st_text.specs.Bytes.{blank};
@@ -29,6 +35,7 @@ pub fn without_front_blanks(text: &[u8]) -> &[u8]
     ensures shorter { length result.now ≤ length text.now }
 {
     let mut rest = text;
+    // Proofs name the loop by its label.
     'blanks: while let [b' ', after @ ..] = rest {
         rest = after;
     }

@@ -1,5 +1,7 @@
 //! Texts: split into pieces and words, read as numbers, looked up in tables, and composed into
-//! lines.
+//! lines. The parsers of cards and reports, and all writers of lines, use these calls.
+//!
+//! Each call has a definition in specs/ of exactly its result. None knows of the machine.
 #![tactic(auto)]
 
 mod blanks;

@@ -1,4 +1,12 @@
-//! Lines of text, and the pieces of which they are composed.
+//! Lines of text in memory, of at most 128 bytes, and the pieces of which they are composed:
+//! numbers, addresses and flags.
+//!
+//! `st_report`, `st_lines` and the other writers of lines begin a line with `open_line`, append
+//! pieces, and end it with `close_line`. specs/Numerals.antt defines the text of each piece; the
+//! clause `bytes` says that exactly that is appended, and `room` bounds its length, which is how
+//! callers prove that a line never overflows: a `requires` has the room that the longest piece
+//! needs. The bodies are free; the texts are pinned by the definitions, and 128 by the clauses of
+//! all callers. proofs/lines follows the bodies of `push_hex` and `push_half_address`.
 
 ghost use Rattle.std.specs.Prelude.{◌≡◌, ◌+◌, ◌<◌, ◌≤◌, ◌++◌, length, decimal};
 ghost use Rattle.arrayvec.specs.ArrayString.{array_string_len};

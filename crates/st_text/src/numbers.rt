@@ -1,4 +1,12 @@
-//! Plain decimal numbers: one or more digits, without a sign.
+//! Plain decimal numbers: one or more digits, without a sign; leading zeros are allowed.
+//!
+//! Parsers of cards, expressions and command lines use these calls, each with its own maximum.
+//! specs/Number.antt defines `reading`, whose result is one of three: no number, above the maximum,
+//! or the value. The clause `value` says that a call returns exactly that, for texts of any length,
+//! and `within` that a value is at most the maximum. The helpers at the end are private: their form
+//! is free, as long as no sum overflows. Which texts are numbers is pinned by the definition,
+//! docs/strap.md and the vectors. The loop of `read_digits` has its proof in proofs/numbers, which
+//! follows it.
 
 ghost use Rattle.std.specs.Prelude.{◌≡◌, ◌+◌, ◌*◌, ◌^◌, ◌≤◌, min, IfSome, Some, None, if◌then◌else◌};
 ghost use Rattle.std.specs.Char.{is_ascii_digit};
@@ -51,6 +59,7 @@ fn read_digits(text: &[u8], cap: u128) -> Option<u128>
 {
     let mut number = 0;
     let mut rest = text;
+    // Proofs name the loop by its label.
     'digits: while let [digit, after @ ..] = rest {
         if !digit.is_ascii_digit() {
             return None;

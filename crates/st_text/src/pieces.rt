@@ -1,4 +1,11 @@
-//! Splitting a text at a byte, and at a length.
+//! Splitting a text at a byte, and at a length, without copying it.
+//!
+//! `cut` is the step of each splitting loop: fields of a card at commas, words at blanks, lines at
+//! line ends. specs/Pieces.antt defines `pieces_of`, all pieces of a text; the clause `pieces` says
+//! that the parts are its first piece and the rest, so a loop of `cut` yields exactly these pieces.
+//! `front` and `behind` are the prefix and the suffix as `take` and `drop` define them. The search
+//! (here `memchr`) is free; a change of `cut` needs one in proofs/pieces as well. The results are
+//! pinned by the definition, on which most parsers rest.
 
 ghost use Rattle.std.specs.Prelude.{◌≡◌, ◌+◌, length, take, drop, [], ◌∷◌, ◌++◌, IsTrue, MatchOption, IfSome};
 ghost use Rattle.st_text.specs.Pieces.{pieces_of, lacks};

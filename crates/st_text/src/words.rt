@@ -1,4 +1,10 @@
-//! The words of a text.
+//! The words of a text: its parts between blanks, none of them empty.
+//!
+//! Control cards are split by this call. `words` in specs/Pieces.antt defines all words of a text;
+//! the clause `words` says that the result is the first of them with a rest that has the others.
+//! `shorter` is the measure by which the loops of callers terminate. The body is free; a change of
+//! the loop of `first_word` needs one in proofs/words as well. The result is pinned by the
+//! definition.
 
 ghost use Rattle.std.specs.Prelude.{◌≡◌, ◌-◌, ◌<◌, ◌≤◌, length, [], ◌∷◌, MatchOption, IfSome};
 ghost use Rattle.st_text.specs.Pieces.{words};
@@ -15,6 +21,7 @@ pub fn first_word(text: &[u8]) -> Option<(&[u8], &[u8])>
     ensures shorter { IfSome result (λ p. length p.1.now ≤ length text.now - 2) }
 {
     let mut rest = text;
+    // Proofs name the loop by its label.
     'blanks: while let Some((word, after)) = cut(rest, b' ') {
         if !word.is_empty() {
             return Some((word, after));

@@ -1,5 +1,13 @@
 //! The lines of the timetable, from views of the overlapped machine: rows, flushed entries,
 //! snapshots and their levels. `docs/report.md` has the rules.
+//!
+//! `st_telling` writes these lines. Addresses are half-word addresses and ticks count from the
+//! start of the run; the bytes of each line are formatted by `st_report`, so that it need not
+//! depend on the machine.
+//!
+//! Proved: each line is that of `Line` in `st_report`, with the number of levels before the first
+//! empty place (`levels_standing` in specs/Shown.antt). Another form of a line is a change in
+//! `st_report`. Free: the bodies. Lines are not allocated.
 #![tactic(auto)]
 
 ghost use Rattle.std.specs.Prelude.{◌≡◌, ◌≤◌, length, option_map};

@@ -1,5 +1,11 @@
 //! The program: it passes standard input, standard output and the words of the command line to
-//! `stretch`.
+//! `stretch` of `st_top`, and exits with its status.
+//!
+//! The words are those after the program's name. Words that are no text give status 2, want of
+//! memory gives 6. Proved: the exit code is the number of the status (`number_of` in
+//! specs/Exit.antt); all else is the contract of `stretch`. `main` itself has no contract, since
+//! the devices of the process are only known as far as `st_io` describes them. Pinned by
+//! `number_of`: the numbers of `Status`.
 #![tactic(auto)]
 
 ghost use Rattle.std.specs.Prelude.{◌≡◌};

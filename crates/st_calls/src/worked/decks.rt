@@ -1,4 +1,9 @@
 //! Jobs and their reports, worked out by hand or by an independent model of the machine.
+//!
+//! The tests of failures.rt and delays.rt use them; each report is the constant after its job.
+//! `docs/machine.md`, `docs/strap.md` and `docs/report.md` have the rules by which they were worked
+//! out. A job can be changed only with its report, which must not be taken from the output of the
+//! program. Nothing is proved of these constants.
 
 /// A job of a load and a wait.
 pub const LOAD: &str = "         LVI,$X1,100.0

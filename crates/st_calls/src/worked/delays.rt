@@ -1,4 +1,9 @@
-//! Tests that compare runs with different lists of delays.
+//! Tests that compare runs with different lists of delays: a loop that changes its own next
+//! instruction has one report with each of them.
+//!
+//! The job and the report are `CHANGING` and `CHANGED` of decks.rt. That delays never change such
+//! lines is proved in `st_top` (clause `delays` of `stretch`); the test shows it for the hardest
+//! kind of program. Lists may be added.
 
 use super::answer_failing;
 use super::decks::{CHANGED, CHANGING};

@@ -1,4 +1,14 @@
-//! Tests with sources and sinks that fail.
+//! Tests with sources and sinks that fail: each read, each write, a full sink, and a write that
+//! fails within a line; and a test of the numbers that a sweep returns.
+//!
+//! They check the status, the bytes written, and the count and tick of the answer of `stretch`
+//! (`st_top`), with jobs and reports of decks.rt. The contract of `stretch` states these for all
+//! failures; the tests check that the sources and sinks in memory (`st_io`) fail as its definitions
+//! say. Reads are counted: one takes at most 4,096 bytes (`st_io`, tested in devices.rt).
+//!
+//! Nothing is proved of the results, only that calls keep their preconditions, and of `Slow` the
+//! clauses of `Sink`. Free: the helpers, and more cases. Pinned by the jobs: all counts and ticks;
+//! those of a changed job are worked out by hand or by the model in `model/`.
 ghost use Rattle.std.specs.Prelude.{◌<◌};
 ghost use Rattle.st_io.specs.Memory.{memory_output};
 
@@ -17,7 +27,7 @@ fn check(holds: bool, shows: &'static str) -> Result<(), Fail> {
     if holds { Ok(()) } else { Err(Fail::new(shows)) }
 }
 
-// A job after this number of comment cards.
+// A job after this number of comment cards, which have two bytes each: an asterisk and a line end.
 fn behind_comments(alloc: Global, comments: u32, job: &str) -> Result<Vec<u8>, Fail> {
     let mut bytes = Vec::new(alloc);
     for _ in 0..comments {
@@ -27,8 +37,9 @@ fn behind_comments(alloc: Global, comments: u32, job: &str) -> Result<Vec<u8>, F
     Ok(bytes)
 }
 
-// The status and the number of bytes written if the `read`-th read of a job after comment cards
-// fails.
+// The status and the number of bytes written if the `read`-th read, counted from 1, of a job after
+// comment cards fails. The three numbers for `answer_failing` are the read that fails, the write
+// that fails (0 is none) and the room of the sink in bytes; 4000 is more than any report here has.
 fn at_read(alloc: Global, comments: u32, job: &str, read: u32) -> Result<(Status, usize), Fail> {
     let job = behind_comments(alloc, comments, job)?;
     let (answer, out) = answer_failing(alloc, "run", job, (read, 0, 4000))?;
@@ -37,7 +48,8 @@ fn at_read(alloc: Global, comments: u32, job: &str, read: u32) -> Result<(Status
 
 #[test]
 fn each_read_that_fails_leaves_nothing_written(rt: HostRuntime) -> Result<(), Fail> {
-    // A read takes at most 4096 bytes, and the last one finds the end.
+    // A read takes at most 4096 bytes, and the last one finds the end. The three cards of `LOAD`
+    // after 19,997 comments are the most cards of a job, 20,000; its 40,048 bytes are ten reads.
     for (comments, job, reads) in [(0, LOAD, 2), (0, TABLE_SUM, 2), (19_997, LOAD, 11)] {
         for read in 1..reads + 1 {
             let failed = at_read(rt.alloc(), comments, job, read)?;
@@ -51,11 +63,17 @@ fn each_read_that_fails_leaves_nothing_written(rt: HostRuntime) -> Result<(), Fa
 
 // A command, its job and its output, and for each group of lines the number of instructions that
 // have completed when the group is written: each group ends before the named line, counted from 0.
+// The counts can be read in the reports: after `TRC` and `AFTER`, and after `DONE` for the last
+// group; a listing, a sweep and a refusal have 0.
 #[derive(Clone, Copy)]
 struct Written {
+    // The command.
     word: &'static str,
+    // The bytes of the job.
     job: &'static str,
+    // The whole output.
     report: &'static str,
+    // For each group of lines: the first line after it, and the number of completed instructions.
     groups: &'static [(u32, u64)],
 }
 
@@ -136,7 +154,8 @@ fn first_lines(alloc: Global, report: &str, lines: u32) -> Result<Vec<u8>, Fail>
 }
 
 // Makes the write of this line fail, counted from 0, and checks that the lines before it are
-// written, or the whole report if there is no such line. Returns whether there is such a line.
+// written, or the whole report if there is no such line. Returns whether there is such a line. Each
+// line is one write; a report here has fewer than 100 lines.
 fn fails_at_line(alloc: Global, run: &Written, line: u32) -> Result<bool, Fail>
     requires { line < 100 }
 {
@@ -167,7 +186,8 @@ fn each_write_that_fails_leaves_the_lines_before_it(rt: HostRuntime) -> Result<(
     Ok(())
 }
 
-// Whether a sink with this much room receives a prefix of the report of one load.
+// Whether a sink with room for this number of bytes receives a prefix of the report of one load.
+// The load has two instructions.
 fn holds_front(alloc: Global, room: usize) -> Result<bool, Fail> {
     let job = LOAD.as_bytes().to_vec(alloc)?;
     let (answer, out) = answer_failing(alloc, "run", job, (0, 0, room))?;
@@ -175,7 +195,8 @@ fn holds_front(alloc: Global, room: usize) -> Result<bool, Fail> {
     Ok(answer.status == Status::WriteFault && answer.done == 2 && out.bytes() == issue)
 }
 
-// Thirteen instructions take 58 ticks with eight levels, and 60 with seven.
+// The answer of a sweep has the extent of the run on eight levels. By the model in `model/`, the
+// thirteen instructions take 58 ticks on a machine of eight look-ahead levels, and 60 on seven.
 #[test]
 fn a_sweep_answers_with_what_eight_levels_did(rt: HostRuntime) -> Result<(), Fail> {
     let job = SLOW_DIVISION.as_bytes().to_vec(rt.alloc())?;
@@ -191,7 +212,9 @@ fn a_sink_that_is_full_holds_a_front_of_the_report(rt: HostRuntime) -> Result<()
     Ok(())
 }
 
-// A sink that takes at most five bytes at a time.
+// A sink that takes at most five bytes at a time. A `Sink` has to take a prefix of the piece, at
+// least one byte of a nonempty piece, or fail and take nothing; contracts see its bytes and its
+// number of failed writes (`output`), which are those of the sink within (`memory_output`).
 #[derive(Drop)]
 struct Slow {
     sink: MemSink,
@@ -206,7 +229,8 @@ impl Sink for Slow {
     }
 }
 
-// Whether the program fails as expected if this write of five bytes fails.
+// Whether the program fails as expected if this write of five bytes, counted from 1, fails: with
+// these bytes written. The buffer has room for more bytes than the report has.
 fn fails_within(alloc: Global, write: u32, written: &str) -> Result<bool, Fail> {
     let buffer = Vec::with_capacity(alloc, 1000)?;
     let mut out = Slow {
