@@ -1,4 +1,4 @@
-"""The assembler: three passes over the cards, what is laid, and the listing.
+"""The assembler: three passes over the cards, what is emitted, and the listing.
 
 Follows docs/strap.md from "Three passes" on, and docs/report.md, "The listing".
 """
@@ -13,7 +13,7 @@ from program import Controls, Fault, Program, Refused
 
 MOST_NAMES = 4000
 ADDRESSES = 1 << 24
-LAID = range(32 * 64, 98304 * 64)       # the bits that can be laid
+EMITTED = range(32 * 64, 98304 * 64)       # the bits that can be emitted
 
 
 @dataclass
@@ -23,7 +23,7 @@ class Row:
     statement: statements.Statement = None
     place: int = None                   # as the listing shows it
     bits: int = 0
-    size: int = 0                       # how many bits it lays
+    size: int = 0                       # how many bits it emits
     passed: int = 0                     # how many bits DR passes over
 
 
@@ -122,43 +122,43 @@ def place_of(said, location, value):
 
 
 def size_of(said):
-    """How many bits an instruction or an index word lays."""
+    """How many bits an instruction or an index word emits."""
     return 32 if said.operation.group in ('index', 'branch', 'floating') else 64
 
 
 # The value pass.
 
 def value_pass(rows, symbols):
-    """Lays the bits; gives the words, and the start."""
+    """Emits the bits; gives the words, and the start."""
     words = {}
-    over(rows, lambda row: lay_card(row, symbols, words))
+    over(rows, lambda row: emit_card(row, symbols, words))
     return words, field_value(rows[-1].statement.fields[0], symbols)
 
 
-def lay_card(row, symbols, words):
-    row.bits, row.size = laid(row.statement, symbols)
+def emit_card(row, symbols, words):
+    row.bits, row.size = emitted(row.statement, symbols)
     covered = row.size + row.passed
-    if covered and not (row.place in LAID and row.place + covered - 1 in LAID):
+    if covered and not (row.place in EMITTED and row.place + covered - 1 in EMITTED):
         raise Fault('LOCATION OUT OF STORAGE')
     put_bits(words, row.place, row.bits, row.size)
 
 
-def laid(said, symbols):
-    """The bits that a statement lays, and how many; raises Fault."""
+def emitted(said, symbols):
+    """The bits that a statement emits, and how many; raises Fault."""
     name = said.operation.name
     values = [field_value(field, symbols) for field in said.fields]
     addresses = [value for value, field in zip(values, said.fields) if isinstance(field, statements.Address)]
     if any(not 0 <= address < ADDRESSES for address in addresses[name == 'XW':]):
         raise Fault('ADDRESS OUT OF RANGE')
     if name == 'DD':
-        return number_laid(said.parts, *values[0]), said.parts['length']
+        return number_bits(said.parts, *values[0]), said.parts['length']
     if name == 'XW':
-        return index_word_laid(*values), 64
+        return index_word_bits(*values), 64
     if said.operation.group == 'pseudo':
         if name == 'END' and values[0] % 32:
             raise Fault('NOT ON A BOUNDARY')
         return 0, 0
-    return instruction_laid(said, values)
+    return instruction_bits(said, values)
 
 
 def field_value(field, symbols):
@@ -170,12 +170,12 @@ def fit(condition):
         raise Fault('VALUE DOES NOT FIT')
 
 
-def instruction_laid(said, values):
+def instruction_bits(said, values):
     """The bits of an instruction. `values` are its index words, addresses and numbers, in order."""
     operation = said.operation
     parts = dict(operation.parts)
     if operation.name == 'LVS':
-        parts |= dict(j=values[0], address=list_laid(values[1:]))
+        parts |= dict(j=values[0], address=list_bits(values[1:]))
         values = []
     elif operation.fields.startswith('j'):
         parts['j'], *values = values
@@ -202,28 +202,28 @@ def check_boundary(value, unit):
         raise Fault('NOT ON A BOUNDARY')
 
 
-def list_laid(index_words):
+def list_bits(index_words):
     """The address of LVS, with a bit for each index word, the first for `$X0`."""
     return sum(1 << 23 - k for k in set(index_words))
 
 
-def index_word_laid(value, count, refill, flags=0):
+def index_word_bits(value, count, refill, flags=0):
     fit(abs(value) < ADDRESSES and count < 1 << 18 and flags < 8)
     check_boundary(refill, 64)
     return abs(value) << 40 | (value < 0) << 39 | flags << 36 | count << 18 | refill // 64
 
 
-def number_laid(parts, minus, number):
+def number_bits(parts, minus, number):
     """A number as a field: its magnitude, and behind it a sign byte where the field is signed."""
     length, byte = parts['length'], parts['byte']
     if parts['unsigned']:
         fit(not minus)
-        return magnitude_laid(parts['decimal'], length, byte, number)
+        return magnitude_bits(parts['decimal'], length, byte, number)
     sign = minus << min(byte, 4) - 1
-    return magnitude_laid(parts['decimal'], length - byte, byte, number) << byte | sign
+    return magnitude_bits(parts['decimal'], length - byte, byte, number) << byte | sign
 
 
-def magnitude_laid(decimal, length, byte, number):
+def magnitude_bits(decimal, length, byte, number):
     if not decimal:
         fit(number < 1 << length)
         return number

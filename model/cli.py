@@ -1,4 +1,6 @@
 """The commands, with their exit statuses. Follows docs/running.md, "Exit statuses", and the usage in docs/stretch.1."""
+import re
+
 import assembler
 import deckmaker
 import disassemble
@@ -9,6 +11,7 @@ from report import report
 from sweep import sweep
 
 JOB = 2_000_000                 # bytes that a job may have
+MOST_ROWS = 10_000_000           # the last row that a ledger is asked for
 NO_COMMAND, TOO_LONG = 2, 3
 
 
@@ -54,14 +57,30 @@ def answer_of(command, read):
         return refused.line(), 1
 
 
+def rows_asked(words):
+    """Of the words `rows FROM TO` the two numbers; None where they are none."""
+    if len(words) != 3 or not all(re.fullmatch('[1-9][0-9]{0,7}', word) for word in words[1:]):
+        return None
+    first, last = map(int, words[1:])
+    return (first, last) if first <= last <= MOST_ROWS else None
+
+
+def form_of(words):
+    """What the words behind the number of levels ask for: it gives the lines of a program on so many levels; None where they are none."""
+    if not words:
+        return ledger.ledger
+    if words == ['sums']:
+        return ledger.totals
+    rows = rows_asked(words) if words[0] == 'rows' else None
+    return rows and (lambda program, levels: ledger.part(program, levels, *rows))
+
+
 def ledger_lines(words, read):
     """The same of the program `ledger` (docs/ledger.md), but that what is written comes line by line."""
-    is_short = words[-1:] == ['sums']
-    numbers = words[:-1] if is_short else words
-    if len(numbers) > 1 or numbers and not (len(numbers[0]) == 1 and '1' <= numbers[0] <= '8'):
+    levels, rest = (int(words[0]), words[1:]) if words and re.fullmatch('[1-8]', words[0]) else (4, words)
+    lines = form_of(rest)
+    if lines is None:
         return [], NO_COMMAND
-    levels = int(numbers[0]) if numbers else 4
-    lines = ledger.totals if is_short else ledger.ledger
     written, status = answer_of(lambda job: lines(assembler.assemble(job), levels), read)
     return ([written] if status else (text([line]) for line in written)), status
 

@@ -142,7 +142,7 @@ def number(d):
                      d.getrandbits(8) << 56])
 
 
-def laid(d):
+def constant(d):
     """A number or an index word that has no fault."""
     if d.odds(.3):
         value = d.choice([f'{d.choice(DATA)}.{d.bit()}', f'{d.randrange(3)}.{d.bit()}', '-0.1', '-262143.63'])
@@ -206,7 +206,7 @@ def statement_deck(d):
         if kind < .7:
             deck.append(card(statement(d), f'N{k}' * d.odds(.2)))
         elif kind < .9:
-            deck.append(card(laid(d), f'N{k}' * d.odds(.2)))
+            deck.append(card(constant(d), f'N{k}' * d.odds(.2)))
         elif kind < .95:
             deck.append(card(d.choice([f'DR,{d.randrange(4)}.{d.bit()}', f'SLC,{d.randrange(32, 98000)}.{d.bit()}'])))
         else:
@@ -340,7 +340,7 @@ def object_text(d):
     """The object text of a program of random words, many of them instructions."""
     deck = [card(f'SLC,{d.choice([32, 33, d.randrange(32, 90000)])}')]
     for _ in range(d.randint(1, 25)):
-        deck.append(card(d.choice([statement, laid, lambda d: f'DD(BU,64),{spelled(d)}'])(d)))
+        deck.append(card(d.choice([statement, constant, lambda d: f'DD(BU,64),{spelled(d)}'])(d)))
     job = text(deck + [card('END,32.0')] + controls(d, 30, False))
     return objects.write_object(assembler.assemble(job.encode())).decode()
 

@@ -30,7 +30,7 @@ def control_cards(program):
 
 
 def texts_of(word):
-    """The statements that lay a word: an instruction, two of them, or a number."""
+    """The statements that emit a word: an instruction, two of them, or a number."""
     halves = word >> 32, word & 0xFFFFFFFF
     if formats.is_full(halves[0]):
         texts = [spelling(halves, word)]
@@ -49,9 +49,9 @@ def spelling(halves, bits):
 
 
 def gives(text, bits):
-    """Whether the assembler lays these bits for a text."""
+    """Whether the assembler emits these bits for a text."""
     try:
-        return assembler.laid(statements.read('', text), {})[0] == bits
+        return assembler.emitted(statements.read('', text), {})[0] == bits
     except Fault:
         return False
 

@@ -8,7 +8,7 @@ from prepare import COUNTER, fetch, half, index_word
 from reasons import Walk
 from report import place
 from run import Run
-from timetable import Front, Row
+from timetable import IssueState, Row
 from uses import noting, uses_of
 from words import INDEX, INDICATORS
 
@@ -23,8 +23,8 @@ class Known:
     """An entry with its row, the fronts before and behind it, and what it finds in the state."""
     entry: object
     row: Row
-    before: Front
-    behind: Front
+    before: IssueState
+    behind: IssueState
     code: list                  # the half-words that it executes
     old: int                    # the index word that it changes
 
@@ -42,7 +42,7 @@ class Noting(Run):
 
     def __init__(self, program, levels):
         super().__init__(program, levels)
-        self.front.bus = noting(self.front.bus, 0)
+        self.issue.bus = noting(self.issue.bus, 0)
 
     def decide(self):
         self.waited, self.ended = False, []
@@ -59,24 +59,24 @@ class Noting(Run):
 
         What ran ahead has seen no indicator that came from outside behind the row.
         """
-        rows, self.looked = self.front.bus.row, []
+        rows, self.looked = self.issue.bus.row, []
         words, now = self.state.words, self.state.word(INDICATORS)
         words[INDICATORS] = self.found
         super().end_segment(moment)
         words[INDICATORS] = now
         self.ended = self.ended or self.looked
-        self.front.bus = noting(self.front.bus, rows)
+        self.issue.bus = noting(self.issue.bus, rows)
 
-    def look(self, entry, row, front, behind):
-        self.looked.append(self.known(entry, row, front, behind))
+    def look(self, entry, row, issue, behind):
+        self.looked.append(self.known(entry, row, issue, behind))
 
-    def known(self, entry, row, front, behind):
+    def known(self, entry, row, issue, behind):
         old = self.state.word(INDEX + entry.change[0]) if entry.change else None
-        return Known(entry, row, front, behind, code_of(self.state, entry), old)
+        return Known(entry, row, issue, behind, code_of(self.state, entry), old)
 
     def known_next(self):
         """The entry that is done next."""
-        return self.known(*self.next(), self.front, self.behind)
+        return self.known(*self.next(), self.issue, self.behind)
 
 
 def code_of(state, entry):
@@ -121,14 +121,14 @@ def alone_for(entry):
 
 
 def card_line(program, state, where):
-    """The card that laid the half-words at an address, and whether they are still those of the image."""
-    def laid(half_word):
+    """The card that emitted the half-words at an address, and whether they are still those of the image."""
+    def of_image(half_word):
         return program.words.get(half_word >> 1, 0) >> (0 if half_word & 1 else 32) & 0xFFFFFFFF
-    if where not in program.laid:
+    if where not in program.emitted:
         return []
     halves = [where, where + 1][:1 + is_full(half(state, where))]
-    kept = all(half(state, one) == laid(one) for one in halves)
-    return [f'LAID {program.laid[where]} KEPT {int(kept)}']
+    kept = all(half(state, one) == of_image(one) for one in halves)
+    return [f'LAID {program.emitted[where]} KEPT {int(kept)}']
 
 
 def source(use, end):
@@ -235,16 +235,16 @@ def ledger(program, levels):
     yield from start_lines(program, levels, state)
     while not moment.end:
         if why:
-            segment, start = segment + 1, run.front.p
+            segment, start = segment + 1, run.issue.p
             yield f'SEGMENT {segment} START {start} WAITED {int(waited)} BY {why}'
         known = run.known_next()
         card = card_line(program, state, known.entry.place)
         run.step()
-        missed = run.missed
+        mispredicted = run.mispredicted
         moment = run.decide()
         tick = known.row.c
         yield f'ROW {named(known)} C {tick}'
-        yield from ['MISSED'] if missed else []
+        yield from ['MISSED'] if mispredicted else []
         yield from facts(known, card, tick if run.ended else None)
         walk = Walk(known.entry, known.row, known.uses, known.before, levels)
         yield from charge_lines(known, walk, start, done, sums)
@@ -256,23 +256,132 @@ def ledger(program, levels):
         if moment.interrupt is not None:
             yield f'INT {moment.interrupt} AFTER {state.done}'
         done, waited = tick, run.waited
-        why = opened_by(run, moment, missed)
+        why = opened_by(run, moment, mispredicted)
     yield from [f'END {moment.end}', f'DONE {state.done}', f'TICKS {done}']
     yield from (f'SUM {stage} {sums[stage]}' for stage in STAGES)
     yield from (f'SUM {stage} {why} {sums[stage, why]}' for stage, why in WAITS)
 
 
-# The first words of the lines that `sums` writes.
+# ---- the short forms
+
+# The first words of the lines that `sums` takes from the ledger.
 TOTALS = {'LEVELS', 'DELAYS', 'END', 'DONE', 'TICKS', 'SUM'}
+# The reasons of the tables: of a row whose reason is START why its segment began, else the reason.
+REASONS = ('RUN', 'INTERRUPT', 'MISSED', 'CARD', 'SERIAL', 'STORE', 'LEVEL', 'FORWARDING', 'BUS', 'PREFETCH', 'ORDER')
+
+
+class Tally:
+    """What the lines of rows add up to: by card, by reason, and in all."""
+
+    def __init__(self):
+        self.rows, self.sums = Counter(), {}                    # by card; the second by stage, and by stage and kind of wait
+        self.reasons = {reason: [0, 0, 0] for reason in REASONS}
+        self.mispredicted = self.level_rows = self.level_ticks = self.dropped = 0
+        self.card, self.opened = 0, ''
+
+    def take(self, words):
+        """Takes a line. Those of an entry that was dropped, or had begun, say nothing of a row."""
+        match words:
+            case ['SEGMENT', _, 'START', _, 'WAITED', _, 'BY', why, *_]:
+                self.opened = why
+            case ['ROW', *_]:
+                self.card, self.lost, self.stage, self.in_row = 0, 0, None, True
+                self.counted = False
+            case ['DROP', *_]:
+                self.dropped, self.in_row = self.dropped + 1, False
+            case ['BEGUN', *_]:
+                self.in_row = False
+            case ['MISSED']:
+                self.mispredicted += 1
+            case ['LAID', card, *_] if self.in_row:
+                self.card = int(card)
+            case ['CHARGE', begin, end, stage]:
+                self.count()
+                self.stage = stage
+                self.add(int(end) - int(begin), stage)
+                self.lost += 0 if stage == 'EXECUTING' else int(end) - int(begin)
+            case ['WAIT', begin, end, why, *_]:
+                self.add(int(end) - int(begin), self.stage, why)
+            case ['LEVEL', ticks]:
+                self.level_rows, self.level_ticks = self.level_rows + 1, self.level_ticks + int(ticks)
+            case ['BECAUSE', why, *_, late]:
+                one = self.reasons[self.opened if why == 'START' else why]
+                for k, number in enumerate((1, self.lost, self.lost if late == '-' else min(int(late), self.lost))):
+                    one[k] += number
+
+    def count(self):
+        """Counts the row, at its first charge: each row has one."""
+        self.rows[self.card] += not self.counted
+        self.counted = True
+
+    def add(self, ticks, *what):
+        self.sums.setdefault(self.card, Counter())[what] += ticks
+
+    def lines(self):
+        for card in sorted(self.rows):
+            yield f'CARD {card} ROWS {self.rows[card]}'
+            yield from (f'SUM {stage} {self.sums[card][stage,]}' for stage in STAGES)
+            yield from (f'SUM {stage} {why} {self.sums[card][stage, why]}' for stage, why in WAITS)
+        for reason, (rows, ticks, late) in self.reasons.items():
+            yield f'REASON {reason} ROWS {rows} TICKS {ticks} LATE {late}'
+        yield f'COUNT MISSED {self.mispredicted}'
+        yield f'COUNT LEVEL ROWS {self.level_rows} TICKS {self.level_ticks}'
+        yield f'COUNT DROP {self.dropped}'
 
 
 def totals(program, levels):
-    """The lines of the ledger that say nothing of a row or of what comes between rows."""
-    return (line for line in ledger(program, levels) if line.split(' ')[0] in TOTALS)
+    """The lines of the ledger that say nothing of a row or of what comes between rows, and the tables of its rows."""
+    tally = Tally()
+    for line in ledger(program, levels):
+        words = line.split(' ')
+        if words[0] in TOTALS:
+            yield line
+        tally.take(words)
+    yield from tally.lines()
 
 
-def opened_by(run, moment, missed):
+class Place:
+    """What the lines of a ledger say of the state, and of the segment, up to some line."""
+
+    def __init__(self):
+        self.counter = self.enabled = self.segment = ''
+        self.words = {}
+
+    def take(self, line):
+        match line.split(' '):
+            case ['IC', _]:
+                self.counter = line
+            case ['EN', _]:
+                self.enabled = line
+            case ['WORD', word, *_, number]:
+                self.words[int(word)] = number
+            case ['SEGMENT', _, 'START', *_]:
+                self.segment = line
+
+    def lines(self):
+        yield from (self.counter, self.enabled)
+        yield from (f'WORD {word} IS {number}' for word, number in sorted(self.words.items()) if int(number, 16))
+        yield self.segment
+
+
+def part(program, levels, first, last):
+    """The ledger of a run with a budget of at most `last`, from the row `first` on, without its sums."""
+    program.controls.budget = min(program.controls.budget, last)
+    place, shown = Place(), False
+    for line in ledger(program, levels):
+        name = line.split(' ')[0]
+        if name == 'ROW' and not shown and int(line.split(' ')[1]) == first:
+            yield from place.lines()
+            shown = True
+        if name == 'SUM':
+            return
+        if shown or name in TOTALS:
+            yield line
+        place.take(line)
+
+
+def opened_by(run, moment, mispredicted):
     """Why the next segment begins, where this one has ended."""
     if not run.ended:
         return ''
-    return f'INTERRUPT {moment.interrupt}' if moment.interrupt is not None else 'MISSED' if missed else 'CARD'
+    return f'INTERRUPT {moment.interrupt}' if moment.interrupt is not None else 'MISSED' if mispredicted else 'CARD'

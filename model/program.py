@@ -41,9 +41,9 @@ class Controls:
 
 @dataclass
 class Program:
-    words: dict                                     # word address -> 64 bits, where a card laid any
+    words: dict                                     # word address -> 64 bits, where a card emitted any
     start: int                                      # bit address
     controls: Controls
     reader: list = field(default_factory=list)      # cards of the reader, 64 bytes each
     listing: list = field(default_factory=list)     # its lines, without line ends, whether asked for or not
-    laid: dict = field(default_factory=dict)        # half-word address -> the first card whose bits begin in it
+    emitted: dict = field(default_factory=dict)        # half-word address -> the first card whose bits begin in it

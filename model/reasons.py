@@ -19,7 +19,7 @@ class Wait:
 
 
 @dataclass
-class Because:
+class StallCause:
     why: str
     row: int                    # None for the start of a segment, as `late`, and for a word that was prefetched
     tick: int
@@ -28,23 +28,23 @@ class Because:
 
 
 class Walk:
-    """The walk of one row; `uses` are its words, `front` is the one before it."""
+    """The walk of one row; `uses` are its words, `issue` is the one before it."""
 
-    def __init__(self, entry, row, uses, front, levels):
-        self.entry, self.row, self.front = entry, row, front
-        self.number = front.bus.row + 1
+    def __init__(self, entry, row, uses, issue, levels):
+        self.entry, self.row, self.issue = entry, row, issue
+        self.number = issue.bus.row + 1
         self.waits = []                         # the last one first
         words = {kind: [use for use in uses if use.kind == kind] for kind in ('INSTRUCTION', 'INDEX', 'OPERAND')}
         side = next((use for use in words['INDEX'] if use.how != 'REGISTER'), None)
         there = max(row.a, side.there) if side else row.a
-        full = len(front.done) >= levels and front.done[-levels][0] > there
+        full = len(issue.done) >= levels and issue.done[-levels][0] > there
         self.level_wait = row.p - 1 - there if full else 0
         if row.r > row.p:
             self.back(next(u.read for u in words['OPERAND'] if u.how == 'READ' and u.there == row.r), 'OPERAND')
         if full:
-            self.because = Because('LEVEL', self.number - levels, row.p - 1, self.level_wait)
+            self.because = StallCause('LEVEL', self.number - levels, row.p - 1, self.level_wait)
         elif there > row.a and side.how == 'FORWARDED':
-            self.because = Because('FORWARDING', side.row, there, there - row.a)
+            self.because = StallCause('FORWARDING', side.row, there, there - row.a)
         else:
             if there > row.a:
                 self.back(side.read, 'INDEX')
@@ -53,7 +53,7 @@ class Walk:
     def from_address(self, words):
         """From the tick A - 1 on; a row is at its address one tick behind what it awaited."""
         tick = self.row.a - 1
-        last = self.front.bus.latest
+        last = self.issue.bus.latest
         return (self.by_completion(self.entry.words, tick, self.entry.alone)
                 or self.by_answer(words, tick)
                 or self.by_bus(last, tick)
@@ -61,15 +61,15 @@ class Walk:
 
     def by_completion(self, words, tick, alone):
         """The row before was done then, and it or this one is done alone; or a writer of one of the words was."""
-        front = self.front
-        if not front.done:
+        issue = self.issue
+        if not issue.done:
             return None
-        late = tick - front.p
-        if tick == front.c and (alone or front.alone):
-            return Because('SERIAL', self.number - front.alone, tick, late)
-        for k, (done, written) in enumerate(reversed(front.done), 1):
+        late = tick - issue.p
+        if tick == issue.c and (alone or issue.alone):
+            return StallCause('SERIAL', self.number - issue.alone, tick, late)
+        for k, (done, written) in enumerate(reversed(issue.done), 1):
             if done == tick and not written.isdisjoint(words):
-                return Because('STORE', self.number - k, tick, late)
+                return StallCause('STORE', self.number - k, tick, late)
         return None
 
     def by_answer(self, words, tick):
@@ -80,7 +80,7 @@ class Walk:
         read = words[place].read
         self.back(read, 'INSTRUCTION')
         if read.row != self.number:
-            return Because('PREFETCH', None, None, tick - self.front.p, read.word)
+            return StallCause('PREFETCH', None, None, tick - self.issue.p, read.word)
         earlier, of_target = words[:place], self.entry.is_ex and place >= self.entry.own
         return (self.by_completion([use.word for use in earlier], read.want, of_target)
                 or self.by_answer(earlier, read.want)
@@ -88,15 +88,15 @@ class Walk:
 
     def by_bus(self, last, tick):
         """The last read of the rows before was accepted then."""
-        if last is None or not last.accept == tick > self.front.p:
+        if last is None or not last.accept == tick > self.issue.p:
             return None
         self.in_turn(last, 'INSTRUCTION')
-        return Because('BUS', last.row, last.want, tick - self.front.p)
+        return StallCause('BUS', last.row, last.want, tick - self.issue.p)
 
     def in_order(self):
-        if not self.front.done:
-            return Because('START', None, self.front.p, None)
-        return Because('ORDER', self.number - 1, self.front.p, 0)
+        if not self.issue.done:
+            return StallCause('START', None, self.issue.p, None)
+        return StallCause('ORDER', self.number - 1, self.issue.p, 0)
 
     def back(self, read, stage):
         """From the answer of a read back to its want."""

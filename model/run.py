@@ -36,9 +36,9 @@ class Run:
         self.controls, self.levels = program.controls, levels
         self.signals = list(program.controls.signals)
         self.cards = list(program.reader if cards is None else cards)
-        self.front = opening(program.controls.delays, [0] * 6, 0)
-        self.missed = False                     # the last entry is a BI whose guess was wrong
-        self.guess = None                       # the counter of that guess
+        self.issue = opening(program.controls.delays, [0] * 6, 0)
+        self.mispredicted = False               # the last entry is a BI that was predicted wrongly
+        self.prediction = None                  # the predicted counter after it
         self.trails = []                        # of the last steps, as many as /BACK asks for
         self.calm = True                        # so far: one segment, and nothing read that was written
         self.written = set()
@@ -48,7 +48,7 @@ class Run:
 
     def decide(self):
         """All that comes before the next step."""
-        moment = Moment(self.front.c, [], [])
+        moment = Moment(self.issue.c, [], [])
         self.outside(moment)
         while self.state.at_rest() and self.wake(moment):
             self.calm = False
@@ -59,9 +59,9 @@ class Run:
         else:
             moment.interrupt = self.state.pending()
         self.table = moment.interrupt
-        if self.missed or self.table is not None:
+        if self.mispredicted or self.table is not None:
             self.calm = False
-        if moment.end or self.missed or self.table is not None:
+        if moment.end or self.mispredicted or self.table is not None:
             self.end_segment(moment)
         return moment
 
@@ -98,7 +98,7 @@ class Run:
     def next(self):
         """The entry that is done next, with its row."""
         self.entry = prepare(self.state, self.table)
-        self.row, self.behind = next_row(self.front, self.entry, self.levels)
+        self.row, self.behind = next_row(self.issue, self.entry, self.levels)
         return self.entry, self.row
 
     def step(self):
@@ -108,23 +108,23 @@ class Run:
         trail = self.state.begin()
         if self.controls.back:
             self.trails = (self.trails + [trail])[-self.controls.back:]
-        self.missed = complete(self.state, entry)
-        self.guess = entry.following
-        self.front = self.behind
-        self.front.bus.settle(self.front.c)
+        self.mispredicted = complete(self.state, entry)
+        self.prediction = entry.following
+        self.issue = self.behind
+        self.issue.bus.settle(self.issue.c)
 
     # ---- what is ahead
 
     def ahead(self, tick, table=None):
-        """The entries ahead that are prepared before a tick, with their rows, and the front behind one more.
+        """The entries ahead that are prepared before a tick, with their rows, and the issue state behind one more.
 
-        They are found by guessed steps, which are undone again.
+        They are found by predicted steps, which are undone again.
         """
-        state, outer, front, trails, found = self.state, self.state.trail, self.front, [], []
+        state, outer, issue, trails, found = self.state, self.state.trail, self.issue, [], []
         while True:
             entry = prepare(state, table)
-            row, behind = next_row(front, entry, self.levels)
-            self.look(entry, row, front, behind)
+            row, behind = next_row(issue, entry, self.levels)
+            self.look(entry, row, issue, behind)
             if row.p >= tick:
                 break
             found.append((entry, row))
@@ -132,26 +132,26 @@ class Run:
             complete(state, entry)
             if entry.made.name == 'BI' and entry.fault is None:
                 state.counter = entry.following
-            front, table = behind, None
+            issue, table = behind, None
         for trail in reversed(trails):
             state.undo(trail)
         state.trail = outer
         return found, behind
 
-    def look(self, entry, row, front, behind):
+    def look(self, entry, row, issue, behind):
         """What else is to be noted of an entry ahead, with the fronts before and behind it; here nothing."""
 
     def end_segment(self, moment):
-        """Drops what is ahead, and opens the next segment; the guess, not what came of it, tells what is ahead."""
+        """Drops what is ahead, and opens the next segment; the prediction, not what came of it, tells what is ahead."""
         counter, tick = self.state.counter, moment.tick
-        if self.missed:
-            self.state.counter = self.guess
+        if self.mispredicted:
+            self.state.counter = self.prediction
         found, behind = self.ahead(tick)
         self.state.counter = counter
         moment.dropped += found
-        start = max(self.front.p, tick + 1 + len(found))    # a card may have ended one at this tick, with levels
-        self.front = opening(self.controls.delays, behind.bus.answers_before(tick), start)
-        self.missed = False
+        start = max(self.issue.p, tick + 1 + len(found))    # a card may have ended one at this tick, with levels
+        self.issue = opening(self.controls.delays, behind.bus.answers_before(tick), start)
+        self.mispredicted = False
 
     def view(self, tick, over=False):
         """The machine at a tick up to which everything is done; where the run is over, nothing is ahead."""

@@ -125,7 +125,7 @@ def card(text):
     return ' ' * 9 + text
 
 
-def laid(d, odds=.4):
+def constant(d, odds=.4):
     """A number, or with these odds an index word."""
     if d.odds(odds):
         value = d.some(4, f'{d.randrange(3)}.{d.bit()}', 4, f'{d.data()}.{d.bit()}', 1, f'-{d.randrange(3)}.{d.bit()}')
@@ -148,8 +148,8 @@ def deck_of(d, statement, table_statement, enabled, count):
     for d.at in range(count):
         deck.append(card(statement(d)))
     deck.append(card('BEW'))
-    deck += [card(f'SLC,{DATA}.0')] + [card(laid(d)) for _ in range(16)]
-    deck += [card('SLC,96.0')] + [card(laid(d, .4 if d.faults else .97)) for _ in range(12)]
+    deck += [card(f'SLC,{DATA}.0')] + [card(constant(d)) for _ in range(16)]
+    deck += [card('SLC,96.0')] + [card(constant(d, .4 if d.faults else .97)) for _ in range(12)]
     deck += [card('SLC,120.0'), card(f'XW,{d.some(20, TABLE, 1, 98290, 1, 262132)}.0,0,0')]
     deck += [card(f'DD(BU,64),{boundary(d)}')]
     deck += [card(f'DD(BU,64),{decks.number(d)}') for _ in range(3)]

@@ -8,7 +8,7 @@ from words import (CBJ, COUNTS, FACTOR, INDEX, LEFT, REMAINDER, RIGHT, SIGN_BYTE
 
 
 def complete(state, entry):
-    """Makes the entry's step. Answers whether its guess was wrong: that of a BI that is taken and is not done alone."""
+    """Makes the entry's step. Answers whether it was mispredicted: a BI that is taken and is not done alone."""
     if entry.table is not None:
         state.indicators(0, bits_of(entry.table))
         state.waits = False
@@ -21,10 +21,10 @@ def complete(state, entry):
     if entry.fault is None:
         branch = effect(state, entry)
         counter = counter if branch is None else branch
-    missed = entry.fault is None and entry.made.name == 'BI' and branch is not None and not entry.alone
+    mispredicted = entry.fault is None and entry.made.name == 'BI' and branch is not None and not entry.alone
     state.counter = counter
     state.done += 1
-    return missed
+    return mispredicted
 
 
 def effect(state, entry):

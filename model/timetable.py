@@ -54,7 +54,7 @@ class Bus:
 
 
 @dataclass
-class Front:
+class IssueState:
     """What the row of the next entry is computed from."""
     bus: Bus
     p: int
@@ -68,8 +68,8 @@ class Front:
 
 
 def opening(delays, last, start):
-    """The front with which a segment opens: no word is held, and the start stands for P and C."""
-    return Front(Bus(delays, last[:], start, [], last[:]), start, start)
+    """The issue state with which a segment opens: no word is held, and the start stands for P and C."""
+    return IssueState(Bus(delays, last[:], start, [], last[:]), start, start)
 
 
 @dataclass
@@ -80,38 +80,38 @@ class Row:
     c: int
 
 
-def next_row(front, entry, levels):
-    """The row of the next entry on a machine of so many levels, and the front behind it."""
-    bus = front.bus.copy()
-    a = form(front, bus, entry)
-    p = 1 + max(a, side_there(front, bus, entry, a), front.done[-levels][0] if len(front.done) >= levels else 0)
+def next_row(issue, entry, levels):
+    """The row of the next entry on a machine of so many levels, and the issue state behind it."""
+    bus = issue.bus.copy()
+    a = form(issue, bus, entry)
+    p = 1 + max(a, side_there(issue, bus, entry, a), issue.done[-levels][0] if len(issue.done) >= levels else 0)
     r = p
     for word in entry.reads:
-        if word >= 32 and front.writer_done(word) <= p:     # else it is a register, or it is forwarded
+        if word >= 32 and issue.writer_done(word) <= p:     # else it is a register, or it is forwarded
             r = max(r, bus.read(word, p))
-    c = max(r, front.c) + entry.cost
+    c = max(r, issue.c) + entry.cost
     if entry.last is not None:
         for word in (entry.last + 1, entry.last + 2):
             if 32 <= word < WORDS:
                 bus.fetch(word, p)
-    done = (front.done + [(c, set(entry.writes))])[-8:]
-    return Row(a, p, r, c), Front(bus, p, c, entry.alone, done)
+    done = (issue.done + [(c, set(entry.writes))])[-8:]
+    return Row(a, p, r, c), IssueState(bus, p, c, entry.alone, done)
 
 
-def form(front, bus, entry):
+def form(issue, bus, entry):
     """Asks for the instruction words; gives A."""
-    first = front.c if front.alone else front.p
+    first = issue.c if issue.alone else issue.p
     there = 0                                               # when the words so far are answered and their writers done
     for k, word in enumerate(entry.words):
-        want = max(first, there, front.c if k >= entry.own else 0)
-        there = max(there, bus.fetch(word, want), front.writer_done(word))
-    last = front.c if front.alone or entry.alone else 0
-    return max(1 + max(there, front.p, last), front.bus.free)
+        want = max(first, there, issue.c if k >= entry.own else 0)
+        there = max(there, bus.fetch(word, want), issue.writer_done(word))
+    last = issue.c if issue.alone or entry.alone else 0
+    return max(1 + max(there, issue.p, last), issue.bus.free)
 
 
-def side_there(front, bus, entry, a):
+def side_there(issue, bus, entry, a):
     """When the index-side word is there."""
     if entry.side is None or entry.side < 32:
         return a
-    writer = front.writer_done(entry.side)
+    writer = issue.writer_done(entry.side)
     return writer if writer > a else bus.read(entry.side, a)

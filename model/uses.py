@@ -78,7 +78,7 @@ def noting(bus, row):
     return NotingBus(bus.delays, bus.last, bus.free, bus.held, bus.base, bus.reads, row)
 
 
-def uses_of(entry, a, p, front, behind):
+def uses_of(entry, a, p, issue, behind):
     """The words of an entry in the order of its reads; a and p are ticks of its row."""
     asked = iter(behind.bus.asked)
 
@@ -89,8 +89,8 @@ def uses_of(entry, a, p, front, behind):
     def data(kind, word, tick):
         if word < 32:
             return Use(kind, word, 'REGISTER')
-        done = front.writer_done(word)
-        return Use(kind, word, 'FORWARDED', None, writer(front, word), done) if done > tick else taken(kind)
+        done = issue.writer_done(word)
+        return Use(kind, word, 'FORWARDED', None, writer(issue, word), done) if done > tick else taken(kind)
 
     uses = [taken('INSTRUCTION') for _ in entry.words]
     uses += [data('INDEX', entry.side, a)] if entry.side is not None else []
@@ -98,6 +98,6 @@ def uses_of(entry, a, p, front, behind):
     return uses + [Use('FOLLOWING', word, 'READ' if made else 'HELD', read) for word, read, made in asked]
 
 
-def writer(front, word):
+def writer(issue, word):
     """The row of the latest writer of a word."""
-    return front.bus.row - next(k for k, (_, words) in enumerate(reversed(front.done)) if word in words)
+    return issue.bus.row - next(k for k, (_, words) in enumerate(reversed(issue.done)) if word in words)
