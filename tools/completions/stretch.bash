@@ -4,8 +4,8 @@ _stretch() {
     case $name:$COMP_CWORD in
     stretch:1) words='run assemble load disassemble sweep soak --help' ;;
     stretch-chart:1) words='svg text kanata --help' ;;
-    stretch-ledger:1) words='1 2 3 4 5 6 7 8 sums --help' ;;
-    stretch-ledger:2) words=sums ;;
+    stretch-ledger:1) words='1 2 3 4 5 6 7 8 sums rows --help' ;;
+    stretch-ledger:2) words='sums rows' ;;
     stretch-explain:1) words='text csv json --help' ;;
     stretch-read:1) words='text csv json --help' ;;
     stretch:* | stretch-chart:* | stretch-ledger:* | stretch-read:* | stretch-indicators:*) return ;;

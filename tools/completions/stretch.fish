@@ -6,7 +6,7 @@ complete -c stretch -f -n '__fish_is_first_arg' -a 'disassemble' -d 'turn an obj
 complete -c stretch -f -n '__fish_is_first_arg' -a 'sweep' -d 'machines of one to eight levels'
 complete -c stretch -f -n '__fish_is_first_arg' -a 'soak' -d 'run a made deck'
 complete -c stretch-chart -f -n '__fish_is_first_arg' -a 'svg text kanata'
-complete -c stretch-ledger -f -n '__fish_is_first_arg' -a '1 2 3 4 5 6 7 8 sums'
+complete -c stretch-ledger -f -n '__fish_is_first_arg' -a '1 2 3 4 5 6 7 8 sums rows'
 complete -c stretch-read -f -n '__fish_is_first_arg' -a 'text csv json'
 complete -c stretch-explain -f -n '__fish_is_first_arg' -a 'text csv json'
 for name in why deck delays grade page picture slides study

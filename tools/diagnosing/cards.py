@@ -58,6 +58,25 @@ def defined(cards):
     return {Card(text).name: n for n, text in enumerate(cards) if is_statement(text) and Card(text).name}
 
 
+def free_name(cards, name):
+    """This name, or it and a digit, that no card has."""
+    names = defined(cards)
+    return next(one for one in [name, *(name + str(n) for n in range(2, 10)), "A1234567"] if one not in names)
+
+
+def start_of(cards):
+    """The likeliest start: START, the name of the first card that lays something, or the first word."""
+    names = defined(cards)
+    first = next((Card(text) for text in cards if is_statement(text) and Card.plain.operation_of(text) != "SYN"), None)
+    return "START" if "START" in names else first.name if first and first.name else "32.0"
+
+
+def with_card(cards, name, statement):
+    """The deck with one card more, before its end; None where it has no end."""
+    end = end_of(cards)
+    return None if end is None else put(cards, end, " %-8s%s" % (name, statement), cards[end])
+
+
 def shown(text):
     """A text in which every character can be seen."""
     try:

@@ -32,6 +32,8 @@ class Operation:
     def __init__(self, made):
         self.name, self.kind, self.does = made["name"], made["kind"], made["does"]
         self.fields, self.optional = made["fields"], made["optional"]
+        self.described, self.immediate = made["description"] is not None, made["immediate"]
+        self.progressive = made["progressive"]
 
     def said(self):
         """Its fields in words."""
@@ -67,7 +69,9 @@ class Knowledge:
         self.operations = {one["name"]: Operation(one) for one in mnemonics["operations"]}
         self.controls = [one["name"] for one in mnemonics["controls"]]
         self.elsewhere = {word: one["here"] for word, one in mnemonics["elsewhere"].items()}
+        self.here = {word: one["says"] for word, one in mnemonics["elsewhere"].items()}
         self.symbols = {one["name"] for one in symbols["symbols"]}
+        self.addresses = {one["name"]: 64 * one["word"] + one["bit"] for one in symbols["symbols"]}
         self.registers = {one["name"] for one in symbols["symbols"] if one["bits"] > 1}
         self.indicators = [one["name"] or str(one["number"]) for one in symbols["indicators"]]
 

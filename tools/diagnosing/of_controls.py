@@ -2,7 +2,7 @@
 import difflib
 import re
 
-from .cards import Card, NINE, end_of, is_number, is_statement, put
+from .cards import NINE, end_of, is_number, is_statement, put, start_of
 
 ONCE, MARKS = ("/BUDGET", "/BACK"), ("/LIST", "/TRACE", "/TIME", "/CHART")
 SIGNALS = 14              # so many indicators can be turned on from outside
@@ -73,10 +73,8 @@ def rising(cards, word):
 
 def of_end(cards, k, fault, known):
     if fault == "NO END":
-        first = next((Card(card) for card in cards if is_statement(card)), None)
         last = max((n for n, card in enumerate(cards) if is_statement(card)), default=-1)
-        start = first.name if first and first.name else "32.0"
-        yield "no card is the end", cards[:last + 1] + [NINE + "END," + start] + cards[last + 1:]
+        yield "no card is the end", cards[:last + 1] + [NINE + "END," + start_of(cards)] + cards[last + 1:]
         return
     end = end_of(cards)
     behind = [card for card in cards[end + 1:] if is_statement(card)]

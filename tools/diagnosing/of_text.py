@@ -84,6 +84,9 @@ def of_name(cards, k, fault, known):
     if digits and text[:9].strip():
         name = (digits.group(2) or "L") + digits.group(1)
         yield "a name that begins with no letter", put(cards, k, " %-8s%s" % (name[:8], digits.group(3)))
+    signs = re.match(r" ?([A-Z][A-Z0-9]*[^A-Za-z0-9 ,($][^ ,($]*)\s+(\S.*)$", text)
+    if fault == "BAD NAME" and signs and signs.group(1) not in known.operations:
+        yield "a sign in a name", put(cards, k, " %-8s%s" % (re.sub("[^A-Z0-9]", "", signs.group(1))[:8], signs.group(2)))
     card = Card(text)
     if card.operation in ("END", "SLC") and card.name:
         yield "END and SLC have no name", put(cards, k, NINE + text[9:])

@@ -2,7 +2,11 @@
 import difflib
 import re
 
-from .cards import Card, NINE, defined, is_number, is_statement, put
+from .cards import Card, NINE, defined, free_name, is_number, is_statement, put, with_card
+from .of_words import IMMEDIATE
+
+# What takes from a word of storage what these take from the address itself.
+IN_WORDS = {"V+I": "V+", "V-I": "V+", "V+IC": "V+C", "LVI": "LV", "KVI": "KV"}
 
 
 def of_symbol(cards, k, fault, known):
@@ -71,16 +75,35 @@ def of_boundary(cards, k, card):
         place = names.get(name)
         if place is not None and Card(cards[place]).operation == "DD":
             yield "a field that begins within a word", cards[:place] + [NINE + "DR,0"] + cards[place:]
+    if IMMEDIATE.match(card.operation):
+        yield from of_step(cards, k, card)
+        return
     for k2, field in enumerate(card.fields):
-        # Whoever writes 0.7 often means 7: the address of such an operation counts half-words, and not bits.
-        meant = re.sub(r"^0\.(\d+)", r"\1.0", field)
-        if meant != field and card.operation != "XW":
-            yield cause, put(cards, k, card.written(fields=card.fields[:k2] + [meant] + card.fields[k2 + 1:]))
         size = 64 if card.operation == "XW" else 32
         near = re.sub(r"(\d+)\.(\d+)", lambda m: "%s.%d" % (m.group(1), int(m.group(2)) // size * size), field)
-        if near != field:
+        if near not in (field, "0.0"):
             yield cause, put(cards, k, card.written(fields=card.fields[:k2] + [near] + card.fields[k2 + 1:]))
     yield cause, None
+
+
+def of_step(cards, k, card):
+    """An address that is a number itself, and within a half-word: a word may hold it, or words were meant and not bits."""
+    name, (index, field) = free_name(cards, "VALUE"), card.fields
+    is_held = card.operation in IN_WORDS and "(" not in field
+    if is_held:
+        made = put(cards, k, card.written(IN_WORDS[card.operation], fields=[index, name]))
+        yield "a step of less than half a word", with_card(made, name, "XW,%s,0,0" % (negated(field) if card.operation == "V-I" else field))
+    meant = re.sub(r"^0\.(\d+)", r"\1.0", field)
+    if meant != field:
+        yield "a number of words written as bits", put(cards, k, card.written(fields=[index, meant]))
+    elif not is_held:
+        yield "the address of a half-word instruction", None
+
+
+def negated(expression):
+    """The expression with each sign turned round."""
+    signed = expression if expression[:1] in "+-" else "+" + expression
+    return signed.translate(str.maketrans("+-", "-+")).lstrip("+")
 
 
 def of_laid(cards, k, card, number):

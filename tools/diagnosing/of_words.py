@@ -2,8 +2,9 @@
 import difflib
 import re
 
-from .cards import Card, defined, end_of, put
+from .cards import Card, defined, end_of, is_statement, put
 from .knowledge import is_index
+from .odd_order import OF_INDEX, compared
 
 IMMEDIATE = re.compile(r"(LVI|LCI|LRI|V[+-]I|V[+]ICR?|KVI|KCI)$")     # the address itself is the operand
 
@@ -30,6 +31,13 @@ def of_comma(cards, k, fault, known):
 
 def of_word(cards, k, fault, known):
     card = Card(cards[k])
+    if is_glued(card, known) or any(of_long_name(cards, k, fault, known)):
+        return
+    if not card.operation and card.name:
+        behind = cards[k + 1] if k + 1 < len(cards) and is_statement(cards[k + 1]) and not Card(cards[k + 1]).name else None
+        made = cards[:k] + [card.front + behind[9:]] + cards[k + 2:] if behind else put(cards, k, card.front + "NOP")
+        yield "the empty word is no operation", made
+        return
     if card.operation.endswith("N") and card.operation[:-1] in known.operations:
         yield "only operations on a field have the letter N", put(cards, k, card.written(card.operation[:-1]))
     if card.operation in known.elsewhere:
@@ -39,6 +47,11 @@ def of_word(cards, k, fault, known):
     near = turned + difflib.get_close_matches(card.operation, known.operations, 4, 0.6)
     for name in [name for name in dict.fromkeys(near) if is_meant(name, card, cards, known)][:2]:
         yield "a misspelled operation", put(cards, k, card.written(name))
+
+
+def is_glued(card, known):
+    """Whether columns 2 to 9 end in the first letters of an operation: it begins left of its column."""
+    return " " not in card.text[8:10] and re.split("[(, ;]", card.text.strip())[0] in known.operations
 
 
 def is_meant(name, card, cards, known):
@@ -53,6 +66,14 @@ def is_register(name, fields, known):
     return IMMEDIATE.match(name) is not None and any(field in known.registers for field in fields[1:])
 
 
+def indicator_of(cards, tested):
+    """Of the indicators of a result and of a comparison the one that the last card before sets, or that of an index word."""
+    before = next((Card(text) for text in cards[::-1] if is_statement(text)), None)
+    result, equal = tested[0], tested[-1]
+    looks_at = compared(before) if before else set()
+    return "$X" + equal[2:] if looks_at == OF_INDEX else equal if looks_at else result
+
+
 def of_elsewhere(cards, k, card, known):
     """A word of another machine: what stands for it here, of an index word where the first field is one."""
     indexed = [name for name in known.elsewhere[card.operation] if known.wanted(name)[:1] == ["$Xj"]]
@@ -61,6 +82,8 @@ def of_elsewhere(cards, k, card, known):
     a_number = len(card.fields) > 1 and re.match(r"[0-9]", card.fields[1]) is not None
     names = sorted(names, key=lambda name: (IMMEDIATE.match(name) is not None) != a_number)
     for name in names:
-        fields = card.fields + ["1"] * (known.wanted(name)[len(card.fields):] == ["n"])
+        tested = re.findall(r"\$[RA](?:LZ|GZ|Z|L|E|H)\b", known.here[card.operation])
+        fields = [indicator_of(cards[:k], tested)] + card.fields if tested and len(card.fields) == 1 else card.fields
+        fields = fields + ["1"] * (known.wanted(name)[len(fields):] == ["n"])
         if not is_register(name, fields, known):
             yield "a word of another machine", put(cards, k, card.written(name, fields=fields))

@@ -63,10 +63,22 @@ def explained(cards, number, fault, known, slow, line=None):
     return "\n".join(out + (causes_shown(found[:SHOWN], cards, known) or examples_shown(text, fault, known)))
 
 
+def first_cause(cards, number, fault, known, slow):
+    """The likeliest cause in words, none where none was found."""
+    found = Trial(known, slow).causes(cards, number, fault)
+    return causes_told(found[0][0]) if found else ""
+
+
+def causes_told(rows):
+    return ". And ".join(row.text for row in rows)
+
+
 def wanted_shown(text, fault, known):
     card = Card(text) if text is not None and is_statement(text) else None
     if card and card.operation in known.operations and fault in ("BAD FIELD COUNT", "BAD INDEX", "BAD EXPRESSION"):
         return ["%s has %s." % (card.operation, known.operations[card.operation].said())]
+    if card and fault == "UNKNOWN OPERATION" and card.operation in known.here:
+        return ["%s is a word of other machines; here it is %s." % (card.operation, known.here[card.operation])]
     return []
 
 
@@ -81,10 +93,10 @@ def meaning_shown(rows, cards, made, known):
 def causes_shown(found, cards, known):
     out = []
     for n, (rows, made) in enumerate(found, 1):
-        out += ["", "%d. %s." % (n, ". And ".join(row.text for row in rows))]
+        out += ["", "%d. %s." % (n, causes_told(rows))]
         if made is not None:
             out += ["   With this the card is accepted:"] + list(change_shown(cards, made)) + meaning_shown(rows, cards, made, known)
-        else:
+        elif not rows[0].text.startswith(GUESSED):
             out.append("   Example: %s   Repair: %s" % (rows[0].example, rows[0].repair))
     return out
 

@@ -54,9 +54,11 @@ class Trial:
         return (int(found.group(1)), found.group(2)) if found else None
 
     def mended(self, before, after, more):
-        """Whether a repair that adds so many cards leads past the fault."""
+        """Whether a repair that adds so many cards leads past the fault, and the card has no other one."""
         if after is None:
             return True
+        if before[0] <= after[0] <= before[0] + max(0, more):
+            return False
         place = lambda at, fault: (self.known.rank.get(fault, 0), at)
         return place(*after) > place(before[0] + max(0, more), before[1])
 

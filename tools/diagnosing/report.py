@@ -2,10 +2,11 @@
 import re
 
 FIRST_REGISTER, INDICATORS, MASK, TABLE = 16, 11, 12, 2
+OP = 15                           # the indicator of no instruction
 
 
-class Laid:
-    """What a card laid: its number, its place in bits, and its bits as digits."""
+class Emitted:
+    """The bits of a card: its number, its place in bits, and its bits as digits."""
 
     def __init__(self, number, place, digits):
         self.number, self.place, self.digits = number, place, digits
@@ -13,10 +14,10 @@ class Laid:
 
 
 class Report:
-    """A report with a listing: what cards laid, interrupts, the end, and the last state."""
+    """A report with a listing: the bits of cards, interrupts, the end, and the last state."""
 
     def __init__(self, text):
-        self.laid = [Laid(int(line[:5]), bits_of(line[5:15]), line[16:32].strip()) for line in text.split("\n")
+        self.emitted = [Emitted(int(line[:5]), bits_of(line[5:15]), line[16:32].strip()) for line in text.split("\n")
                      if re.match(r" *\d+ +\d+\.\d+ [0-9A-F]+ ", line)]
         self.places = {name: bits_of(place) for name, place in re.findall(r"(?m)^SYM (\S+) (\d+\.\d+)$", text)}
         self.interrupts = [(int(n), int(after)) for n, after in re.findall(r"(?m)^INT (\d+) AFTER (\d+)$", text)]
@@ -50,9 +51,13 @@ class Report:
         """The count of an index word."""
         return self.word(FIRST_REGISTER + index) >> 18 & (1 << 18) - 1
 
+    def is_lost(self):
+        """Whether the run came to a word that spells no instruction, as its indicators and interrupts say."""
+        return OP in self.on() or any(n == OP for n, _ in self.interrupts)
+
     def is_behind(self):
-        """Whether the counter stands behind all that was laid."""
-        return bool(self.laid) and self.counter // 64 > max(one.word for one in self.laid)
+        """Whether the counter stands behind all bits of cards."""
+        return bool(self.emitted) and self.counter // 64 > max(one.word for one in self.emitted)
 
 
 def bits_of(address):

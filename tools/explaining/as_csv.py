@@ -36,6 +36,6 @@ def cells_of(row, text, names):
     because, quoted = row.because, '"%s"' % text.strip(" ").replace('"', '""')
     return [
         row.row, place(row.address), quoted, row.segment.number, opening(row.segment),
-        row.a, row.p, row.r, row.c, row.cost, row.ticks, row.alone, int(row.missed),
+        row.a, row.p, row.r, row.c, row.cost, row.ticks, row.alone, int(row.mispredicted),
         None if row.suppressed is None else names[row.suppressed], because and because.reason, because and because.row,
         row.level_wait, *(hows.count(how) for how in HOWS), *spent.values()]

@@ -31,7 +31,9 @@ class Json:
         state = self.state.add(row)
         if shown:
             self.entries.add(entry_of(row, text, self.names, state))
-        if row.ends:
+        if self.asked.is_part and not shown:
+            return
+        if row.ends or self.asked.is_part and row.row == self.asked.last:
             self.segments.add(segment_of(row.segment, text_of))
         for printed in row.prints:
             self.prints.add({"after_row": row.row, "tick": row.c, "text": printed})
@@ -41,7 +43,8 @@ class Json:
 
     def end(self, sums, ledger, other, at_once, deck):
         self.state.show()
-        start, totals = ledger.start, totals_of(sums, other, at_once)
+        start = ledger.start
+        totals = totals_of_long(sums, deck.text_of) if self.asked.is_part else totals_of(sums, other, at_once)
         head = {"levels": start.levels, "delays": start.delays, "end": ledger.end.kind, "totals": totals,
                 "snapshots": deck.snapshots, "first": self.state.shown}
         self.out.write(dumped(head)[:-1])
@@ -111,8 +114,8 @@ def segment_of(segment, text_of):
 
 
 def ahead_of(entry, text_of):
-    """An entry that was not done."""
-    return {
+    """An entry that was not done; None where a segment goes on behind the last row that is shown."""
+    return entry and {
         "address": place(entry.address), "text": text_of(entry).strip(" "), "card": entry.card,
         "a": entry.a, "p": entry.p, "r": entry.r, "serial": entry.alone, "writes": entry.writes,
         "uses": [use_of(use) for use in entry.uses], "index": change_of(entry.index),
@@ -121,12 +124,12 @@ def ahead_of(entry, text_of):
 
 def entry_of(row, text, names, state):
     because = row.because
-    early = row.index[0] if row.index else None
-    stored = [(w - 16, before, after) for w, before, after in row.words if 16 <= w < 32 and w - 16 != early]
+    changed = row.index[0] if row.index else None
+    stored = [(w - 16, before, after) for w, before, after in row.words if 16 <= w < 32 and w - 16 != changed]
     return {
         "row": row.row, "segment": row.segment.number, "address": place(row.address), "text": text.strip(" "),
         "card": row.card, "a": row.a, "p": row.p, "r": row.r, "c": row.c, "cost": row.cost,
-        "serial": row.alone, "table": row.table, "missed": row.missed,
+        "serial": row.alone, "table": row.table, "missed": row.mispredicted,
         "fault": None if row.suppressed is None else names[row.suppressed],
         "charges": [piece_of(piece) for piece in row.charges],
         "because": because and {name: getattr(because, name) for name in ("reason", "row", "tick", "late")},
@@ -163,11 +166,31 @@ def change_of(change):
 
 
 def totals_of(sums, other, at_once):
-    return {
-        "ticks": sums.ticks, "instructions": sums.rows, "dropped": sums.dropped, "wrong_guesses": sums.wrong_guesses,
-        "by_cause": sums.by_cause, "by_reason": sums.by_reason, "by_levels": sums.by_levels,
+    return summed(sums) | {
+        "by_levels": sums.by_levels,
         "by_address": [{"address": place(address), "text": text.strip(" "), "times": times, "by_cause": causes}
                        for address, text, times, causes in sums.by_address()],
-        "waited_for_level": {"rows": sums.level_wait_rows, "ticks": sums.level_wait_ticks},
-        "banks": sums.banks, "words": sums.words, "ticks_on_levels": other, "ticks_if_delays_were_one": at_once,
+        "waited_for_level": waited_for_level(sums), "banks": sums.banks, "words": sums.words,
+        "ticks_on_levels": other, "ticks_if_delays_were_one": at_once,
     }
+
+
+def totals_of_long(sums, text_of_card):
+    """Those of a run of which not all rows are read."""
+    unknown = dict.fromkeys(("by_levels", "by_address", "banks", "words", "ticks_on_levels", "ticks_if_delays_were_one"))
+    return summed(sums) | unknown | {
+        "by_card": [{"card": card or None, "text": text_of_card(card).strip(" "), "times": times, "by_cause": causes}
+                    for card, times, causes in sums.by_card()],
+        "waited_for_level": waited_for_level(sums),
+    }
+
+
+def summed(sums):
+    return {
+        "ticks": sums.ticks, "instructions": sums.rows, "dropped": sums.dropped, "wrong_guesses": sums.mispredicted,
+        "by_cause": sums.by_cause, "by_reason": sums.by_reason,
+    }
+
+
+def waited_for_level(sums):
+    return {"rows": sums.level_wait_rows, "ticks": sums.level_wait_ticks}

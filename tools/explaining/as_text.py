@@ -61,7 +61,10 @@ class Text:
         if self.asked.is_cut and sums.rows > last:
             rest = last + 1, sums.rows
             self.put(["", "rows %d to %d are not shown: ./explain text %d %d" % (rest + rest)])
-        self.put(totals(sums, self.start.levels, other, at_once, set(self.start.delays) != {1}))
+        if other is None:
+            self.put(totals_of_long(sums, self.start.levels, deck))
+        else:
+            self.put(totals(sums, self.start.levels, other, at_once, set(self.start.delays) != {1}))
 
     def put(self, lines):
         for line in lines:
@@ -100,7 +103,7 @@ class Text:
                 yield "word %d forwarded from row %d" % (use.word, use.row)
         if row.level_wait and not (row.because and row.because.reason == "level"):
             yield "prepared %d ticks later for want of a free level" % row.level_wait
-        if row.missed:
+        if row.mispredicted:
             yield "guessed wrongly"
         if row.suppressed is not None:
             yield "suppressed: $%s" % self.names[row.suppressed]
@@ -134,18 +137,10 @@ def waited_for(piece, row):
 
 def totals(sums, levels, other, at_once, slow):
     """The lines behind the rows; `other` are the ticks on one to eight levels, `at_once` those of reads of one tick."""
-    ticks, rows = sums.ticks, sums.rows
-    yield ""
-    each = rounded(100 * ticks, rows, 2)
-    yield "%d ticks, %d instructions, %s ticks an instruction, %d levels" % (ticks, rows, each, levels)
-    yield "%d dropped, %d wrong guesses, %d interrupts" % (sums.dropped, sums.wrong_guesses, sums.interrupts)
-    yield from bars("where the ticks went", sums.by_cause, ticks)
-    yield from reasons(sums)
+    yield from ticks_and_reasons(sums, levels)
     yield from places(sums)
-    yield from bars("levels in use", {str(k): n for k, n in enumerate(sums.by_levels)}, ticks)
-    if sums.level_wait_rows:
-        cells = sums.level_wait_rows, sums.level_wait_ticks
-        yield "  %d rows were prepared later for want of a free level, by %d ticks in all" % cells
+    yield from bars("levels in use", {str(k): n for k, n in enumerate(sums.by_levels)}, sums.ticks)
+    yield from level_waits(sums)
     yield from ["", "bank      reads     busy   waited for"]
     for bank in sums.banks:
         if bank["reads"]:
@@ -157,7 +152,32 @@ def totals(sums, levels, other, at_once, slow):
     yield "  levels  " + " ".join("%8d" % n for n in range(1, len(other) + 1))
     yield "  ticks   " + " ".join("%8d" % n for n in other)
     if slow:
-        yield "  %d ticks (%+d) if every read took one tick" % (at_once, at_once - ticks)
+        yield "  %d ticks (%+d) if every read took one tick" % (at_once, at_once - sums.ticks)
+
+
+def totals_of_long(sums, levels, deck):
+    """Those of a run of which not all rows are read."""
+    yield from ticks_and_reasons(sums, levels)
+    yield from level_waits(sums)
+    yield from cards(sums, deck)
+    yield from ["", "not shown of so long a run: instructions by address, levels in use, banks, reads, other machines",
+                "  (./explain --whole shows them too: it reads all rows, in some 45 seconds a million)"]
+
+
+def ticks_and_reasons(sums, levels):
+    ticks, rows = sums.ticks, sums.rows
+    yield ""
+    each = rounded(100 * ticks, rows, 2)
+    yield "%d ticks, %d instructions, %s ticks an instruction, %d levels" % (ticks, rows, each, levels)
+    yield "%d dropped, %d wrong guesses, %d interrupts" % (sums.dropped, sums.mispredicted, sums.interrupts)
+    yield from bars("where the ticks went", sums.by_cause, ticks)
+    yield from reasons(sums)
+
+
+def level_waits(sums):
+    if sums.level_wait_rows:
+        cells = sums.level_wait_rows, sums.level_wait_ticks
+        yield "  %d rows were prepared later for want of a free level, by %d ticks in all" % cells
 
 
 def rounded(whole, parts, digits):
@@ -188,9 +208,18 @@ def reasons(sums):
 def places(sums):
     yield from ["", "instructions with most ticks"]
     for address, text, times, causes in sums.by_address()[:MOST_PLACES]:
-        ticks = sum(causes.values())
-        waits = [cause for cause in CAUSES if cause != "executing" and causes.get(cause)]
-        most = max(waits, key=causes.get, default=None)
-        said = "" if most is None else "  %s %d" % (plain(most), causes[most])
-        cells = place(address), WIDE, text[:WIDE], times, ticks, share(ticks, sums.ticks), said
-        yield "  %9s %-*s %6d x %8d %s%s" % cells
+        yield spent_line(place(address), text, times, causes, sums.ticks)
+
+
+def cards(sums, deck):
+    yield from ["", "cards with most ticks"]
+    for card, times, causes in sums.by_card()[:MOST_PLACES]:
+        yield spent_line("card %d" % card if card else "", deck.text_of(card), times, causes, sums.ticks)
+
+
+def spent_line(where, text, times, causes, whole):
+    ticks = sum(causes.values())
+    waits = [cause for cause in CAUSES if cause != "executing" and causes.get(cause)]
+    most = max(waits, key=causes.get, default=None)
+    said = "" if most is None else "  %s %d" % (plain(most), causes[most])
+    return "  %9s %-*s %6d x %8d %s%s" % (where, WIDE, text[:WIDE], times, ticks, share(ticks, whole), said)

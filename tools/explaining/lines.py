@@ -8,12 +8,17 @@ PARTED = ("instruction", "index", "operand")        # stages whose ticks lines W
 REASONS = ("start", "serial", "store", "level", "forwarding", "bus", "prefetch", "order")
 # Of the first row of a segment, in place of `start`, by the words of the lines.
 SEGMENT_REASONS = {"RUN": "start", "INTERRUPT": "interrupt", "MISSED": "wrong_guess", "CARD": "card"}
+NOTED = [*SEGMENT_REASONS.values(), *REASONS[1:]]     # all reasons, in the order of their lines
 FETCHED = ("instruction", "following")      # reads by which a word is held
 REACH = 512                 # no read waits, or keeps a bank busy, for so many ticks
 
 
 class Off(Exception):
     """The lines are not those of a ledger, or do not add up."""
+
+
+class TooFewRows(Exception):
+    """A row refers to one before the first row of a part."""
 
 
 @dataclass(slots=True)
@@ -61,7 +66,7 @@ class Piece:
 
 
 @dataclass(slots=True)
-class Because:
+class StallCause:
     reason: str
     row: int
     tick: int
@@ -85,6 +90,7 @@ class Entry:
     uses: list = field(default_factory=list)
     writes: list = field(default_factory=list)
     index: tuple = None     # number, before, after
+    is_open: bool = False   # it refers to a row before the first one of a part
 
 
 @dataclass(slots=True)
@@ -92,10 +98,10 @@ class Row(Entry):
     c: int = None
     segment: object = None
     before: int = 0         # C of the row before
-    missed: bool = False
+    mispredicted: bool = False
     charges: list = field(default_factory=list)
     level_wait: int = 0
-    because: Because = None
+    because: StallCause = None
     ends: bool = False      # its segment ends with it
     counter: int = None
     enabled: bool = None    # where it has changed
@@ -162,14 +168,73 @@ def number(text):
     return None if text == "-" else int(text)
 
 
-class Ledger:
-    """The lines of a ledger, read one after another: `rows()` gives each row when all is read that belongs to it."""
+def check_sums(ticks, by_cause, by_reason, *more):
+    """Checks what holds of the totals of each run, and more pairs: whether it holds, and what is said where it does not."""
+    for holds, what in (
+        (sum(by_cause.values()) == ticks, "the charges do not add up to the ticks of the run"),
+        (sum(one["ticks"] for one in by_reason.values()) + by_cause["executing"] == ticks,
+         "the reasons do not add up to the ticks of the run"),
+        (all(0 <= one["late"] <= one["ticks"] for one in by_reason.values()), "a reason is late by more than its ticks"),
+        *more,
+    ):
+        if not holds:
+            raise Off(what)
 
-    def __init__(self, lines):
-        self.lines = lines
+
+class Frame:
+    """What a ledger and its sums say in equal lines: the machine before the first row, and the totals at the end."""
+
+    LINES = {}                          # what takes a line, by its first word
+
+    def take(self, words, line):
+        try:
+            self.LINES[words[0]](self, words, line)
+        except (AttributeError, IndexError, KeyError, TypeError, ValueError) as error:
+            raise Off("a line that means nothing there: %s" % line) from error
+
+    def __init__(self):
         self.start, self.end = Start(), End()
+        self.sums = self.end.sums       # those to which a line SUM belongs
+
+    def take_levels(self, words, line):
+        self.start.levels = int(words[1])
+
+    def take_delays(self, words, line):
+        self.start.delays += [int(delay) for delay in words[1:]]
+
+    def take_end(self, words, line):
+        self.end.kind = words[1].lower()
+
+    def take_done(self, words, line):
+        self.end.done = int(words[1])
+
+    def take_ticks(self, words, line):
+        self.end.ticks = int(words[1])
+
+    def take_sum(self, words, line):
+        self.sums["_".join(words[1:-1]).lower()] = int(words[-1])
+
+
+Frame.LINES = {
+    "LEVELS": Frame.take_levels, "DELAYS": Frame.take_delays, "END": Frame.take_end, "DONE": Frame.take_done, "TICKS": Frame.take_ticks,
+    "SUM": Frame.take_sum,
+}
+
+
+# The holder of a bank that a row before the first one of a part may have kept busy.
+UNKNOWN = (None, None, None)
+
+
+class Ledger(Frame):
+    """The lines of a ledger, read one after another: `rows()` gives each row when all is read that belongs to it. A part of a
+    ledger begins with the row `first`; rows that refer to earlier ones of their segment are then marked as open."""
+
+    def __init__(self, lines, first=1):
+        super().__init__()
+        self.lines = lines
         self.segment = self.row = self.entry = None
-        self.done = 0               # C of the row before
+        self.is_cut = first > 1     # rows of the segment are missing
+        self.done = None if self.is_cut else 0      # C of the row before
         self.reads = {}             # of the segment, by the tick at which they are accepted
         self.last = {}              # of the segment, the last read of each bank
         self.fetched = {}           # of the segment, the last read of each instruction word
@@ -180,10 +245,7 @@ class Ledger:
             name = words[0]
             if name in ("ROW", "END") or name == "SEGMENT" and words[2:3] == ["START"]:
                 yield from self.finished()
-            try:
-                LINES[name](self, words, line)
-            except (AttributeError, IndexError, KeyError, TypeError, ValueError) as error:
-                raise Off("a line that means nothing there: %s" % line) from error
+            self.take(words, line)
 
     def finished(self):
         if self.row is not None:
@@ -200,6 +262,7 @@ class Ledger:
             self.row.ends = True
             return
         indicator = int(words[8]) if words[7] == "INTERRUPT" else None
+        self.is_cut = self.is_cut and self.segment is None
         self.segment = Segment(int(words[1]), int(words[3]), words[5] == "1", SEGMENT_REASONS[words[7]], indicator)
         self.reads, self.last, self.fetched = {}, {}, {}
 
@@ -215,8 +278,8 @@ class Ledger:
 
     # ---- what is told of an entry
 
-    def take_missed(self, words, line):
-        self.row.missed = True
+    def take_mispredicted(self, words, line):
+        self.row.mispredicted = True
 
     def take_alone(self, words, line):
         self.entry.alone = words[1].lower()
@@ -239,16 +302,22 @@ class Ledger:
             self.note(use.read)
         elif use.how == "held":
             use.tick = int(words[5])
-            read = self.fetched.get(use.word)
+            read = self.found(self.fetched, use.word)
             # A read that is told of no one was made by the entry itself, which was begun and wanted it behind the end.
-            use.row = read.row if read and read.answer == use.tick else self.entry.row
+            use.row = read.row if read and read.answer == use.tick else None if self.entry.is_open else self.entry.row
         elif use.how == "forwarded":
             use.row, use.tick = int(words[5]), int(words[7])
         self.entry.uses.append(use)
 
+    def found(self, reads, key):
+        """A read that is kept. Where there is none, a row before the first one of a part may have made it."""
+        read = reads.get(key)
+        self.entry.is_open = self.entry.is_open or read is None and self.is_cut
+        return read
+
     def note(self, read):
         """Keeps a read for the waits of rows that come soon."""
-        read.holder = self.last.get(read.bank)
+        read.holder = self.last.get(read.bank, UNKNOWN if self.is_cut else None)
         self.last[read.bank] = read.row, read.word, read.kind
         if read.kind in FETCHED:
             self.fetched[read.word] = read
@@ -267,27 +336,32 @@ class Ledger:
 
     def take_charge(self, words, line):
         self.row.charges.append((Piece(int(words[1]), int(words[2]), words[3].lower()), []))
+        if self.row.before is None:         # the first row of a part
+            self.row.before = int(words[1])
 
     def take_wait(self, words, line):
         charge, waits = self.row.charges[-1]
         start, end, why = int(words[1]), int(words[2]), words[3].lower()
         piece = Piece(start, end, "%s_%s" % (charge.cause, why), int(words[5]))
+        waits.append(piece)
         read = self.waited_for(charge.cause, why, start, end, piece.word)
+        if self.row.is_open and read is None:
+            return
         piece.read = read.row, int(words[7]), int(words[9])
         if why == "turn":
             piece.kind = read.kind
         elif why == "bank":
             piece.holder = read.holder
-        waits.append(piece)
+            self.row.is_open = self.row.is_open or read.holder is UNKNOWN
 
     def waited_for(self, stage, why, start, end, word):
         """The read that was accepted at a tick, or that stood first, or that is on its way."""
         if why == "turn":
-            return self.reads[start]
+            return self.found(self.reads, start)
         if why == "bank":
-            return self.reads[end]
+            return self.found(self.reads, end)
         if stage == "instruction":
-            return self.fetched[word]
+            return self.found(self.fetched, word)
         reads = [use.read for use in self.row.uses if use.read]
         return [read for read in reads if read.word == word and read.answer == end][0]
 
@@ -299,10 +373,11 @@ class Ledger:
         if reason not in REASONS:
             raise ValueError(reason)
         if reason == "prefetch":
-            read = self.fetched[int(words[3])]
-            self.row.because = Because(reason, read.row, read.want, number(words[5]))
+            read = self.found(self.fetched, int(words[3]))
+            if read is not None or not self.row.is_open:
+                self.row.because = StallCause(reason, read.row, read.want, number(words[5]))
         else:
-            self.row.because = Because(reason, number(words[3]), int(words[5]), number(words[7]))
+            self.row.because = StallCause(reason, number(words[3]), int(words[5]), number(words[7]))
 
     # ---- the state, and the end
 
@@ -324,34 +399,14 @@ class Ledger:
     def take_interrupt(self, words, line):
         self.row.interrupt = int(words[1])
 
-    def take_levels(self, words, line):
-        self.start.levels = int(words[1])
 
-    def take_delays(self, words, line):
-        self.start.delays += [int(delay) for delay in words[1:]]
-
-    def take_end(self, words, line):
-        self.end.kind = words[1].lower()
-
-    def take_done(self, words, line):
-        self.end.done = int(words[1])
-
-    def take_ticks(self, words, line):
-        self.end.ticks = int(words[1])
-
-    def take_sum(self, words, line):
-        self.end.sums["_".join(words[1:-1]).lower()] = int(words[-1])
-
-
-LINES = {
-    "LEVELS": Ledger.take_levels, "DELAYS": Ledger.take_delays, "IC": Ledger.take_counter, "EN": Ledger.take_enabled,
-    "WORD": Ledger.take_word, "SEGMENT": Ledger.take_segment, "ROW": Ledger.take_row, "MISSED": Ledger.take_missed,
+Ledger.LINES = Frame.LINES | {
+    "IC": Ledger.take_counter, "EN": Ledger.take_enabled, "WORD": Ledger.take_word, "SEGMENT": Ledger.take_segment, "ROW": Ledger.take_row, "MISSED": Ledger.take_mispredicted,
     "ALONE": Ledger.take_alone, "SUPPRESSED": Ledger.take_suppressed, "LAID": Ledger.take_laid,
     "CODE": Ledger.take_code, "USE": Ledger.take_use, "WRITES": Ledger.take_writes, "INDEX": Ledger.take_index,
     "CHARGE": Ledger.take_charge, "WAIT": Ledger.take_wait, "LEVEL": Ledger.take_level,
     "BECAUSE": Ledger.take_because, "DROP": Ledger.take_drop, "BEGUN": Ledger.take_begun, "PRT": Ledger.take_print,
-    "INT": Ledger.take_interrupt, "END": Ledger.take_end, "DONE": Ledger.take_done, "TICKS": Ledger.take_ticks,
-    "SUM": Ledger.take_sum,
+    "INT": Ledger.take_interrupt,
 }
 
 

@@ -10,6 +10,7 @@ MOST_LEVELS = 8
 OWN = 4             # the levels of the machine of `run`
 NO_PROGRAM = 70
 JOB_LIMIT = 2_000_000       # bytes that a job may have
+BUDGET = 1000       # instructions of a job that asks for no other number
 
 
 class Stopped(Exception):
@@ -27,16 +28,16 @@ class Programs:
         self.stretch = stretch
         self.named = os.environ.get("LEDGER") or None
 
-    def lines(self, levels, job):
-        """The lines of the ledger of a job on a machine of so many levels."""
+    def lines(self, levels, job, *words):
+        """The lines of the ledger of a job on a machine of so many levels; the words ask for a part of it."""
         command = [self.named or os.path.join(HOME, "programs", "ledger")]      # where it is installed
         if not os.access(command[0], os.X_OK):
             command = ["sh", os.path.join(HOME, ".ci", "start"), "ledger"]
-        return lines_of(started([*command, str(levels)], job))
+        return lines_of(started([*command, str(levels), *map(str, words)], job))
 
     def ticks(self, levels, job):
         """The ticks of a run, by its ledger."""
-        return [int(line[6:]) for line in self.lines(levels, job) if line.startswith("TICKS ")][-1]
+        return [int(line[6:]) for line in self.lines(levels, job, "sums") if line.startswith("TICKS ")][-1]
 
     def start(self, words, job):
         if self.stretch is None:
@@ -97,6 +98,17 @@ class Deck:
     @property
     def has_reader_cards(self):
         return any(line[:1] != "/" for line in self.lines[self.end + 1:])
+
+    def text_of(self, card):
+        """The text of a card, without its comment; of card 0, which is none, that there is none."""
+        return self.lines[card - 1][1:72].split(";")[0].rstrip(" ") if card else "(no card)"
+
+    @property
+    def budget(self):
+        """The most instructions that the run can have, if the deck is not refused."""
+        words = [line[:72].split() for line in self.lines if line[:1] == "/"]
+        numbers = [word[1] for word in words if word[0] == "/BUDGET" and len(word) > 1]
+        return max((int(number) for number in numbers if number.isascii() and number.isdigit()), default=BUDGET)
 
     @property
     def snapshots(self):

@@ -1,5 +1,5 @@
 """The sums of a run, row after row (docs/explain.md): of causes, reasons, addresses, levels in use, banks and words."""
-from .lines import CAUSES, REASONS, SEGMENT_REASONS, Off
+from .lines import CAUSES, NOTED, Off, check_sums
 
 KINDS = ("instruction", "index", "operand", "following")
 BANKS = 6
@@ -7,10 +7,9 @@ BANKS = 6
 
 class Totals:
     def __init__(self, levels):
-        self.rows = self.dropped = self.wrong_guesses = self.interrupts = self.ticks = 0
+        self.rows = self.dropped = self.mispredicted = self.interrupts = self.ticks = 0
         self.by_cause = dict.fromkeys(CAUSES, 0)
-        reasons = [*SEGMENT_REASONS.values(), *REASONS[1:]]
-        self.by_reason = {reason: {"rows": 0, "ticks": 0, "late": 0} for reason in reasons}
+        self.by_reason = {reason: {"rows": 0, "ticks": 0, "late": 0} for reason in NOTED}
         self.places = {}                                # by half-word address: [text, times, ticks by cause]
         self.level_wait_rows = self.level_wait_ticks = 0
         self.banks = [{"bank": k, "reads": 0, "busy": 0, "waited": 0} for k in range(BANKS)]
@@ -22,7 +21,7 @@ class Totals:
         """Adds a row, with what is dropped behind it."""
         self.rows += 1
         self.ticks = row.c
-        self.wrong_guesses += row.missed
+        self.mispredicted += row.mispredicted
         self.interrupts += row.interrupt is not None
         self.add_place(row, text)
         for piece in row.charges:
@@ -76,22 +75,16 @@ class Totals:
         self.check(end)
 
     def check(self, end):
-        ticks, causes, reasons = end.ticks, self.by_cause, self.by_reason.values()
         stages = {}
-        for cause, spent in causes.items():
+        for cause, spent in self.by_cause.items():
             stages.setdefault(cause.split("_")[0], []).append(spent)
-        wanted = {stage: sum(spent) for stage, spent in stages.items()} | {c: n for c, n in causes.items() if "_" in c}
-        waited = sum(one["ticks"] for one in reasons)
-        for good, what in (
-            (self.ticks == ticks and self.rows == end.done, "the last row is not the end of the run"),
-            (sum(causes.values()) == ticks, "the charges do not add up to the ticks of the run"),
+        wanted = {stage: sum(spent) for stage, spent in stages.items()} | {c: n for c, n in self.by_cause.items() if "_" in c}
+        check_sums(
+            end.ticks, self.by_cause, self.by_reason,
+            (self.ticks == end.ticks and self.rows == end.done, "the last row is not the end of the run"),
             (end.sums == wanted, "the charges do not add up to the lines SUM"),
-            (waited + causes["executing"] == ticks, "the reasons do not add up to the ticks of the run"),
-            (all(0 <= one["late"] <= one["ticks"] for one in reasons), "a reason is late by more than its ticks"),
-            (sum(self.by_levels) == ticks, "the levels in use do not add up to the ticks of the run"),
-        ):
-            if not good:
-                raise Off(what)
+            (sum(self.by_levels) == end.ticks, "the levels in use do not add up to the ticks of the run"),
+        )
 
     def by_address(self):
         """(address, text, times, ticks by cause), most ticks first."""
