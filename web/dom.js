@@ -23,6 +23,14 @@ export function s(tag, attributes, ...children) {
   return fill(document.createElementNS(SVG, tag), attributes, children);
 }
 
+// A drawing of the build's own pages as an element. Its style sheet, which the page's policy would refuse, and its
+// patterns are left out.
+export function drawing(text, attributes) {
+  const plain = text.replace(/<(style|defs)>.*?<\/\1>/gs, '');
+  const svg = document.importNode(new DOMParser().parseFromString(plain, 'image/svg+xml').documentElement, true);
+  return fill(svg, attributes, []);
+}
+
 function hasSame(old, node) {
   const names = old.getAttributeNames();
   return old.nodeName === node.nodeName && names.length === node.getAttributeNames().length
@@ -53,9 +61,12 @@ export function place(box, nodes) {
   nodes.forEach((node, k) => { if (box.childNodes[k] !== node) box.insertBefore(node, box.childNodes[k] ?? null); });
 }
 
-// A table with a caption and heads, which is scrolled where it is wider than its room.
+// A table with a caption and heads, which is scrolled where it is wider than its room. A head stands as the column below
+// it.
 export function wideTable(kind, caption, names, rows) {
-  const head = h('thead', {}, h('tr', {}, names.map((name) => h('th', { scope: 'col' }, name))));
+  const isNumber = (k) => rows[0]?.children[k]?.classList.contains('number');
+  const head = h('thead', {}, h('tr', {}, names.map((name, k) => h('th', { scope: 'col', class: isNumber(k) && 'number' },
+    name))));
   return h('div', { class: 'wide-table' }, h('table', { class: kind }, h('caption', {}, caption), names.length ? head
     : null, h('tbody', {}, rows)));
 }

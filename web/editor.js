@@ -27,7 +27,7 @@ function type(field, text) {
 
 export class Editor {
   // `on` is told: `change(text, isTyped)`, `caret(card, column)`, `card(number)` of a click on a card's number,
-  // `run()`.
+  // `run()`; `isOperation(word)` is asked.
   constructor(box, on) {
     Object.assign(this, { box, on, lines: [''], end: 1, wrong: null, card: null, marks: new Map(), heat: new Map(),
       hottest: 1, capitals: true, leaves: false });
@@ -163,21 +163,31 @@ export class Editor {
     else if (key !== 'Tab') this.leaves = false;
   }
 
-  // To column 10, and behind an operation to every eighth from there.
+  // To column 10, and behind an operation to every eighth from there. A name that was typed in column 1 or 10, where a
+  // new card begins, goes to column 2.
   tabulate(event) {
     const { column, text } = this.caret();
     if (/^[*/]/.test(text) && column === 0) return;
     event.preventDefault();
     if (column >= STATEMENT && !text.slice(0, column).trim()) return;
+    const name = /^(?: {9,})?([A-Za-z][A-Za-z0-9]{0,7})$/.exec(text.slice(0, column))?.[1];
+    if (name && !this.on.isOperation(name.toUpperCase())) {
+      const at = this.field.selectionStart;
+      this.field.setSelectionRange(at - column, at);
+      type(this.field, ` ${name.padEnd(STATEMENT - 1)}`);
+      return;
+    }
     const stop = column < STATEMENT ? STATEMENT : STATEMENT + TAB * (Math.floor((column - STATEMENT) / TAB) + 1);
     type(this.field, ' '.repeat(stop - column));
   }
 
-  // Behind a statement the next card begins in column 10.
+  // Behind a statement the next card begins in column 10, also where blanks stand behind the caret.
   enter(event) {
     const { line, text, column } = this.caret();
     if (line >= this.end || text[0] === '*' || text[0] === '/' || column < STATEMENT) return;
     event.preventDefault();
+    const at = this.field.selectionStart;
+    this.field.setSelectionRange(at, at + /^ */.exec(text.slice(column))[0].length);
     type(this.field, `\n${' '.repeat(STATEMENT)}`);
     const below = (line + 3) * LINE - this.area.scrollTop - this.height;
     if (below > 0) this.area.scrollTop += below;
@@ -219,9 +229,10 @@ export class Editor {
   }
 
   // Puts the caret at a card, and scrolls to it.
-  goTo(card) {
+  goTo(card, isMarked = true) {
     const begin = this.lines.slice(0, card - 1).reduce((sum, line) => sum + line.length + 1, 0);
-    this.select(begin, begin + (this.lines[card - 1] ?? '').length);
+    const end = begin + (this.lines[card - 1] ?? '').length;
+    this.select(isMarked ? begin : end, end);
     this.show(card);
     this.where();
   }
@@ -322,7 +333,8 @@ export class Editor {
     const word = (column, text) => h('span', { class: 'part', style: `left:${x(column)}px` }, text);
     const tens = [10, 20, 30, 40, 50, 60, 70, 80].map((k) => h('span',
       { class: 'ten', style: `left:${x(k)}px;width:${this.letter}px` }, String(k)));
-    return [word(2, 'name'), word(11, 'statement'), word(READ + 1, 'unread'), ...tens,
+    // Words are in one line, and numbers in the line below.
+    return [word(2, 'name'), word(STATEMENT + 1, 'statement'), word(READ + 1, 'unread'), ...tens,
       h('i', { class: 'now', style: `left:${x(this.column + 1)}px;width:${this.letter}px` })];
   }
 }

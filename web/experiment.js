@@ -46,7 +46,7 @@ export class Experiment {
     }
     const ticks = [];
     for (const levels of LEVELS) ticks.push(Number(/^TICKS (\d+)$/m.exec(
-      await this.written('ledger', [String(levels)], text))[1]));
+      await this.written('ledger', [String(levels), 'sums'], text))[1]));
     return { ticks, calm: false };
   }
 

@@ -7,6 +7,8 @@ import { listed, plural } from './words.js';
 
 const SPELT = { ä: 'AE', ö: 'OE', ü: 'UE', ß: 'SS' };
 const BLANKS = ' '.repeat(STATEMENT);
+// The card END that a deck lacks: a run begins at START where a card has that name.
+const endCard = (lines) => `${BLANKS}END,${lines.some((one) => /^ START\b/.test(one)) ? 'START' : '32.0'}`;
 const MOST_OFFERED = 3;
 const MOST_TRIED = 28;
 const MOST_CAUSES = 10;
@@ -123,6 +125,8 @@ const DESCRIPTIONS = [
   ['a parenthesis', /(\([BD]U?(,\d+)*)(,[^)]*)?$/, '$1)$3'],
   ['(BU)', /\((BIN|BINARY|X|UB)([,)])/i, '(BU$2'],
   ['a byte of 8', /(\([BD]U?,\d+),\d+\)/, '$1)'],
+  ['V+I', /\(V\+[1L]\)/, '(V+I)'],
+  ['without the form', /^(.{9}(?:LVI|LCI|LRI|KVI|KCI|V[+-]I|V\+ICR?))\(IM\)/, '$1'],
 ];
 const FORMS = [
   ['a field of 64 bits', /\((BU?|DU?),\d+(,\d+)?\)/, '($1,64)'],
@@ -135,6 +139,7 @@ const FIELDS = [
   ['the index register first', /^(.{9}[A-Z+]+,)([^,]+),(\$X\d+)/, '$1$3,$2'],
   ['index register 1', /^(.{9}(?:L|S|V|K|CB)[A-Z+-]*,)(?=[^$])/, '$1$$X1,'],
   ['without the last comma', /, *$/, ''],
+  ['the number behind the address', /\((\$X\d+)([+-][$\w.+-]+)\)/, '$2($1)'],
   ['one card', /^(.{9}(?:RD|WR),[^,]+)$/, '$1,1'],
   ['a refill of 0', /^(.{9}XW,[^,]+,[^,]+)$/, '$1,0'],
   ['a count and a refill of 0', /^(.{9}XW,[^,]+)$/, '$1,0,0'],
@@ -142,6 +147,11 @@ const FIELDS = [
   ['a half-word', /(\d)\.\d+(?=\D*$)/, '$1.32'],
   ['a whole word', /(\d)\.\d+(?=\D*$)/, '$1.0'],
 ];
+
+// Operations whose address is a number itself, and those that take it from a word of storage.
+const IN_WORDS = { 'V+I': 'V+', 'V-I': 'V+', 'V+IC': 'V+C', LVI: 'LV', KVI: 'KV' };
+const IS_NUMBER = /^(LVI|LCI|LRI|V[+-]I|V[+]ICR?|KVI|KCI)$/;
+const IN_BITS = [['words and not bits', /,0\.(\d+)(?=\D*$)/, ',$1.0']];
 
 function changed(line, changes) {
   return changes.map(([what, pattern, made]) => [what, line.replace(pattern, made)]);
@@ -196,6 +206,36 @@ function withField(lines, line, { operations }) {
   return [[`a card for ${unknown[0]}`, [...lines.slice(0, end), card, ...lines.slice(end)], card]];
 }
 
+// The deck with a card in place of one, and one more before its end: [what was done, the deck, the first of these].
+function withCard(lines, card, what, made, more) {
+  const end = endOf(lines);
+  return end >= lines.length ? []
+    : [[what, [...lines.slice(0, card - 1), made, ...lines.slice(card, end), more, ...lines.slice(end)], made]];
+}
+
+function unusedName(lines, name) {
+  const names = namesOf(lines);
+  return [name, ...[2, 3, 4, 5, 6, 7, 8].map((n) => name + n)].find((one) => !names.includes(one)) ?? name;
+}
+
+// A number of less than half a word in a card of its own, and a second address with an index part behind a card B.
+function ofTwoCards(lines, card, fault) {
+  const line = lines[card - 1].toUpperCase();
+  const operation = operationOf(line);
+  const [, front, first, second] = /^(.{9}[^,]+),([^,;]+),([^,;]+?) *(?:;.*)?$/.exec(line) ?? [];
+  if (!second) return [];
+  if (fault === 'NOT ON A BOUNDARY' && IN_WORDS[operation] && /^[\d.]+$/.test(second)) {
+    const name = unusedName(lines, 'VALUE');
+    return withCard(lines, card, 'a card that holds it',
+      `${front.slice(0, STATEMENT)}${IN_WORDS[operation]},${first},${name}`,
+      ` ${name.padEnd(STATEMENT - 1)}XW,${operation === 'V-I' ? '-' : ''}${second},0,0`);
+  }
+  if (fault !== 'BAD INDEX' || !/^(SIC|B[BI][01][ZSV]?)$/.test(operation) || !/\(\$X\d+\)$/.test(second)) return [];
+  const name = unusedName(lines, 'JUMP');
+  return withCard(lines, card, 'a card B with the index part', `${front},${first},${name}`,
+    ` ${name.padEnd(STATEMENT - 1)}B,${second}`);
+}
+
 // A remark behind a statement without the ; that begins it.
 function ofRemarkBehind(line, isWhole) {
   const found = /^(.{9}\S+) +([^;\s].*)$/.exec(line);
@@ -239,7 +279,7 @@ const BY_FAULT = {
   'BAD FIELD COUNT': ofFields,
   'BAD EXPRESSION': ofFields,
   'BAD INDEX': ofFields,
-  'NOT ON A BOUNDARY': ofFields,
+  'NOT ON A BOUNDARY': (line) => changed(line, IS_NUMBER.test(operationOf(line)) ? IN_BITS : FIELDS),
   'BAD CONTROL CARD': ofControl,
   'CARD AFTER END': (line) => [['a / before it', `/${line.trim().toUpperCase()}`], ...ofRemark(line).slice(1)],
   'UNDEFINED SYMBOL': (line, knowledge, lines) => ofNames(line, lines),
@@ -275,10 +315,11 @@ function ofDeck(lines, card, fault, knowledge) {
   const others = lines.filter((_, k) => k !== card - 1);
   const end = others.findIndex((one) => !/^[*/]/.test(one) && operationOf(one) === 'END');
   if (fault === 'UNDEFINED SYMBOL') return withField(lines, line, knowledge);
+  if (fault === 'NOT ON A BOUNDARY' || fault === 'BAD INDEX') return ofTwoCards(lines, card, fault);
   if (fault === 'CARD AFTER END' && end >= 0) return [['before the END card',
     [...others.slice(0, end), line, ...others.slice(end)], line]];
   if (fault === 'BAD CONTROL CARD' && endOf(lines) >= card - 1) {
-    const last = `${BLANKS}END,32.0`;
+    const last = endCard(lines);
     const before = lines.slice(0, card - 1);
     return [['an END card before it', end < 0 ? [...before, last, ...lines.slice(card - 1)]
       : [...before, ...lines.slice(card - 1, endOf(lines) + 1).filter((one) => !one.startsWith('/')),
@@ -294,7 +335,7 @@ function ofDeck(lines, card, fault, knowledge) {
 // deck as the program says it.
 export async function repairs(text, { card, fault }, knowledge, refusalOf) {
   const lines = linesOf(text);
-  if (fault === 'NO END') return [['an END card', [...lines, `${BLANKS}END,32.0`, ''].join('\n'), `${BLANKS}END,32.0`]];
+  if (fault === 'NO END') return [['an END card', [...lines, endCard(lines), ''].join('\n'), endCard(lines)]];
   if (lines[card - 1] === undefined) return [];
   const cards = candidates(lines, card, fault, knowledge).map(([what, made]) =>
     [what, [...lines.slice(0, card - 1), made, ...lines.slice(card)], made]);
@@ -388,7 +429,7 @@ export function faultBox(fault, lines, knowledge, offers, goTo) {
     `Repair: ${what} `, h('code', {}, card.trim().slice(0, READ - STATEMENT)));
   const cause = (one) => h('li', {}, `${one.cause}: `, shown(one.example), ' → ', shown(one.repair));
   return [
-    h('p', { class: 'fault-line' }, h('button', { class: 'link', onclick: goTo }, `Card ${fault.card}`), says),
+    h('p', { class: 'fault-line' }, h('button', { class: 'link', onclick: goTo }, `Line ${fault.card}`), says),
     hintOf(fault, lines, knowledge),
     offers.length ? h('div', { class: 'repairs' }, offers.map(offer)) : null,
     causes.length ? h('details', {}, h('summary', {}, 'What it may be'), h('ul', {}, causes.map(cause))) : null,

@@ -9,7 +9,7 @@ const MOST = 8;                 // so many decks are kept; the oldest goes first
 const MOST_STORED = 400000;     // a longer deck is kept while the page is open
 const MOST_NAMED = 28;
 const LEAST = 20;               // fewer characters are no deck yet
-const MOST_SHOWN = 3;           // so many have a button of their own, and the others a menu
+const MOST_SHOWN = 1;           // so many have a button of their own, and the others a menu
 
 function newId() {
   return `${Date.now()} ${Math.random()}`;

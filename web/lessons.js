@@ -1,6 +1,6 @@
 // The lessons and pages of the manual, which the build has made HTML of. Each deck in them opens in the editor;
 // exercises are checked by runs.
-import { h } from './dom.js';
+import { drawing, h } from './dom.js';
 import { hintOf, judgeDeck, judgePrediction, predicted } from './exercises.js';
 import { addressWith } from './links.js';
 
@@ -9,7 +9,7 @@ export class Lessons {
   // view)`, `close()`, `print()` of the page that is open,
   // `run(deck)` for a report, `text()` for the deck in the editor.
   constructor(box, { pages, exercises, pictures }, on) {
-    Object.assign(this, { exercises, pictures, on, at: null, urls: new Map(), left: new Map(),
+    Object.assign(this, { exercises, pictures, on, at: null, left: new Map(),
       pages: new Map(pages.map((page) => [page.id, page])) });
     const options = (isLesson) => pages.filter((page) => page.lesson === isLesson)
       .map((page) => h('option', { value: page.id }, page.title));
@@ -82,8 +82,8 @@ export class Lessons {
     }
     // made by the build of the repository's pages alone: no card and no link is ever in it
     this.content.innerHTML = page.html;
-    for (const image of this.content.querySelectorAll('img[data-picture]')) image.src = this.picture(
-      image.dataset.picture);
+    for (const image of this.content.querySelectorAll('img[data-picture]')) image.replaceWith(
+      this.picture(image.dataset.picture, image.alt));
     for (const table of this.content.querySelectorAll('table')) {
       const room = h('div', { class: 'wide-table' });
       table.replaceWith(room);
@@ -95,10 +95,10 @@ export class Lessons {
     this.content.scrollTop = 0;
   }
 
-  picture(name) {
-    if (!this.urls.has(name)) this.urls.set(name, URL.createObjectURL(
-      new Blob([this.pictures[name]], { type: 'image/svg+xml' })));
-    return this.urls.get(name);
+  // A picture of the program chart. The style sheet of the page gives it the colours of the timetable.
+  picture(name, alt) {
+    return h('div', { class: 'picture-room', tabindex: '0', role: 'img', 'aria-label': alt },
+      drawing(this.pictures[name], { class: 'chart' }));
   }
 
   click(event) {
@@ -133,6 +133,10 @@ export class Lessons {
     const compare = async (event) => {
       event.preventDefault();
       const given = fields.map((field) => field.children[1].value);
+      if (given.every((text) => text.trim() === '')) {
+        verdict.replaceChildren('Write what you expect first.');
+        return;
+      }
       const [right, wanted] = [await judgePrediction(exercise, given, this.on.run),
         await predicted(exercise, this.on.run)];
       fields.forEach((field, k) => { field.className = right[k] === null ? '' : right[k] ? 'good' : 'bad'; });

@@ -2,6 +2,7 @@
 // is not set again, so that the browser lays out anew only what a step changes.
 import { h } from './dom.js';
 import { piecesOf } from './columns.js';
+import { plural } from './words.js';
 
 const HEAT = 38;            // pixels of the longest bar
 
@@ -51,7 +52,7 @@ export class Line {
       this.heat.replaceChildren();
       return;
     }
-    this.heat.title = `${ticks} ticks`;
+    this.heat.title = plural(ticks, 'tick');
     this.heat.replaceChildren(h('i', { style: `width:${Math.max(2, (HEAT * ticks) / hottest)}px` }),
       h('b', {}, ticks > 9999 ? `${Math.round(ticks / 1000)}k` : String(ticks)));
   }

@@ -1,6 +1,6 @@
 // What a deck gives: it is made plain and run, and its ledger is read, for one machine or for two.
-import { MOST_BYTES, READ, budgetOf, bytesOf, controlOf, delayCards, linesOf, withCards } from './decks.js';
-import { Plain, Refused, partsOf } from './plain.js';
+import { MOST_BYTES, budgetOf, bytesOf, controlOf, delayCards, linesOf, withCards } from './decks.js';
+import { Plain, Refused, retold } from './plain.js';
 import { Report } from './report.js';
 import { Run } from './read.js';
 import { faultOf } from './faults.js';
@@ -120,12 +120,13 @@ export class Live {
   async beside(text, plain, deck, levels, { beside, kept }, tell) {
     const [kind, value] = beside.split(' ');
     if (kind === 'levels') {
-      return { own: plural(levels, 'level'), label: plural(Number(value), 'level'),
+      return { own: `a machine of ${plural(levels, 'level')}`, label: `a machine of ${plural(Number(value), 'level')}`,
         ...await this.ledger(plain, deck, Number(value), tell) };
     }
     if (kind === 'delay') {
       const slow = withCards(deck, ['DELAYS'], delayCards([value]));
-      return { own: 'its own delays', label: `delay ${value}`, ...await this.ledger(plain, slow, levels, tell) };
+      return { own: 'the delays of the deck', label: `a delay of ${plural(Number(value), 'tick')}`,
+        ...await this.ledger(plain, slow, levels, tell) };
     }
     if (kept === null || kept === text) return null;
     const other = await this.plain(kept).catch(() => null);
@@ -143,19 +144,4 @@ function shortened(deck) {
   const most = ROWS + BEHIND;
   if (budgetOf(linesOf(deck)) <= most) return deck;
   return deck.split('\n').map((line) => (controlOf(line) === 'BUDGET' ? `/BUDGET ${most}` : line)).join('\n');
-}
-
-// A deck with conveniences is shown as it was written: lines for cards, and their own text.
-function retold(object, plain, lines) {
-  const texts = new Map();
-  for (const entry of [...object.entries, ...object.segments.flatMap((segment) =>
-      [...segment.dropped, segment.begun])]) {
-    if (!entry?.card) continue;
-    const [card, line] = [plain.cards[entry.card - 1], plain.lines[entry.card - 1]];
-    // Where its half-words are still those of its card, its text is that card's.
-    if (entry.text === card.slice(1, READ).split(';')[0].trim()) entry.text = partsOf(lines[line - 1])[0].trim();
-    entry.card = line;
-    texts.set(entry.address, entry.text);
-  }
-  for (const place of object.totals.by_address) place.text = texts.get(place.address) ?? place.text;
 }

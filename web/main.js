@@ -14,6 +14,7 @@ import { MOST_BYTES, bytesOf, linesOf } from './decks.js';
 import { grouped, plural } from './words.js';
 import { addressWith, packed, unpacked, wordsOf } from './links.js';
 import { registerOf } from './contents.js';
+import { wholeTables } from './where.js';
 
 const PAUSE = 90;               // milliseconds without a key before a run,
 const A_MOMENT = 1000;          // and one more for so many characters of the deck
@@ -22,12 +23,13 @@ const MOST_KEPT = 400000;       // a longer deck is not kept for the next time
 const MOST_LINK = 30000;
 const KEYS = { deck: 'stretch.deck', theme: 'stretch.theme', lesson: 'stretch.lesson', now: 'stretch.now' };
 const VIEWS = ['step', 'report', 'where', 'experiment', 'picture', 'listing', 'object'];
+const LONGER = 'The run is longer: the timetable is of its first rows, the report and the sums are of all of it.';
 const LATIN = new TextDecoder('latin1');
 // A deck to begin with.
 const NEW_DECK = '* A NEW DECK\n START   BEW\n         END,START\n';
 // The machines that can stand beside.
-const COMPARED = [...[1, 2, 4, 8].map((n) => [`levels ${n}`, plural(n, 'level')]),
-  ...[1, 4, 8, 20].map((n) => [`delay ${n}`, `delay ${n}`])];
+const COMPARED = [...[1, 2, 4, 8].map((n) => [`levels ${n}`, `with ${plural(n, 'level')}`]),
+  ...[1, 4, 8, 20].map((n) => [`delay ${n}`, `with delay ${n}`])];
 
 // What the browser keeps; where it keeps nothing the page works all the same.
 function storeOf(name) {
@@ -81,12 +83,15 @@ class App {
     Object.assign(this, { book, source, view: 'step', levels: 4, beside: '', keptDeck: null, turn: 0, times: {},
       typedAt: 0 });
     this.names = book.indicators.map((one) => one?.name ?? null);
-    this.programs = new Programs(byId('worker').textContent, { stretch: block('module-stretch'),
+    this.programs = new Programs(book.worker, { stretch: block('module-stretch'),
       ledger: block('module-ledger'), chart: block('module-chart') });
     [this.side, this.exam] = [new Runner(this.programs), new Runner(this.programs)];
     this.live = new Live(new Runner(this.programs), new Runner(this.programs), this.names);
     this.stepper = new Stepper(this.names, {
-      levels: (levels, next) => { if (this.view === 'step') this.editor.setLevels(levels, next); },
+      // The cards of a deck that does not run are not those of the last run.
+      levels: (levels, next) => {
+        if (this.view === 'step' && !document.body.classList.contains('stale')) this.editor.setLevels(levels, next);
+      },
       card: (card) => this.editor.choose(card),
       addressOf: (name) => this.views.symbols?.get(name), wordOf: (name) => registerOf(name)
         ?? this.views.wordOf(name), nameOf: (word) => this.views.nameOf(word),
@@ -97,6 +102,7 @@ class App {
     this.editor = new Editor(byId('editor'), {
       change: (text, isTyped) => this.changed(text, isTyped), run: () => this.go(),
       card: (card) => this.chooseCard(card),
+      isOperation: (word) => book.knowledge.operations.some(({ name }) => name === word),
       caret: (card, column) => byId('caret').replaceChildren(`card ${card}, column ${column}`),
     });
     this.kept = new Kept(byId('mine'), store, (text) => {
@@ -172,7 +178,7 @@ class App {
     save('save-picture', async () => (good() ? this.save('picture.svg', await this.views.pictureText(),
       'image/svg+xml') : this.say('This deck does not run yet.')));
     save('save-page', () => this.savePage());
-    save('print', () => print());
+    save('print', () => this.printRun());
   }
 
   tabs() {
@@ -205,7 +211,8 @@ class App {
       } else this.say();
       this.go();
     } }, h('option', { value: '' }, 'compare …'), h('option', { value: 'keep' }, 'with this deck'),
-    h('optgroup', { label: 'with a machine of' }, COMPARED.map(([value, text]) => h('option', { value }, text))));
+    h('optgroup', { label: 'this deck on another machine' }, COMPARED.map(([value, text]) => h('option', { value },
+      text))));
     this.stepper.more.append(levels, beside);
   }
 
@@ -226,6 +233,7 @@ class App {
     if (place === 'lesson' && !document.body.classList.contains('lesson')) this.lesson(this.lastLesson());
     this.editor.measure();
     this.stepper.fit();
+    this.showTab();
   }
 
   // The page that was read last, also over a visit.
@@ -298,11 +306,21 @@ class App {
     this.views.paint();
   }
 
+  // Says something above the rooms, until it is closed or something else is said.
   say(...what) {
-    byId('said').replaceChildren(...what);
+    const close = () => h('button', { class: 'quiet close', 'aria-label': 'close', title: 'close',
+      onclick: () => this.say() }, '✕');
+    byId('said').replaceChildren(...what, ...(what.length ? [close()] : []));
+  }
+
+  // The chosen tab is in sight, also where not all tabs are.
+  showTab() {
+    const [tabs, tab] = [byId('tabs'), byId(`tab-${this.view}`)];
+    tabs.scrollLeft = tab.offsetLeft - (tabs.clientWidth - tab.offsetWidth) / 2;
   }
 
   choose(view) {
+    if (view !== this.view) byId('right').scrollTop = 0;         // another view begins at its beginning
     this.view = view;
     for (const tab of document.querySelectorAll('#tabs [role=tab]')) {
       const isOn = tab.dataset.view === view;
@@ -310,6 +328,7 @@ class App {
       tab.tabIndex = isOn ? 0 : -1;
       byId(`view-${tab.dataset.view}`).hidden = !isOn;
     }
+    this.showTab();
     if (view !== 'step') this.editor.setLevels([], null);
     this.views.show(view);
   }
@@ -395,6 +414,8 @@ class App {
       this.kept.typed(text);
       this.leaveLink();
     }
+    // A repair is of the deck that was refused: it would undo what is typed since.
+    for (const one of byId('fault').querySelectorAll('.repairs button')) one.disabled = true;
     this.typedAt = performance.now();
     if (this.openedAt && this.typedAt - this.openedAt > 8000) {
       this.openedAt = 0;
@@ -410,6 +431,7 @@ class App {
     this.slow = setTimeout(() => {
       document.body.classList.add('busy');
       this.old('This deck still runs.');
+      this.noFault();
       this.state('', 'runs …');
     }, SLOW);
   }
@@ -492,6 +514,7 @@ class App {
     this.editor.setLevels([], null);
     document.body.classList.toggle('empty', !isThere);
     document.body.classList.toggle('stale', isThere);
+    if (byId('said').textContent.startsWith(LONGER)) this.say();
     byId('nothing').replaceChildren(`${why} ${isThere ? 'Below is the last deck that ran.' : ''}`);
   }
 
@@ -508,21 +531,28 @@ class App {
     const card = Math.min(line, this.editor.lines.length);
     this.old('This deck does not run yet.');
     this.editor.fault(line);
-    this.state('bad', message ? `Card ${line} can not be read` : `Card ${line} is refused: ${fault}`);
+    this.state('bad', message ? `Line ${line} cannot be read` : `Line ${line} is refused: ${fault}`);
     const refusal = { card: line, fault: message ?? fault };
     const shown = (offers) => byId('fault').replaceChildren(...faultBox(refusal, linesOf(text), this.book.knowledge,
       offers, () => this.editor.goTo(card)));
     shown([]);
     const offers = await repairs(text, refusal, this.book.knowledge, (deck) => this.live.refusalOf(deck, this.side));
     if (turn === this.turn && offers.length) shown(offers.map(([what, deck, made]) =>
-      ({ what, card: made, act: () => this.editor.set(deck, { undo: true }) })));
+      ({ what, card: made, act: () => {
+        this.editor.set(deck, { undo: true });
+        this.editor.goTo(card, false);
+      } })));
+  }
+
+  noFault() {
+    byId('fault').replaceChildren();
+    this.editor.fault(null);
   }
 
   done({ runs, report, isCut }) {
     document.body.classList.remove('empty', 'stale');
     byId('nothing').replaceChildren();
-    byId('fault').replaceChildren();
-    this.editor.fault(null);
+    this.noFault();
     const [run] = runs;
     const { totals, data } = run;
     const isWait = report.kind === 'WAIT';
@@ -535,9 +565,10 @@ class App {
       data.interrupts.length ? plural(data.interrupts.length, 'interrupt') : null, totals.dropped
         ? `${grouped(totals.dropped)} dropped` : null, isCut || beside >= totals.ticks ? null
         : `${plural(totals.ticks - beside, 'tick')} of instructions that begin at no card`].filter(Boolean);
-    this.state(isWait ? 'good' : 'warn', h('b', {}, isWait ? 'Ended in a wait' : 'Ended by its budget'),
+    this.state(isWait ? 'good' : 'warn', h('b', {}, isWait ? 'Ended in a wait:' : 'Ended by its budget:'),
       ` ${facts.join(', ')}`);
-    if (isCut) this.say('The run is longer: timetable and sums are of its first rows, the report is of all of it.');
+    if (isCut) this.say(LONGER);
+    else if (byId('said').textContent.startsWith(LONGER)) this.say();
     this.left(run, report.kind === 'BUDGET');
     this.editor.setHeat(heat);
     this.views.fresh();
@@ -628,9 +659,10 @@ class App {
     const first = h('button', { onclick: () => this.lesson('lesson-1') }, 'Lesson 1');
     this.say(
       h('span', {},
-        'The IBM 7030 Stretch of 1961 works on several instructions at once. At the left is a deck of '
-        + 'cards, a program; at the right, what became of it in each tick. '
-      + 'Change a card, and it runs; or begin with ', first));
+        'The IBM 7030 Stretch of 1961 works on several instructions at once. '
+        + (byId('places').checkVisibility() ? 'Here is a deck of cards, a program; Result below shows '
+          : 'At the left is a deck of cards, a program; at the right, ')
+        + 'what became of it in each tick. Change a card, and it runs; or begin with ', first));
   }
 
   // Prints the page of the lessons that is open; print.css then leaves out all else.
@@ -639,13 +671,23 @@ class App {
     print();
   }
 
+  // Prints the run, of a long one with the totals of all rows.
+  async printRun() {
+    const made = this.live.isCurrent ? this.live.made : null;
+    if (made?.isCut) made.whole ??= await this.views.wholeTotals(made);
+    print();
+  }
+
   // What is printed of the run.
   paper() {
     if (document.body.classList.contains('prints-lesson')) return;
     const made = this.live.isCurrent ? this.live.made : null;
+    if (made) this.views.show('step');        // the timetable of this run, also where another view is in sight
     const runs = made ? this.stepper.runs : [];
+    const notes = [byId('state').textContent, ...(made?.isCut ? [LONGER] : [])];
+    const whole = made?.whole ? wholeTables(runs[0], made.whole, { cause() {}, card() {} }) : [];
     fillPaper(byId('paper'), { title: titleOf(linesOf(this.editor.text)), runs, stepper: this.stepper,
-      deck: linesOf(this.editor.text), report: made?.report.lines, notes: [byId('state').textContent] });
+      deck: linesOf(this.editor.text), report: made?.report.lines, notes, whole });
   }
 
   async begin() {
@@ -672,6 +714,7 @@ class App {
 
 const theme = store.get(KEYS.theme);
 if (theme === 'dark' || theme === 'light') document.documentElement.dataset.theme = theme;
+document.currentScript.remove();        // start.js has put it in, and a page that is saved has it compressed
 const source = document.documentElement.outerHTML;
 unzipped(block('book')).then((text) => {
   window.app = new App(JSON.parse(text), source);

@@ -22,8 +22,12 @@ TOP = HERE.parent
 PROGRAMS = ("stretch", "ledger", "chart")
 KEPT_PROVED = HERE / "out" / "proved"
 KEPT = 2
-FLAGS = ["--target=wasm64-unknown-unknown", "-O2", "-ffreestanding", "-fno-builtin", "-mbulk-memory", "-msign-ext",
+FLAGS = ["--target=wasm64-unknown-unknown", "-ffreestanding", "-fno-builtin", "-mbulk-memory", "-msign-ext",
     "-mnontrapping-fptoint", "-Wno-override-module"]
+# The machine runs millions of instructions. -O3 makes the ledger's module half as large again, and no quicker.
+LEVELS = {"stretch": "-O3", "ledger": "-O2", "chart": "-O2"}
+# The crates of which the code is made small in place of quick: those that read the words of a command.
+SMALL = ("clap", "indexmap", "memchr", "strsim")
 LINK = ["-flavor", "wasm", "-mwasm64", "--no-entry", "--export=run", "--export-memory", "--gc-sections", "--strip-all",
     "-z", "stack-size=1048576"]
 FEATURES = ["--enable-memory64", "--enable-bulk-memory", "--enable-sign-ext", "--enable-nontrapping-float-to-int"]
@@ -68,12 +72,23 @@ def sources_sum():
     return hashlib.sha256("".join(f"{digest}  {name}\n" for name, digest in lines).encode()).hexdigest()
 
 
-def compiled(code, kit, room, out):
-    """The module of what the kit compiles, which is the file `code`."""
+def small(code, room):
+    """The words by which clang makes the functions of some crates small: a file that names each. A name with a comma
+    can't stand in it."""
+    functions, marks = room / "functions.txt", room / "small.csv"
+    unproved().write_functions(code, functions)
+    names = [name for name in functions.read_text().splitlines() if name.split("::")[0] in SMALL and "," not in name]
+    marks.write_text("".join(f"{name},{mark}\n" for name in names for mark in ("optsize", "minsize")))
+    return ["-mllvm", f"-forceattrs-csv-path={marks}"]
+
+
+def compiled(name, code, kit, room, out):
+    """The module of a program, of what the kit compiles, which is the file `code`."""
     clang, linker = kit / "toolchain/bin/clang", kit / "toolchain/bin/ld.lld"
     shutil.copyfile(code, room / "module.bc")
-    tool(clang, *FLAGS, "-c", room / "module.bc", "-o", room / "module.o")
-    tool(clang, *FLAGS, "-c", HERE / "shim.c", "-o", room / "shim.o")
+    flags = [LEVELS[name], *FLAGS]
+    tool(clang, *flags, *small(room / "module.bc", room), "-c", room / "module.bc", "-o", room / "module.o")
+    tool(clang, *flags, "-c", HERE / "shim.c", "-o", room / "shim.o")
     tool(linker, *LINK, room / "module.o", room / "shim.o", "-o", room / "linked.wasm")
     linked = (room / "linked.wasm").read_bytes()
     if linked.count(TABLE) != 1:
@@ -110,7 +125,7 @@ def one(name, kit, proved, sums, folder):
             if not code.exists():
                 raise Failed(f"the kit made no module of {name}: {said}")
             code = code.rename(room / "unproved.bc")
-        compiled(code, kit, room, kept)
+        compiled(name, code, kit, room, kept)
     for old in sorted(folder.glob(f"{name}-*.wasm"), key=lambda path: path.stat().st_mtime, reverse=True)[KEPT:]:
         old.unlink(missing_ok=True)
     return kept

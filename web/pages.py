@@ -268,7 +268,8 @@ def page(name, known, pictures):
     made, found = ANSWERS.subn("<p>At each exercise you find its answer, once you have tried it.</p>", made)
     if found != name.startswith("lessons/"):
         raise Failed(f"{name}: the sentence about its answers is not found as it is known here")
-    made = made.replace("<td><code>*", '<td><code class="wraps">*')          # a comment card may be long
+    # A comment card may be long, and a line of a report.
+    made = re.sub(r"<td><code>(?=\*|[^ <][^<]{27})", '<td><code class="wraps">', made)
     made = linked(made, name, known, pictures)
     made = re.sub(r"<(h[23])>(.*?)</\1>", lambda found: f'<{found[1]} id="{anchor(found[2])}">{found[2]}</{found[1]}>',
         made)

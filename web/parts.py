@@ -5,6 +5,7 @@ A module becomes a function that gives what it exports, and takes what it import
 whole machine (web/build) and that of one run (tools/page) are made of the same modules.
 """
 import base64
+import gzip
 import hashlib
 import json
 import pathlib
@@ -82,19 +83,24 @@ def digest(text):
     return "sha256-" + base64.b64encode(hashlib.sha256(text.encode()).digest()).decode()
 
 
+def packed(content):
+    """Bytes, compressed, as letters."""
+    return base64.b64encode(gzip.compress(content, 9, mtime=0)).decode()
+
+
 def style(names):
-    """Style sheets as one, with a rule by which each cause that is chosen fades the others."""
+    """Style sheets as one, with a rule by which each cause that is chosen fades the others, but not their names."""
     text = "\n" + "".join(map(read, names))
     causes = re.findall(r"^  \['(\w+)', ", read("words.js"), re.M)
-    return text.replace("@FADED@", ",\n".join(f'body[data-cause="{cause}"] [data-cause]:not([data-cause="{cause}"])'
+    return text.replace("@FADED@", ",\n".join(f'body[data-cause="{cause}"] [data-cause]:not([data-cause="{cause}"], .name)'
         for cause in causes))
 
 
 def page(template, script, styles, more, made=()):
     """A template with a script, which begins with a module, style sheets, and more parts. They are put in at once, so
-    that no mark in a part is replaced."""
-    code, css = bundle(script, dict(made)), style(styles)
-    parts = {"HASH": digest(code), "STYLEHASH": digest(css), "STYLE": css, "SCRIPT": code,
-        "PATTERNS": read("patterns.svg"), **more}
+    that no mark in a part is replaced. A template may have the script compressed, with one that puts it in."""
+    code, css, start = bundle(script, dict(made)), style(styles), "\n" + read("start.js")
+    parts = {"HASH": digest(code), "STYLEHASH": digest(css), "STARTHASH": digest(start), "STYLE": css, "SCRIPT": code,
+        "PACKED": packed(code.encode()), "START": start, "PATTERNS": read("patterns.svg"), **more}
     pieces = re.split("@(" + "|".join(parts) + ")@", read(template))
     return "".join(parts[piece] if k % 2 else piece for k, piece in enumerate(pieces))

@@ -108,7 +108,7 @@ function numbersOfText(item, length, number) {
 }
 
 // The statements for a DD: one a number. A DD with one plain number is itself.
-function laid(statement, number) {
+function plainNumbers(statement, number) {
   const found = /^(\s*D\s*D\s*(\([^)]*\))?\s*),(.*)$/.exec(statement);
   if (!found) return [statement];
   const [, front, form, rest] = found;
@@ -139,13 +139,13 @@ function statementCards(line, number) {
   const whole = card.includes('\t') ? columns(card, number) : card;
   const name = upper(whole.slice(0, STATEMENT));
   if (name[0] >= 'A' && name[0] <= 'Z') throw new Refused(number,
-    'column 1 is blank: a name begins in column 2, or stands before a tabulator');
+    'column 1 holds a letter, and must be blank: a name begins in column 2, or stands before a tabulator');
   const [body, comment] = partsOf(whole.slice(STATEMENT));
   if (operationOf(whole) === 'DD' && body.replace(/'(?:[^']|'')*'/g, '').includes("'")) {
     throw new Refused(number, tail.trim() ? 'the text goes past column 72: part it into two'
       : "the text has no ' at its end");
   }
-  const bodies = laid(decimal(body), number);
+  const bodies = plainNumbers(decimal(body), number);
   if (comment) bodies[0] = bodies[0].padEnd(body.length);
   const cards = [name + bodies[0] + comment, ...bodies.slice(1).map((one) => ' '.repeat(STATEMENT) + one)];
   if (cards.length === 1 && cards[0] === card) return [card + tail];
@@ -229,4 +229,19 @@ export class Plain {
       return (has ? card.trimEnd().padEnd(READ) + String(this.lines[k]).padStart(LAST - READ) : card) + this.ends[k];
     }).join('');
   }
+}
+
+// The object of a run shows a deck with conveniences as it was written: lines for cards, and their own text.
+export function retold(object, plain, lines) {
+  const texts = new Map();
+  for (const entry of [...object.entries, ...object.segments.flatMap((segment) =>
+      [...segment.dropped, segment.begun])]) {
+    if (!entry?.card) continue;
+    const [card, line] = [plain.cards[entry.card - 1], plain.lines[entry.card - 1]];
+    // Where its half-words are still those of its card, its text is that card's.
+    if (entry.text === card.slice(1, READ).split(';')[0].trim()) entry.text = partsOf(lines[line - 1])[0].trim();
+    entry.card = line;
+    texts.set(entry.address, entry.text);
+  }
+  for (const place of object.totals.by_address) place.text = texts.get(place.address) ?? place.text;
 }

@@ -264,6 +264,11 @@ export class Run {
     return waiting;
   }
 
+  // How many lines the printer has printed by a tick.
+  printed(t) {
+    return countWhile(this.data.prints, (one) => one.tick <= t);
+  }
+
   // What the tick t was spent on.
   charge(t) {
     const charge = this.charges[countWhile(this.charges, (one) => one.to < t)];

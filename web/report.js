@@ -120,9 +120,10 @@ const SAYS = {
     : 'interrupts are disabled'),
     DONE: (w) => `${plural(Number(w[1]), 'instruction')} ${w[1] === '1' ? 'was' : 'were'} done`,
   END: (w) => (w[1] === 'WAIT' ? 'the machine waits, and nothing is left that could wake it'
-    : 'the budget of instructions is used up'), TICKS: (w) => `the last completion was at tick ${w[1]}`,
+    : 'the budget of instructions is used up: a loop may not end, or /BUDGET is too small'),
+  TICKS: (w) => `the last completion was at tick ${w[1]}`,
   TIME: (w) => `at tick ${w[1]}`, PRT: () => 'the printer prints',
-  BACK: (w) => `the state ${w[1]} instructions before the end`, DUMP: () =>
+  BACK: (w) => `the state ${plural(Number(w[1]), 'instruction')} before the end`, DUMP: () =>
     'words that were asked for; those that are zero are not shown',
   SNAP: (w) => `the clock stands at ${w[1]}: ${w[3]} done, ${w[5]} entries ahead`,
   TRC: (w) => `instruction ${w[1]} is done, at ${w[2]}`, SYM: () => 'a name and its address',

@@ -8,7 +8,10 @@ import { REASONS, causeName, plural } from './words.js';
 const LINE = 22;
 const AXIS = 24;
 const BAR = 12;
+const EDGE = 99;            // so far to the left the cursor is out of sight
 const LETTER = 7.4;
+const MARGIN = 8;
+const MISSED = 'guessed wrongly';
 const TELL = 200;           // milliseconds before rows that come into view are listed in words
 // No element of a page may be longer than this in some browsers.
 const MOST = 15000000;
@@ -35,10 +38,30 @@ function linesOf(run) {
   return lines;
 }
 
+// Where numbers and addresses of rows end, and where their texts begin: as far left as the longest of them lets them.
+function edgesOf(lines) {
+  let [numbers, addresses] = ['drop'.length, 1];
+  for (const { entry } of lines) {
+    if (!entry) continue;
+    numbers = Math.max(numbers, String(entry.row ?? '').length);
+    addresses = Math.max(addresses, entry.address.length);
+  }
+  const number = MARGIN + Math.ceil(numbers * LETTER);
+  const address = number + 1.5 * MARGIN + Math.ceil(addresses * LETTER);
+  return { number, address, text: address + MARGIN };
+}
+
+// A text that is too long for its room ends in an ellipsis.
+function fitted(text, room) {
+  const most = Math.max(1, Math.floor(room / LETTER));
+  return text.length > most ? `${text.slice(0, most - 1)}…` : text;
+}
+
 export class Timetable {
   constructor(run, app, last) {
     Object.assign(this, { run, app, first: run.first, last });
     this.lines = linesOf(run);
+    this.edges = edgesOf(this.lines);
     this.build();
     this.svg = s('svg', { class: 'rows', 'aria-hidden': 'true' }, this.parts, this.cursor);
     this.size = h('div', { class: 'size' });
@@ -162,8 +185,7 @@ export class Timetable {
     const from = Math.floor(scrollTop / LINE);
     const to = Math.min(this.lines.length, Math.ceil((scrollTop + height - AXIS) / LINE));
     const cursor = this.x(this.app.tickOf(this.run));
-    this.cursor.setAttribute('d', cursor >= this.app.left - 1
-      ? `M${cursor - 1} ${AXIS - 4}h2V${height}h-2z M${cursor - 5} ${AXIS - 9}h10l-5 6z` : '');
+    this.cursor.style.transform = `translateX(${cursor >= this.app.left - 1 ? cursor : -EDGE}px)`;
     this.fill(from, to);
     this.tell(from, to);
   }
@@ -203,6 +225,7 @@ export class Timetable {
     const { width, height } = this;
     for (const [name, value] of [['width', width], ['height', height],
       ['viewBox', `0 0 ${width} ${height}`]]) this.svg.setAttribute(name, value);
+    this.cursor.setAttribute('d', `M-1 ${AXIS - 4}h2V${height}h-2z M-5 ${AXIS - 9}h10l-5 6z`);
     this.below.setAttribute('width', this.app.left);
     this.below.setAttribute('height', height);
     this.above.setAttribute('width', width);
@@ -235,10 +258,11 @@ export class Timetable {
       height: LINE });
   }
 
-  // The step between two numbers of the axis.
+  // The step between two numbers of the axis, which do not touch.
   step() {
+    const least = Math.max(44, String(this.last).length * LETTER + 12);
     let step = 1;
-    for (let k = 0; step * this.scale < 44; k += 1) step *= k % 3 === 1 ? 2.5 : 2;
+    for (let k = 0; step * this.scale < least; k += 1) step *= k % 3 === 1 ? 2.5 : 2;
     return Math.max(1, Math.round(step));
   }
 
@@ -256,7 +280,9 @@ export class Timetable {
   }
 
   axisTexts() {
-    return [...this.shown()].map((t) => s('text', { x: this.x(t), y: 16, 'text-anchor': 'middle' }, String(t)));
+    // No number is cut at the edge.
+    return [...this.shown()].filter((t) => this.x(t) + String(t).length * LETTER / 2 <= this.width)
+      .map((t) => s('text', { x: this.x(t), y: 16, 'text-anchor': 'middle' }, String(t)));
   }
 
   // A rectangle of the ticks (from, to], where any of it is seen.
@@ -279,15 +305,18 @@ export class Timetable {
     return [ready, this.piece(entry.p, entry.r, 3, BAR, 'f-operand_storage'),
       this.piece(entry.r, begins, 3.5, BAR - 1, 'turn'), this.piece(begins, entry.c, 3, BAR, 'f-executing'),
       ...entry.charges.map(({ from, to, cause }) => this.piece(from, to, 16, 4, `f-${cause}`, { 'data-cause': cause })),
-      entry.missed && this.x(entry.c) >= this.app.left ? this.missed(entry) : null];
+      entry.missed && this.x(entry.c) >= this.app.left ? this.wrongGuess(entry, Math.min(earlier,
+        entry.charges[0]?.from ?? entry.p)) : null];
   }
 
-  // What is said of a wrong guess: after its bar, or before it where the drawing ends.
-  missed(entry) {
-    const x = this.x(entry.c);
-    const fits = x + 6 + 'guessed wrongly'.length * LETTER <= this.width;
-    const place = fits ? { x: x + 6 } : { x: this.x(entry.p) - 6, 'text-anchor': 'end' };
-    return s('text', { class: 'event', y: 14, ...place }, 'guessed wrongly');
+  // What is said of a wrong guess: after its bar, or before all that is drawn of it, or a cross, where there is room.
+  wrongGuess(entry, first) {
+    const [before, after] = [this.x(first) - 6, this.x(entry.c) + 6];
+    if (before > this.width) return null;
+    const text = (what, place) => s('text', { class: 'event', y: 14, ...place }, what);
+    if (after + MISSED.length * LETTER <= this.width) return text(MISSED, { x: after });
+    if (before - MISSED.length * LETTER >= this.app.left) return text(MISSED, { x: before, 'text-anchor': 'end' });
+    return after + LETTER <= this.width ? text('✗', { x: after }) : null;
   }
 
   // What stands at the left of a line, from its upper edge on.
@@ -298,10 +327,10 @@ export class Timetable {
       return s('text', { class: 'event', x: 8, y: 15 },
         `interrupt ${interrupt.indicator}${left > 250 ? `${name} at ${interrupt.tick}` : name}`);
     }
-    const x = 96;
-    const text = (entry.text || '').replace(/\s+/g, ' ').slice(0, Math.floor((left - x - 12) / LETTER));
-    return [s('text', { x: 40, y: 15, 'text-anchor': 'end' }, entry.dropped ? 'drop' : String(entry.row)),
-      s('text', { x, y: 15, 'text-anchor': 'end' }, entry.address), s('text', { x: x + 8, y: 15 }, text)];
+    const { number, address, text } = this.edges;
+    return [s('text', { x: number, y: 15, 'text-anchor': 'end' }, entry.dropped ? 'drop' : String(entry.row)),
+      s('text', { x: address, y: 15, 'text-anchor': 'end' }, entry.address),
+      s('text', { x: text, y: 15 }, fitted((entry.text || '').replace(/\s+/g, ' '), left - text - 6))];
   }
 }
 
@@ -312,30 +341,51 @@ function ticksOf({ entry, interrupt }) {
   return [entry.charges?.[0]?.from ?? entry.a, entry.dropped ? entry.end : entry.c];
 }
 
-// The timetable of a run for paper: pictures of some lines each, on the ticks of these lines. Of a long one the lines
-// around a tick.
-export function sheets(run, app, tick) {
+// The pieces of a timetable for paper: some lines each, with their first and last tick. Of a long one the lines around
+// a tick.
+function piecesOf(run, tick) {
   const lines = linesOf(run);
   const near = Math.max(0, countWhile(lines, (line) => ticksOf(line)[1] <= tick) - SHEET.most / 2);
   const from = lines.length > SHEET.most ? near : 0;
-  const pictures = [];
-  let widest = SHEET.widest;
+  const pieces = [];
   for (let k = from; k < Math.min(lines.length, from + SHEET.most); k += SHEET.lines) {
     const shown = lines.slice(k, k + SHEET.lines);
     const first = Math.min(...shown.map((line) => ticksOf(line)[0]));
-    const last = Math.max(...shown.map((line) => ticksOf(line)[1]), first + 1);
-    // A shorter last piece has the scale of the one before it.
-    const scale = Math.min(shown.length < SHEET.lines ? widest : SHEET.widest,
-      (SHEET.width - SHEET.left - 20) / (last - first));
-    widest = scale;
-    const table = new Timetable(run, { ...PLAIN, snaps: app.snaps, left: SHEET.left }, last);
-    Object.assign(table, { first, scale, width: SHEET.width, height: AXIS + shown.length * LINE + 4, scrollLeft: 0,
-      scrollTop: k * LINE });
-    table.fill(k, k + shown.length);
-    pictures.push(s('svg', { class: 'rows', viewBox: `0 0 ${table.width} ${table.height}`, role: 'img',
-      'aria-label': 'timetable' }, table.parts));
+    pieces.push({ from: k, count: shown.length, first,
+      last: Math.max(...shown.map((line) => ticksOf(line)[1]), first + 1) });
   }
-  return pictures;
+  return pieces;
+}
+
+// The scales of pieces. All pieces of two runs have one scale, and one axis where each run is one piece. A run of its
+// own has the widest scale for each piece; a shorter last piece has that of the piece before it.
+function scaled(all) {
+  const fitting = ({ first, last }) => Math.min(SHEET.widest, (SHEET.width - SHEET.left - 20) / (last - first));
+  if (all.length === 1) {
+    let widest = SHEET.widest;
+    return [all[0].map((piece) => {
+      widest = Math.min(piece.count < SHEET.lines ? widest : SHEET.widest, fitting(piece));
+      return { ...piece, scale: widest };
+    })];
+  }
+  const pieces = all.flat();
+  const [first, last] = [Math.min(...pieces.map((one) => one.first)), Math.max(...pieces.map((one) => one.last))];
+  const axis = all.every((one) => one.length === 1) ? { first, last } : {};
+  const one = Math.min(...pieces.map((piece) => fitting({ ...piece, ...axis })));
+  return all.map((some) => some.map((piece) => ({ ...piece, ...axis, scale: one })));
+}
+
+// The timetables of runs for paper: for each run its pictures.
+export function sheets(runs, app, tick) {
+  return scaled(runs.map((run) => piecesOf(run, tick))).map((pieces, n) => pieces.map((piece) => {
+    const { first, last, scale, from, count } = piece;
+    const table = new Timetable(runs[n], { ...PLAIN, snaps: app.snaps, left: SHEET.left }, last);
+    Object.assign(table, { first, scale, width: SHEET.width, height: AXIS + count * LINE + 4, scrollLeft: 0,
+      scrollTop: from * LINE });
+    table.fill(from, from + count);
+    return s('svg', { class: 'rows', viewBox: `0 0 ${table.width} ${table.height}`, role: 'img',
+      'aria-label': 'timetable' }, table.parts);
+  }));
 }
 
 // What a timetable asks of its page, where nothing is chosen.

@@ -8,6 +8,7 @@ import { registerOf } from './contents.js';
 import { Run } from './read.js';
 import { bar, figures, legend } from './strip.js';
 import { Deck } from './deck.js';
+import { retold } from './plain.js';
 import { Stepper } from './step.js';
 import { fillPaper } from './paper.js';
 
@@ -20,15 +21,27 @@ async function load() {
   return JSON.parse(await new Response(stream).text());
 }
 
-// A run of the lines of its ledger, which are read here.
-function runOf({ label, levels, first, last, cut, lines }, { deck, names }) {
-  const ledger = new Ledger(levels, deck, names, first, last);
+// The cards of the deck as the program reads them.
+function cardsOf({ deck, plain }) {
+  return plain ? plain.cards : deck;
+}
+
+// The object of a run: made of the lines of its ledger, which are read here, or that of `./explain json`, of late rows.
+function objectOf({ levels, first, last, lines, object }, data) {
+  if (object) return object;
+  const ledger = new Ledger(levels, cardsOf(data), data.names, first, last);
   for (let from = 0; from < lines.length;) {
     const end = lines.indexOf('\n', from);
     ledger.take(lines.slice(from, end));
     from = end + 1;
   }
-  return new Run(ledger.object(), label, cut);
+  return ledger.object();
+}
+
+function runOf(run, data) {
+  const object = objectOf(run, data);
+  if (data.plain) retold(object, data.plain, data.deck);
+  return new Run(object, run.label, run.cut);
 }
 
 function show(data) {
@@ -36,7 +49,7 @@ function show(data) {
   const names = namesOf(data.symbols);
   const words = new Map(data.symbols.map(([name, address]) => [name, Number(address.split('.')[0])]));
   const places = new Map(data.symbols);
-  const fields = new Fields(data.deck.map((card) => card.toUpperCase())
+  const fields = new Fields(cardsOf(data).map((card) => card.toUpperCase())
     .map((card) => ({ card, place: places.get(card.slice(1, STATEMENT).trim()) })));
   for (const run of runs) run.fields = fields;
   let deck = null;
@@ -74,17 +87,21 @@ function show(data) {
   return stepper;
 }
 
-// A deck that was refused: its card, the fault, and what can be said of it.
+// A deck that was refused: the line as it was written, the fault, and what can be said of it. With conveniences
+// a card of the plain deck has another number.
 function refused(data) {
   document.body.classList.add('refused');
   const { fault, card, help } = data.refused;
-  byId('figures').replaceChildren(h('p', { class: 'fault' }, `Card ${card} is refused: ${fault}`), h('pre', {}, help));
+  const said = `Line ${card} is refused: ${fault}`;
+  byId('figures').replaceChildren(h('p', { class: 'fault' }, said), h('pre', {}, help));
   const deck = new Deck(data.deck, { card: null, chooseCard() {} });
   deck.wrong = card;
   byId('deck').replaceChildren(h('h2', {}, 'Deck'), deck.box);
   deck.measure();
   deck.show(card);
   deck.draw();
+  const notes = [said, h('span', { class: 'cards-printed' }, help)];
+  fillPaper(byId('paper'), { title: data.name, runs: [], stepper: { t: 0 }, deck: data.deck, notes });
 }
 
 load().then((data) => {

@@ -10,7 +10,8 @@ import { bankTable, committed, indexTable, interruptLine, levelTable, nextLine, 
   storageTable, waitingLine } from './tables.js';
 
 // How wide the labels of rows are, by how wide the view is.
-const LABELS = [[620, 300], [440, 214], [0, 164]];
+const LABELS = [[620, 300], [440, 214], [0, 168]];
+const STRIP_MARGIN = 4;
 const LEAST_SCALE = 5;          // a run whose ticks would be narrower is scrolled,
 const OWN_SCALE = 9;            // and its ticks are so wide
 const SCALES = { least: 0.02, most: 60, first: 40 };
@@ -34,7 +35,7 @@ export class Stepper {
   // word that a name stands for, and `nameOf(word)` the name of a word.
   constructor(names, on) {
     Object.assign(this, { names, on, runs: [], tables: [], snaps: [], levels: new Map(), chosen: null, cause: null,
-      card: null, isAnother: false, wanted: null, pressed: null });
+      card: null, isAnother: false, wanted: null, pressed: null, shown: new Map() });
     Object.assign(this, { t: 0, first: 0, last: 0, timer: null, rate: RATES[1], zoomed: false, left: LABELS[0][1],
       scale: OWN_SCALE });
     this.build();
@@ -59,8 +60,10 @@ export class Stepper {
       box('storage')];
     this.machine = h('section', { id: 'machine-view', 'aria-label': 'the machine at the tick' }, this.committedLine,
       h('div', { id: 'machine' }, this.levelsBox, this.wordsBox, this.banksBox, this.storageBox));
-    this.controls = h('div', { id: 'controls', role: 'group', 'aria-label': 'steps' }, this.stepButtons(),
-      this.until(), this.scaleButtons());
+    // What leads to another tick stays in sight in the page around it.
+    this.controls = h('div', { id: 'controls', role: 'group', 'aria-label': 'steps' },
+      h('div', { id: 'steps' }, this.stepButtons(), this.until()),
+      h('div', { id: 'options' }, this.playing(), this.scaleButtons()));
     this.view = h('div', { class: 'stepper' }, this.controls, this.sentence, this.stripBox, this.causesBox,
       this.notesBox, this.tablesBox, this.rowBox, this.key(), this.tip);
     addEventListener('keydown', (event) => this.press(event));
@@ -69,11 +72,6 @@ export class Stepper {
   stepButtons() {
     this.tickInput = h('input', { id: 'tick', type: 'number', inputmode: 'numeric',
       onchange: (event) => this.go(Number(event.target.value)) });
-    this.playButton = h('button', { id: 'play', title: 'go on by itself (space)', 'aria-pressed': 'false',
-      onclick: () => this.play() }, '▶ play');
-    const rate = h('select', { id: 'rate', 'aria-label': 'ticks a second',
-      onchange: (event) => this.setRate(Number(event.target.value)) },
-      RATES.map((one) => h('option', { selected: one === this.rate }, one)));
     return [
       h('span', { class: 'group' },
         step('first', '|◀', 'first tick (Home)', 'first tick', () => this.go(this.first)),
@@ -81,25 +79,34 @@ export class Stepper {
           () => this.event(false)),
         step('row-back', '◀◀', 'completion before (shift and left)', 'completion before', () => this.completion(false)),
         step('back', '◀', 'tick before (left)', 'tick before', () => this.go(this.t - 1))),
-      h('label', {}, 'tick ', this.tickInput),
+      h('label', { id: 'tick-of' }, h('span', {}, 'tick '), this.tickInput),
       h('span', { class: 'group' },
         step('forth', '▶', 'next tick (right)', 'next tick', () => this.go(this.t + 1)),
         step('row-forth', '▶▶', 'next completion (shift and right)', 'next completion', () => this.completion(true)),
         step('event-forth', '!▶▶', 'next interrupt, drop or wrong guess (n, or control and right)', 'next event',
           () => this.event(true)),
         step('last', '▶|', 'last tick (End)', 'last tick', () => this.go(this.last))),
-      h('span', { class: 'group' }, this.playButton, h('label', {}, rate, ' /s')),
     ];
+  }
+
+  playing() {
+    this.playButton = h('button', { id: 'play', title: 'go on by itself (space)', 'aria-pressed': 'false',
+      onclick: () => this.play() }, '▶ play');
+    const rate = h('select', { id: 'rate', 'aria-label': 'ticks a second',
+      onchange: (event) => this.setRate(Number(event.target.value)) },
+      RATES.map((one) => h('option', { selected: one === this.rate }, one)));
+    return h('span', { class: 'group' }, this.playButton, h('label', {}, rate, ' /s'));
   }
 
   scaleButtons() {
     this.runSelect = h('select', { id: 'run', onchange: (event) => this.chooseRun(
       this.runs[Number(event.target.value)]) });
-    this.runLabel = h('label', { id: 'machine-of' }, 'machine of ', this.runSelect);
+    this.runLabel = h('label', { id: 'machine-of' }, 'details of ', this.runSelect);
     this.more = h('span', { class: 'group' });           // of the page around it
-    return h('span', { class: 'right' }, this.more, this.runLabel, h('span', { class: 'group' },
+    return [h('span', { class: 'group' },
       step('out', '−', 'narrower ticks (-)', 'narrower ticks', () => this.zoom(0.8)),
-      step('in', '+', 'wider ticks (+)', 'wider ticks', () => this.zoom(1.25))));
+      step('in', '+', 'wider ticks (+)', 'wider ticks', () => this.zoom(1.25))),
+    h('span', { class: 'right' }, this.more, this.runLabel)];
   }
 
   // A break point: where the run goes next to a card, changes a word, or is interrupted.
@@ -176,14 +183,19 @@ export class Stepper {
 
   fit() {
     const width = this.stripBox.clientWidth;
+    this.isHidden = !width;
     if (!width || !this.runs.length) return;
     [, this.left] = LABELS.find(([least]) => width > least);
     const room = Math.max(width - this.left - 16, 60);
     const whole = room / Math.max(this.last - this.first, 1);
-    if (!this.zoomed) this.scale = whole >= LEAST_SCALE ? Math.min(whole, SCALES.first) : OWN_SCALE;
-    this.strip.draw(this.left, !this.zoomed && whole >= LEAST_SCALE ? this.scale * (this.last - this.first) : room);
+    const isWhole = !this.zoomed && whole >= LEAST_SCALE;
+    if (!this.zoomed) this.scale = isWhole ? Math.min(whole, SCALES.first) : OWN_SCALE;
+    // Where the timetable is scrolled, a narrow page gives the strip the room of the labels too.
+    const margin = !isWhole && this.left === LABELS.at(-1)[1] ? STRIP_MARGIN : this.left;
+    this.strip.draw(margin, isWhole ? this.scale * (this.last - this.first) : room + this.left - margin);
     for (const table of this.tables) table.layout();
     this.update();
+    if (this.isUnseen) this.showTick();
   }
 
   zoom(by) {
@@ -282,13 +294,19 @@ export class Stepper {
     if (!this.runs.length) return;
     if (run && run !== this.chosen) this.chooseRun(run);
     this.t = Math.min(this.last, Math.max(this.first, Number.isFinite(t) ? Math.round(t) : this.t));
-    this.update();
+    this.tell();
+    this.showTick();
+    this.on.tick?.(this.t);
+  }
+
+  // Scrolls the timetables to the tick; out of sight they can't be scrolled, and are as soon as they are in sight.
+  showTick() {
+    this.isUnseen = this.isHidden;
     // Where no level is full a row is shown all the same: the one to which the tick is charged.
     for (const table of this.tables) {
       const at = this.tickOf(table.run);
       table.show(at, this.levels.get(table.run)[0] ?? table.run.charge(at)?.row ?? table.run.next(at));
     }
-    this.on.tick?.(this.t);
   }
 
   // The nearest of some ticks in order, behind the present one or before it.
@@ -374,7 +392,7 @@ export class Stepper {
     const { target, key, ctrlKey, shiftKey } = event;
     if (key === 'Escape' && this.cause) this.chooseCause(this.cause);
     const room = this.view.closest('[role=tabpanel]') ?? document.body;
-    if (!this.runs.length || event.altKey || event.metaKey || !this.view.clientWidth
+    if (!this.runs.length || event.altKey || event.metaKey || !this.stripBox.clientWidth
       || !(target === document.body || room.contains(target)) || target.matches(
         'input, select, textarea, [contenteditable]')) return;
     if (key === ' ' && target.matches('button, summary')) return;
@@ -395,8 +413,22 @@ export class Stepper {
     steps[key]();
   }
 
-  // Shows the tick.
+  // Shows the tick, and what may have become known of it.
   update() {
+    this.shown.clear();
+    this.tell();
+  }
+
+  // Puts what is made of some values into a box, where they are others than those of which it has its content.
+  tellIn(box, values, make) {
+    const before = this.shown.get(box);
+    if (before?.length === values.length && values.every((value, k) => value === before[k])) return;
+    this.shown.set(box, values);
+    put(box, make());
+  }
+
+  // Shows the tick.
+  tell() {
     if (!this.runs.length) return;
     for (const run of this.runs) this.levels.set(run, run.levels(this.tickOf(run)));
     const run = this.chosen;
@@ -404,16 +436,19 @@ export class Stepper {
     const state = run.state(t);
     const levels = this.levels.get(run);
     const text = `${t < this.t ? `It ended at tick ${t}: ` : ''}${sentences(run, t).join('. ')}.`;
-    this.sentence.replaceChildren(h('b', { class: 'now' }, `Tick ${this.t}${run.label ? `, ${run.label}` : ''}`),
+    this.sentence.replaceChildren(h('b', { class: 'now' }, `Tick ${this.t}${run.label ? `, ${run.label}:` : ''}`),
       ` ${text}`);
     this.tickInput.value = this.t;
     this.strip.set(this.t, `tick ${this.t}. ${text}`);
-    put(this.committedLine, committed(run, t, state));
+    const charge = run.charge(t);
+    const [banks, waiting] = [run.banks(t), run.waiting(t)];
+    this.tellIn(this.committedLine, [run, state, charge], () => committed(run, t, state));
     put(this.levelsBox, [levelTable(run, t, levels), h('p', {}, nextLine(run, t))]);
-    put(this.wordsBox, [indexTable(run, state, run.ahead(state, levels)), h('p', {}, interruptLine(state, this.names)),
-      registerTable(state, this.names)]);
-    put(this.banksBox, [bankTable(run, t), h('p', {}, waitingLine(run, t))]);
-    put(this.storageBox, [printerPaper(run, t), storageTable(run, t, state, (word) => this.on.nameOf?.(word))]);
+    this.tellIn(this.wordsBox, [run, state, ...levels], () => [indexTable(run, state, run.ahead(state, levels)),
+      h('p', {}, interruptLine(state, this.names)), registerTable(state, this.names)]);
+    this.tellIn(this.banksBox, [run, ...banks, ...waiting], () => [bankTable(banks), h('p', {}, waitingLine(waiting))]);
+    this.tellIn(this.storageBox, [run, state, run.printed(t)], () => [printerPaper(run, t),
+      storageTable(run, t, state, (word) => this.on.nameOf?.(word))]);
     this.on.levels?.(levels, run.next(t));
     this.tellRowSoon();
     for (const table of this.tables) table.later();

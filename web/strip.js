@@ -10,19 +10,14 @@ const ABOVE = 10;
 const APART = 12;
 
 // The numbers of a run in a line.
-export function figures(run) {
-  const { totals, data } = run;
-  const per = totals.instructions ? (totals.ticks / totals.instructions).toFixed(2) : '-';
-  const pairs = [
-    [grouped(totals.ticks), 'ticks'],
-    [grouped(totals.instructions), totals.instructions === 1 ? 'instruction' : 'instructions'],
-    [per, 'ticks an instruction'],
-    [grouped(totals.dropped), 'dropped'],
-    [grouped(data.interrupts.length), data.interrupts.length === 1 ? 'interrupt' : 'interrupts'],
-    [grouped(totals.wrong_guesses), totals.wrong_guesses === 1 ? 'wrong guess' : 'wrong guesses'],
-    [data.levels, data.levels === 1 ? 'level' : 'levels'],
-  ];
-  return h('p', { class: 'figures' }, run.label ? h('b', { class: 'label' }, run.label) : null,
+export function figures({ totals, interrupts, data, label }) {
+  const { ticks, instructions } = totals;
+  const counted = (number, one, many = `${one}s`) => [grouped(number), number === 1 ? one : many];
+  const pairs = [counted(ticks, 'tick'), counted(instructions, 'instruction'),
+    [instructions ? (ticks / instructions).toFixed(2) : '-', 'ticks an instruction'],
+    counted(totals.dropped, 'dropped', 'dropped'), counted(interrupts ?? data.interrupts.length, 'interrupt'),
+    counted(totals.wrong_guesses, 'wrong guess', 'wrong guesses'), counted(data.levels, 'level')];
+  return h('p', { class: 'figures' }, label ? h('b', { class: 'label' }, label) : null,
     pairs.map(([number, what]) => h('span', {}, h('b', {}, number), ` ${what}`)));
 }
 
@@ -35,9 +30,9 @@ export function bar(run, most, choose) {
       'data-cause': cause,
       style: `flex:${shares[cause]} 0 0`,
       title: `${name}: ${plural(shares[cause], 'tick')}`,
-      'aria-label': `${name}: ${shares[cause]} ticks; marks them below`,
+      'aria-label': `${name}: ${plural(shares[cause], 'tick')}; marks them below`,
       onclick: () => choose(cause),
-    }, shares[cause] / run.totals.ticks > 0.05 ? grouped(shares[cause]) : '')));
+    }, shares[cause] / run.totals.ticks > 0.05 ? h('span', {}, grouped(shares[cause])) : '')));
 }
 
 // The names of the causes that came up, with their ticks in each run.
@@ -126,7 +121,7 @@ export class Strip {
       all.push(s('g', { transform: `translate(${left} ${y})`, class: 'events' }, this.marks(run)));
       y += HEIGHT + ABOVE;
     }
-    this.cursor = s('rect', { class: 'cursor', y: 0, width: 3, height: y, rx: 1.5 });
+    this.cursor = s('rect', { class: 'cursor', x: -1.5, y: 0, width: 3, height: y, rx: 1.5 });
     all.push(s('text', { class: 'soft', x: left - 8, y: ABOVE + 15, 'text-anchor': 'end' }, left > 200
       ? 'each tick went to' : ''));
     this.svg.setAttribute('height', y);
@@ -144,7 +139,7 @@ export class Strip {
   set(t, text) {
     if (!this.cursor) return;           // it is not drawn yet
     const x = this.left + ((t - this.first) / Math.max(this.last - this.first, 1)) * this.width;
-    this.cursor.setAttribute('x', x - 1.5);
+    this.cursor.style.transform = `translateX(${x}px)`;
     this.box.setAttribute('aria-valuenow', t);
     this.box.setAttribute('aria-valuetext', text);
   }

@@ -128,7 +128,7 @@ const MOST_PRINTED = 12;
 export function printerPaper(run, t) {
   const { prints } = run.data;
   if (!prints.length) return null;
-  const done = prints.filter((one) => one.tick <= t);
+  const done = prints.slice(0, run.printed(t));
   const lines = done.slice(-MOST_PRINTED).map(({ text }) => h('div', { class: 'print-line' }, text || ' '));
   return h('figure', { class: 'printer' }, h('figcaption', {},
     `Printed: ${done.length} of ${prints.length} ${prints.length === 1 ? 'line' : 'lines'}`),
@@ -139,15 +139,14 @@ function reader(read) {
   return `${PURPOSE.get(read.kind)}, ${read.entry.dropped ? 'dropped ' : ''}${read.entry.address}`;
 }
 
-export function bankTable(run, t) {
-  const rows = run.banks(t).map((read, bank) => (read
+export function bankTable(banks) {
+  const rows = banks.map((read, bank) => (read
     ? row(bank, [h('td', {}, `word ${read.word}`), h('td', {}, reader(read)), h('td', {}, read.answer)])
     : row(bank, [h('td', { class: 'soft', colspan: 3 }, 'free')])));
   return table('banks', ['Banks', '', 'reads', 'what for', 'until'], rows);
 }
 
-export function waitingLine(run, t) {
-  const waiting = run.waiting(t);
+export function waitingLine(waiting) {
   const texts = waiting.slice(0, 6).map((read) => `word ${read.word} (bank ${read.bank}, ${reader(read)})`);
   if (waiting.length > 6) texts.push(`and ${waiting.length - 6} more`);
   return [h('b', {}, 'Waiting for turn or bank: '), texts.join('; ') || 'none'];

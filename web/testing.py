@@ -37,6 +37,16 @@ RUN_MANY = """async (program, jobs) => {
   return wrong;
 }"""
 
+# Whether a bar of the timetable lies at the cursor, in each timetable, where it is seen.
+SEEN = """(stepper) => stepper.tables.every((table) => {
+  const box = table.box.getBoundingClientRect();
+  const x = box.left + table.box.clientLeft + table.x(stepper.tickOf(table.run));
+  return [...table.svg.children[1].querySelectorAll('rect')].some((bar) => {
+    const { left, right, top, bottom } = bar.getBoundingClientRect();
+    return left <= x + 1.5 && right >= x - 1.5 && top >= box.top + 20 && bottom <= box.bottom + 2;
+  });
+})"""
+
 
 class Count:
     """Counts what is as it has to be, and names what is not."""
@@ -126,6 +136,8 @@ def explained(lines, deck, levels):
     from explaining.totals import Totals
 
     class Asked:
+        is_part = False
+
         @staticmethod
         def shows(_row):
             return True

@@ -1,11 +1,12 @@
 // The views of a run: each is drawn when it is first looked at, and drawn anew when the run is another.
 import { byId, h } from './dom.js';
-import { bytesOf, asking, budgetOf, linesOf, withCards } from './decks.js';
+import { READ, bytesOf, asking, budgetOf, linesOf, withCards } from './decks.js';
 import { Fields } from './fields.js';
 import { listingDeck, listingOf, listingView, namesOf } from './listing.js';
 import { Stopped } from './programs.js';
 import { reportView } from './report.js';
 import { legend } from './strip.js';
+import { totalsOf } from './sums.js';
 import { plural } from './words.js';
 import { whereView } from './where.js';
 
@@ -95,11 +96,25 @@ export class Views {
       + 'Only lines about ticks, and about what is ahead, may differ.')];
   }
 
-  async where(box, { runs: [run] }) {
+  async where(box, made) {
+    const [run] = made.runs;
     const cards = new Map();
     for (const row of run.rows) if (row.card && !cards.has(row.address)) cards.set(row.address, row.card);
+    if (made.isCut) made.whole ??= await this.wholeTotals(made);
     whereView(box, run, cards, { cause: (cause) => this.app.stepper.chooseCause(cause),
-      card: (card) => this.toCard(card) });
+      card: (card) => this.toCard(card) }, made.whole);
+  }
+
+  // Of a long run, whose timetable has its first rows alone, the totals of all rows.
+  async wholeTotals({ deck, levels, plain, cards }) {
+    const { bytes } = await this.app.side.run('ledger', [String(levels), 'sums'], bytesOf(deck));
+    const totals = totalsOf(LATIN.decode(bytes));
+    for (const one of totals.by_card) {
+      one.text = one.card ? cards[one.card - 1].slice(1, READ).split(';')[0].trim()
+        : 'instructions that begin at no card';
+      one.card = one.card && plain.lines[one.card - 1];
+    }
+    return totals;
   }
 
   experiment(box, { deck }) {

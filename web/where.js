@@ -68,18 +68,20 @@ function stack(byCause, most) {
   })));
 }
 
-function placesTable(places, most, cardOf, choose) {
-  const rows = places.slice(0, MOST_PLACES).map((place) => {
-    const card = cardOf.get(place.address);
+// Where the ticks went: of each instruction, or of those of each card, which have no address then.
+function placesTable(kind, caption, places, choose) {
+  const most = Math.max(1, ...places.map((place) => sum(place.by_cause)));
+  const rows = places.slice(0, MOST_PLACES).map(({ card, address, text, times, by_cause: causes }) => {
+    const said = text.replace(/\s+/g, ' ');
     return h('tr', card ? { class: 'choose', tabindex: '0', title: `marks card ${card} and its rows`,
       onclick: () => choose(card), onkeydown: (event) => { if (event.key === 'Enter') choose(card); } } : {},
-      h('td', { class: 'number' }, card ?? ''), h('th', { scope: 'row', class: 'code' }, place.address),
-      h('td', { class: 'code' }, place.text.replace(/\s+/g, ' ')),
-      h('td', { class: 'number' }, grouped(place.times)), h('td', { class: 'number' },
-        h('b', {}, grouped(sum(place.by_cause)))), h('td', { class: 'wide' }, stack(place.by_cause, most)));
+      h('td', { class: 'number' }, card ?? ''), h('th', { scope: 'row', class: 'code' }, address ?? said),
+      address && h('td', { class: 'code' }, said), h('td', { class: 'number times' }, grouped(times)),
+      h('td', { class: 'number ticks' }, h('b', {}, grouped(sum(causes)))),
+      h('td', { class: 'wide' }, stack(causes, most)));
   });
-  return wideTable('places', 'Ticks of each instruction, most first',
-    ['card', 'address', 'text', 'times', 'ticks', 'spent on'], rows);
+  const names = ['card', 'address', 'text', 'times', 'ticks', 'spent on'];
+  return wideTable(kind, caption, names.filter((name) => name !== 'address' || places.some((one) => one.address)), rows);
 }
 
 function reasonsTable(byReason) {
@@ -101,11 +103,22 @@ function meters(caption, names, numbers, whole) {
     h('td', { class: 'wide' }, h('i', { class: 'meter', style: `width:${(100 * number) / Math.max(whole, 1)}%` }))))));
 }
 
-export function whereView(box, run, cardOf, { cause, card }) {
+// A long run as a whole; the timetable has its first rows alone.
+export function wholeTables(run, totals, { cause, card }) {
+  const whole = { totals, interrupts: totals.by_reason.interrupt.rows, data: run.data };
+  return [h('h3', {}, 'The whole run'), figures(whole), bar(whole, totals.ticks, cause), legend([whole], cause),
+    placesTable('places by-card', 'Ticks of the instructions of each card, most first', totals.by_card, card),
+    causesTable(totals.by_cause), ...reasonsTable(totals.by_reason)];
+}
+
+export function whereView(box, run, cardOf, on, whole) {
   const { totals } = run;
-  const most = Math.max(1, ...totals.by_address.map((place) => sum(place.by_cause)));
-  box.replaceChildren(figures(run), bar(run, totals.ticks, cause), legend([run], cause),
-    placesTable(totals.by_address, most, cardOf, card), ...[acrossTable(run.rows)].flat().filter(Boolean),
+  const before = whole ? [...wholeTables(run, whole, on),
+    h('h3', {}, `Its first ${plural(totals.instructions, 'instruction')}`)] : [];
+  const places = totals.by_address.map((place) => ({ ...place, card: cardOf.get(place.address) }));
+  box.replaceChildren(...before, figures(run), bar(run, totals.ticks, on.cause), legend([run], on.cause),
+    placesTable('places', 'Ticks of each instruction, most first', places, on.card),
+    ...[acrossTable(run.rows)].flat().filter(Boolean),
     causesTable(totals.by_cause), ...reasonsTable(totals.by_reason),
     h('div', { class: 'side-by-side' },
       meters('Ticks with so many levels in use', (k) => k, totals.by_levels, totals.ticks),
