@@ -68,7 +68,12 @@ class Scope:
 def split_words(text, comment='--'):
     """The words of a text, comments left out: brackets and commas by themselves."""
     text = re.sub(rf'(^|\s){comment}.*', r'\1', text, flags=re.MULTILINE)
-    return re.findall(r'[(){}\[\],;]|[^\s(){}\[\],;]+', text)
+    return re.findall(r'"(?:[^"\\\n]|\\.)*"|[(){}\[\],;]|(?:(?!")[^\s(){}\[\],;])+|"', text)
+
+
+def is_given(words, at):
+    """Whether a word is a field of a record that gets a value, as in `record { field = value; .. }`."""
+    return 0 < at < len(words) - 1 and words[at - 1] in ('{', ';') and words[at + 1] == '='
 
 
 def parts_of(word):
@@ -124,7 +129,8 @@ class Definitions:
         told, below = [over] if margin else [], set()
         for statement in re.split(rf'\n(?= {{{margin}}}\S)', code):
             bound = {}
-            for word in split_words(statement):
+            words = split_words(statement)
+            for at, word in enumerate(words):
                 parts = parts_of(word)
                 if word in OPENING:
                     continue
@@ -136,7 +142,8 @@ class Definitions:
                 if found:
                     below.add(self.own(found))
                     told.append('.'.join([found, *left]) + dot)
-                elif re.match(r"[a-z_]", head) and head not in self.fields and head not in bound_by_module:
+                elif (re.match(r"[a-z_]", head) and head not in self.fields and head not in bound_by_module
+                      and not is_given(words, at)):
                     told.append('.'.join([str(bound.setdefault(head, f'%{len(bound)}')), *fields]) + dot)
                 else:
                     told.append(word)
@@ -176,6 +183,8 @@ def code_words(scope, text):
         if found:
             named.add(found)
             told.append('.'.join([found, *left]) + parts[2])
+        elif word.startswith('"'):
+            told.append(word)
         else:
             told.append(re.sub(r'[A-Za-z_]\w*', lambda name: scope.code.get(name[0], name[0]), word))
     return ' '.join(told + symbols_of(scope, told)), named
