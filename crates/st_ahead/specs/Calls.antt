@@ -1,4 +1,14 @@
 -- The effect of the calls of an overlapped machine, and their results.
+--
+-- Proved: by their `ensures` clauses these calls do what definitions here say: `end` (machine.rt),
+-- `end_or_give_up` (machine.rt), `give_up` (machine.rt), `interrupt` (machine.rt), and others.
+-- Read by: definitions in RunTo, RowsDone, Running, Reached of st_refine, and others.
+-- Laws: LevelsAreUnwound (specs/Laws.antt of st_refine), OpeningsAreKept (specs/Laws.antt of
+-- st_refine), OpeningsFollow (specs/Laws.antt of st_refine), SignalsLeaveLevels (specs/Laws.antt of
+-- st_refine), and others.
+-- Change: no page fixes these definitions, since no contract of a program unfolds to them; they
+-- change together with the clauses, definitions and laws that name them. docs/inside.md describes
+-- the subject.
 use Rattle.std.specs.Prelude.{ℕ, ◌≡◌, ◌+◌, ◌==◌, Bool, true, false, if◌then◌else◌, List, length, Option, None, Some, IsSome, ◌⊎◌}
 use Rattle.st_banks.specs.Bank.{idle_banks}
 use Rattle.st_banks.specs.declared.answers.LastAnswers.{LastAnswers}

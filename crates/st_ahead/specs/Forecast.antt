@@ -1,5 +1,15 @@
 -- The look-ahead of a machine: its levels, the issue state after them, the log of reads, and the
 -- fetch unit.
+--
+-- Proved: by their `ensures` clauses these calls do what definitions here say: `end`
+-- (lookahead.rt), `give_up` (lookahead.rt), `fill` (lookahead_tick.rt), `tick` (lookahead_tick.rt),
+-- and others.
+-- Read by: definitions in Going, Inside, Running, Ticked, and others.
+-- Laws: InstructionWordsAreThoseOfTheRun (specs/Laws.antt), LookaheadsAreLevels (specs/Laws.antt),
+-- OpenLevelsRunAhead (specs/Laws.antt), OpeningsLookAhead (specs/Laws.antt), and others.
+-- Change: no page fixes these definitions, since no contract of a program unfolds to them; they
+-- change together with the clauses, definitions and laws that name them. docs/inside.md describes
+-- the subject.
 use Rattle.std.specs.Prelude.{ℕ, ◌≡◌, ◌+◌, ◌*◌, ◌≤◌, ◌<◌, Bool, true, false, not, ◌||◌, ◌==◌, List, [], ◌++◌, length, All, flat_map, Option}
 use Rattle.st_bits.specs.Indicators.{IsIndicatorIfAny}
 use Rattle.st_bits.specs.declared.limits.TheConstants.{MOST_DELAY}

@@ -1,4 +1,12 @@
 -- The look-ahead between the steps of an advance.
+--
+-- Proved: by their `ensures` clauses these calls do what definitions here say: `go_to`
+-- (lookahead_going.rt), `is_next_before` (lookahead_going.rt), `plan_before` (lookahead_going.rt),
+-- `push` (lookahead_going.rt).
+-- Laws: PlannedEntriesBecomeLevels (specs/Laws.antt).
+-- Change: no page fixes these definitions, since no contract of a program unfolds to them; they
+-- change together with the clauses, definitions and laws that name them. docs/inside.md describes
+-- the subject.
 use Rattle.std.specs.Prelude.{ℕ, ◌≡◌, ◌+◌, ◌-◌, ◌^◌, ◌≤◌, ◌<◌, true, List, Option, None, Some}
 use Rattle.st_bits.specs.Indicators.{IsIndicatorIfAny}
 use Rattle.st_state.specs.Machine.{Machine}

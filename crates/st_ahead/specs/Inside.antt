@@ -1,4 +1,12 @@
 -- The invariant of a machine, and its abstract state.
+--
+-- Proved: by their `ensures` clauses these calls do what definitions here say: `end`
+-- (lookahead.rt).
+-- Read by: definitions in Running.
+-- Laws: none names a definition of this file itself.
+-- Change: no page fixes these definitions, since no contract of a program unfolds to them; they
+-- change together with the clauses, definitions and laws that name them. docs/inside.md describes
+-- the subject.
 use Rattle.std.specs.Prelude.{ℕ, ◌≡◌, ◌+◌, ◌<◌, ◌≤◌, ◌^◌, Bool, true, false, if◌then◌else◌, All, List, Option, None, Some}
 use Rattle.st_bits.specs.Indicators.{IsIndicatorIfAny}
 use Rattle.st_bits.specs.declared.limits.TheConstants.{MOST_DELAY}

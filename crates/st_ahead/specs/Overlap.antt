@@ -1,4 +1,15 @@
 -- The abstract state of an overlapped machine, and values derived from it.
+--
+-- Proved: by their `ensures` clauses these calls do what definitions here say: `run_to`
+-- (lookahead_run.rt), `ends` (machine.rt), `goes_on` (machine.rt), `interrupt_due` (machine.rt),
+-- and others.
+-- Read by: definitions in Calls, Inside, Shown, Running, and others.
+-- Laws: RowsTellTheLevels (specs/Laws.antt of st_refine), LevelsAreUnwound (specs/Laws.antt of
+-- st_refine), TheStateIsSplit (specs/Laws.antt of st_refine), CompletionsAreSteps (specs/Laws.antt
+-- of st_refine), and others.
+-- Change: no page fixes these definitions, since no contract of a program unfolds to them; they
+-- change together with the clauses, definitions and laws that name them. docs/inside.md describes
+-- the subject.
 use Rattle.std.specs.Prelude.{ℕ, ◌-◌, Bool, false, if◌then◌else◌, is_none, List, Option, None, Some}
 use Rattle.st_state.specs.Machine.{Machine}
 use Rattle.st_exec.specs.Step.{interrupt}

@@ -1,4 +1,13 @@
 -- The rows of completed entries, in a queue.
+--
+-- Proved: by their `ensures` clauses these calls do what definitions here say: `run_to`
+-- (lookahead_run.rt), `run_to` (machine.rt), `put` (row_queue.rt), `run_many` (ticking.rt of
+-- st_run).
+-- Read by: definitions in Telling of st_run.
+-- Laws: none names a definition of this file itself.
+-- Change: no page fixes these definitions, since no contract of a program unfolds to them; they
+-- change together with the clauses, definitions and laws that name them. docs/inside.md describes
+-- the subject.
 use Rattle.std.specs.Prelude.{ℕ, zero, suc, ◌+◌, ◌-◌, if◌then◌else◌, List, [], ◌∷◌, ◌++◌, length, take, Option, None, Some}
 use Rattle.st_ahead.specs.Overlap.{Overlap}
 use Rattle.st_ahead.specs.Calls.{is_done, row_done, machine_after_tick, machine_after_settling}

@@ -1,4 +1,13 @@
 -- Settled ticks in sequence, up to a completion after which an event is possible.
+--
+-- Proved: by their `ensures` clauses these calls do what definitions here say: `is_stopped`
+-- (lookahead_run.rt), `may_come` (lookahead_run.rt), `run_to` (machine.rt), `run_many` (ticking.rt
+-- of st_run).
+-- Read by: definitions in Running.
+-- Laws: RunsAreReached (specs/Laws.antt of st_refine).
+-- Change: no page fixes these definitions, since no contract of a program unfolds to them; they
+-- change together with the clauses, definitions and laws that name them. docs/inside.md describes
+-- the subject.
 use Rattle.std.specs.Prelude.{ℕ, zero, suc, ◌≡◌, ◌+◌, ◌-◌, ◌<◌, ◌≤◌, ◌||◌, nat_le, Bool, true, false, Option, None, Some}
 use Rattle.st_state.specs.Machine.{Machine}
 use Rattle.st_state.specs.Orders.{is_due}

@@ -1,4 +1,11 @@
 -- The look-ahead of a machine that makes ticks, each with the decision to continue.
+--
+-- Proved: by their `ensures` clauses these calls do what definitions here say: `run_to`
+-- (lookahead_run.rt).
+-- Laws: none names a definition of this file itself.
+-- Change: no page fixes these definitions, since no contract of a program unfolds to them; they
+-- change together with the clauses, definitions and laws that name them. docs/inside.md describes
+-- the subject.
 use Rattle.std.specs.Prelude.{ℕ, ◌≡◌, ◌+◌, ◌-◌, ◌≤◌, true, false, All, List, Option, None, Some, is_none, if◌then◌else◌}
 use Rattle.st_bits.specs.Indicators.{IsIndicatorIfAny}
 use Rattle.st_bits.specs.declared.limits.TheConstants.{MOST_DELAY}

@@ -1,4 +1,14 @@
--- The shown and lent parts of a machine: its levels, and the index words with early changes.
+-- The shown and lent parts of a machine: its levels, and the index words with speculative changes.
+--
+-- Proved: by their `ensures` clauses these calls do what definitions here say: `kept_of`
+-- (lookahead_shown.rt), `level` (lookahead_shown.rt), `index` (machine.rt), `level` (machine.rt),
+-- and others.
+-- Read by: definitions in Refined of st_refine, Telling of st_run.
+-- Laws: LevelsAreLent (specs/Laws.antt of st_refine), CompletionsAreSteps (specs/Laws.antt of
+-- st_refine), TheStateIsSplit (specs/Laws.antt of st_refine).
+-- Change: no page fixes these definitions, since no contract of a program unfolds to them; they
+-- change together with the clauses, definitions and laws that name them. docs/inside.md describes
+-- the subject.
 use Rattle.std.specs.Prelude.{ℕ, ◌≡◌, ◌-◌, nat_le, List, ◌++◌, length, map, replicate, Option, None, Some, option_map}
 use Rattle.std.specs.List.{AllZip}
 use Rattle.st_prep.specs.declared.entries.IndexChange.{IndexChange}
@@ -22,11 +32,11 @@ pub record IsLevelOf (ds : List ℕ) (n tick : ℕ) (level : Level) (a : Ahead) 
 abbrev pub AreLevelsOf : Overlap → List Level → Type 0
 AreLevelsOf m ring = AllZip (IsLevelOf m.delays m.levels (last_tick_made m)) ring (levels_of m)
 
--- the lent index words: those with the early changes of all levels
+-- the lent index words: those with the speculative changes of all levels
 unfoldable pub lent_index_words : Overlap → List ℕ
 lent_index_words m = split_words (length (levels_of m)) m.taken (state_ahead m)
 
--- the word that an early change replaces, 0 if there is no change
+-- the word that an speculative change replaces, 0 if there is no change
 abbrev pub word_before_change : Option IndexChange → ℕ
 word_before_change None = 0
 word_before_change (Some c) = c.kept

@@ -1,4 +1,12 @@
 -- The effect of a tick on the look-ahead.
+--
+-- Proved: by their `ensures` clauses these calls do what definitions here say: `tick`
+-- (lookahead_tick.rt).
+-- Read by: definitions in Running.
+-- Laws: none names a definition of this file itself.
+-- Change: no page fixes these definitions, since no contract of a program unfolds to them; they
+-- change together with the clauses, definitions and laws that name them. docs/inside.md describes
+-- the subject.
 use Rattle.std.specs.Prelude.{ℕ, ◌≡◌, ◌≢◌, List, Option, None, Some}
 use Rattle.st_state.specs.Machine.{Machine}
 use Rattle.st_exec.specs.Completion.{state_after_execution, prediction}

@@ -1,14 +1,16 @@
 //! The results of the machine's calls, and the view of the machine: `Event` is the result of
-//! `tick`, `Row` of `run_to`, `Settled` of `settle`, and `View` of `view`.
+//! `tick`, `Row` of `run_to`, `Settled` of `settle`, and `View` of `view`. docs/inside.md has the
+//! calls. `st_run` turns rows and decisions into events, and `st_time` formats rows and views.
+//! Ticks count from 0 at the start of the run; addresses are half-word addresses. A level is an
+//! entry (instruction) in flight, prepared and not complete.
 //!
-//! `st_run` turns rows and decisions into events, and `st_time` formats rows and views. Ticks count
-//! from 0 at the start of the run; addresses are half-word addresses. A level is an entry
-//! (instruction) in flight, prepared and not complete.
+//! Proved: nothing here, since there is no function. specs/Calls.antt defines when each result is
+//! returned (`IsEvent`, `answer`), and specs/Shown.antt the view (`view_at_tick`); the clauses of
+//! machine.rt promise these.
 //!
-//! There is no code here. specs/Calls.antt defines when each result is returned (`IsEvent`,
-//! `answer`), and specs/Shown.antt the view (`view_at_tick`); the clauses of machine.rt promise
-//! these. A new variant or field needs its case there, in machine.rt, and where callers match it:
-//! `st_run`, `st_time`, `st_telling`. Eight is the largest number of levels.
+//! Pinned: variants and fields, by these definitions and docs/inside.md. A new one needs its case
+//! there, in machine.rt, and where `st_run`, `st_time` and `st_telling` match it. Eight, the
+//! largest number of levels, is fixed by `view_at_tick`. Free: the derived traits.
 
 /// A row of the timetable: a completed entry.
 #[derive(Clone, Copy, Debug, Default, PartialEq, Eq)]
@@ -62,7 +64,7 @@ pub struct LevelView {
     pub address: u32,
     /// P, the tick at which the entry was prepared.
     pub p: u64,
-    /// The number of the index word that the entry changed early, 0 to 15, if it changed one.
+    /// The number of the index word, 0 to 15, that the entry changed speculatively, if any.
     pub index: Option<u8>,
     /// The old content of the changed index word; 0 if none was changed.
     pub kept: u64,
@@ -77,7 +79,7 @@ pub struct View {
     pub tick: u64,
     /// The number of completed instructions.
     pub done: u64,
-    /// The index words with the early changes of all levels.
+    /// The index words with the speculative changes of all levels.
     pub x: [u64; 16],
     /// The levels, oldest first, and None after them.
     pub levels: [Option<LevelView>; 8],

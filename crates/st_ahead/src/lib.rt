@@ -1,12 +1,13 @@
 //! The overlapped machine: it prepares instructions ahead of the committed state, tick by tick,
 //! with the results of sequential execution. The rules are in `docs/timetable.md`.
 //!
-//! `Machine` is the interface; its callers are `st_run` and tests, in the order that
+//! `Machine` is the interface; `st_run` and the tests of `st_calls` call it, in the order that
 //! `docs/inside.md` describes. A `Lookahead` joins the levels (`st_ring`), the issue state and log
 //! (`st_rows`) and the fetch unit (`st_next`). Proved: each call does as specs/Calls.antt defines,
-//! on the abstract machine of specs/Overlap.antt; laws of all machines that are reached are in
-//! `st_refine`. No call allocates. Free: the parts of `Machine`, by `IsInside` of
-//! specs/Inside.antt. Pinned: its clauses, on which `st_refine` and `st_run` rest.
+//! on the abstract machine of specs/Overlap.antt; laws are in specs/Laws.antt, those of all
+//! machines that are reached in specs/Laws.antt of `st_refine`. No call allocates. Free: the parts
+//! of `Machine`, by `IsInside` of specs/Inside.antt. Pinned: the clauses of `Machine`, by
+//! `st_refine` and `st_run`; the types of events.rt, by `st_run`, `st_time` and `st_telling`.
 #![tactic(auto, using(st_bits::specs::Storage::words_of_storage_is))]
 
 mod committed;

@@ -1,14 +1,15 @@
 //! The look-ahead of a machine: levels (entries in flight: prepared, not complete), the issue state
 //! after them (the input of the timetable), a log of reads, and the fetch unit; and its start and
-//! end with a segment, the entries between two flushes.
+//! end with a segment, the entries between two flushes. docs/timetable.md has the rules.
 //!
 //! machine.rt calls `new`, `end` and `give_up`; other files of this crate advance it. A segment
 //! starts one tick after the completion that ended the last one, plus one for each flushed level.
 //!
 //! Proved: the next segment is open (`IsOpened` in specs/Forecast.antt), at that tick and with the
-//! banks of the reads that are accepted before `now` (`answers_before`), or idle banks if no entry
-//! completed. Pinned: these ticks, by `opening_issue`. Free: whether the fetch unit is rebuilt or
-//! reused.
+//! banks of the reads that are accepted before `now` (`answers_before` in specs/Inside.antt), or
+//! idle banks if no entry completed. Pinned: these ticks, by `opening_issue` (specs/Rows.antt of
+//! `st_rows`), docs/timetable.md and vectors/timetable.txt. Free: whether the fetch unit is rebuilt
+//! or reused; the bodies, if proofs/lookahead follows.
 ghost use Rattle.std.specs.Prelude.{◌≡◌, ℕ, ◌+◌, ◌≤◌, ◌-◌, ◌^◌, Option, All, List};
 ghost use Rattle.st_bits.specs.Indicators.{IsIndicatorIfAny};
 ghost use Rattle.st_bits.specs.declared.limits.TheConstants.{MOST_DELAY};
@@ -29,7 +30,7 @@ use std::marker::Model;
 /// The look-ahead of a machine with N levels, 1 to 8.
 #[derive(Drop)]
 pub struct Lookahead<const N: usize> {
-    /// The entries in flight, and the index words with their early changes.
+    /// The entries in flight, and the index words with their speculative changes.
     pub levels: Levels<N>,
     /// The issue state after the levels.
     pub issue: IssueState,

@@ -1,14 +1,16 @@
 //! Advances the look-ahead from one preparation to the next, up to a completion: the inner loop of
-//! the overlapped machine.
+//! the overlapped machine. docs/timetable.md has the rules.
 //!
 //! lookahead_run.rt and lookahead_steps.rt call `go_to`. In each round the fetch unit plans the
 //! next entry, by facts known before the oldest level completes; if its P (the tick of its
 //! preparation) comes before that, it becomes a level, an entry in flight, with the row that
 //! `st_rows` computes. Ticks are below 2^63.
 //!
-//! Proved: after it the levels are all entries with P before the completion, or by `last`
-//! (`HasGone` in specs/Going.antt), for all delays and 1 to 8 levels. Free: inlining and the order
-//! of tests. Pinned: that slots stay empty until `fill`.
+//! Proved: after `go_to` the levels are all entries with P before the completion, or by `last`
+//! (`HasGone` in specs/Going.antt), for all delays and 1 to 8 levels. Pinned: which entries become
+//! levels at which P, by this definition, docs/timetable.md and vectors/timetable.txt; that
+//! operands are not put into levels here, which lookahead_tick.rt does (`fill`). Free: inlining,
+//! the order of tests, and the bodies, if proofs/lookahead follows.
 ghost use Rattle.std.specs.Prelude.{◌≡◌, ℕ, ◌+◌, ◌<◌, ◌≤◌, ◌^◌, true, false, nat_le, if◌then◌else◌, Option, None, Some};
 ghost use Rattle.st_rows.specs.declared.issue.IssueState.{IssueState as IssueStateOf};
 ghost use Rattle.st_ring.specs.Levels.{due_of};

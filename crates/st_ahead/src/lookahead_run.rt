@@ -1,16 +1,18 @@
 //! Runs until an entry completes after which an event is possible: the fast path of a run, without
 //! a decision at each tick.
 //!
-//! `st_run` calls `run_to` of machine.rt, and that calls this one; `docs/inside.md` describes it.
-//! An event is possible if `count` instructions are complete (a signal or the budget), an order is
-//! due, a branch was mispredicted, an interrupt is due, or the machine is at rest. Operands are put
-//! into the levels only before it returns (`fill`), since completion does not use them.
+//! `st_run` calls `run_to` of machine.rt, which calls `run_to` of this file; `docs/inside.md`
+//! describes it. An event is possible if `count` instructions are complete (a signal or the
+//! budget), an order is due, a branch was mispredicted, an interrupt is due, or the machine is at
+//! rest. Operands are put into the levels only before it returns (`fill`), since completion does
+//! not use them.
 //!
 //! Proved: the look-ahead, the state and the queued rows are those of single ticks, each settled by
 //! continuing (`HasRunTo` in specs/Running.antt, `rows_in_ticks` in specs/RowsDone.antt), if the
 //! machine neither rests nor takes an interrupt at the start (`GoesFrom`). Pinned: the conditions
 //! of a stop, by `may_come_from_outside` in specs/RunTo.antt (count and orders) and by `answer` in
-//! specs/Calls.antt (the other three). Free: the loop. Speed is only measured (`docs/COSTS.md`).
+//! specs/Calls.antt (the other three). Free: the loop, if proofs/lookahead follows. Speed is only
+//! measured (`docs/COSTS.md`).
 ghost use Rattle.std.specs.Prelude.{◌≡◌, ℕ, ◌<◌, ◌≤◌, ◌^◌, true, false, None, option_map};
 ghost use Rattle.st_exec.specs.Step.{interrupt as interrupt_of, rests};
 ghost use Rattle.st_rows.specs.declared.issue.IssueState.{IssueState as IssueStateOf};

@@ -2,14 +2,16 @@
 //! levels (entries in flight), lends them, and sets the table instruction of an interrupt.
 //!
 //! A level is shown with its address (half-words), its P (tick of preparation), the index word that
-//! it changed early with the old content, and whether its operands have arrived by the tick that is
-//! shown. `st_run` shows these in snapshots. `stand` only sets the place: machine.rt calls it when
-//! the segment has just ended, so that no word of the next entry is requested yet.
+//! it changed speculatively with the old content, and whether its operands have arrived by the tick
+//! that is shown. `st_run` shows these in snapshots. `stand` only sets the place: machine.rt calls
+//! it when the segment has just ended, so that no word of the next entry is requested yet.
 //!
 //! Proved: a view is `level_shown` of specs/Shown.antt if the levels are the entries in flight
-//! (`AreAhead` of `st_ring`), which `IsInside` keeps in machine.rt. What that means for a run is in
-//! laws of `st_refine`: `TheStateIsSplit` for views, `LevelsAreLent` for `ring` and `index`; see
-//! `docs/inside.md`. Pinned: `ready` is by R of the row, without forwarded words. Free: the bodies.
+//! (`AreAhead` of `st_ring`), which `IsInside` keeps in machine.rt. Laws in specs/Laws.antt of
+//! `st_refine` say what this means for a run: `TheStateIsSplit` for views, `LevelsAreLent` for
+//! `ring` and `index`. Pinned: that `ready` is by R of the row, without forwarded words, by
+//! `level_shown`, docs/timetable.md and vectors/timetable.txt. Free: the bodies, if
+//! proofs/lookahead follows.
 ghost use Rattle.std.specs.Prelude.{◌≡◌, ◌≤◌, ℕ, List, map, get_or, Option, None, Some, option_map};
 ghost use Rattle.st_state.specs.Machine.{Machine};
 ghost use Rattle.st_rows.specs.declared.issue.IssueState.{IssueState as IssueStateOf};
@@ -41,7 +43,7 @@ impl<const N: usize> Lookahead<N> {
         self.levels.ring()
     }
 
-    // The index words with the early changes of all levels.
+    // The index words with the speculative changes of all levels.
     pub(crate) fn index(&self) -> &[u64; 16]
         ensures words { result.now ≡ self.now.levels.x }
         ensures few { count self.now ≤ N }
@@ -72,7 +74,7 @@ impl<const N: usize> Lookahead<N> {
     }
 }
 
-// The number of the index word that is changed early, if there is one.
+// The number of the index word that is changed speculatively, if there is one.
 fn number_of(change: Option<IndexChange>) -> Option<u8>
     ensures { result ≡ option_map (λ c. c.number) change }
 {
@@ -82,7 +84,7 @@ fn number_of(change: Option<IndexChange>) -> Option<u8>
     }
 }
 
-// The old content of the index word that is changed early; 0 if there is none.
+// The old content of the index word that is changed speculatively; 0 if there is none.
 fn kept_of(change: Option<IndexChange>) -> u64
     ensures { result ≡ word_before_change change }
 {

@@ -1,12 +1,13 @@
 //! Advances the look-ahead to the next tick, for a caller that settles (decides after) each tick:
 //! entries with P, the tick of preparation, at this tick become levels, entries in flight.
-//!
-//! machine.rt calls `go_on` when a decision is to continue. Most ticks prepare nothing, and are
-//! left at once by the first test.
+//! docs/timetable.md has the rules. machine.rt calls `go_on` when a decision is to continue. Most
+//! ticks prepare nothing: the first test ends the call.
 //!
 //! Proved: the look-ahead is that of the next tick (`IsLookahead` in specs/Forecast.antt), if it
-//! was that of this tick before. Free: the test, which only saves time; lookahead_going.rt does the
-//! work.
+//! was that of this tick before. Not proved: that the first test saves time.
+//!
+//! Pinned: the clause of `go_on`, by machine.rt, which needs it for `IsInside` (specs/Inside.antt).
+//! Free: the test, and the bodies, if proofs/lookahead follows; lookahead_going.rt does the work.
 ghost use Rattle.std.specs.Prelude.{◌≡◌, ℕ, ◌+◌, ◌<◌, ◌≤◌, ◌^◌, true, Option};
 ghost use Rattle.st_rows.specs.declared.issue.IssueState.{IssueState as IssueStateOf};
 

@@ -1,12 +1,15 @@
 //! The effect of a tick on the look-ahead: the oldest entry in flight completes if its C, the tick
 //! of completion, is this one, and operands that have arrived are put into the levels.
+//! docs/timetable.md has the rules.
 //!
 //! machine.rt calls `tick`; lookahead_run.rt calls `complete` and `fill` at the ticks that it stops
 //! at. The tick is a number below 2^63, one after the last.
 //!
-//! Proved: the state and the look-ahead after it (`IsTicked` in specs/Ticked.antt): a completion
-//! executes the next entry of the state. After a serializing entry the place of the next entry is
-//! known only then, and is set here; that is pinned. Free: the tests that skip work.
+//! Proved: the state and the look-ahead after `tick` (`IsTicked` in specs/Ticked.antt): a
+//! completion executes the next entry of the state. Pinned: what completes at which tick, by this
+//! definition, docs/timetable.md and vectors/timetable.txt; that `complete` sets the place of the
+//! next entry after a serializing one, by `IsOutlook` (specs/Forecast.antt). Free: the tests that
+//! skip work, and the bodies, if proofs/lookahead follows.
 ghost use Rattle.std.specs.Prelude.{◌≡◌, ℕ, ◌+◌, ◌<◌, ◌≤◌, ◌^◌, List, Option, None};
 ghost use Rattle.st_bits.specs.declared.limits.TheConstants.{MOST_DELAY};
 ghost use Rattle.st_state.specs.Machine.{Machine, word};

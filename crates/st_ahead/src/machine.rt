@@ -1,14 +1,17 @@
 //! The overlapped machine, which prepares instructions ahead, and the calls that drive it: a tick,
-//! then a decision, with signals and orders of devices between them.
-//!
-//! `st_run` drives it, and `st_calls` tests it. Ticks count from 0 and are below 2^63; 1 to 8
-//! levels are a parameter of the type, and delays are those of `new`. `docs/inside.md` has the
-//! protocol, and each clause `requires` is a part of it.
+//! then a decision, with signals and orders of devices between them. docs/inside.md has the
+//! protocol, and each clause `requires` is a part of it. `st_run` drives it, and `st_calls` tests
+//! it. Ticks count from 0 and are below 2^63; 1 to 8 levels are a parameter of the type, and delays
+//! are those of `new`.
 //!
 //! Proved: every call gives the abstract machine that specs/Calls.antt defines from the one before,
-//! so no result depends on the fields here, which are free as long as `IsInside` of
-//! specs/Inside.antt holds of them. Pinned: the order of decisions: interrupt, wait, misprediction,
-//! continuation. Laws of all runs of calls are in `st_refine`.
+//! so no result depends on the fields here. Laws of all runs of calls are in specs/Laws.antt of
+//! `st_refine`.
+//!
+//! Pinned: the order of decisions (interrupt, wait, misprediction, continuation), by `answer` there
+//! and docs/machine.md; the protocol, by the clauses `requires`, docs/inside.md and `st_run`. Free:
+//! the fields, as long as `IsInside` of specs/Inside.antt holds of them, and the bodies, if
+//! proofs/machine follows.
 ghost use Rattle.std.specs.Prelude.{◌≡◌, ◌<◌, ◌≤◌, ◌^◌, true, false, is_some, IsSome, IfSome, None, Some, option_map, get_or, length, ◌||◌};
 ghost use Rattle.st_bits.specs.Indicators.{IsIndicatorIfAny};
 
@@ -471,7 +474,7 @@ impl<const N: usize> Machine<N> {
         self.lookahead.ring()
     }
 
-    /// The index words with the early changes of all levels.
+    /// The index words with the speculative changes of all levels.
     pub fn index(&self) -> &[u64; 16]
         ensures { result.now ≡ lent_index_words self.entry.now }
     {

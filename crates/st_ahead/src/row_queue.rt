@@ -1,13 +1,14 @@
 //! A queue of rows: the executed instructions, with their ticks, that a run has passed over and
-//! nobody has taken yet.
-//!
-//! `Machine::run_to` fills it, and `st_run` takes the rows out as events. Room is made for 64 rows
-//! at a time, so that many instructions run between two events.
+//! nobody has taken yet. docs/timetable.md has the rows. `Machine::run_to` fills it, and `st_run`
+//! takes the rows out as events. Room is made for 64 rows at a time, so that many instructions run
+//! between two events.
 //!
 //! Proved: each call is one of a list with room (`queue_with` in specs/RowsDone.antt); a row
-//! without room is dropped, as `st_run` asks where it needs only the last row. The number 64 is in
-//! the clauses, and in `ROWS` of `st_run`; any other would do if all change. Free: the array and
-//! its three marks.
+//! without room is dropped, which `st_run` uses where it needs only the last row.
+//!
+//! Pinned: the order of the rows, by the clauses of `put` and `next`; the number 64, by the clause
+//! of `open` and by `ROWS` of `st_run`, which have to change together. Free: the array and its
+//! three marks, if proofs/row_queue follows.
 ghost use Rattle.std.specs.Prelude.{◌≡◌, ◌==◌, [], ◌∷◌, length, MatchOption};
 ghost use Rattle.st_ahead.specs.RowsDone.{queue_with};
 

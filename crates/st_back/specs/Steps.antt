@@ -1,4 +1,12 @@
 -- The recorded steps that can be undone, and how calls change them.
+--
+-- Proved: by their `ensures` clauses these calls do what definitions here say: `can_put` (back.rt),
+-- `back` (back.rt), `forth` (back.rt), `keep` (back.rt), and others.
+-- Read by: definitions in Beside of st_top.
+-- Laws: BacksGiveTheStatesBefore (specs/Laws.antt), BackUndoesForth (specs/Laws.antt).
+-- Change: no page fixes these definitions, since no contract of a program unfolds to them; they
+-- change together with the clauses, definitions and laws that name them. docs/machine.md describes
+-- the subject.
 use Rattle.std.specs.Prelude.{ℕ, ◌≡◌, ◌-◌, ◌<◌, ◌≤◌, Bool, true, false, nat_le, List, [], ◌∷◌, ◌++◌, length, slice_get, slice_index, All, Option, None, Some, replicate}
 use Rattle.circular_buffer.specs.Buffer.{Buffer, keep_last}
 use Rattle.st_bits.specs.Storage.{words_of_storage}

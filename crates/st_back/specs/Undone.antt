@@ -1,4 +1,12 @@
 -- The state after a recorded step is undone.
+--
+-- Proved: by their `ensures` clauses these calls do what definitions here say: `noted` (kept.rt),
+-- `keep` (undoing.rt), `remove_puts` (undoing.rt), `restore` (undoing.rt), and others.
+-- Read by: definitions in Steps.
+-- Laws: UndoingPassesRegistersOver (specs/Laws.antt).
+-- Change: no page fixes these definitions, since no contract of a program unfolds to them; they
+-- change together with the clauses, definitions and laws that name them. docs/machine.md describes
+-- the subject.
 use Rattle.std.specs.Prelude.{ℕ, zero, suc, ◌+◌, List, slice_index, slice_set}
 use Rattle.st_state.specs.Machine.{Machine, state_with_store}
 use Rattle.st_prep.specs.declared.entries.Words.{Words}

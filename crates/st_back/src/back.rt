@@ -1,14 +1,15 @@
 //! The last steps of a machine, recorded so that they can be undone: a ring buffer of 1 to 64
-//! steps, whose oldest step is dropped when it is full.
+//! steps, whose oldest step is dropped when it is full. `forth` makes a step, `back` undoes the
+//! newest, and `put` stores a word of a card between two steps, which `back` undoes with the step
+//! before it. `st_top` uses it for `/BACK`. docs/machine.md ("Steps back") has the rules.
 //!
-//! `forth` makes a step, `back` undoes the newest, and `put` stores a word of a card between two
-//! steps, which `back` undoes with the step before it: at most eight words for each step, since a
-//! card has eight.
-//!
-//! Proved: the state after `back` is the one before the step and its puts (`IsForth`, `IsPut`,
-//! `IsBack` in specs/Steps.antt). Only `new` allocates. `st_top` uses it for `/BACK`. The ring
-//! buffer may be another; 64 is the largest depth that a card can request, and 8 is pinned by
-//! `IsStepSound`.
+//! Proved, by clauses of `forth`, `put` and `back`: `IsForth`, `IsPut` and `IsBack` of
+//! specs/Steps.antt: the state after `back` is the one before the step and its puts. Laws:
+//! `BackUndoesForth` and `BacksGiveTheStatesBefore` (specs/Laws.antt). In the code only `new`
+//! allocates. Pinned: 64, the largest depth that a card can request, by docs/strap.md and
+//! vectors/back.txt; at most eight puts for each step, as a card has eight words, by `IsStepSound`
+//! (specs/Steps.antt); the calls, by `st_top` (beside.rt) and docs/CLAIMS.md. Free: another ring
+//! buffer, if proofs/back follows.
 ghost use Rattle.std.specs.Prelude.{◌≡◌, ◌<◌, ◌≤◌, ◌^◌, true, length, IfOk};
 ghost use Rattle.st_bits.specs.Storage.{words_of_storage};
 ghost use Rattle.st_exec.specs.Step.{IsStep};

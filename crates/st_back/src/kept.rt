@@ -1,10 +1,12 @@
 //! A recorded step, and the words that were put after it: those of a card that the reader brought
-//! before the next step.
+//! before the next step. Addresses are word addresses. back.rt keeps recorded steps in its ring,
+//! and undoing.rt undoes each, the puts from the last to the first, then the step. docs/machine.md
+//! ("Steps back") has the rules.
 //!
-//! back.rt keeps these in its ring, and undoing.rt undoes them, the puts from the last to the
-//! first, then the step. Proved: `noted` adds a put at the end (`step_with_word` in
-//! specs/Undone.antt). Pinned: at most eight puts (`IsStepSound`), as many as a card has words. The
-//! arrays could be larger, with the definition.
+//! Proved: `noted` adds a put at the end (`step_with_word` of specs/Undone.antt). Pinned: at most
+//! eight puts, as many as a card has words, by `IsStepSound` of specs/Steps.antt. `st_plain` holds
+//! a `KeptStep`, and only `st_back` reads its fields. Free: larger arrays, if `IsStepSound` and
+//! proofs/undoing follow.
 ghost use Rattle.std.specs.Prelude.{◌≡◌, ◌≤◌};
 ghost use Rattle.st_back.specs.Undone.{step_with_word as noted_of};
 

@@ -1,13 +1,13 @@
 //! The undoing of a step: storage, registers, counter, flags, count and orders become those before
-//! it.
-//!
-//! `undo` restores in reverse order of the writes: the puts of a card, the words that the entry
-//! wrote, words 0 to 31, and the rest. back.rt calls it, and `st_plain` after it has looked at
-//! predicted entries, with a record by `keep`.
+//! it. `undo` restores in reverse order of the writes: the puts of a card, the words that the entry
+//! wrote, words 0 to 31, and the rest. back.rt calls `undo`; `st_plain` calls `keep` before a
+//! predicted entry and `undo` after it. docs/machine.md ("Steps back") has the rules.
 //!
 //! Proved: the state is `state_undone` of specs/Undone.antt, and after a completion of the recorded
-//! entry this is the state before it (clause `undone` of `keep`, also with another counter). A new
-//! field of `State` has to be restored in `restore_rest`, or that proof fails. Free: the loops.
+//! entry this is the state before it (clause `undone` of `keep`, also with another counter). Law:
+//! `UndoingPassesRegistersOver` (specs/Laws.antt). Pinned: the reverse order, by `state_undone`,
+//! docs/machine.md and vectors/back.txt. A new field of `State` has to be restored in
+//! `restore_rest`, or the proof of `keep` fails. Free: the loops, if proofs/undoing follows.
 ghost use Rattle.std.specs.Prelude.{◌≡◌, ◌+◌, ◌≤◌, ℕ};
 ghost use Rattle.st_bits.specs.Storage.{words_of_storage};
 ghost use Rattle.st_state.specs.Machine.{Machine};

@@ -1,4 +1,14 @@
 -- The banks of storage: which words are in each, and until when each is busy.
+--
+-- Proved: by their `ensures` clauses these calls do what definitions here say: `accept` (banks.rt),
+-- `accept_tick` (answers.rt), `after` (answers.rt), `answer` (answers.rt), and others.
+-- Read by: definitions in BusTimes of st_rows, Notes of st_rows, Served of st_reasons, Supplies of
+-- st_rows, and others.
+-- Laws: ReadsKeepTheirBankBusy (specs/Laws.antt), ReadsAreAcceptedAtTheirTick (specs/Laws.antt),
+-- WordsLieInBanks (specs/Laws.antt).
+-- Change: the meaning is fixed by docs/timetable.md, since the contracts of `st_top::stretch` and
+-- `st_account::ledger` unfold to a definition here. The form is free, with the proofs that unfold
+-- it.
 use Rattle.std.specs.Prelude.{ℕ, ◌+◌, ◌%◌, max, nat_lt, nat_le, if◌then◌else◌, List, replicate, slice_index, slice_set, Option, None, Some}
 use Rattle.st_banks.specs.Delay.{answer_tick}
 use Rattle.st_banks.specs.declared.answers.LastAnswers.{LastAnswers}

@@ -1,4 +1,12 @@
 -- The delay of a read.
+--
+-- Proved: by their `ensures` clauses these calls do what definitions here say: `first_zero`
+-- (delays.rt), `answer` (delays.rt), `at` (delays.rt).
+-- Read by: definitions in Bank, DelayAnswers, BusTimes of st_rows.
+-- Laws: DelaysAreBounded (specs/Laws.antt), ReadsAreAcceptedAtTheirTick (specs/Laws.antt).
+-- Change: the meaning is fixed by docs/timetable.md, since the contracts of `st_top::stretch` and
+-- `st_account::ledger` unfold to a definition here. The form is free, with the proofs that unfold
+-- it.
 use Rattle.std.specs.Prelude.{ℕ, ◌≤◌, ◌+◌, ◌%◌, ◌==◌, List, length, slice_index, Option}
 use Rattle.std.specs.List.{position}
 use Rattle.st_bits.specs.declared.limits.TheConstants.{MOST_DELAY}

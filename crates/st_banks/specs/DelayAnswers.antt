@@ -1,4 +1,10 @@
 -- The result of a check of a list of delays.
+--
+-- Proved: by their `ensures` clauses these calls do what definitions here say: `new` (delays.rt).
+-- Laws: none names a definition of this file itself.
+-- Change: no page fixes these definitions, since no contract of a program unfolds to them; they
+-- change together with the clauses, definitions and laws that name them. docs/timetable.md
+-- describes the subject.
 use Rattle.std.specs.Prelude.{ℕ, ◌≡◌, List, None, Some, Result, Ok, Err}
 use Rattle.st_banks.specs.Delay.{first_zero}
 use Rattle.st_banks.specs.declared.delays.Delays.{Delays}

@@ -1,4 +1,9 @@
 -- Laws of delays and banks, which hold for all reads.
+--
+-- Proved: each law has its lemma in proofs/Laws.antt, with its name in small letters.
+-- Claimed: docs/CLAIMS.md names DelaysAreBounded, ReadsAreAcceptedAtTheirTick,
+-- ReadsKeepTheirBankBusy.
+-- Change: docs/promises.txt lists each law, and the gate compares the list with the laws.
 use Rattle.std.specs.Prelude.{◌≡◌, ◌≢◌, ◌<◌, ◌≤◌, ℕ, List, length, All, Some, None}
 use Rattle.st_banks.specs.Bank.{BankTimes, bank_of, last_answer, accept_tick, answer_if_accepted, after_read}
 use Rattle.st_banks.specs.Delay.{delay, answer_tick}

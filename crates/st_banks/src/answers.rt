@@ -1,13 +1,15 @@
 //! The ticks of the last answers of the six banks: all that the timetable has to know of earlier
-//! reads, with the delays of the job.
+//! reads, with the delays of the job. Words below 65,536 lie in four banks by their address modulo
+//! 4, the others in two by their parity. A read is accepted when it is wanted, possible, and its
+//! bank has answered the last one. `st_rows` computes with it; `st_ahead`, `st_plain` and
+//! `st_account` keep values, and `st_lines` calls `bank_of`. docs/timetable.md has the rules.
 //!
-//! Words below 65,536 lie in four banks by their address modulo 4, the others in two by their
-//! parity. A read is accepted when it is wanted, possible, and its bank has answered the last one.
-//! `st_rows` computes with it.
-//!
-//! Proved: the results are `bank_of`, `accept_tick` and `answered_at` of specs/Bank.antt. The
-//! number of banks and their words are pinned by `bank_of` there, and by `docs/timetable.md` for
-//! the job; the bodies are free.
+//! Proved: the results are `bank_of`, `accept_tick` and `answered_at` of specs/Bank.antt. Laws of
+//! `accept_tick` and `bank_of`: `WordsLieInBanks`, `ReadsKeepTheirBankBusy` and
+//! `ReadsAreAcceptedAtTheirTick` (specs/Laws.antt). Pinned: the banks and their words, by these
+//! definitions, docs/timetable.md, vectors/timetable.txt and the law `BanksInFigures`
+//! (specs/Laws.antt of `st_laws`); the calls, by the crates above and docs/CLAIMS.md. Free: the
+//! bodies.
 ghost use Rattle.std.specs.Prelude.{◌≡◌, ◌<◌, replicate};
 ghost use Rattle.st_banks.specs.Bank.{bank_of as bank_by};
 

@@ -1,13 +1,12 @@
 //! The banks of storage with their delays, for one read at a time: a read is accepted or refused at
-//! a tick.
-//!
-//! No program uses it: the timetable of `st_rows` computes with `LastAnswers` and `Delays`, without
-//! refusals. `st_calls` tests it. Addresses are word addresses from 32 to 98,303, ticks are below
-//! 2^63.
+//! a tick. Addresses are word addresses from 32 to 98,303, ticks are below 2^63. No program uses
+//! `Banks`: the timetable of `st_rows` computes with `LastAnswers` and `Delays`, without refusals.
+//! `st_calls` tests `Banks`. docs/timetable.md has the rules.
 //!
 //! Proved: the answers are `answer_if_accepted` and `after_read` of specs/Bank.antt, and None is
-//! returned if and only if the bank is still busy. Free: how the answers are kept, as long as the
-//! view gives both lists. `docs/CLAIMS.md` offers it, so it stays.
+//! returned if and only if the bank is still busy. Pinned: `new` and `accept`, by docs/CLAIMS.md,
+//! docs/inside.md and the tests of reads.rt of `st_calls`. Free: how the answers are kept, as long
+//! as the view (`Model` of `Banks`) gives both lists.
 ghost use Rattle.std.specs.Prelude.{◌≡◌, ◌+◌, ◌≤◌, ◌<◌, ◌^◌, length, IfSome};
 ghost use Rattle.st_bits.specs.declared.limits.TheConstants.{MOST_DELAY};
 ghost use Rattle.st_bits.specs.Storage.{words_of_storage};

@@ -1,12 +1,14 @@
-//! Cyclic lists of delays: entry `t` modulo the length is the number of ticks, 1 to 255, that a
-//! read takes which is accepted at tick t.
+//! Cyclic lists of delays: entry t modulo the length is the number of ticks, 1 to 255, that a read
+//! takes which is accepted at tick t. `st_run` makes the list of a job (`/DELAYS`) for its
+//! machines, `st_sweep` for its own; `st_rows` computes with it. docs/timetable.md has the rule.
 //!
-//! `st_run` makes the list of a job (`/DELAYS`) for its machines. Proved: `delay` and `answer_tick`
-//! of specs/Delay.antt; a list with a zero is refused with the place of the first one, before
-//! memory is allocated. `new` is the only call that allocates, and `DelayError` has its two errors.
-//!
-//! Pinned: at most 4,096 entries (`LONGEST_LIST`), and at most 255 ticks, on which the bounds of
-//! `st_rows` rest (`MOST_DELAY`). Free: the shortcut for one entry, which only saves a division.
+//! Proved: the results are `delay` and `answer_tick` of specs/Delay.antt; a list with a zero is
+//! refused with the place of the first one, before memory is allocated. Law: `DelaysAreBounded`
+//! (specs/Laws.antt). `new` is the only call that allocates, and `DelayError` has its two errors.
+//! Pinned: at most 4,096 entries (`LONGEST_LIST`), and at most 255 ticks (`MOST_DELAY`), by the
+//! laws `ControlsInFigures` and `LimitsInFigures` (specs/Laws.antt of `st_laws`) and docs/strap.md;
+//! the bounds of `st_rows` rest on 255. Free: the shortcut for one entry, which only saves a
+//! division.
 ghost use Rattle.std.specs.Prelude.{◌≡◌, ◌+◌, ◌<◌, ◌≤◌, ◌^◌, length, All, IfSome, IfNone};
 ghost use Rattle.st_bits.specs.declared.limits.TheConstants.{LONGEST_LIST, MOST_DELAY};
 ghost use Rattle.st_banks.specs.Delay.{delay, IsDelay, first_zero as first_zero_of};

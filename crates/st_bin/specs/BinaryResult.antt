@@ -1,8 +1,16 @@
 -- The base-2 parts of the results of operations on fields, and the operations that only base 2 has.
+--
+-- Proved: by their `ensures` clauses these calls do what definitions here say: `multiplied`
+-- (base.rt), `binary` (operations.rt).
+-- Read by: definitions in Outcome of st_exec.
+-- Laws: none names a definition of this file itself.
+-- Change: the meaning is fixed by docs/variable-fields.md, since the contracts of `st_top::stretch`
+-- and `st_account::ledger` unfold to a definition here. The form is free, with the proofs that
+-- unfold it.
 use Rattle.std.specs.Prelude.{ℕ, ◌+◌, ◌*◌, ◌/◌, ◌%◌, ◌^◌, nat_le, ◌==◌, ◌||◌, if◌then◌else◌, Some}
 use Rattle.st_bits.specs.declared.operations.VflOp.{VflOp}
 use Rattle.st_bits.specs.Indicators.{indicator}
-use Rattle.st_bits.specs.declared.indicators.TheConstants.{BINARY_TRANSIT, ZERO_DIVISOR}
+use Rattle.st_bits.specs.declared.indicators.TheConstants.{BINARY_TRANSIT, ZERO_DIVISOR, LOST_CARRY, PARTIAL_FIELD}
 use Rattle.st_field.specs.declared.accumulator.Acc.{Acc}
 use Rattle.st_field.specs.declared.base.Taken.{Taken}
 use Rattle.st_field.specs.declared.fields.Field.{Field}
@@ -10,11 +18,11 @@ use Rattle.st_field.specs.declared.fields.Shape.{Shape}
 use Rattle.st_field.specs.declared.outcome.Done.{Done}
 use Rattle.st_field.specs.declared.signed.Signed.{Signed}
 use Rattle.st_field.specs.Bases.{InBase, operand_taken, result_of}
-use Rattle.st_field.specs.Indicators.{lost_carry, partial_field, flag_indicators}
-use Rattle.st_field.specs.Fields.{magnitude_bits}
+use Rattle.st_field.specs.Indicators.{on_if, flag_indicators}
+use Rattle.st_field.specs.Fields.{magnitude_bits, sign_of}
 use Rattle.st_field.specs.Numbers.{exactly_one, exceeds, sum_of}
 use Rattle.st_field.specs.Digits.{digits_of}
-use Rattle.st_field.specs.Results.{is_minus, number_in, signed_operand, number_cut, with_number, done_with, in_accumulator, load_result}
+use Rattle.st_field.specs.Results.{number_in, signed_operand, number_cut, with_number, done_with, in_accumulator, loaded}
 
 -- the accumulator from the offset
 abbrev pub from_offset : Acc → Shape → ℕ
@@ -22,30 +30,22 @@ from_offset a h = a.mag / 2 ^ h.offset
 
 -- ---- the operations that only base 2 has
 
--- the result with a product or quotient m in the accumulator; it is minus if exactly one of
--- accumulator and operand is minus
+-- the result with a product or quotient m, minus if exactly one of accumulator and operand is minus
 abbrev pub product_result : Acc → Field → Shape → ℕ → ℕ → Done
-product_result a f h m on =
-    in_accumulator (with_number a m (exactly_one (is_minus a)
+product_result a f h m on = in_accumulator (with_number a m (exactly_one (sign_of a.sb)
     (signed_operand f h f.mag).negative)) m on
 
 -- the result of *: the low 64 bits of the accumulator from the offset, times the operand
 unfoldable pub product : Acc → Field → Shape → Done
-product a f h =
-    product_result a f h (from_offset a h % 2 ^ 64 * f.mag)
-    (flag_indicators f.flags + partial_field (exceeds (from_offset a h) 64))
+product a f h = product_result a f h (from_offset a h % 2 ^ 64 * f.mag)
+    (flag_indicators f.flags + on_if (exceeds (from_offset a h) 64) PARTIAL_FIELD)
 
--- the result of *+: p, the factor register times the operand at the offset, is added to the
--- accumulator
-abbrev pub product_summed : Acc → Field → Shape → ℕ → Done
-product_summed a f h p =
+-- the result of *+: the factor register ft times the operand at the offset is added
+unfoldable pub product_added : Acc → Field → Shape → ℕ → Done
+product_added a f h ft = let p : ℕ = ft * f.mag * 2 ^ h.offset in
     let n : Signed = sum_of (number_in a a.mag) (signed_operand f h (p % 2 ^ 128)) in
     in_accumulator (with_number a (n.mag % 2 ^ 128) n.negative) (n.mag % 2 ^ 128)
-    (flag_indicators f.flags + lost_carry (exceeds p 128 || exceeds n.mag 128))
-
--- the result of *+ with the factor register ft
-unfoldable pub product_added : Acc → Field → Shape → ℕ → Done
-product_added a f h ft = product_summed a f h (ft * f.mag * 2 ^ h.offset)
+    (flag_indicators f.flags + on_if (exceeds p 128 || exceeds n.mag 128) LOST_CARRY)
 
 -- the result of /: the quotient, and the remainder in its register; a zero divisor only turns on ZD
 unfoldable pub quotient_result : Acc → Field → Shape → Done
@@ -55,20 +55,14 @@ quotient_result a f h =
       rm = Some (from_offset a h % f.mag);
     }
 
--- the result of LCV for the number t: its decimal digits; digits beyond the 32nd are lost
-abbrev pub converted_number : Field → Shape → ℕ → Done
-converted_number f h t =
-    load_result
-    (record {
+-- the result of LCV: the magnitude as 32 decimal digits, its last digit at digit `offset / 4`
+unfoldable pub conversion_result : Field → Shape → Done
+conversion_result f h = let t : ℕ = f.mag * 10 ^ (h.offset / 4) in
+    loaded 0 0 (record {
       bits = digits_of 32 (t % 10 ^ 32);
       number = signed_operand f h (t % 10 ^ 32);
-      on = flag_indicators f.flags + partial_field (nat_le (10 ^ 32) t);
+      on = flag_indicators f.flags + on_if (nat_le (10 ^ 32) t) PARTIAL_FIELD;
     })
-
--- the result of LCV: the magnitude in decimal, its last digit at digit `offset / 4` of the
--- accumulator
-unfoldable pub conversion_result : Field → Shape → Done
-conversion_result f h = converted_number f h (f.mag * 10 ^ (h.offset / 4))
 
 -- ---- the base
 

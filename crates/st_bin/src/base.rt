@@ -1,11 +1,12 @@
-//! Base 2: the parts of the results of binary operations that decimal ones have otherwise, for
-//! `operate` of `st_field`.
+//! Base 2: the parts of the results of operations on binary fields that differ for decimal fields.
+//! operations.rt passes `Two` to `operate` of `st_field`, which calls the methods.
+//! docs/variable-fields.md has the rules. Magnitudes are binary numbers: up to 128 bits in the
+//! accumulator, up to 64 in a field.
 //!
-//! `base` in specs/BinaryResult.antt defines what each method returns, and each method is proved by
-//! the clauses of the trait `Base`, which it inherits. Magnitudes are binary numbers: up to 128
-//! bits in the accumulator, up to 64 in a field. Multiply takes the low 64 bits of the accumulator
-//! from the offset; divide puts the remainder in its register. The bodies are free. The results are
-//! pinned by the definition, docs/operations.md and vectors/binary.txt.
+//! Proved: each method returns its part of `base` in specs/BinaryResult.antt, by the clauses of the
+//! trait `Base` of `st_field`. Multiply takes the low 64 bits of the accumulator from the offset;
+//! divide puts the remainder in its register. Pinned: the results, by specs/BinaryResult.antt,
+//! docs/operations.md and vectors/binary.txt; the methods, by the trait `Base`. Free: the bodies.
 ghost use Rattle.std.specs.Prelude.{◌≡◌, ◌≤◌, ◌<◌, ◌%◌, ◌^◌, ℕ};
 ghost use Rattle.st_field.specs.Numbers.{exceeds as exceeds_of};
 ghost use Rattle.st_field.specs.Fields.{IsBinaryShape};

@@ -1,10 +1,13 @@
-//! A decimal shift of a number, for load converted: the binary field becomes 32 decimal digits in
-//! the accumulator.
+//! Moves a binary number to a decimal place of the accumulator, for load converted (LCV): the
+//! product by a power of ten. Only base.rt calls `place_digits`. `place` is the digit at which the
+//! number begins, 0 to 31. docs/variable-fields.md has the rule.
 //!
-//! base.rt makes the call. `place` is the digit at which the number begins, 0 to 31. The clauses
-//! are the definition: the product by 10^place modulo 10^32, and whether the product has more
-//! digits. The body avoids the full product, which may need more than 128 bits; its form is free,
-//! with proofs/PlaceLemmas.antt. The results are pinned by the clauses.
+//! Proved, by the clauses here: the result is the product by 10^place modulo 10^32, and whether the
+//! product has more digits. `conversion_result` in specs/BinaryResult.antt names both.
+//!
+//! Pinned: the results, by `conversion_result`, docs/variable-fields.md and vectors/binary.txt.
+//! Free: the body, if proofs/PlaceLemmas.antt follows. It avoids the full product, which may need
+//! more than 128 bits.
 ghost use Rattle.std.specs.Prelude.{◌≡◌, ◌<◌, ◌*◌, ◌%◌, ◌^◌, nat_le};
 
 use st_field::power_of_ten;

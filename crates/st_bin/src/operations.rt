@@ -1,11 +1,12 @@
-//! Each binary operation on a field: the one call of this crate, which `st_exec` makes.
+//! Each binary operation on a field: `binary`, the one call of this crate, for fields.rt of
+//! `st_exec`. Inputs are values: 128 bits of accumulator, a field of 1 to 64 bits, the factor and
+//! indicator registers. docs/variable-fields.md has the rules.
 //!
-//! `result` in specs/BinaryResult.antt defines the result; the clause `done` says that the call
-//! returns exactly that, and `field` that written bits fit the field. Inputs are values: 128 bits
-//! of accumulator, a field of 1 to 64 bits, the factor and indicator registers. Callers must prove
-//! that the shape is valid, which decoding ensures. The result is pinned by the definition,
-//! docs/operations.md and vectors/binary.txt. The body is free, but its proof, in
-//! proofs/operations, follows it.
+//! Proved: the clause `done` says that the result is `result` of specs/BinaryResult.antt, `field`
+//! that written bits fit the field. Callers must prove that the shape is valid, which decoding
+//! ensures. Pinned: the result, by specs/BinaryResult.antt, docs/operations.md and
+//! vectors/binary.txt. Free: the body, if proofs/operations follows. No operation is named here:
+//! docs/changing.md lists the places of a new one.
 ghost use Rattle.std.specs.Prelude.{◌≡◌, ◌<◌, ◌^◌, IfSome};
 ghost use Rattle.st_field.specs.Fields.{IsBinaryShape};
 ghost use Rattle.st_bin.specs.BinaryResult.{result as binary_result};

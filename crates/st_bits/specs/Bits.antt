@@ -1,4 +1,12 @@
 -- A number as a list of its bits, zeros and ones, the highest bit first; and fields of such lists.
+--
+-- Proved: by their `ensures` clauses these calls do what definitions here say: `part` (parts.rt),
+-- `get_field` (fields.rt), `put_field` (fields.rt), `with_part` (parts.rt), and others.
+-- Read by: definitions in IndexWord, Indicators, Registers, Operand of st_exec, and others.
+-- Laws: CountsAgree (specs/Laws.antt of st_laws).
+-- Change: the meaning is fixed by docs/machine.md, since the contracts of `st_top::stretch` and
+-- `st_account::ledger` unfold to a definition here. The form is free, with the proofs that unfold
+-- it.
 use Rattle.std.specs.Prelude.{ℕ, zero, suc, ◌+◌, ◌-◌, ◌*◌, ◌/◌, ◌%◌, ◌^◌, List, [], ◌∷◌, ◌++◌, length, take, drop}
 use Rattle.std.specs.Int.{bit_at}
 
@@ -36,8 +44,7 @@ part x a n = x / 2 ^ (64 - a - n) % 2 ^ n
 
 -- the word x with the number v in its n bits from bit a
 abbrev pub with_part : ℕ → ℕ → ℕ → ℕ → ℕ
-with_part x a n v =
-    x / 2 ^ (64 - a) * 2 ^ (64 - a) + v * 2 ^ (64 - a - n) + x % 2 ^ (64 - a - n)
+with_part x a n v = x / 2 ^ (64 - a) * 2 ^ (64 - a) + v * 2 ^ (64 - a - n) + x % 2 ^ (64 - a - n)
 
 -- the word x with all bits cleared except the n bits from bit a
 abbrev pub kept_bits : ℕ → ℕ → ℕ → ℕ

@@ -1,5 +1,15 @@
 -- The parts of an index word: value magnitude in bits 0-23, value sign in bit 24, count in bits
 -- 28-45, refill address in bits 46-63.
+--
+-- Proved: by their `ensures` clauses these calls do what definitions here say: `count_of`
+-- (index_words.rt), `refill_of` (index_words.rt), `value_of` (index_words.rt), `with_count`
+-- (index_words.rt), and others.
+-- Read by: definitions in SpeculativeChanges of st_prep, IndexChange of st_index, Emitting of
+-- st_asm, Entry of st_prep.
+-- Laws: none names a definition of this file itself.
+-- Change: the meaning is fixed by docs/machine.md, since the contracts of `st_top::stretch` and
+-- `st_account::ledger` unfold to a definition here. The form is free, with the proofs that unfold
+-- it.
 use Rattle.std.specs.Prelude.{ℕ, ◌%◌, ◌^◌, ℤ, pos, negsuc, neg_ℤ, unsigned_abs, ◌==◌, if◌then◌else◌}
 use Rattle.st_bits.specs.Bits.{part, with_part}
 

@@ -1,4 +1,16 @@
 -- Indicators as bits of a 64-bit word.
+--
+-- Proved: by their `ensures` clauses these calls do what definitions here say: `indicator`
+-- (storage.rt), `leftmost` (indicators.rt of st_state), `may` (lib.rt of st_state), `pending`
+-- (lib.rt of st_state), and others.
+-- Read by: definitions in Indicators of st_field, IndexChange of st_index, Interrupts of st_state,
+-- BinaryResult of st_bin, and others.
+-- Laws: EntriesRead36WordsAtMost (specs/Laws.antt of st_prep), PlansAreInRange (specs/Laws.antt of
+-- st_prep), EntriesAreInRange (specs/Laws.antt of st_segment), EntriesBehindAreSeen
+-- (specs/Laws.antt of st_segment), and others.
+-- Change: the meaning is fixed by docs/machine.md, since the contracts of `st_top::stretch` and
+-- `st_account::ledger` unfold to a definition here. The form is free, with the proofs that unfold
+-- it.
 use Rattle.std.specs.Prelude.{ℕ, ◌+◌, ◌-◌, ◌<◌, ◌^◌, Bool, ◌==◌, List, [], ◌∷◌, Option, IfSome}
 use Rattle.st_bits.specs.Bits.{part}
 

@@ -1,12 +1,13 @@
 //! Fields: 1 to 64 consecutive bits anywhere in a list of words, addressed by their first bit; bit
-//! 0 is the leftmost bit of word 0.
+//! 0 is the leftmost bit of word 0. docs/machine.md has the rules. `st_exec` reads operands by
+//! `get_field`; `st_state`, and `st_asm` for the bits of a card, write by `put_field`.
 //!
-//! Execution reads and writes operands by these calls, and so does the assembler for the bits of a
-//! card. specs/Bits.antt defines the bits of a list of words; the clauses say that a read returns
-//! the number in exactly these bits, and that a write replaces them and no other bit. Callers must
-//! prove that the field lies within the words. A field touches at most two words, which is all that
-//! the bodies rely on; their form is free; a change of `get_field`, `put_field` and `joined` needs
-//! one in proofs/fields as well. The results are pinned by the definitions.
+//! Proved: a read returns the number in exactly these bits (`field` of specs/Bits.antt), and a
+//! write replaces them and no other bit (`put` there). Callers must prove that the field lies
+//! within the words. Not proved: speed. Pinned: the results, by specs/Bits.antt, docs/machine.md
+//! and vectors/forms.txt; the definitions of `st_exec`, `st_state` and `st_asm` rest on them. Free:
+//! the bodies, which use that a field touches at most two words, if proofs/fields follows
+//! `get_field`, `put_field` and `joined`.
 ghost use Rattle.std.specs.Prelude.{◌≡◌, ℕ, ◌+◌, ◌-◌, ◌*◌, ◌<◌, ◌≤◌, ◌^◌, length, slice_index};
 ghost use Rattle.st_bits.specs.Bits.{all_bits, bits as bits_of, field, num, put};
 

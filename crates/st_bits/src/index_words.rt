@@ -1,10 +1,12 @@
-//! The parts of an index word: value, count and refill address.
+//! The parts of an index word: value, count and refill address. Bits 0-23 are the magnitude of the
+//! value, bit 24 its sign (one is minus, and minus zero reads as 0), bits 28-45 the count, bits
+//! 46-63 the refill address; bits 25-27 are flags and are kept. docs/index-words.md has the rules.
+//! `st_index`, `st_prep` and the assembler (emitting.rt of `st_asm`) use the calls.
 //!
-//! Bits 0-23 are the magnitude of the value, bit 24 its sign (one is minus, and minus zero reads as
-//! 0), bits 28-45 the count, and bits 46-63 the refill address; bits 25-27 are flags and are kept.
-//! specs/IndexWord.antt defines these places, and each clause says that the call returns exactly
-//! that part, or the word with only that part replaced. The places are pinned there; the bodies are
-//! free. `st_index`, `st_prep` and the assembler use the calls.
+//! Proved: each call returns exactly the part that specs/IndexWord.antt defines, or the word with
+//! only that part replaced. Pinned: the places of the parts, by specs/IndexWord.antt,
+//! docs/index-words.md and vectors/index.txt. Free: the bodies, which are calls of parts.rt. No
+//! call changes a flag.
 ghost use Rattle.std.specs.Prelude.{◌≡◌, ◌<◌, ◌≤◌, ◌^◌, unsigned_abs};
 ghost use Rattle.st_bits.specs.IndexWord.{index_value as value_by, count_of as count_by, refill_of as refill_by, index_word_with_value as with_value_of, with_count as with_count_of, with_refill as with_refill_of};
 

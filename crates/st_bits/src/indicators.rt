@@ -1,11 +1,14 @@
 //! The numbers of the indicators: indicator n is bit n of the indicator register (register word
 //! 11), bit 0 leftmost. An indicator is a condition code or the cause of an interrupt.
+//! docs/machine.md and docs/interrupts.md have the rules. The crates that turn indicators on
+//! (`st_prep`, `st_exec`, `st_state`, `st_index`, `st_field`, `st_bin`, `st_dec`) and `st_expr`,
+//! for their symbols, use the names. Numbers that are missing here have no name; PG1 to PG6 are the
+//! six after FIRST_PROGRAM_INDICATOR.
 //!
-//! The numbers are those of the machine's rules (docs/machine.md, docs/interrupts.md). Definitions
-//! of several crates name these constants, and the law `IndicatorsInFigures` in specs/Laws.antt of
-//! `st_laws` pins all figures, so none is free; a new name needs its figure there. Nothing is
-//! proved here, since there is no function. Numbers that are missing have no name in this machine,
-//! except PG1 to PG6, which follow PG0.
+//! Proved: nothing here, since there is no function; the definitions of these crates in their specs
+//! name the constants. Pinned: each number, by the law `IndicatorsInFigures` in specs/Laws.antt of
+//! `st_laws`, with its symbol, and by docs/machine.md. A new name needs its figure in that law.
+//! Free: a name, if the code and definitions that use it change.
 
 /// MK, machine check.
 pub const MACHINE_CHECK: u8 = 0;

@@ -1,8 +1,12 @@
-//! Words, fields, register words and index words. `docs/machine.md` and `docs/index-words.md` have
-//! the rules.
+//! Words, fields, register words and index words, and the names and numbers of indicators, limits
+//! and operations. docs/machine.md, docs/index-words.md and docs/operations.md have the rules. Most
+//! crates of the machine and of the assembler use them; nothing here has a state.
 //!
-//! All crates of the machine and of the assembler use them. specs/ has a definition for each call,
-//! and nothing here has a state.
+//! Proved: each call returns what a definition of specs/ says (Bits, IndexWord, Registers, Storage,
+//! Indicators). Pinned: the numbers of the constants, by the laws `LimitsInFigures`,
+//! `ControlsInFigures`, `RegistersInFigures` and `IndicatorsInFigures` (specs/Laws.antt of
+//! `st_laws`); the results, by these definitions and the three pages. Free: the bodies, if their
+//! proofs follow.
 #![tactic(auto)]
 
 mod fields;

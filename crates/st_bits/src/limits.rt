@@ -1,10 +1,12 @@
-//! Limits: the size of storage and the greatest sizes and numbers that a job may use.
+//! Limits: the size of storage and the greatest sizes and numbers that a job may use. `st_card`,
+//! `st_asm` and `st_top` refuse a job beyond a limit; `st_banks`, `st_state`, `st_run` and other
+//! crates of a run have them as bounds. docs/strap.md and docs/machine.md name the limits.
 //!
-//! A job beyond a limit is refused by the crate that reads it (`st_card`, `st_asm`, `st_top`).
-//! Definitions name these constants, and their figures are pinned by the laws `LimitsInFigures` and
-//! `ControlsInFigures` in specs/Laws.antt of `st_laws`, and by docs/strap.md. WORDS is fixed by the
-//! machine, and LAST_WORD is one less. The other limits are this project's choice and may change:
-//! with those laws, the page, the vectors, and new proofs in the crates that use the limit.
+//! Proved: nothing here, since there is no function. Pinned: the figures, by the laws
+//! `LimitsInFigures` and `ControlsInFigures` in specs/Laws.antt of `st_laws`, and by docs/strap.md,
+//! docs/machine.md and vectors/controls.txt. WORDS is fixed by the machine, and LAST_WORD is one
+//! less. Free: the other limits are this project's choice. A change of one changes those laws,
+//! pages and vectors, and the folder model, and needs new proofs in the crates that use the limit.
 
 /// The number of words of storage.
 pub const WORDS: u32 = 98_304;

@@ -1,12 +1,13 @@
-//! The operations by name. The number of a variant is the operation's number in the instruction, as
-//! the table in `st_format` has it.
+//! The operations by name. The number of a variant is the operation's number in the instruction.
+//! `st_format` decodes to these names; `st_prep`, `st_exec`, `st_field`, `st_conn`, the assembler
+//! and the disassembler distinguish cases by them. The comments say in short what each operation
+//! does; docs/operations.md and docs/instructions.md have the rules.
 //!
-//! The comments of the variants say in short what each operation does; docs/operations.md has the
-//! rules, and the definitions of `st_prep`, `st_exec`, `st_field` and `st_conn` are binding.
-//! Nothing is proved here. The numbers are pinned: `st_format` is proved with them, and the
-//! instruction bits of all vectors contain them. A new operation begins with a variant here and its
-//! row in specs/Operations.antt of `st_format`. Only a name is free to change, together with the
-//! definitions that use it.
+//! Proved: nothing here, since there is no function; the specs of these crates say what an
+//! operation does. Pinned: the numbers, by specs/Operations.antt of `st_format`, by
+//! docs/operations.md, docs/instructions.md and vectors/mnemonics.txt. A new operation begins with
+//! a variant here; docs/changing.md lists the other places. Free: a name, if the code and
+//! definitions that use it change.
 
 /// An operation of the half-word format outside the branch group.
 ///

@@ -1,12 +1,13 @@
 //! Consecutive bits within one word, named by the first bit (0 is leftmost) and their number, 1 to
-//! 64.
+//! 64. Fields and index words are composed of `part` and `with_part`, registers use `kept`; crates
+//! that decode words use the calls too (`st_exec`, `st_prep`, `st_state`, `st_asm`, `st_lines`).
+//! docs/machine.md has the numbering of bits.
 //!
-//! Fields, index words, registers and decoders are composed of these calls. specs/Bits.antt defines
-//! each result twice: as a number by division (`part`, `with_part`), and as a list of bits
-//! (`field`, `put`); the clauses prove both, so callers may use either. The bodies are free.
-//! Callers must prove that no bit is past bit 63. The results are pinned by the definitions, on
-//! which most definitions of the machine rest. proofs/parts follows the bodies of `part` and
-//! `with_part`.
+//! Proved: each result is the definition in specs/Bits.antt by division (`part`, `with_part`,
+//! `kept_bits`); for `part` and `with_part` also by lists of bits (`field`, `put`), so callers may
+//! use either. Callers must prove that no bit is past bit 63. Pinned: the results, by
+//! specs/Bits.antt and docs/machine.md; most definitions of the machine rest on them. Free: the
+//! bodies, if proofs/parts follows those of `part` and `with_part`.
 ghost use Rattle.std.specs.Prelude.{◌≡◌, ◌+◌, ◌<◌, ◌≤◌, ◌^◌};
 ghost use Rattle.st_bits.specs.Bits.{bits as bits_of, field, kept_bits as kept_of, num, part as part_of, put, with_part as with_part_of};
 

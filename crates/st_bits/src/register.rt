@@ -1,12 +1,12 @@
 //! The register words, which are the words 0 to 31 of storage: their addresses and their fixed
-//! bits.
+//! bits. docs/machine.md has the rules. `st_state` calls `fix_register` at each write to a
+//! register; the crates of the machine and `st_expr` use the addresses. Reads need no call: a
+//! register holds only what such a write has left.
 //!
-//! `fix_register` is applied by each write to a register (in `st_state`). `register_word` in
-//! specs/Registers.antt defines which bits keep what is written and which are fixed; the clause
-//! says that the call returns exactly that. The addresses are those of the machine's rules
-//! (docs/machine.md); definitions of several crates name them, and the law `RegistersInFigures` of
-//! `st_laws` pins the figures. The body of `fix_register` is free. Reads need no call: a register
-//! holds only what such a write has left.
+//! Proved: the result of `fix_register` is `register_word` of specs/Registers.antt, which defines
+//! which bits keep what is written and which are fixed. Pinned: the addresses, by the law
+//! `RegistersInFigures` in specs/Laws.antt of `st_laws`, and the fixed bits, by `register_word`,
+//! docs/machine.md, vectors/moves.txt and vectors/interrupts.txt. Free: the body of `fix_register`.
 ghost use Rattle.std.specs.Prelude.{◌≡◌, ◌<◌};
 ghost use Rattle.st_bits.specs.Registers.{register_word};
 

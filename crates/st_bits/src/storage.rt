@@ -1,12 +1,13 @@
-//! The size of storage, and the indicators as bits of a word. `docs/machine.md` has the rules.
+//! The size of storage, and the indicators as bits of a word. docs/machine.md has the rules. An
+//! `Ind` is part of the result of nearly all operations: `st_exec` applies it to the indicator
+//! register by `turned` of `st_state`. `st_asm` and `st_sweep` call `number_of_words`, which exists
+//! so that proofs see the size as a name, not as a figure. Crates that allocate return `NoMemory`.
 //!
-//! An `Ind` is part of the result of nearly all operations: `st_exec` applies it to the indicator
-//! register by `turned` of `st_state`. specs/Indicators.antt and specs/Storage.antt define the
-//! results here, and each clause says that the call returns exactly that. `number_of_words` exists
-//! so that proofs see the size as a name, not as a figure. Pinned: the size, by
-//! `words_of_storage_is` in specs/Storage.antt and the law `LimitsInFigures` of `st_laws`; the bit
-//! of an indicator, by its definition and docs/machine.md; the two words of `Ind` and the error, by
-//! the clauses of most crates. Free: the bodies of both calls.
+//! Proved: the results are `indicator` of specs/Indicators.antt and `words_of_storage` of
+//! specs/Storage.antt. Pinned: the size, by `words_of_storage_is` in specs/Storage.antt and the law
+//! `LimitsInFigures` (specs/Laws.antt of `st_laws`); the bit of an indicator, by `indicator` and
+//! docs/machine.md; the two words of `Ind` and `NoMemory`, by the clauses of the crates that return
+//! them. Free: the bodies of both calls.
 ghost use Rattle.std.specs.Prelude.{◌≡◌, ◌<◌};
 ghost use Rattle.st_bits.specs.Indicators.{indicator as indicator_of};
 ghost use Rattle.st_bits.specs.Storage.{words_of_storage};

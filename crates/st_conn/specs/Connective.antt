@@ -1,6 +1,14 @@
 -- Connectives: bitwise logic on a field and the accumulator. Bits are named by weight; the
--- rightmost bit has weight 0. The accumulator is a number below 2 ^ 128, whose bits beyond weight
--- 127 are zeros.
+-- rightmost bit has weight 0. The accumulator is a number below 2 ^ 128; a field has 64 bits at
+-- most.
+--
+-- Proved: by their `ensures` clauses these calls do what definitions here say: `connect`
+-- (logic.rt), `put_acc` (placement.rt), `combined` (logic.rt), `results` (logic.rt), and others.
+-- Read by: definitions in Connection.
+-- Laws: CountsAgree (specs/Laws.antt of st_laws).
+-- Change: the meaning is fixed by docs/connectives.md, since the contracts of `st_top::stretch` and
+-- `st_account::ledger` unfold to a definition here. The form is free, with the proofs that unfold
+-- it.
 use Rattle.std.specs.Prelude.{ℕ, zero, suc, ◌+◌, ◌-◌, Bool, List, [], ◌∷◌, ◌==◌, ◌&&◌, nat_lt, nat_le, if◌then◌else◌}
 use Rattle.std.specs.Int.{bit_at}
 use Rattle.std.specs.List.{prefix_len, list_any}
@@ -10,16 +18,14 @@ unfoldable pub by_weight : (ℕ → ℕ) → ℕ → List ℕ
 by_weight bit zero = []
 by_weight bit (suc n) = bit n ∷ by_weight bit n
 
--- the truth table's bit for a field bit and an accumulator bit; the bits for 00, 01, 10 and 11 have
--- the weights 3, 2, 1 and 0
+-- the truth table's bit for a field bit and an accumulator bit: 00 has weight 3, 11 weight 0
 abbrev pub truth_bit : ℕ → ℕ → ℕ → ℕ
 truth_bit table zero zero = bit_at table 3
 truth_bit table zero (suc _) = bit_at table 2
 truth_bit table (suc _) zero = bit_at table 1
 truth_bit table (suc _) (suc _) = bit_at table 0
 
--- the result bit of weight j, from the field's bit of weight j and the accumulator's bit of weight
--- offset + j
+-- the result bit of weight j, from the field's bit j and the accumulator's bit offset + j
 abbrev pub result_at : ℕ → ℕ → ℕ → ℕ → ℕ → ℕ
 result_at table acc offset field j = truth_bit table (bit_at field j) (bit_at acc (offset + j))
 

@@ -1,14 +1,17 @@
 //! The result of a connective, an operation that combines the bits of a field and of the
-//! accumulator by a truth table of four bits.
+//! accumulator by a truth table of four bits. docs/connectives.md has the rules. `st_exec`
+//! (fields.rt) calls `connective` and writes the result. The counts go to register word 7: leading
+//! zeros in bits 17-23, ones in bits 44-50.
 //!
-//! `st_exec` makes the call `connective` and writes the result. `connection` in
-//! specs/Connection.antt defines it; the clause `done` says that the call returns exactly that, and
-//! `field` that written bits fit the field. The counts go to register word 7: leading zeros in bits
-//! 17-23, ones in bits 44-50. The private functions are free. The result is pinned by the
-//! definition, docs/connectives.md and vectors/connectives.txt.
+//! Proved: the clause `done` says that the result is `connection` of specs/Connection.antt, `field`
+//! that written bits fit the field. The law `CountsAgree` (specs/Laws.antt of `st_laws`) says that
+//! the counts lie in bits that the register keeps. Pinned: the result, by `connection`,
+//! docs/connectives.md and vectors/connectives.txt. Free: the private functions. A new kind of
+//! connective is a case of `ConnKind` (`st_bits`), here and in specs/Connection.antt.
 ghost use Rattle.std.specs.Prelude.{◌≡◌, ◌<◌, ◌≤◌, ◌^◌, IfSome, false};
+ghost use Rattle.st_bits.specs.declared.indicators.TheConstants.{PARTIAL_FIELD};
 ghost use Rattle.st_bits.specs.declared.operations.ConnKind.{ConnKind};
-ghost use Rattle.st_field.specs.Indicators.{partial_field as partial_field_of, by_number as by_number_of};
+ghost use Rattle.st_field.specs.Indicators.{on_if, by_number as by_number_of};
 ghost use Rattle.st_conn.specs.Connection.{put_by as put_by_of, connection};
 
 use crate::logic::connect;
@@ -35,7 +38,7 @@ pub struct ConnShape {
 // The indicators that the result bits of a connective turn on and off. `wrote` is true if they are
 // written to the field, `lost` if a one was lost.
 fn result_indicators(bits: u64, wrote: bool, lost: bool) -> Ind
-    ensures { result ≡ by_number_of wrote false bits (partial_field_of lost) }
+    ensures { result ≡ by_number_of wrote false bits (on_if lost PARTIAL_FIELD) }
 {
     let number = Signed {
         negative: false,

@@ -1,11 +1,11 @@
-//! The result bits of a connective, and their counts.
+//! The result bits of a connective, and their counts, for connections.rt, the only caller. The code
+//! computes 64 positions at once. docs/connectives.md has the rules.
 //!
-//! specs/Connective.antt defines the n result bits as a list, each from one bit of the field and
-//! one of the accumulator; the clauses of `connect` say that its number and its counts are those of
-//! exactly this list. The code computes 64 positions at once; this form is free, as long as the
-//! clauses of the private functions, which are about single bits, are proved. connections.rt is the
-//! only caller. The results are pinned by the definition and vectors/connectives.txt. proofs/logic
-//! follows the bodies of most functions.
+//! Proved: `bits` is the number of the list `connective_bits` of specs/Connective.antt, n bits,
+//! each from one bit of the field and one of the accumulator; the counts are its `leading_zeros`
+//! and its `sum`. Pinned: the results, by specs/Connective.antt, docs/connectives.md and
+//! vectors/connectives.txt. Free: the private functions, if proofs/logic follows; their clauses are
+//! about single bits.
 ghost use Rattle.std.specs.Prelude.{◌≡◌, ℕ, ◌+◌, ◌*◌, ◌%◌, ◌<◌, ◌≤◌, ◌^◌, sum};
 ghost use Rattle.std.specs.Int.{bit_at};
 ghost use Rattle.st_bits.specs.Bits.{bits as bits_of, num};

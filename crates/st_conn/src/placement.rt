@@ -1,10 +1,11 @@
-//! The insertion of bits into the accumulator, for a connective whose result goes there.
+//! The insertion of bits into the accumulator, for a connective whose result goes there. Bits are
+//! named by weight: the rightmost has weight 0. connections.rt is the only caller.
+//! docs/connectives.md has the rule.
 //!
-//! `accumulator_bits` and `is_one_lost` in specs/Connective.antt define the results by single bits;
-//! the clauses say that the call returns exactly that. Bits are named by weight: the rightmost has
-//! weight 0. The shifts and masks are free; their proofs are by bits (proofs/Places.antt).
-//! connections.rt is the only caller. The results are pinned by the definitions and
-//! vectors/connectives.txt.
+//! Proved: the results are `accumulator_bits` and `is_one_lost` of specs/Connective.antt, which are
+//! by single bits; the clause `lost_where` says by places when a one is lost. Pinned: the results,
+//! by specs/Connective.antt, docs/connectives.md and vectors/connectives.txt. Free: the shifts and
+//! masks, if proofs/placement and proofs/Places.antt follow.
 ghost use Rattle.std.specs.Prelude.{◌≡◌, ℕ, ◌+◌, ◌<◌, ◌≤◌, ◌^◌, ◌↔◌, IsTrue, if◌then◌else◌};
 ghost use Rattle.std.specs.Int.{bit_at};
 ghost use Rattle.st_bits.specs.Bits.{num};

@@ -1,5 +1,14 @@
 -- The digits of a decimal field, each a byte with a zone and a code, and the digits of the
 -- accumulator.
+--
+-- Proved: by their `ensures` clauses these calls do what definitions here say: `recoded`
+-- (digits.rt), `is_code_lost` (stores.rt), `spread` (digits.rt), `codes_from_place`
+-- (accumulator.rt), and others.
+-- Read by: definitions in DecimalResult.
+-- Laws: EmittedNumbersAreRead (specs/Laws.antt of st_laws).
+-- Change: the meaning is fixed by docs/variable-fields.md, since the contracts of `st_top::stretch`
+-- and `st_account::ledger` unfold to a definition here. The form is free, with the proofs that
+-- unfold it.
 use Rattle.std.specs.Prelude.{ℕ, ◌≡◌, ◌+◌, ◌*◌, ◌/◌, ◌%◌, ◌≤◌, nat_lt, Bool, List, [], ◌∷◌, ◌++◌, map, take, drop, replicate}
 use Rattle.std.specs.List.{list_any}
 use Rattle.st_field.specs.declared.accumulator.Acc.{Acc}
@@ -44,34 +53,17 @@ codes_with_zones zone cs = map (λ c. zone * 16 + c) cs
 abbrev pub last_digit_place : Shape → ℕ
 last_digit_place h = h.offset / 4
 
--- the 32 codes of the accumulator
-abbrev pub acc_codes : Acc → List ℕ
-acc_codes a = bytes 4 32 a.mag
-
--- the codes of the accumulator from the digit place
+-- the codes of the accumulator, which has 32 digits, from the digit place
 abbrev pub codes_from_place : Acc → Shape → List ℕ
-codes_from_place a h = drop (last_digit_place h) (acc_codes a)
+codes_from_place a h = drop (last_digit_place h) (bytes 4 32 a.mag)
 
--- the codes of the accumulator from the digit place, as many as the field has digits; beyond the
--- 32nd digit they are zeros
+-- as many codes of the accumulator from the digit place as the field has, zeros beyond the 32nd
 abbrev pub field_codes : Acc → Shape → List ℕ
 field_codes a h = take (digit_count h) (codes_from_place a h ++ replicate (digit_count h) 0)
-
--- the codes of the accumulator to the left of those that the field stores
-abbrev pub codes_left_out : Acc → Shape → List ℕ
-codes_left_out a h = drop (digit_count h) (codes_from_place a h)
 
 -- the codes of the operand with its last digit at the digit place, and zeros below
 abbrev pub codes_at_place : Field → Shape → List ℕ
 codes_at_place f h = replicate (last_digit_place h) 0 ++ codes f h
-
--- the codes of the aligned operand that fit in the accumulator
-abbrev pub codes_kept : Field → Shape → List ℕ
-codes_kept f h = take 32 (codes_at_place f h)
-
--- the codes of the aligned operand beyond the 32nd digit, which are lost
-abbrev pub codes_lost : Field → Shape → List ℕ
-codes_lost f h = drop 32 (codes_at_place f h)
 
 -- whether one of the codes is not zero
 abbrev pub any_code : List ℕ → Bool

@@ -1,4 +1,14 @@
 -- Digits as lists, the digit in place 0 first.
+--
+-- Proved: by their `ensures` clauses these calls do what definitions here say: `whole_value`
+-- (accumulator.rt), `recoded` (digits.rt), `spread` (digits.rt), `to_decimal` (digits.rt), and
+-- others.
+-- Read by: definitions in DecimalResult, DecimalOperand.
+-- Laws: DigitsAgree (specs/Laws.antt of st_laws), EmittedNumbersAreRead (specs/Laws.antt of
+-- st_laws).
+-- Change: the meaning is fixed by docs/variable-fields.md, since the contracts of `st_top::stretch`
+-- and `st_account::ledger` unfold to a definition here. The form is free, with the proofs that
+-- unfold it.
 use Rattle.std.specs.Prelude.{ℕ, zero, suc, ◌+◌, ◌*◌, ◌/◌, ◌%◌, ◌^◌, List, [], ◌∷◌}
 
 -- the n lowest bytes of b bits of a number, the lowest first

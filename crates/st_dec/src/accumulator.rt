@@ -1,10 +1,14 @@
 //! The accumulator as 32 decimal digits, called codes, of four bits each; digit 0 is the last one.
-//!
 //! A field's last digit is at digit offset / 4, its digit place; the offset counts bits from the
-//! right. specs/DecimalOperand.antt defines the digits that an operation uses, and each clause says
-//! that the call returns exactly these or their value; a code of 10 to 15 counts with its value.
-//! base.rt and stores.rt use the calls. The shifts are free; a change needs one in
-//! proofs/accumulator, which follows most bodies. The results are pinned by the definitions.
+//! right. Only base.rt and stores.rt call these functions. docs/variable-fields.md has the rules.
+//!
+//! Proved: `digit_place` is `last_digit_place`, the codes are the lists `codes_from_place` and
+//! `field_codes` (specs/DecimalOperand.antt), a value is `codes_value` of its list
+//! (specs/DigitLists.antt), where a code of 10 to 15 counts with its value. The clauses `bound`: a
+//! value is below 2^127, a place below 32.
+//!
+//! Pinned, by these definitions, docs/variable-fields.md and vectors/decimal.txt: the results.
+//! Free: the bodies, if proofs/accumulator follows.
 ghost use Rattle.std.specs.Prelude.{◌≡◌, ◌<◌, ◌^◌};
 ghost use Rattle.st_dec.specs.DigitLists.{bytes, number_of_bytes, codes_value};
 ghost use Rattle.st_dec.specs.DecimalOperand.{IsDecimalShape, last_digit_place, codes_from_place as codes_from_place_of, field_codes as field_codes_of};

@@ -1,15 +1,16 @@
-//! Base 10: the parts of the results of decimal operations that binary ones have otherwise.
-//! `operate` of `st_field` runs an operation on a field of storage by these methods.
+//! Base 10: the parts of the results of operations that differ for decimal fields. `Ten` implements
+//! the trait `Base` of `st_field`; operations.rt passes `Ten` to `operate` there, the only caller
+//! of the methods. docs/variable-fields.md has the rules. A digit of a field is a byte of 4 to 8
+//! bits: the low four are its code, the others its zone, which sums leave as it is. The accumulator
+//! has 32 codes. A `Kept` has bits to be stored, their value, and `is_lost`, whether a digit did
+//! not fit.
 //!
-//! A digit of a field is a byte of 4 to 8 bits: the low four are its code, the others its zone,
-//! which sums leave as it is. The accumulator has 32 codes. The offset counts its bits from the
-//! right; digit offset / 4 is the digit place, where the last digit of the field is. A `Taken` has
-//! the inputs; a `Kept` has bits to be stored, their value, and `is_lost`, whether a digit did not
-//! fit; a `Done` is a whole result. All methods inherit the clauses of the trait `Base`: they
-//! require that the shape has whole bytes of at least 4 bits (`Allows`) and that the field fits it,
-//! and say that the result is the one in `base` of specs/DecimalResult.antt. That definition,
-//! docs/operations.md and vectors/decimal.txt pin the results. All bodies are free; that of
-//! `at_place` has its proof in proofs/base.
+//! Proved: each method returns its part of `base` in specs/DecimalResult.antt, by the clauses of
+//! `Base` (base.rt of `st_field`); these clauses require that the field has whole bytes of 4 to 8
+//! bits (`Allows`). `limit` is 2^127, so no sum has a carry.
+//!
+//! Pinned, by this definition, docs/operations.md and vectors/decimal.txt: the results. Free: the
+//! bodies, if proofs/base follows that of `at_place`.
 ghost use Rattle.std.specs.Prelude.{◌^◌};
 ghost use Rattle.st_dec.specs.DecimalOperand.{IsDecimalShape};
 ghost use Rattle.st_dec.specs.DecimalResult.{base as base_ten};

@@ -1,5 +1,6 @@
 //! Digits. A digit of a decimal field is a byte with a zone and a code; a digit of the accumulator,
-//! or of `codes`, is a code only.
+//! or of `codes`, is a code only. Five modules of this crate call these functions: base.rt,
+//! accumulator.rt, loads.rt, operand.rt and stores.rt.
 //!
 //! ```text
 //! field, byte of 8   zzzzcccc zzzzcccc zzzzcccc
@@ -7,10 +8,11 @@
 //! codes              cccccccccccc
 //! ```
 //!
-//! specs/DecimalOperand.antt and specs/DigitLists.antt define digits as lists; each clause says
-//! that the call returns the number of exactly that list. base.rt and its helpers use the clauses.
-//! A field has at most 16 digits. The results are pinned by the definitions and
-//! vectors/decimal.txt; the bodies are free, but proofs/digits follows most of them.
+//! Proved: each call returns the number of a list of digits, as specs/DecimalOperand.antt and
+//! specs/DigitLists.antt define it (`codes`, `codes_with_zones`, `bytes_with_codes`, `decimal`); a
+//! field has at most 16 digits (`few`), and a result fits its bits (`fits`). Pinned, by these
+//! definitions, docs/variable-fields.md and vectors/decimal.txt: the results. Free: the bodies, if
+//! proofs/digits follows.
 ghost use Rattle.std.specs.Prelude.{◌≡◌, ◌-◌, ◌*◌, ◌<◌, ◌≤◌, ◌^◌, nat_le};
 ghost use Rattle.st_field.specs.Fields.{HasRoom, magnitude_bits as magnitude_bits_of};
 ghost use Rattle.st_dec.specs.DigitLists.{bytes, number_of_bytes, decimal as decimal_of};

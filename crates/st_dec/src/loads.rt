@@ -1,10 +1,12 @@
 //! The load of a decimal field into the transit register, by which decimal multiply, multiply and
-//! add, and divide begin; a program completes them.
+//! add, and divide begin; a program of the user completes these operations. base.rt calls
+//! `load_transit`. docs/variable-fields.md has the rules.
 //!
-//! `transit_set` in specs/DecimalResult.antt defines the result, and the clause says that the call
-//! returns exactly that: codes of four bits in the transit register, and the indicator DTR. Only
-//! base.rt calls it; the body is free. The result is pinned by the definition and
-//! vectors/decimal.txt.
+//! Proved: the result is `transit_set` of specs/DecimalResult.antt: codes of four bits in the
+//! transit register, and the indicator DTR.
+//!
+//! Pinned, by this definition, docs/operations.md and vectors/decimal.txt: the result. Free: the
+//! body.
 ghost use Rattle.std.specs.Prelude.{◌≡◌};
 ghost use Rattle.st_field.specs.Fields.{HasRoom};
 ghost use Rattle.st_dec.specs.DecimalOperand.{IsDecimalShape};

@@ -1,11 +1,14 @@
-//! The value of a decimal field, and digits stored in it.
+//! The value of a decimal field, and digits stored in it. A field is a magnitude of at most 64
+//! bits, whose bytes have 4 to 8 bits, the low four a digit. Only base.rt and loads.rt call these
+//! functions. docs/variable-fields.md has the rules.
 //!
-//! A field is a magnitude of at most 64 bits, whose bytes have 4 to 8 bits, the low four a digit.
-//! specs/DecimalOperand.antt and specs/DecimalResult.antt define each result, and each clause says
-//! that the call returns exactly that; digits that do not fit are cut off and reported by
-//! `is_lost`. base.rt and loads.rt use the calls; the bodies are free; a change of `with_digits`
-//! and `field_value` needs one in proofs/operand as well. The results are pinned by the
-//! definitions.
+//! Proved: the value is `field_value` of specs/DecimalOperand.antt; stored digits are
+//! `digits_in_field` and `field_with_digits` of specs/DecimalResult.antt. Digits that do not fit
+//! are cut off and reported by `is_lost`. The clauses `fits` and `room` say that a result fits the
+//! magnitude of the field.
+//!
+//! Pinned, by these definitions, docs/variable-fields.md and vectors/decimal.txt: the results.
+//! Free: the bodies, if proofs/operand follows those of `with_digits` and `field_value`.
 ghost use Rattle.std.specs.Prelude.{◌≡◌, ◌<◌, ◌^◌};
 ghost use Rattle.st_field.specs.Fields.{HasRoom, magnitude_bits as magnitude_bits_of};
 ghost use Rattle.st_dec.specs.DecimalOperand.{IsDecimalShape, field_value as field_value_of};

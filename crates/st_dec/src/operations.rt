@@ -1,9 +1,13 @@
-//! Each decimal operation on a field: the one call of this crate, which `st_exec` makes.
+//! Each decimal operation on a field: `decimal`, the one public function of this crate, which
+//! `st_exec` (fields.rt) calls. docs/variable-fields.md has the rules.
 //!
-//! `result` in specs/DecimalResult.antt defines the result; the clause `done` says that the call
-//! returns exactly that, and `field` that written bits fit the field. The result is pinned by the
-//! definition, docs/operations.md and vectors/decimal.txt. The body is free, but its proof, in
-//! proofs/operations, follows it.
+//! Proved: the clause `done` says that the result is `result` of specs/DecimalResult.antt, `field`
+//! that written bits fit the field. Callers must prove that the shape is valid, which decoding
+//! ensures.
+//!
+//! Pinned, by this definition, docs/operations.md, vectors/decimal.txt and docs/CLAIMS.md:
+//! `decimal`, its clauses and its results. Free: the body, if proofs/operations follows. A new
+//! operation needs nothing here: `operate` of `st_field` has the cases.
 ghost use Rattle.std.specs.Prelude.{◌≡◌, ◌<◌, ◌^◌, IfSome};
 ghost use Rattle.st_dec.specs.DecimalOperand.{IsDecimalShape};
 ghost use Rattle.st_dec.specs.DecimalResult.{result as decimal_result};

@@ -1,16 +1,19 @@
-//! Stores of the accumulator into a decimal field, without the sign.
+//! Stores of the accumulator into a decimal field, without the sign. base.rt calls both functions.
+//! docs/variable-fields.md has the rules. The stored digits begin at the digit place, and go to the
+//! left: `shape.offset` / 4 digits from the right end of the accumulator. Each digit gets the zone
+//! of the accumulator, four bits of its sign byte, cut to the bits that a byte has besides its
+//! digit.
 //!
-//! The digits are those from the digit place on: `shape.offset` / 4 digits from the right end of
-//! the accumulator, whose digits have four bits. Required is a decimal shape (`IsDecimalShape`): a
-//! field of 1 to 64 bits in whole bytes of 4 to 8 bits. Each digit gets the zone of the
-//! accumulator, four bits of its sign byte, cut to the bits that a byte has beside its digit.
-//! `stored_magnitude` in specs/DecimalResult.antt and `codes_left_out` in specs/DecimalOperand.antt
-//! define the results, and each clause says that the call returns exactly that. Only base.rt calls
-//! them; the bodies are free; a change of `stored_magnitude` and `is_code_lost` needs one in
-//! proofs/stores as well. The results are pinned by the definitions and vectors/decimal.txt.
-ghost use Rattle.std.specs.Prelude.{◌≡◌, ◌<◌, ◌-◌, ◌%◌, ◌^◌};
+//! Proved: `stored_magnitude` is the definition of its name in specs/DecimalResult.antt, and fits
+//! the field. `is_code_lost` says whether a code of the accumulator to the left of the stored ones
+//! is not zero (`any_code` and `codes_from_place` of specs/DecimalOperand.antt). Required is a
+//! field of 1 to 64 bits in whole bytes of 4 to 8 bits (`IsDecimalShape`).
+//!
+//! Pinned, by these definitions, docs/variable-fields.md and vectors/decimal.txt: the results.
+//! Free: the bodies, if proofs/stores follows.
+ghost use Rattle.std.specs.Prelude.{◌≡◌, ◌<◌, ◌-◌, ◌%◌, ◌^◌, drop};
 ghost use Rattle.st_field.specs.Fields.{magnitude_bits as magnitude_bits_of, zone_of};
-ghost use Rattle.st_dec.specs.DecimalOperand.{IsDecimalShape, codes_left_out, any_code};
+ghost use Rattle.st_dec.specs.DecimalOperand.{IsDecimalShape, digit_count as digit_count_of, codes_from_place as codes_from_place_of, any_code};
 ghost use Rattle.st_dec.specs.DecimalResult.{stored_magnitude as stored_magnitude_of};
 
 use crate::accumulator::{codes_from_place, field_codes};
@@ -40,7 +43,7 @@ pub fn stored_magnitude(acc: &Acc, shape: &Shape) -> u64
 /// Whether the accumulator has a nonzero code to the left of those that the field stores.
 pub fn is_code_lost(acc: &Acc, shape: &Shape) -> bool
     requires { IsDecimalShape shape.now }
-    ensures { result ≡ any_code (codes_left_out acc.now shape.now) }
+    ensures { result ≡ any_code (drop (digit_count_of shape.now) (codes_from_place_of acc.now shape.now)) }
 {
     exceeds(codes_from_place(acc, shape), 4 * digit_count(shape))
 }

@@ -32,9 +32,9 @@ pub change-marks : (c : Option IndexChange) (s : Machine) → HasMarks s (with_c
 change-marks None s = marks-same s
 change-marks (Some c) s = marks-words s _ (length-set s.words (16 + c.number) (register_word (16 + c.number) c.word))
 
-pub early-marks : (p : Prepared) (s : Machine) → HasMarks s (state_with_speculative_changes p s)
+pub speculative-marks : (p : Prepared) (s : Machine) → HasMarks s (state_with_speculative_changes p s)
 unfolding state_with_speculative_changes
-early-marks p s =
+speculative-marks p s =
     let u = with_change p.index s in
     marks-then s u (state_with_speculative_changes p s) (change-marks p.index s) (marks-words u _ (length-set u.words 11 _))
 
@@ -82,10 +82,10 @@ change-index (Some c) s k long few h =
           ∙ sym (get_or-set_other x c.number k c.word 0 other)
     ]
 
-pub early-index : (p : Prepared) (s : Machine) (k : ℕ) → 32 ≤ length s.words → k < 16 → IfSome p.index IsChange
+pub speculative-index : (p : Prepared) (s : Machine) (k : ℕ) → 32 ≤ length s.words → k < 16 → IfSome p.index IsChange
     → word (state_with_speculative_changes p s) (16 + k) ≡ get_or (words_after (index_words s) p.index) k 0
 unfolding state_with_speculative_changes
-early-index p s k long few h =
+speculative-index p s k long few h =
     get_or-set_other (with_change p.index s).words 11 (16 + k) _ 0 (omega arith) ∙ change-index p.index s k long few h
 
 index-below : (c : Option IndexChange) (s : Machine) (k : ℕ) → IsMachine s → k < 16 → IfSome c IsChange
@@ -119,7 +119,7 @@ stands-above p s i m h above =
 stands-index : (p : Prepared) (s : Machine) (k : ℕ) → IsMachine s → IfSome p.index IsChange → k < 16
     → Stands (state_with_speculative_changes p s) (16 + k) (get_or (words_after (index_words s) p.index) k 0)
 stands-index p s k m h few = record {
-  is = early-index p s k (omega (arith, m.size, words_of_storage_is)) few h;
+  is = speculative-index p s k (omega (arith, m.size, words_of_storage_is)) few h;
   below = index-below p.index s k m few h;
   fits = fixed-index (16 + k) (get_or (words_after (index_words s) p.index) k 0) (omega arith);
 }
@@ -190,7 +190,7 @@ past : (p : Prepared) (s u : Machine) (c : ℕ) → IsMachine s → IsPrepared p
 past p s u c m h free k =
     let size : length s.words ≡ words_of_storage = m.size in
     let long : 32 ≤ length s.words = omega (arith, words_of_storage_is) in
-    let marks = marks-then s (state_with_speculative_changes p s) u (early-marks p s) k.marks in
+    let marks = marks-then s (state_with_speculative_changes p s) u (speculative-marks p s) k.marks in
     let above : AreAbove p.writes = (h.ahead free).writes in
     let x = words_after (index_words s) p.index in
     let low : (i : ℕ) → i < 7 → word u i ≡ word s i =
@@ -223,7 +223,7 @@ pub completed-past : (p : Prepared) (s : Machine) → IsPrepared p → IsMachine
     → IsPast p s (state_after_completion p s)
 completed-past p s h m free =
     let t = state_with_speculative_changes p s in
-    let size : length t.words ≡ words_of_storage = (early-marks p s).size ∙ m.size in
+    let size : length t.words ≡ words_of_storage = (speculative-marks p s).size ∙ m.size in
     let k = late-kept p.suppressed p t refl h free size in
     subst (IsPast p s) (sym (completed-late p s (h.ahead free).table))
     (past p s (late p.suppressed p t) (if p.suppressed then p.following else counter p t) m h free k)

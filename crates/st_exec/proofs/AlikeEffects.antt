@@ -41,7 +41,7 @@ use Rattle.st_exec.proofs.AlikeStates.{alike-stored, alike-indicators, alike-pla
 use Rattle.st_exec.proofs.FieldLemmas.{result-field, connection-field}
 use Rattle.st_exec.proofs.InsideLemmas.{some_words, inside-field, inside-field_if}
 use Rattle.st_exec.proofs.SparedLemmas.{marks-registers}
-use Rattle.st_exec.proofs.AheadLemmas.{late, completed-late, early-marks, predicted-right}
+use Rattle.st_exec.proofs.AheadLemmas.{late, completed-late, speculative-marks, predicted-right}
 
 -- ---- results
 
@@ -275,7 +275,7 @@ predicted-late p s h free =
 pub predicted-alike : (p : Prepared) (s t : Machine) → IsPrepared p → IsMachine s → AreAlike s t → p.serial ≡ false
     → AreAlike (predicted_state p s) (predicted_state p t)
 predicted-alike p s t h m k free =
-    let size : length (state_with_speculative_changes p s).words ≡ words_of_storage = (early-marks p s).size ∙ m.size in
+    let size : length (state_with_speculative_changes p s).words ≡ words_of_storage = (speculative-marks p s).size ∙ m.size in
     let after = alike-late p.suppressed p (state_with_speculative_changes p s) (state_with_speculative_changes p t) refl h free size (alike-early p s t k) in
     let c : ℕ = if p.suppressed then p.following else counter p (state_with_speculative_changes p s) in
     let d : ℕ = if p.suppressed then p.following else counter p (state_with_speculative_changes p t) in

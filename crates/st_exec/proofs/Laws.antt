@@ -3,7 +3,7 @@ use Rattle.st_exec.proofs.Unchanged.{completed-done}
 use Rattle.st_exec.proofs.AheadLemmas.{completed-past, mispredicted-branch, predicted-right}
 use Rattle.st_exec.proofs.AlikeEffects.{predicted-alike, completed-alike}
 use Rattle.st_exec.proofs.MachineKept.{kept-completed}
-use Rattle.st_exec.proofs.UnwrittenLemmas.{early-index_words, completed-unwritten, predicted-unwritten, predicted-machine, predicted-following, predicted-alone, predicted-rest, predicted-done, predicted-past}
+use Rattle.st_exec.proofs.UnwrittenLemmas.{speculative-index_words, completed-unwritten, predicted-unwritten, predicted-machine, predicted-following, predicted-alone, predicted-rest, predicted-done, predicted-past}
 use Rattle.st_exec.proofs.BesideEntries.{predicted-beside, beside-printed, beside-no_card, beside-signalled, beside-same, beside-then}
 use Rattle.std.proofs.Common.{rules}
 use Rattle.st_exec.specs.Laws.{EntriesAreBounded, EntriesCountAsOne, EntriesAheadLeaveTheRest, OnlyIndicatorBranchesAreMispredicted, IndicatorsArePassedOver, EntriesLeaveStates, SpeculativeChangesLeaveTheirIndexWords, EntriesLeaveWhatTheyDoNotWrite, PredictionsLeaveStates, OrdersArePassedOver}
@@ -34,7 +34,7 @@ pub entries_leave_states : EntriesLeaveStates
 entries_leave_states = kept-completed
 
 pub speculative_changes_leave_their_index_words : SpeculativeChangesLeaveTheirIndexWords
-speculative_changes_leave_their_index_words = early-index_words
+speculative_changes_leave_their_index_words = speculative-index_words
 
 pub entries_leave_what_they_do_not_write : EntriesLeaveWhatTheyDoNotWrite
 entries_leave_what_they_do_not_write = record { completed = completed-unwritten; predicted = predicted-unwritten }

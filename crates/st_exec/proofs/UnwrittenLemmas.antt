@@ -24,7 +24,7 @@ use Rattle.st_exec.specs.Completion.{state_with_speculative_changes, counter, st
 use Rattle.st_exec.specs.Ahead.{IsNotAmong, IsPast}
 use Rattle.st_exec.specs.declared.effects.Effect.{Effect}
 use Rattle.st_exec.specs.declared.effects.Effect.TheVariants.{Rest, Put, Copy, Exchange, TurnOff, Enable, Wait, Give, Leave}
-use Rattle.st_exec.proofs.AheadLemmas.{early-marks, early-index, index-at, length-index_words, length-words_after, completed-past}
+use Rattle.st_exec.proofs.AheadLemmas.{speculative-marks, speculative-index, index-at, length-index_words, length-words_after, completed-past}
 use Rattle.st_exec.proofs.MachineKept.{kept-early, kept-completed}
 use Rattle.st_exec.proofs.SparedLemmas.{IsApart, Spares, apart-word, spares-effect, kept-above, Stands, done-keeps}
 use Rattle.st_exec.proofs.Unchanged.{stored-other, opened-above, early-above, completed-done}
@@ -181,22 +181,22 @@ opened-other : (table : Option ℕ) (s : Machine) (i : ℕ) → i ≢ 11 → wor
 opened-other None s i other = refl
 opened-other (Some k) s i other = get_or-set_other s.words 11 i _ 0 other
 
-pub early-index_words : (p : Prepared) (s : Machine) (table : Option ℕ) → IsPrepared p → IsMachine s
+pub speculative-index_words : (p : Prepared) (s : Machine) (table : Option ℕ) → IsPrepared p → IsMachine s
     → index_words (state_with_speculative_changes p (state_at_entry table s)) ≡ words_after (index_words s) p.index
-early-index_words p s table h m =
+speculative-index_words p s table h m =
     let u = state_at_entry table s in
     let x = index_words u in
     let n = is_machine-opened table s m in
     let long : 32 ≤ length s.words = omega (arith, m.size, words_of_storage_is) in
     let long' : 32 ≤ length u.words = omega (arith, n.size, words_of_storage_is) in
-    let size : length (state_with_speculative_changes p u).words ≡ length u.words = (early-marks p u).size in
+    let size : length (state_with_speculative_changes p u).words ≡ length u.words = (speculative-marks p u).size in
     let same : index_words s ≡ x =
     are_index_words u (index_words s) long' (length-index_words s long)
     (λ k few. index-at s k few ∙ sym (opened-other table s (16 + k) (omega arith))) in
     let after : words_after x p.index ≡ index_words (state_with_speculative_changes p u) =
     are_index_words (state_with_speculative_changes p u) (words_after x p.index) (omega arith)
     (length-words_after x p.index ∙ length-index_words u long')
-    (λ k few. sym (early-index p u k long' few h.change)) in
+    (λ k few. sym (speculative-index p u k long' few h.change)) in
     sym after ∙ ap (λ y. words_after y p.index) (sym same)
 
 -- ---- the predicted state

@@ -1,5 +1,15 @@
 -- The parts of the state that a non-serializing entry leaves unchanged, so that later entries can
 -- be prepared before it completes.
+--
+-- Proved: by their `ensures` clauses these calls do what definitions here say: `step` (account.rt
+-- of st_account).
+-- Read by: definitions in Changes of st_lines, Standing of st_account.
+-- Laws: EntriesAheadLeaveTheRest (specs/Laws.antt), EntriesLeaveWhatTheyDoNotWrite
+-- (specs/Laws.antt), OnlyIndicatorBranchesAreMispredicted (specs/Laws.antt), PredictionsLeaveStates
+-- (specs/Laws.antt).
+-- Change: no page fixes these definitions, since no contract of a program unfolds to them; they
+-- change together with the clauses, definitions and laws that name them. docs/machine.md describes
+-- the subject.
 use Rattle.std.specs.Prelude.{ℕ, ◌≡◌, ◌+◌, ◌<◌, ◌≤◌, ◌⊎◌, Bool, true, false, length}
 use Rattle.st_bits.specs.declared.register.TheConstants.{COUNTS, MASK, FIRST_STORAGE_WORD}
 use Rattle.st_format.specs.declared.instruction.Instr.{Instr}

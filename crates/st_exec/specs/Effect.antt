@@ -1,4 +1,13 @@
 -- The effect of an operation, given its operands.
+--
+-- Proved: by their `ensures` clauses these calls do what definitions here say: `bit_effect`
+-- (effects.rt), `branch_effect` (effects.rt), `effect_by` (effects.rt), `index_effect`
+-- (effects.rt), and others.
+-- Read by: definitions in Completion.
+-- Laws: none names a definition of this file itself.
+-- Change: the meaning is fixed by docs/machine.md, since the contracts of `st_top::stretch` and
+-- `st_account::ledger` unfold to a definition here. The form is free, with the proofs that unfold
+-- it.
 use Rattle.std.specs.Prelude.{ℕ, zero, suc, ◌+◌, ◌*◌, ◌/◌, ◌%◌, ◌≤◌, ◌<◌, ◌^◌, ◌==◌, Bool, true, false, if◌then◌else◌, Option, Some, is_some, IfSome}
 use Rattle.st_bits.specs.declared.indicators.TheConstants.{CHANNEL_BUSY_REJECT}
 use Rattle.st_bits.specs.Bits.{bits}
@@ -8,7 +17,7 @@ use Rattle.st_bits.specs.declared.operations.HalfOp.TheVariants.{Sx, Sv, Sc, Sr,
 use Rattle.st_bits.specs.declared.operations.BranchOp.{BranchOp}
 use Rattle.st_bits.specs.declared.operations.BranchOp.TheVariants.{Be, Bd, Bew}
 use Rattle.st_format.specs.declared.instruction.Instr.{Instr}
-use Rattle.st_format.specs.declared.instruction.Instr.TheVariants.{Half, Branch, Floating, Vfl, Connect, Move, BitBranch, IndBranch, StoreCounter, Transfer, Invalid}
+use Rattle.st_format.specs.declared.instruction.Instr.TheVariants.{Half, Branch, Vfl, Connect, Move, BitBranch, IndBranch, StoreCounter, Transfer}
 use Rattle.st_state.specs.Machine.{Machine, HasArea, word, state_with_store, state_with_bits}
 use Rattle.st_bits.specs.Indicators.{indicator}
 use Rattle.st_state.specs.Interrupts.{state_with_indicators, state_with_signal}
@@ -21,8 +30,7 @@ use Rattle.st_exec.specs.declared.effects.Effect.TheVariants.{Rest, Put, Copy, E
 
 -- ---- the effect of each operation
 
--- the effect of an index store: index word J or a part of it is stored in the word at e; SVA stores
--- its part in the half-word at e
+-- the effect of an index store of v: into the word at e or a part of it, for SVA the half-word at e
 abbrev pub index_effect : HalfOp → ℕ → ℕ → Effect
 index_effect Sx e v = Put (64 * (e / 64)) 64 v
 index_effect Sv e v = Put (64 * (e / 64)) 25 v
@@ -31,8 +39,7 @@ index_effect Sr e v = Put (64 * (e / 64) + 46) 18 v
 index_effect Sva e v = Put (32 * (e / 32)) 19 v
 index_effect _ e v = Rest
 
--- the effect of a branch instruction: BE and BEW enable interrupts, BD disables them, BEW also
--- waits
+-- the effect of a branch instruction: on interrupts, and whether the machine waits
 abbrev pub branch_effect : BranchOp → Effect
 branch_effect Be = Enable true
 branch_effect Bd = Enable false
@@ -44,8 +51,7 @@ abbrev pub move_effect : Bool → ℕ → ℕ → ℕ → Effect
 move_effect false from to n = Copy from to n
 move_effect true from to n = Exchange from to n
 
--- the effect of BB on its bit, whose value is b: the bit is left unchanged, cleared, set or
--- inverted
+-- the effect of BB on its bit, whose value is b: left unchanged, cleared, set or inverted
 abbrev pub bit_effect : ℕ → ℕ → ℕ → Effect
 bit_effect zero e b = Rest
 bit_effect (suc zero) e b = Put e 1 0
@@ -61,12 +67,10 @@ indicator_effect true e = TurnOff (e % 64)
 abbrev pub order_effect : Bool → ℕ → ℕ → ℕ → Effect
 order_effect write e n done = Give write (record { word = e / 64; due = done + 1 + n })
 
--- the effect of an instruction with the effective address e in state t, where v is the value that
--- an index store or SIC stores
+-- the effect of an instruction with the effective address e in state t; v is the value it stores
 unfoldable pub effect_of : Instr → ℕ → ℕ → Machine → Effect
 effect_of (Half op address j i) e v t = index_effect op e v
 effect_of (Branch op address i) e v t = branch_effect op
-effect_of (Floating number address i) e v t = Rest
 effect_of (Vfl op d u n p length byte offset address i) e v t =
     Leave (operation_outcome d op (shape_of u n length byte offset) p e t) e length
 effect_of (Connect kind table p length byte offset address i) e v t =
@@ -76,7 +80,7 @@ effect_of (BitBranch sense change address i second) e v t = bit_effect change e 
 effect_of (IndBranch sense off address i second) e v t = indicator_effect off e
 effect_of (StoreCounter address i second) e v t = Put (32 * (e / 32)) 19 v
 effect_of (Transfer write address i count) e v t = order_effect write e count t.done
-effect_of (Invalid first second full) e v t = Rest
+effect_of _ e v t = Rest
 
 -- the effect of a prepared entry in state t
 abbrev pub effect : Prepared → Machine → Effect
@@ -90,12 +94,10 @@ state_with_copy from to zero t = t
 state_with_copy from to (suc n) t = state_with_copy (from + 1) (to + 1) n
     (state_with_store t to (word t from))
 
--- the state after n words from one address are exchanged with those from another, one word at a
--- time
+-- the state after n words at two addresses are exchanged, one word at a time
 unfoldable pub state_with_exchange : ℕ → ℕ → ℕ → Machine → Machine
 state_with_exchange from to zero t = t
-state_with_exchange from to (suc n) t =
-    state_with_exchange (from + 1) (to + 1) n
+state_with_exchange from to (suc n) t = state_with_exchange (from + 1) (to + 1) n
     (state_with_store (state_with_store t from (word t to)) to (word t from))
 
 -- the order of the printer if the argument is true, of the reader otherwise
@@ -108,8 +110,7 @@ abbrev pub machine_with_order : Bool → Order → Machine → Machine
 machine_with_order false order t = record t { reader = Some order }
 machine_with_order true order t = record t { printer = Some order }
 
--- the state after an order is given; a device that already has an order keeps it, and CBJ is turned
--- on
+-- the state after an order is given; a device with an order keeps that one, and CBJ is turned on
 abbrev pub state_with_order : Bool → Order → Machine → Machine
 state_with_order write order t =
     if is_some (order_standing write t) then state_with_signal t CHANNEL_BUSY_REJECT

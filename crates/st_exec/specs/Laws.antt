@@ -1,4 +1,9 @@
 -- Laws of completion that are not clauses of one call.
+--
+-- Proved: each law has its lemma in proofs/Laws.antt, with its name in small letters.
+-- Claimed: docs/CLAIMS.md names EntriesAheadLeaveTheRest, EntriesAreBounded, EntriesCountAsOne,
+-- EntriesLeaveStates, and others.
+-- Change: docs/promises.txt lists each law, and the gate compares the list with the laws.
 use Rattle.std.specs.Prelude.{◌≡◌, ◌+◌, ◌≤◌, true, false, ℕ, Option, None}
 use Rattle.st_state.specs.Machine.{Machine, IsMachine, word}
 use Rattle.st_prep.specs.declared.entries.Prepared.{Prepared}

@@ -1,4 +1,13 @@
 -- The operands of an operation: a field of storage or the address itself, and the accumulator.
+--
+-- Proved: by their `ensures` clauses these calls do what definitions here say: `read_operands`
+-- (execution.rt), `accumulator` (fields.rt), `operand` (fields.rt), `registers` (fields.rt), and
+-- others.
+-- Read by: definitions in Outcome, Completion, Effect, Trails.
+-- Laws: none names a definition of this file itself.
+-- Change: the meaning is fixed by docs/machine.md, since the contracts of `st_top::stretch` and
+-- `st_account::ledger` unfold to a definition here. The form is free, with the proofs that unfold
+-- it.
 use Rattle.std.specs.Prelude.{ℕ, ◌≡◌, ◌+◌, ◌*◌, ◌<◌, ◌≤◌, ◌^◌, ◌==◌, List, slice_index, if◌then◌else◌}
 use Rattle.st_bits.specs.declared.register.TheConstants.{LEFT_HALF, RIGHT_HALF, SIGN_BYTE}
 use Rattle.st_bits.specs.Bits.{all_bits, field, num, part}
@@ -32,14 +41,11 @@ taken_words op p e n = if reads_field op then operand_words p e n else no_words
 abbrev pub field_at : Machine → ℕ → ℕ → ℕ
 field_at s a n = num (field (all_bits s.words) a n)
 
--- the operand of n bits at bit address e; in form 1 it is the first n bits of e itself, which has
--- 24 bits
+-- the operand of n bits at bit address e; in form 1, the first n of the 24 bits of e itself
 abbrev pub operand_bits : ℕ → ℕ → ℕ → Machine → ℕ
 operand_bits p e n s = if p == 1 then part e 40 n else field_at s e n
 
 -- the accumulator of a state, with its sign byte
 abbrev pub accumulator : Machine → Acc
-accumulator s = record {
-  mag = word s LEFT_HALF * 2 ^ 64 + word s RIGHT_HALF;
-  sb = part (word s SIGN_BYTE) 0 8;
-}
+accumulator s =
+    record { mag = word s LEFT_HALF * 2 ^ 64 + word s RIGHT_HALF; sb = part (word s SIGN_BYTE) 0 8 }

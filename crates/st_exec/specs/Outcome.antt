@@ -1,5 +1,14 @@
 -- The effect of an operation on a field on the accumulator, the other registers, the indicators and
 -- the field.
+--
+-- Proved: by their `ensures` clauses these calls do what definitions here say: `leave`
+-- (carrying.rt), `put_accumulator` (carrying.rt), `put_field` (carrying.rt), `put_register`
+-- (carrying.rt), and others.
+-- Read by: definitions in Effect.
+-- Laws: none names a definition of this file itself.
+-- Change: the meaning is fixed by docs/machine.md, since the contracts of `st_top::stretch` and
+-- `st_account::ledger` unfold to a definition here. The form is free, with the proofs that unfold
+-- it.
 use Rattle.std.specs.Prelude.{ℕ, ◌*◌, ◌/◌, ◌%◌, ◌^◌, Bool, true, false, if◌then◌else◌, Option, None, Some}
 use Rattle.st_bits.specs.declared.register.TheConstants.{COUNTS, LEFT_HALF, RIGHT_HALF, SIGN_BYTE, INDICATORS, REMAINDER, FACTOR, TRANSIT}
 use Rattle.st_bits.specs.Bits.{bits}
@@ -20,20 +29,14 @@ use Rattle.st_exec.specs.Operand.{operand_bits, accumulator}
 
 -- the shape of a field by the fields of the instruction
 abbrev pub shape_of : Bool → Bool → ℕ → ℕ → ℕ → Shape
-shape_of u n length byte offset = record {
-  length = length;
-  byte = byte;
-  unsigned = u;
-  negated = n;
-  offset = offset;
-}
+shape_of u n length byte offset =
+    record { length = length; byte = byte; unsigned = u; negated = n; offset = offset }
 
 -- the bits of the field that an operation reads; 0 for ST, which does not read its field
 abbrev pub bits_taken : VflOp → ℕ → ℕ → ℕ → Machine → ℕ
 bits_taken op p e n t = if reads_field op then operand_bits p e n t else 0
 
--- the result of an operation, decimal or binary; ft is the factor register and ind the indicator
--- register
+-- the result of an operation, decimal or binary; ft is the factor register, ind the indicators
 abbrev pub result_by : Bool → VflOp → Acc → ℕ → Shape → ℕ → ℕ → Done
 result_by false op a x h ft ind = binary_result op a x h ft ind
 result_by true op a x h ft ind = decimal_result op a x h ind
@@ -64,8 +67,7 @@ with_accumulator a t =
 
 -- the state with all registers of a result set
 unfoldable pub with_registers : Done → Machine → Machine
-with_registers o t =
-    with_register COUNTS o.counts
+with_registers o t = with_register COUNTS o.counts
     (with_register TRANSIT o.tr
     (with_register FACTOR o.ft (with_register REMAINDER o.rm (with_accumulator o.acc t))))
 

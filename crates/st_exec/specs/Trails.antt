@@ -1,4 +1,12 @@
 -- The record of a state before a step, from which the step can be undone.
+--
+-- Proved: by their `ensures` clauses these calls do what definitions here say: `trail_of`
+-- (kept.rt), `one_kept` (kept.rt).
+-- Read by: definitions in Steps of st_back.
+-- Laws: none names a definition of this file itself.
+-- Change: no page fixes these definitions, since no contract of a program unfolds to them; they
+-- change together with the clauses, definitions and laws that name them. docs/machine.md describes
+-- the subject.
 use Rattle.std.specs.Prelude.{ℕ, ◌≡◌, ◌<◌, ◌^◌, slice_index}
 use Rattle.st_state.specs.Machine.{Machine, IsMachine, HasArea, word}
 use Rattle.st_prep.specs.Fetch.{place_of}

@@ -1,5 +1,16 @@
 -- Transfers between storage and the devices: consecutive words of storage, and the effect of an
 -- order on the state.
+--
+-- Proved: by their `ensures` clauses these calls do what definitions here say: `print_out`
+-- (transfers.rt), `read_in` (transfers.rt), `store_card` (transfers.rt), `words_at` (transfers.rt),
+-- and others.
+-- Read by: definitions in Run of st_run, Calls of st_ahead, Openings of st_refine, Serving of
+-- st_run.
+-- Laws: OrdersArePassedOver (specs/Laws.antt), UndoingPassesRegistersOver (specs/Laws.antt of
+-- st_back).
+-- Change: the meaning is fixed by docs/machine.md, since the contracts of `st_top::stretch` and
+-- `st_account::ledger` unfold to a definition here. The form is free, with the proofs that unfold
+-- it.
 use Rattle.std.specs.Prelude.{ℕ, zero, suc, ◌+◌, List, [], ◌∷◌, Option, None, Some}
 use Rattle.st_bits.specs.declared.indicators.TheConstants.{END_EXCEPTION, END_OF_OPERATION}
 use Rattle.st_state.specs.Machine.{Machine, word, state_with_store}
@@ -15,8 +26,7 @@ unfoldable pub words_from : Machine → ℕ → ℕ → List ℕ
 words_from s w zero = []
 words_from s w (suc n) = word s w ∷ words_from s (w + 1) n
 
--- the state after the reader's order takes effect: the card is written to its area and EOP is
--- turned on; without a card, EE is turned on
+-- the state after the reader's order: the card is in its area and EOP on; without a card, EE is on
 abbrev pub read_in : Machine → ℕ → Option (List ℕ) → Machine
 read_in s w None = state_with_signal (record s { reader = None }) END_EXCEPTION
 read_in s w (Some card) =

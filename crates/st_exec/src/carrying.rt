@@ -1,13 +1,13 @@
 //! The application of an effect to a state: the second half of a completion, which writes storage,
-//! registers and indicators, and gives orders to devices.
+//! registers and indicators, and gives orders to devices. effects.rt computes the effect; only
+//! completing.rt calls `carry_out`. Addresses of fields are bit addresses, those of words word
+//! addresses. docs/machine.md has the rules.
 //!
-//! effects.rt computes the effect, and completing.rt calls `carry_out` with it. Addresses of fields
-//! are bit addresses, those of words word addresses.
-//!
-//! Proved: the new state is `carried_out` in specs/Effect.antt, for effects in range (`CanBeDone`).
-//! Pinned by it: registers are written first, then the indicators, then the field, so that a field
-//! which lies in a register wins; a device with an order keeps it and turns on CBJ. A new kind of
-//! `Effect` needs a case here and there.
+//! Proved: the new state is `carried_out` of specs/Effect.antt, for effects in range (`CanBeDone`).
+//! Pinned, by this definition, docs/machine.md, vectors/checks.txt and vectors/orders.txt:
+//! registers are written first, then the indicators, then the field, so that a field which lies in
+//! a register wins; a device with an order keeps this order and turns on CBJ. Free: the bodies and
+//! the split into functions. A new kind of `Effect` needs a case here and in `carried_out`.
 ghost use Rattle.std.specs.Prelude.{◌≡◌, ◌<◌, IfSome};
 ghost use Rattle.st_field.specs.declared.accumulator.Acc.{Acc};
 ghost use Rattle.st_state.specs.Machine.{HasArea};

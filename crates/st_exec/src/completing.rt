@@ -1,14 +1,15 @@
 //! The second half of an instruction, the completion of a prepared entry: its effect on the state,
-//! given its operands, and the counter after it.
+//! given its operands, and the counter after it. `st_ring` completes a level with `complete_in`; so
+//! do `st_plain`, `st_sweep` and `st_account`, and execution.rt. kept.rt completes an entry with
+//! `complete`, which takes the operands from its caller. docs/machine.md has the rules.
 //!
-//! `st_ring` completes a level with `complete_in`, as plain steps do; kept.rt completes an entry
-//! with `complete`, which takes the operands from its caller. In order: the interrupt of a table
-//! instruction is taken, the speculative change of an index word is applied, the effect is applied,
-//! and the counter (a half-word address) and the count of instructions are updated.
+//! Proved: the state after is `state_after_completion` of specs/Completion.antt, and the completion
+//! of the next entry of a state is its execution (clause `step`). Laws of completions stand in
+//! specs/Laws.antt, such as `EntriesLeaveStates` and `EntriesCountAsOne`.
 //!
-//! Proved: the state after is `state_after_completion` in specs/Completion.antt, and for the next
-//! entry of a state it is its execution (clause `step`). The order of these four is pinned by that
-//! definition; the split into functions is free.
+//! Pinned, by this definition and docs/machine.md, in this order: the interrupt of a table
+//! instruction, the speculative change of an index word, the effect, then the counter (a half-word
+//! address) and the count. Free: the split into functions, if proofs/completing follows.
 ghost use Rattle.std.specs.Prelude.{◌≡◌, ℕ, ◌<◌, ◌^◌, false, Option};
 ghost use Rattle.st_prep.specs.Entry.{reads};
 ghost use Rattle.st_prep.specs.Plan.{plan};

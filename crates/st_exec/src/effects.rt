@@ -1,15 +1,16 @@
 //! The effect of an operation, given its operands, apart from the change of an index word, which
-//! preparation makes, and from the counter, which completion sets.
+//! preparation makes, and from the counter, which completion sets. Only completing.rt calls
+//! `effect_by`; carrying.rt applies the `Effect`. `e` is a bit address below 2^24; operands are at
+//! most two words, and a register among these words is read from the state, since the entry itself
+//! can change it. `st_bin`, `st_dec` and `st_conn` compute results on fields (fields.rt).
+//! docs/machine.md has the table.
 //!
-//! completing.rt calls `effect_by`, and carrying.rt applies the `Effect`. `e` is a bit address
-//! below 2^24; operands are at most two words, and a register among them is read from the state,
-//! since the entry itself can change it.
-//!
-//! Proved: the effect is `effect_of` in specs/Effect.antt, and can be applied (`CanBeDone`). Each
-//! arm is pinned by the arm of the same operation there; a new operation needs both. A new kind of
-//! `Effect` needs its case in carrying.rt, in `CanBeDone`, and in the lemmas of proofs/ on effects.
-//! Free are the bodies and the split into functions. Results on fields are computed by `st_bin`,
-//! `st_dec` and `st_conn` (fields.rt). A floating or invalid instruction has no effect.
+//! Proved: the effect is `effect_of` of specs/Effect.antt, and can be applied (`CanBeDone`). A
+//! floating or invalid instruction has no effect. Pinned, by `effect_of`, docs/machine.md,
+//! docs/operations.md and the vectors index.txt, moves.txt and checks.txt: the effect of each
+//! operation. A new operation needs an arm here and in `effect_of`. A new kind of `Effect` needs
+//! its case in carrying.rt, in `CanBeDone`, and in the lemmas of proofs/ on effects. Free: the
+//! bodies and their split, if proofs/effects follows.
 ghost use Rattle.std.specs.Prelude.{◌≡◌, ◌+◌, ◌*◌, ◌/◌, ◌<◌, ◌≤◌, ◌^◌, true};
 ghost use Rattle.st_bits.specs.Storage.{words_of_storage};
 ghost use Rattle.st_state.specs.declared.devices.Order.{Order};

@@ -1,13 +1,14 @@
-//! The execution of one entry (instruction) at once, from its preparation to its completion, and
-//! the reading of its operand words.
+//! The execution of one entry (instruction), from its preparation to its completion, and the
+//! reading of its operand words. `execute` is a step without the choice whether an interrupt comes,
+//! which step.rt makes. `read_operands` gives up to 32 words, those of a transmission; kept.rt
+//! reads the old contents of written words by this function, too. Only step.rt calls `execute`,
+//! only kept.rt calls `read_operands`; both are exported. docs/machine.md has the rules.
 //!
-//! `execute` is a plain step without the choice whether an interrupt comes, which step.rt makes.
-//! `read_operands` gives up to 32 words, those of a transmission; it also reads the old contents of
-//! written words for kept.rt.
-//!
-//! Proved: the new state is `state_after_execution` in specs/Completion.antt; the operands are the
-//! words of the two runs in order, and 0 after them. Fewer than 2^63 instructions must be complete,
-//! so that the count fits. Free: both bodies.
+//! Proved: the new state is `state_after_execution` of specs/Completion.antt; the operands are the
+//! words of the two runs in order (`AreOperands` of specs/Operand.antt), and 0 after them (clause
+//! `behind`). Fewer than 2^63 instructions must be complete, so that the count fits. Pinned, by
+//! these definitions, docs/machine.md, step.rt and kept.rt: the clauses. Free: both bodies, if
+//! proofs/execution follows `read_operands`.
 ghost use Rattle.std.specs.Prelude.{◌≡◌, ℕ, ◌+◌, ◌-◌, ◌<◌, ◌≤◌, ◌^◌, slice_index};
 ghost use Rattle.st_bits.specs.Indicators.{IsIndicatorIfAny};
 ghost use Rattle.st_state.specs.Machine.{word as word_of};

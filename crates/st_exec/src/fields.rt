@@ -1,13 +1,15 @@
 //! Operations on fields, and connectives: the operand is taken from the operand words, the
 //! accumulator from the state, and the result is computed by `st_bin` (binary), `st_dec` (decimal)
-//! or `st_conn` (connectives).
+//! or `st_conn` (connectives). A field has 1 to 64 bits, at most 24 in form 1, whose operand is the
+//! address itself. Only effects.rt calls `operate` and `connect_field`. docs/variable-fields.md and
+//! docs/connectives.md have the rules.
 //!
-//! A field has 1 to 64 bits, at most 24 in form 1, whose operand is the address itself. effects.rt
-//! calls `operate` and `connect_field`.
+//! Proved: the results are `operation_outcome` and `connects` of specs/Outcome.antt, and a field
+//! that is written fits its length (clause `field`).
 //!
-//! Proved: the results are `operation_outcome` and `connects` in specs/Outcome.antt, and a field
-//! that is written fits its length. The arithmetic itself is pinned by the definitions of those
-//! three crates. Free: the bodies. A new operation needs nothing here.
+//! Pinned, by these definitions, docs/operations.md and the vectors binary.txt, decimal.txt,
+//! connectives.txt and forms.txt: the results. Free: the bodies, if proofs/fields follows. A new
+//! operation needs nothing here.
 ghost use Rattle.std.specs.Prelude.{◌≡◌, ◌<◌, ◌≤◌, ◌^◌, IfSome, if◌then◌else◌, true};
 ghost use Rattle.st_field.specs.Fields.{IsBinaryShape};
 ghost use Rattle.st_dec.specs.DecimalOperand.{IsDecimalShape};

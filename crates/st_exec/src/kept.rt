@@ -1,13 +1,15 @@
-//! A step with a record of everything that is needed to undo it: the previous contents of the words
-//! that it writes, and the previous registers, counter, flags, count and orders.
+//! A step with a record of everything that is needed to undo the step: the previous contents of the
+//! words that the step writes, and the previous registers, counter, flags, count and orders.
+//! `st_back` makes its steps with `one_kept`, and records other entries with `trail_of`, for
+//! `st_plain`, which undoes them. docs/machine.md ("Steps back") has the rules.
 //!
-//! `st_back` makes its steps with `one_kept` and undoes them by the `Trail`; `st_plain` takes a
-//! trail by `st_back::keep` to look ahead and come back.
+//! Proved: the step is that of `one` (`IsStep` of specs/Step.antt), the trail records the state
+//! before it (`TrailKeeps` of specs/Trails.antt), and the trail can be restored (`CanBePutBack`).
+//! That undoing restores the state is the law `BackUndoesForth` (specs/Laws.antt of `st_back`).
 //!
-//! Proved: the step is that of `one`, the trail records the state before it (`TrailKeeps` in
-//! specs/Trails.antt), and it can be restored (`CanBePutBack`). That undoing restores the state is
-//! proved in `st_back`. A new field of `State` needs a field here. 32 places suffice: an entry
-//! writes two runs of at most 16 words.
+//! Pinned, by these definitions, docs/CLAIMS.md, vectors/back.txt and `st_back`: the calls and
+//! `Trail`, with 32 places, as an entry writes two runs of at most 16 words; a new field of `State`
+//! needs a field here. Free: the bodies, if proofs/kept follows.
 ghost use Rattle.std.specs.Prelude.{◌≡◌, ℕ, ◌<◌, ◌^◌, slice_index};
 ghost use Rattle.st_state.specs.Machine.{word as word_of};
 ghost use Rattle.st_prep.specs.Ranges.{IsPrepared};

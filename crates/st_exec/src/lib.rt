@@ -1,12 +1,14 @@
 //! One step of the machine: the sequential execution of one instruction, or of the table
-//! instruction of an interrupt. `docs/machine.md` has the rules.
+//! instruction of an interrupt. docs/machine.md has the rules. A step is a preparation (`st_prep`)
+//! and a completion, the two halves that the overlapped machine (`st_ring`, `st_ahead`) makes at
+//! different ticks. `st_back`, `st_sweep`, `st_plain` and `st_account` make one half directly after
+//! the other. No call allocates.
 //!
-//! A step is a preparation (`st_prep`) and a completion, the two halves that the overlapped machine
-//! (`st_ring`, `st_ahead`) makes at different ticks. Plain runs (`st_run`, `st_sweep`, `st_back`,
-//! `st_account`) make whole steps. The meaning is `step` in specs/Step.antt; `Laws` has the laws of
-//! more than one call. No call allocates. Public are the calls below, and `Trail`, the record by
-//! which a step can be undone. Free is all that is not exported. The line `tactic` lists the
-//! definitions that the prover unfolds in this crate.
+//! Proved: a step is `step` of specs/Step.antt, a completion `state_after_completion` of
+//! specs/Completion.antt; laws are in specs/Laws.antt. That the overlapped machine makes these
+//! steps is `CompletionsAreSteps` (specs/Laws.antt of `st_refine`). Pinned, by docs/CLAIMS.md,
+//! docs/machine.md and the crates named above: the exported calls and `Trail`. Free: all that is
+//! not exported. The line `tactic` lists the definitions that the prover unfolds in this crate.
 #![tactic(auto, using(st_bits::specs::Storage::words_of_storage_is), unfolding(crate::specs::Completion::is_mispredicted, crate::specs::Completion::is_taken, crate::specs::Completion::state_after_completion, crate::specs::Completion::state_after_effect, crate::specs::Completion::state_with_speculative_changes, crate::specs::Completion::target, crate::specs::Effect::carried_out, crate::specs::Effect::effect_of, crate::specs::Outcome::connects, crate::specs::Outcome::operation_outcome, crate::specs::Outcome::with_registers, crate::specs::Outcome::with_result, crate::specs::Step::address, crate::specs::Step::step, st_prep::specs::Fetch::place_of))]
 
 mod carrying;

@@ -1,13 +1,16 @@
 //! The test whether a prepared entry (instruction) is mispredicted: every branch on an indicator
-//! (BI) is predicted not taken, so it is mispredicted if it is taken. Then the entries that ran
-//! ahead of it are flushed.
+//! (BI) is predicted not taken, so a BI is mispredicted if it is taken. Then the entries that ran
+//! ahead of this branch are flushed. `st_ring`, `st_sweep` and `st_account` call `is_mispredicted`
+//! before the entry completes; the indicators are those after its speculative change.
+//! docs/machine.md ("Running ahead") has the rules.
 //!
-//! `st_ring`, `st_sweep` and `st_account` call it before the entry completes; the indicators are
-//! those after its speculative change.
+//! Proved: the result is `is_mispredicted` of specs/Completion.antt. Law:
+//! `OnlyIndicatorBranchesAreMispredicted` (specs/Laws.antt).
 //!
-//! Proved: the result is `is_mispredicted` in specs/Completion.antt. Pinned by it: serializing and
-//! suppressed entries are never mispredicted. Another prediction would change that definition and
-//! `predicted_state` next to it.
+//! Pinned, by this definition, docs/machine.md and vectors/timetable.txt: serializing and
+//! suppressed entries are never mispredicted; another prediction needs another definition of
+//! `is_mispredicted` and of `predicted_state`, both in specs/Completion.antt. Free: the body, if
+//! proofs/mispredicted follows.
 ghost use Rattle.std.specs.Prelude.{◌≡◌};
 ghost use Rattle.st_prep.specs.Ranges.{IsPrepared};
 ghost use Rattle.st_exec.specs.Completion.{is_mispredicted as is_mispredicted_of};

@@ -1,14 +1,15 @@
 //! Operands: fields of 1 to 64 bits in the one or two operand words of an entry (instruction), at a
-//! bit address.
+//! bit address. Only completing.rt, effects.rt and fields.rt call these functions. The operand
+//! words come from the caller, but a register (word below 32) is read from the state, because the
+//! entry's speculative change can write it before its operands are read. docs/machine.md has the
+//! rule.
 //!
-//! Used by completing.rt, effects.rt and fields.rt. The operand words come from the caller, but a
-//! register (word below 32) is read from the state, because the entry's speculative change can
-//! write it before its operands are read.
+//! Proved: the field is the one that the state has at that address (`field_at` of
+//! specs/Operand.antt), if operands above the registers are words of the state (`AreRead`).
 //!
-//! Proved: the field is the one that the state has at that address (`field_at` in
-//! specs/Operand.antt), if operands above the registers are words of the state (`AreRead`). Two
-//! operands suffice here; transmissions, which read more, copy words in the state itself. Free: the
-//! bodies.
+//! Pinned, by these definitions, docs/machine.md and vectors/forms.txt: the results; two operand
+//! words, which suffice here: transmissions, which read more, copy words in the state itself. Free:
+//! the bodies, if proofs/operands follows.
 ghost use Rattle.std.specs.Prelude.{◌≡◌, ◌+◌, ◌*◌, ◌<◌, ◌≤◌, ◌^◌, length, slice_index};
 ghost use Rattle.st_bits.specs.Storage.{words_of_storage};
 ghost use Rattle.st_state.specs.Machine.{word as word_of};

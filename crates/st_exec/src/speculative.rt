@@ -1,10 +1,13 @@
 //! The changes that an entry (instruction) makes before its operands are read, applied to the
 //! architectural state when it completes: the interrupt of a table instruction is taken, an index
-//! word changes, and indicators turn on or off.
+//! word changes, and indicators turn on or off. Only completing.rt calls `take` and
+//! `change_speculatively`; `st_prep` computes the changes. docs/machine.md has the rules.
 //!
-//! completing.rt calls both functions; `st_prep` computes the changes. Proved: the states are
-//! `state_at_entry` of `st_prep` and `state_with_speculative_changes` in specs/Completion.antt.
-//! Free: the bodies; the index word and the indicators are different words.
+//! Proved: the states are `state_at_entry` of specs/Plan.antt in `st_prep` and
+//! `state_with_speculative_changes` of specs/Completion.antt. Law:
+//! `SpeculativeChangesLeaveTheirIndexWords` (specs/Laws.antt). Pinned, by these two definitions,
+//! docs/machine.md, vectors/index.txt and vectors/interrupts.txt: the changes. Free: the bodies,
+//! and the order of index word and indicators, which are different words.
 ghost use Rattle.std.specs.Prelude.{◌≡◌, ◌<◌, IfSome};
 ghost use Rattle.st_bits.specs.Indicators.{IsIndicatorIfAny};
 ghost use Rattle.st_prep.specs.Plan.{state_at_entry};

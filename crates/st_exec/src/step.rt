@@ -1,13 +1,17 @@
-//! One step of the machine: the instruction at the program counter, or an interrupt.
+//! One step of the machine: the instruction at the program counter, or an interrupt. No program
+//! calls `one`; docs/CLAIMS.md offers `one`, tests in `st_calls` call it, and `st_back` makes the
+//! same steps by `one_kept`. `st_ahead`, `st_sweep`, `st_run`, `st_top` and `st_account` use
+//! `interrupt`, `is_at_rest` or `next_address` for their decisions between entries. docs/machine.md
+//! ("A step") has the rules.
 //!
-//! Plain machines make their runs of these steps, and the overlapped machine uses `interrupt` and
-//! `is_at_rest` for its decisions between entries; its results are proved equal to these steps
-//! (`st_refine`).
+//! Proved: the results are `step`, `interrupt`, `rests` and `address` of specs/Step.antt. That the
+//! overlapped machine makes these steps is the law `CompletionsAreSteps` (specs/Laws.antt of
+//! `st_refine`).
 //!
-//! Proved: each result is `step`, `interrupt`, `rests` or `address` in specs/Step.antt. Pinned: an
-//! interrupt comes before the instruction, it is the leftmost pending indicator, and a machine that
-//! waits makes no step until one is pending. No call allocates; the count of completed instructions
-//! must be below 2^63.
+//! Pinned, by these definitions, docs/machine.md, docs/CLAIMS.md and vectors/interrupts.txt: an
+//! interrupt comes before the instruction, the leftmost pending indicator interrupts, and a machine
+//! that waits makes no step until an indicator is pending. Free: the bodies. The count of completed
+//! instructions must be below 2^63. No call allocates.
 ghost use Rattle.std.specs.Prelude.{◌≡◌, ◌<◌, ◌^◌};
 ghost use Rattle.st_bits.specs.Indicators.{IsIndicatorIfAny};
 ghost use Rattle.st_exec.specs.Step.{interrupt as interrupt_of, address as address_of, rests, IsStep};

@@ -1,13 +1,15 @@
 //! The transfers of the reader and the printer between two instructions: eight words of a card to
-//! storage, or eight words of storage to a line.
-//!
-//! The caller has found that the order is due, and that there is one (`requires order`). `st_run`
-//! and `st_ahead` call both; `st_top` repeats `read_in` where words must be recorded. `st_exch`
-//! makes the text of a line.
+//! storage, or eight words of storage to a line. The caller has found that there is an order, as
+//! `requires` says, and that the order is due. `st_run` and `st_ahead` call both, `st_top` calls
+//! `print_out` and repeats `read_in` where words must be recorded. `st_exch` makes the text of a
+//! line. docs/machine.md has the rules.
 //!
 //! Proved: the state after is `read_in` or `printed_out` of specs/Transfer.antt: the order is gone,
-//! and EOP is on, or EE if there is no card. Free: the bodies. Pinned: the fixed number of eight
-//! words, as in `HasArea` of `st_state`.
+//! and EOP is on, or EE if there is no card.
+//!
+//! Pinned, by these definitions, docs/machine.md, docs/CLAIMS.md and vectors/orders.txt: the
+//! indicators; eight words, as in `HasArea` of `st_state`. Free: the bodies, if proofs/transfers
+//! follows `store_card` and `words_at`.
 ghost use Rattle.std.specs.Prelude.{◌≡◌, ◌+◌, ◌≤◌, IsSome, IfSome};
 ghost use Rattle.st_bits.specs.Storage.{words_of_storage};
 ghost use Rattle.st_state.specs.Machine.{IsMachine};

@@ -1,10 +1,13 @@
 //! Copies and exchanges of words (the operations T and SWAP), one word at a time: if the areas
-//! overlap, a moved word can be moved again.
+//! overlap, a moved word can be moved again. Only carrying.rt calls `copy` and `exchange`; `count`
+//! is 1 to 16, and both areas lie in storage (`AreRuns`), registers included, whose fixed bits
+//! stay. docs/machine.md has the rule.
 //!
-//! carrying.rt calls them; `count` is 1 to 16, and both areas lie in storage (`AreRuns`), registers
-//! included, whose fixed bits stay. Proved: the state is `state_with_copy` or `state_with_exchange`
-//! of specs/Effect.antt. The order, one word at a time from the first, is pinned by these
-//! definitions, because overlapping areas show it; a block copy would be wrong.
+//! Proved: the state is `state_with_copy` or `state_with_exchange` of specs/Effect.antt.
+//!
+//! Pinned, by these definitions, docs/machine.md and vectors/moves.txt: one word at a time from the
+//! first, because overlapping areas show the order; a block copy would be wrong. Free: the form of
+//! the loops, if proofs/transmission follows.
 ghost use Rattle.std.specs.Prelude.{◌≡◌};
 ghost use Rattle.st_exec.specs.Effect.{AreRuns, state_with_copy, state_with_exchange};
 

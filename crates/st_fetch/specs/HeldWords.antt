@@ -1,4 +1,12 @@
 -- The held instruction words: the last four that were requested.
+--
+-- Proved: by their `ensures` clauses these calls do what definitions here say: `answer` (held.rt),
+-- `find` (held.rt), `held` (held.rt), `patch` (held.rt), and others.
+-- Laws: AnswersAreKnown (specs/Laws.antt), StoresChangeContentAlone (specs/Laws.antt),
+-- RequestsHoldFour (specs/Laws.antt).
+-- Change: no page fixes these definitions, since no contract of a program unfolds to them; they
+-- change together with the clauses, definitions and laws that name them. docs/timetable.md
+-- describes the subject.
 use Rattle.std.specs.Prelude.{ℕ, ◌-◌, ◌==◌, Bool, if◌then◌else◌, List, [], ◌∷◌, ◌++◌, length, drop, map, find, option_and_then, Option, None, Some}
 use Rattle.std.specs.List.{list_any}
 use Rattle.std.specs.Option.{option_map}

@@ -1,4 +1,7 @@
 -- Laws of held words after requests, answers and stores.
+--
+-- Proved: each law has its lemma in proofs/Laws.antt, with its name in small letters.
+-- Change: docs/promises.txt lists each law, and the gate compares the list with the laws.
 use Rattle.std.specs.Prelude.{◌≡◌, ◌≢◌, ◌≤◌, ℕ, List, ◌∷◌, [], ◌++◌, length, drop, true, Some, None}
 use Rattle.std.specs.Option.{option_map}
 use Rattle.st_fetch.specs.HeldWords.{is_held, words_after_request, words_after_answer, words_after_store, answer_of}

@@ -1,4 +1,12 @@
 -- The held words of a plan: each with the tick of its answer, the newest first.
+--
+-- Proved: by their `ensures` clauses these calls do what definitions here say: `answered`
+-- (contents.rt), `patched` (contents.rt), `answered` (fetched.rt), `new` (fetched.rt), and others.
+-- Read by: definitions in BusTimes of st_rows, Asked of st_rows, Uses of st_rows.
+-- Laws: none names a definition of this file itself.
+-- Change: the meaning is fixed by docs/timetable.md, since the contracts of `st_top::stretch` and
+-- `st_account::ledger` unfold to a definition here. The form is free, with the proofs that unfold
+-- it.
 use Rattle.std.specs.Prelude.{ℕ, zero, suc, ◌==◌, if◌then◌else◌, List, [], ◌∷◌, take, find, get_or, Option, None, Some}
 use Rattle.std.specs.Option.{option_map}
 use Rattle.st_fetch.specs.declared.fetched.AskedWord.{AskedWord}

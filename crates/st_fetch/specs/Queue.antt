@@ -1,4 +1,11 @@
 -- The items of a ring buffer, in order.
+--
+-- Proved: invariants and ghost fields of types name these definitions; no `ensures` clause does.
+-- Read by: definitions in Entries of st_rows.
+-- Laws: none names a definition of this file itself.
+-- Change: no page fixes these definitions, since no contract of a program unfolds to them; they
+-- change together with the clauses, definitions and laws that name them. docs/timetable.md
+-- describes the subject.
 use Rattle.std.specs.Prelude.{ℕ, ◌≡◌, ◌<◌, ◌≤◌, List, ◌++◌, take, drop, length}
 
 -- the n slots from the slot k, with wraparound

@@ -1,12 +1,13 @@
 //! The contents of the four held instruction words, stored separately from their plan (fetched.rt),
-//! which has their addresses and ticks.
-//!
-//! held.rt puts both together; no program does, since the machines take contents from the state.
-//! Place 0 belongs to the newest request.
+//! which has their addresses and ticks. Only held.rt uses contents and plan together; no program
+//! needs contents, since the machines take words from the state. Place 0 belongs to the newest
+//! request. docs/timetable.md describes the held words.
 //!
 //! Proved: each call is a map over the four places (`content_answered`, `content_patched` of
-//! specs/Planned.antt); a store changes a word only if it is answered. Pinned: four places, as many
-//! as `HeldWords` has. Free: the bodies. `Hold` needs it, which `docs/CLAIMS.md` offers.
+//! specs/Planned.antt); a store changes a word only if the word is answered.
+//!
+//! Pinned, by these definitions and `Hold` of held.rt, which docs/CLAIMS.md offers: the calls, and
+//! four places, as many as `HeldWords` has. Free: the bodies.
 ghost use Rattle.std.specs.Prelude.{◌≡◌, None, Some, if◌then◌else◌, ◌∷◌, replicate, take, map, zip};
 ghost use Rattle.std.specs.Option.{option_map};
 ghost use Rattle.st_fetch.specs.Planned.{content_answered, content_patched};

@@ -1,12 +1,14 @@
 //! The held words of a plan, in which ticks are computed ahead: the last four requested instruction
-//! words, which need no read if they are wanted again, with the ticks of their answers.
+//! words, with the ticks of their answers. A held word that is wanted again needs no read.
 //!
-//! The bus of `st_rows` asks it for each instruction word, and adds the words that it reads;
-//! `answered` is for `Hold` (held.rt). A tick can lie in the future. The word 0, a register, marks
-//! an unused place.
+//! The bus of `st_rows` calls `tick_of` for each instruction word, and `request` for each word that
+//! the bus reads; `answered` is for `Hold` (held.rt). A tick can lie in the future. The word 0, a
+//! register, marks an unused place.
 //!
-//! Proved: `tick_of` and `asked_for` of specs/Planned.antt. Pinned: four words, first in, first
-//! out, and not renewed by a use; `docs/timetable.md` has the rule. Free: the form of the search.
+//! Proved: `tick_of` is the definition of its name in specs/Planned.antt, `request` is `asked_for`
+//! there. Pinned, by these definitions, docs/timetable.md, docs/CLAIMS.md and
+//! vectors/timetable.txt: four words, first in, first out, and not renewed by a use. Free: the form
+//! of the search, if proofs/fetched follows.
 ghost use Rattle.std.specs.Prelude.{◌≡◌, replicate};
 ghost use Rattle.st_fetch.specs.Planned.{no_word, tick_of as tick_by, asked_for, word_with_answer};
 

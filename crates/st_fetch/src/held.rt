@@ -1,12 +1,17 @@
 //! The held instruction words with their contents: an instruction buffer that can be used by
 //! itself. The machine of the programs has `HeldWords`, without contents.
 //!
-//! `st_calls` tests it. Word addresses; the tick of an answer is the caller's. A word is requested,
-//! then answered, then can be patched by a store; the fifth request drops the oldest.
+//! No program uses `Hold`; the tests in `st_calls` do. Addresses are word addresses; the caller
+//! gives the tick of an answer. A word is requested, then answered, then can be patched by a store;
+//! the fifth request drops the oldest.
 //!
 //! Proved: each call is its definition in specs/HeldWords.antt, over the list of at most four
-//! words, the oldest first. Free: the arrays and the search, as long as the view `oldest_first`
-//! gives that list. Pinned: four words. `docs/CLAIMS.md` offers `Hold`, so it stays.
+//! words, the oldest first. The laws `RequestsHoldFour`, `AnswersAreKnown` and
+//! `StoresChangeContentAlone` (specs/Laws.antt) are about `Hold`.
+//!
+//! Pinned, by these definitions and docs/CLAIMS.md, which offers `Hold`: four words, and the calls.
+//! Free: the arrays and the search, as long as the view `oldest_first` gives that list and
+//! proofs/held follows.
 ghost use Rattle.std.specs.Prelude.{◌≡◌, ◌≤◌, [], length, false, true, if◌then◌else◌, ◌==◌, Some};
 ghost use Rattle.st_fetch.specs.HeldWords.{is_held, words_after_request, words_after_answer, answer_of, found, words_after_store};
 ghost use Rattle.st_fetch.specs.Planned.{with_its_content};

@@ -1,11 +1,15 @@
 //! The last four requested instruction words, an instruction buffer (first in, first out), and a
-//! queue of pending reads. `docs/timetable.md` has the rules.
+//! queue of pending reads. docs/timetable.md has the rules. The timetable (`st_rows`) uses only
+//! `HeldWords`, which has no contents, since the state has the contents. `Hold`, `Contents` and
+//! `Wants` are for a caller that moves the words itself; no program uses these three.
 //!
-//! The timetable (`st_rows`) uses only `HeldWords`, which has no contents, since the state has
-//! them. `Hold`, `Contents` and `Wants` are for a caller that moves the words itself; no program
-//! does. Proved: each call is its definition in specs/HeldWords.antt, specs/Planned.antt or
-//! specs/Queue.antt, whose `window` is also the view of other rings of the project. `Hold` and
-//! `Wants` stay because `docs/CLAIMS.md` offers them; `HeldWords` is pinned by `st_rows`.
+//! Proved: each call is its definition in specs/HeldWords.antt, specs/Planned.antt or
+//! specs/Queue.antt, whose `window` is also the view of other rings of the project. The laws
+//! `RequestsHoldFour`, `AnswersAreKnown` and `StoresChangeContentAlone` (specs/Laws.antt) are about
+//! `Hold`.
+//!
+//! Pinned: `HeldWords`, by docs/timetable.md, docs/CLAIMS.md and `st_rows`; `Hold` and `Wants`, by
+//! docs/CLAIMS.md, which offers both. Free: all that is not exported.
 #![tactic(auto)]
 
 mod contents;

@@ -1,11 +1,13 @@
 //! The queue of pending reads, first in, first out: a memory request queue of at most 40 reads.
+//! Each `Want` has a word address and the earliest tick; the purpose is the caller's number. No
+//! program uses this queue: `st_rows` computes the ticks of reads in their order, without a queue.
 //!
-//! No program uses it: `st_rows` computes the ticks of reads in their order, without a queue. Each
-//! `Want` has a word address and the earliest tick; the purpose is the caller's number.
+//! Proved: the calls are those of a list (push at the end, pop at the front; `window` of
+//! specs/Queue.antt). `push` needs room, and `pop` a read, so no call fails.
 //!
-//! Proved: the calls are those of a list (push at the end, pop at the front). `push` needs room,
-//! and `pop` a read, so no call fails. Free: `WANTS`, and the ring, as long as `window` gives the
-//! list. `docs/CLAIMS.md` offers the queue, so it stays.
+//! Pinned, by docs/CLAIMS.md, which offers `push`, `front` and `pop`: the calls with their clauses.
+//! Free: `WANTS`, and the ring, as long as `window` gives the list and proofs/wants follows the
+//! bodies.
 ghost use Rattle.std.specs.Prelude.{◌≡◌, ◌≤◌, ◌<◌, ◌*◌, ◌%◌, [], ◌∷◌, ◌++◌, length, drop, slice_get, ◌==◌};
 
 use std::marker::Model;

@@ -1,4 +1,12 @@
 -- Decimal digits: codes of four bits, the digit in place 0 rightmost.
+--
+-- Proved: by their `ensures` clauses these calls do what definitions here say: `to_digits`
+-- (digits.rt), `digits_value` (digits.rt).
+-- Read by: definitions in BinaryResult of st_bin.
+-- Laws: DigitsAgree (specs/Laws.antt of st_laws).
+-- Change: the meaning is fixed by docs/variable-fields.md, since the contracts of `st_top::stretch`
+-- and `st_account::ledger` unfold to a definition here. The form is free, with the proofs that
+-- unfold it.
 use Rattle.std.specs.Prelude.{ℕ, zero, suc, ◌+◌, ◌*◌, ◌/◌, ◌%◌, ◌^◌}
 
 -- the code of the digit in the given place

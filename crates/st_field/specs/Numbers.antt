@@ -1,11 +1,15 @@
 -- Integers as sign and magnitude.
+--
+-- Proved: by their `ensures` clauses these calls do what definitions here say: `sum_of_alike`
+-- (signed.rt), `add` (signed.rt), `add_to_magnitude` (signed.rt), `sum_of_opposites` (signed.rt),
+-- and others.
+-- Read by: definitions in Bases, Results, BinaryResult of st_bin.
+-- Laws: none names a definition of this file itself.
+-- Change: the meaning is fixed by docs/variable-fields.md, since the contracts of `st_top::stretch`
+-- and `st_account::ledger` unfold to a definition here. The form is free, with the proofs that
+-- unfold it.
 use Rattle.std.specs.Prelude.{ℕ, zero, suc, ◌^◌, ℤ, pos, negsuc, neg_ℤ, ◌+ℤ◌, unsigned_abs, Bool, true, false, not, nat_le, if◌then◌else◌}
 use Rattle.st_field.specs.declared.signed.Signed.{Signed}
-
--- the integer with a magnitude and a sign; the Boolean is true for minus
-abbrev pub signed_magnitude : Bool → ℕ → ℤ
-signed_magnitude false m = pos m
-signed_magnitude true m = neg_ℤ (pos m)
 
 -- the sign of an integer, true for minus; zero keeps the previous sign
 abbrev pub sign_after : Bool → ℤ → Bool
@@ -23,7 +27,7 @@ exceeds r n = nat_le (2 ^ n) r
 
 -- the integer of a signed number of the code
 abbrev pub number_of : Signed → ℤ
-number_of n = signed_magnitude n.negative n.mag
+number_of n = if n.negative then neg_ℤ (pos n.mag) else pos n.mag
 
 -- the sum of two signed numbers; a sum of zero has the sign of the first
 abbrev pub sum_of : Signed → Signed → Signed

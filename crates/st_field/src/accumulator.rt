@@ -1,13 +1,18 @@
 //! The accumulator with its sign byte: 128 bits, which are words 8 and 9 of storage, and word 10.
+//! operations.rt and the two bases (`st_bin`, `st_dec`) compute with an `Acc`; `st_exec` assembles
+//! an `Acc` from the registers and writes it back. docs/variable-fields.md has the rules. The base
+//! decides whether the 128 bits are a binary number or 32 decimal digits.
 //!
-//! `operations.rt` and the two bases compute with it; `st_exec` assembles it from the registers and
-//! writes it back. specs/Results.antt defines each result (`number_in`, `with_number`,
-//! `addend_from`, `stored_field`), and each clause says that the call returns exactly that. What
-//! the 128 bits mean, a binary number or 32 decimal digits, is the base's affair. The bodies are
-//! free. The results are pinned by the definitions.
+//! Proved: the results are `number_in`, `with_number` and `stored_field` of specs/Results.antt, and
+//! the `addend` of specs/Bases.antt.
+//!
+//! Pinned, by these definitions, docs/variable-fields.md, vectors/binary.txt and
+//! vectors/decimal.txt: the results; the two fields of `Acc`, by the definitions of `st_bin`,
+//! `st_dec`, `st_conn` and `st_exec`. Free: the bodies.
 ghost use Rattle.std.specs.Prelude.{◌≡◌, ◌<◌, ◌^◌};
-ghost use Rattle.st_field.specs.Fields.{HasRoom, magnitude_bits};
-ghost use Rattle.st_field.specs.Results.{number_in, with_number as with_number_of, addend_from as addend_of, stored_field as stored_field_of};
+ghost use Rattle.st_field.specs.Fields.{HasRoom, magnitude_bits, sign_of};
+ghost use Rattle.st_field.specs.Numbers.{exactly_one as exactly_one_of};
+ghost use Rattle.st_field.specs.Results.{number_in, with_number as with_number_of, stored_field as stored_field_of};
 
 use crate::fields::{Field, Shape, is_minus, sign_byte};
 use crate::signed::{Signed, exactly_one};
@@ -45,7 +50,7 @@ pub fn with_number(acc: &Acc, number: Signed) -> Acc
 /// The number that is added to a field: `mag` with the sign of the accumulator, inverted if the
 /// operation is negated.
 pub fn addend(acc: &Acc, shape: &Shape, mag: u128) -> Signed
-    ensures { result ≡ addend_of acc.now shape.now mag }
+    ensures { result ≡ record { negative = exactly_one_of (sign_of acc.now.sb) shape.now.negated; mag = mag } }
 {
     Signed {
         negative: exactly_one(is_minus(acc.sb), shape.negated),

@@ -1,14 +1,16 @@
 //! The inputs of an operation on a field, and the trait of the two bases: `Two` in `st_bin` and
-//! `Ten` in `st_dec`.
+//! `Ten` in `st_dec`. `operate` in operations.rt has the part of all operations that both bases
+//! share, and calls the methods of this trait for the rest; both crates call `take`.
+//! docs/variable-fields.md has the rules.
 //!
-//! `operate` in operations.rt has the part of all operations that both bases share, and calls these
-//! methods for the rest. specs/Bases.antt defines `InBase`, the values that a base gives for given
-//! inputs; each base states its own (`base`), and its methods are proved to return them. Each
-//! method requires `IsTaken` of specs/Bases.antt: the shape is valid in this base (`Allows`), and
-//! the parts of the field fit it. `large` requires that a sum with a carry occurs only if `limit`
-//! is above 2^127. Pinned: the clauses, by `operate` and both bases. Free: the body of `take`, and
-//! `limit`, as long as values are below it. A method that is added here needs a field of `InBase`
-//! and a body in both bases.
+//! Proved: each base states its `InBase` of specs/Bases.antt, the values that it gives for given
+//! inputs, and its methods return them. Each method requires `IsTaken` there: the shape is valid in
+//! this base (`Allows`), and the parts of the field fit it; `large` requires that a sum with a
+//! carry occurs only if `limit` is above 2^127. `take` is `operand_taken` there.
+//!
+//! Pinned, by specs/Bases.antt, `operate` and both bases: the clauses. Free: the body of `take`,
+//! and `limit`, as long as values are below `limit`. A new method needs a field of `InBase` and a
+//! body in both bases.
 ghost use Rattle.std.specs.Prelude.{◌≡◌, ◌<◌, ◌%◌, ◌^◌, ℕ, true};
 ghost use Rattle.st_field.specs.Fields.{IsBinaryShape, HasRoom, magnitude_bits};
 ghost use Rattle.st_field.specs.Numbers.{exceeds};

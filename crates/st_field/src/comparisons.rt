@@ -1,11 +1,16 @@
-//! Comparisons of the accumulator with a field, given their order as numbers.
+//! Comparisons of the accumulator with a field, given their order as numbers. Only operations.rt
+//! calls these functions, which are exported. Indicators are bits of a word, indicator n the bit of
+//! value 2^(63 - n). docs/variable-fields.md has the rules.
 //!
-//! Only operations.rt uses them. specs/Comparisons.antt defines each result, and each clause says
-//! that the call returns exactly that: only indicators change, AL, AE and AH above all. Indicators
-//! are bits of a word, indicator n the bit of value 2^(63 - n). The bodies are free. The results
-//! are pinned by the definitions, docs/operations.md and the vectors.
+//! Proved: the results are `compared_by` of specs/Comparisons.antt, with the orders `by_order`,
+//! `by_order_if_equal` and `by_range` of specs/Indicators.antt: only indicators change, AL, AE and
+//! AH above all.
+//!
+//! Pinned, by these definitions, docs/operations.md, vectors/binary.txt and vectors/decimal.txt:
+//! the results. Free: the bodies.
 ghost use Rattle.std.specs.Prelude.{◌≡◌, ◌<◌, ◌^◌};
-ghost use Rattle.st_field.specs.Comparisons.{comparison_result, compared_if_equal, compared_for_range};
+ghost use Rattle.st_field.specs.Comparisons.{compared_by};
+ghost use Rattle.st_field.specs.Indicators.{by_order as by_order_of, by_order_if_equal as by_order_if_equal_of, by_range as by_range_of};
 
 use crate::accumulator::Acc;
 use crate::indicators::{by_order, by_order_if_equal, by_range};
@@ -24,7 +29,7 @@ pub struct Compared {
 /// Compare: exactly one of AL, AE and AH is turned on.
 pub fn compare(acc: &Acc, sides: Compared) -> Done
     requires { sides.on < 2 ^ 63 }
-    ensures { result ≡ comparison_result acc.now sides }
+    ensures { result ≡ compared_by by_order_of acc.now sides }
 {
     done_with(acc, by_order(sides.order, sides.on))
 }
@@ -32,7 +37,7 @@ pub fn compare(acc: &Acc, sides: Compared) -> Done
 /// Compare if equal: as `compare`, but compares only if AE is on in `ind`.
 pub fn compare_if_equal(acc: &Acc, sides: Compared, ind: u64) -> Done
     requires { sides.on < 2 ^ 63 }
-    ensures { result ≡ compared_if_equal acc.now sides ind }
+    ensures { result ≡ compared_by (by_order_if_equal_of ind) acc.now sides }
 {
     done_with(acc, by_order_if_equal(ind, sides.order, sides.on))
 }
@@ -40,7 +45,7 @@ pub fn compare_if_equal(acc: &Acc, sides: Compared, ind: u64) -> Done
 /// Compare for range: the operand is the upper end of a range. Compares only if AL is off in `ind`.
 pub fn compare_for_range(acc: &Acc, sides: Compared, ind: u64) -> Done
     requires { sides.on < 2 ^ 63 }
-    ensures { result ≡ compared_for_range acc.now sides ind }
+    ensures { result ≡ compared_by (by_range_of ind) acc.now sides }
 {
     done_with(acc, by_range(ind, sides.order, sides.on))
 }

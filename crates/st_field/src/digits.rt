@@ -1,10 +1,14 @@
 //! Conversion between 32 decimal digits, four bits each and the last one in the low bits, and
-//! numbers; and powers of ten.
+//! numbers; and powers of ten. `st_bin` and `st_dec` call these functions where a number changes
+//! its radix. docs/variable-fields.md has the rules of digits.
 //!
-//! `st_bin` and `st_dec` use these calls where a number changes its radix. specs/Digits.antt
-//! defines both directions; each clause says that the call returns exactly that, and that a number
-//! below 10^32 is converted forth and back. The bodies are free, but proofs in proofs/digits follow
-//! the loops. The results are pinned by the definitions.
+//! Proved: the results are `value_of_digits` and `digits_of` of specs/Digits.antt; a number below
+//! 10^32 is converted forth and back. The law `DigitsAgree` (specs/Laws.antt of `st_laws`) compares
+//! both with the lists of digits in `st_dec`. Not proved: speed.
+//!
+//! Pinned, by these definitions, docs/variable-fields.md, vectors/binary.txt and
+//! vectors/decimal.txt: the results; the codes 10 to 15 count with these values. Free: the bodies,
+//! if proofs/digits follows the loops.
 ghost use Rattle.std.specs.Prelude.{◌≡◌, ◌<◌, ◌≤◌, ◌^◌};
 ghost use Rattle.st_field.specs.Digits.{value_of_digits, digits_of};
 

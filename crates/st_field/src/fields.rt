@@ -1,16 +1,18 @@
-//! Fields of an operation, taken apart into magnitude, sign, flags and zone, and put together.
-//!
-//! A field is 1 to 64 bits of storage, here one number. `IsBinaryShape`, `field_of` and
-//! `field_bits` in specs/Fields.antt define its valid shapes, its parts and its bits; the clauses
-//! say that reading and writing return exactly these, and that a field that is read is written with
-//! the same bits. The layout below is pinned by them; the bodies are free, but proofs/fields
-//! follows them.
+//! Fields of an operation, taken apart into magnitude, sign, flags and zone, and put together. A
+//! field is 1 to 64 bits of storage, here one number. `take` and `in_field` of this crate read and
+//! write fields; `st_bin` and `st_dec` use parts, `st_exec` `Shape`. docs/variable-fields.md has
+//! the rules.
 //!
 //! ```text
 //! unsigned   mmmmmmmm mmmmmmmm
 //! signed     mmmmmmmm zzzzsTUV    the last byte holds zone, sign and flags
 //! byte 3     mmmmmmmm mmmmmsTU    a short byte holds the first of sTUV
 //! ```
+//!
+//! Proved: reading is `field_of`, writing `field_bits` of specs/Fields.antt for `IsBinaryShape`; a
+//! field that is read is written with the same bits. Pinned, by these definitions,
+//! docs/variable-fields.md, vectors/binary.txt and vectors/decimal.txt: this layout. Free: the
+//! bodies, if proofs/fields follows `read_field`, `write_field`, `last_byte` and `byte_bits`.
 ghost use Rattle.std.specs.Prelude.{◌≡◌, ◌<◌, ◌≤◌, ◌^◌};
 ghost use Rattle.st_field.specs.Fields.{IsBinaryShape, HasRoom, magnitude_bits as magnitude_bits_of};
 ghost use Rattle.st_field.specs.Fields.{sign_of, sign_byte as sign_byte_of, last_byte as last_byte_of};

@@ -1,15 +1,19 @@
-//! The indicators that an operation on a field turns on and off.
+//! The indicators that an operation on a field turns on and off. Indicator n is the bit of value
+//! 2^(63 - n) of a word; an `Ind` has the bits to turn on and those to turn off. Operations of this
+//! crate, `st_bin`, `st_dec` and `st_conn` call these functions. docs/machine.md names the
+//! indicators, docs/variable-fields.md and docs/connectives.md say when they change.
 //!
-//! Indicator n is the bit of value 2^(63 - n) of a word; an `Ind` has the bits to turn on and those
-//! to turn off. specs/Indicators.antt defines each result, and each clause says that the call
-//! returns exactly that. The bounds (`on` below 2^63, as `requires`) ensure that sums of indicators
-//! do not overflow. All operations of `st_field`, `st_bin`, `st_dec` and `st_conn` end here. The
-//! numbers are those of `st_bits` and pinned; the bodies are free.
+//! Proved: each result is the definition of its name in specs/Indicators.antt. The bounds (`on`
+//! below 2^63, as `requires`) ensure that sums of indicators do not overflow.
+//!
+//! Pinned, by these definitions, docs/variable-fields.md, docs/connectives.md and the vectors
+//! binary.txt, decimal.txt and connectives.txt: the results; by `st_bits` and the law
+//! `IndicatorsInFigures` (specs/Laws.antt of `st_laws`): the numbers. Free: the bodies and the
+//! private constants.
 ghost use Rattle.std.specs.Prelude.{◌≡◌, ◌<◌, ◌≤◌, ◌^◌};
 ghost use Rattle.st_field.specs.Indicators.{flag_indicators as flag_indicators_of, number_indicators as number_indicators_of};
 ghost use Rattle.st_field.specs.Indicators.{by_number as by_number_of, without_number as without_number_of, by_order as by_order_of};
-ghost use Rattle.st_field.specs.Indicators.{by_order_if_equal as by_order_if_equal_of, by_range as by_range_of};
-ghost use Rattle.st_field.specs.Indicators.{lost_carry as lost_carry_of, partial_field as partial_field_of};
+ghost use Rattle.st_field.specs.Indicators.{by_order_if_equal as by_order_if_equal_of, by_range as by_range_of, on_if};
 
 use crate::signed::Signed;
 use st_bits::indicators::{
@@ -45,7 +49,7 @@ const HIGH: u64 = 1 << (63 - ACCUMULATOR_HIGH);
 
 /// LC if a carry is lost, otherwise 0.
 pub fn lost_carry(is_lost: bool) -> u64
-    ensures value { result ≡ lost_carry_of is_lost }
+    ensures value { result ≡ on_if is_lost LOST_CARRY }
     ensures bound { result ≤ 2 ^ 41 }
 {
     if is_lost { indicator(LOST_CARRY) } else { 0 }
@@ -53,7 +57,7 @@ pub fn lost_carry(is_lost: bool) -> u64
 
 /// PF if a part of a field is lost, otherwise 0.
 pub fn partial_field(is_lost: bool) -> u64
-    ensures value { result ≡ partial_field_of is_lost }
+    ensures value { result ≡ on_if is_lost PARTIAL_FIELD }
     ensures bound { result ≤ 2 ^ 40 }
 {
     if is_lost { indicator(PARTIAL_FIELD) } else { 0 }

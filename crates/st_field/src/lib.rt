@@ -1,8 +1,13 @@
 //! Operations on fields as binary (`st_bin`) and decimal (`st_dec`) share them: fields of storage,
-//! the accumulator, signed numbers and result indicators. `docs/variable-fields.md` has the rules.
+//! the accumulator, signed numbers and result indicators. docs/variable-fields.md has the rules.
+//! `st_conn` and `st_exec` use `Acc`, `Done` and a few more. Nothing here reads storage or
+//! registers: inputs are values, and a result, `Done`, says what `st_exec` has to write.
 //!
-//! Nothing here reads storage or registers: inputs are values, and a result, `Done`, says what
-//! `st_exec` has to write.
+//! Proved: each call returns what a definition of a file in specs/ says, which the head of its
+//! module names; `operate` is `result_of` of specs/Bases.antt for each base. Pinned, by these
+//! definitions, docs/operations.md, docs/variable-fields.md, vectors/binary.txt and
+//! vectors/decimal.txt: the results of the public calls. Free: the bodies, if their proofs in
+//! proofs/ follow.
 #![tactic(auto, unfolding(crate::specs::Bases::fields, crate::specs::Bases::numbers_compared, crate::specs::Bases::store_result))]
 
 pub mod accumulator;

@@ -1,12 +1,12 @@
-//! Loads of the accumulator, of the factor register and of the transit register.
+//! Loads of the accumulator, of the factor register and of the transit register. operations.rt and
+//! the bases (`st_bin`, `st_dec`) call these functions. docs/variable-fields.md has the rules. `on`
+//! holds indicators as bits, below 2^63, so that result indicators can be added.
 //!
-//! Only operations.rt and the bases use them. specs/Results.antt defines each result
-//! (`load_result`, `loaded_with_flags`, `transit_loaded`, `factor_loaded`), and each clause says
-//! that the call returns exactly that. `on` are indicators as bits; below 2^63, so that result
-//! indicators can be added. The bodies are free. The results are pinned by the definitions,
-//! docs/operations.md and the vectors.
+//! Proved: the results are `loaded`, `transit_loaded` and `factor_loaded` of specs/Results.antt.
+//! Pinned, by these definitions, docs/operations.md, vectors/binary.txt and vectors/decimal.txt:
+//! the results. Free: the bodies.
 ghost use Rattle.std.specs.Prelude.{◌≡◌, ◌<◌, ◌^◌};
-ghost use Rattle.st_field.specs.Results.{load_result, loaded_with_flags, transit_loaded, factor_loaded};
+ghost use Rattle.st_field.specs.Results.{loaded, transit_loaded, factor_loaded};
 
 use crate::accumulator::Acc;
 use crate::fields::{Field, sign_byte};
@@ -18,7 +18,7 @@ use crate::signed::Signed;
 /// Load: the aligned operand without zone and flags.
 pub fn load(operand: Aligned) -> Done
     requires { operand.on < 2 ^ 63 }
-    ensures { result ≡ load_result operand }
+    ensures { result ≡ loaded 0 0 operand }
 {
     let acc = Acc {
         mag: operand.bits,
@@ -32,7 +32,7 @@ pub fn load_with_flags(f: &Field, operand: Aligned) -> Done
     requires zone { f.now.zone < 16 }
     requires flags { f.now.flags < 8 }
     requires few { operand.on < 2 ^ 63 }
-    ensures { result ≡ loaded_with_flags f.now operand }
+    ensures { result ≡ loaded f.now.zone f.now.flags operand }
 {
     let acc = Acc {
         mag: operand.bits,

@@ -1,11 +1,14 @@
-//! The operand of an operation, stored numbers, and the operand aligned with the accumulator.
+//! The operand of an operation, stored numbers, and the operand aligned with the accumulator: its
+//! last bit is at the bit of value 2^offset. operations.rt and the two bases (`st_bin`, `st_dec`)
+//! call these functions. docs/variable-fields.md has the rules. What is cut off is never an error:
+//! `is_lost` turns on an indicator.
 //!
-//! A field is aligned when its last bit is at the bit of value 2^offset of the accumulator.
-//! specs/Results.antt defines each result, and each clause says that the call returns exactly that.
-//! operations.rt and the two bases use these calls. What is cut off is never an error: `is_lost`
-//! turns on an indicator. The bodies are free. The results are pinned by the definitions.
+//! Proved: the results are `signed_operand`, `number_cut` and `aligned_operand` of
+//! specs/Results.antt. Pinned, by these definitions, docs/variable-fields.md, vectors/binary.txt
+//! and vectors/decimal.txt: the results; `Kept` and `Aligned`, by the clauses of `Base` in base.rt.
+//! Free: the bodies.
 ghost use Rattle.std.specs.Prelude.{◌≡◌, ◌<◌, ◌≤◌, ◌^◌, ◌*◌};
-ghost use Rattle.st_field.specs.Results.{signed_operand as operand_of, number_of_field, number_cut as cut_of, aligned_operand};
+ghost use Rattle.st_field.specs.Results.{signed_operand as operand_of, number_cut as cut_of, aligned_operand};
 
 use crate::fields::{Field, Shape};
 use crate::indicators::{flag_indicators, partial_field};
@@ -24,7 +27,7 @@ pub fn operand(f: &Field, shape: &Shape, mag: u128) -> Signed
 
 /// The signed number with the sign of a field and the magnitude `mag`.
 pub fn signed_as(f: &Field, mag: u128) -> Signed
-    ensures { result ≡ number_of_field f.now mag }
+    ensures { result ≡ record { negative = f.now.negative; mag = mag } }
 {
     Signed {
         negative: f.negative,

@@ -1,16 +1,19 @@
-//! The operations on fields, for any base: 2 in `st_bin`, 10 in `st_dec`, each of which calls
-//! `operate`.
+//! The operations on fields, for any base: `Two` of `st_bin` and `Ten` of `st_dec`, each of which
+//! calls `operate`. Registers and indicators are inputs, and `Done` holds all effects.
+//! docs/operations.md and docs/variable-fields.md have the rules.
 //!
-//! `result_of` in specs/Bases.antt defines the result of each operation from the values of the
-//! base; the clause says that `operate` returns exactly that. The private functions are the parts
-//! of which operations consist, each with its definition there. A new operation needs a case of
-//! `result_of`, one here, and its variant in `st_bits`; the split into private functions is free.
-//! Registers and indicators are inputs, and `Done` holds all effects. The results are pinned by the
-//! definition, docs/operations.md and vectors/binary.txt and decimal.txt.
+//! Proved: `operate` is `result_of` of specs/Bases.antt, which defines each operation from the
+//! values of the base. The private functions are the parts of which operations consist, each with
+//! its definition there.
+//!
+//! Pinned, by `result_of`, docs/operations.md, vectors/binary.txt and vectors/decimal.txt: the
+//! results. Free: the split into private functions. A new operation needs a case of `result_of`,
+//! one here, and its variant in `st_bits`; docs/changing.md lists the other places.
 ghost use Rattle.std.specs.Prelude.{◌≡◌, ◌<◌, ◌%◌, ◌^◌, ℕ, true};
 ghost use Rattle.st_field.specs.Fields.{IsBinaryShape, magnitude_bits};
 ghost use Rattle.st_field.specs.Numbers.{exceeds};
-ghost use Rattle.st_field.specs.Bases.{IsTaken, accumulator_number as number_of, operand_in_base as operand_of, aligned_in_base as aligned_of};
+ghost use Rattle.st_field.specs.Results.{number_in};
+ghost use Rattle.st_field.specs.Bases.{IsTaken, operand_in_base as operand_of, aligned_in_base as aligned_of};
 ghost use Rattle.st_field.specs.Bases.{field_number, addend as addend_of, numbers_compared as numbers_of, fields as fields_of};
 ghost use Rattle.st_field.specs.Bases.{put_in_accumulator as put_in_accumulator_of, put_in_field as put_in_field_of};
 ghost use Rattle.st_field.specs.Bases.{one as one_of, store_result, result_of};
@@ -29,7 +32,7 @@ use st_bits::VflOp;
 // The accumulator as a signed number.
 fn number<B: Base>(taken: &Taken) -> Signed
     requires { IsTaken B.Allows taken.now }
-    ensures value { result ≡ number_of (B.base taken.now) taken.now }
+    ensures value { result ≡ number_in taken.now.acc (B.base taken.now).whole }
     ensures bound { result.mag < B.limit }
 {
     signed_as(&taken.acc, B::whole(taken))

@@ -1,10 +1,12 @@
-//! The result of an operation on a field: all that it changes, as values that `st_exec` writes.
+//! The result of an operation on a field: all that the operation changes, as values that `st_exec`
+//! writes. `None` says that a register or the field does not change. operations.rt, comparisons.rt,
+//! loads.rt, `st_bin`, `st_dec` and `st_conn` make the results. docs/variable-fields.md has the
+//! rules.
 //!
-//! `None` says that a register or the field does not change. `done_with`, `in_accumulator` and
-//! `in_field` in specs/Results.antt define the three usual results, and each clause says that the
-//! call returns exactly that. The fields of `Done` are part of many definitions, of connectives
-//! (`st_conn`) too, so a further field touches all of them; the bodies are free. The results are
-//! pinned by the definitions.
+//! Proved: the three usual results are `done_with`, `in_accumulator` and `in_field` of
+//! specs/Results.antt. Pinned, by these definitions, docs/variable-fields.md, vectors/binary.txt
+//! and vectors/decimal.txt: these results; by the definitions of `st_bin`, `st_dec`, `st_conn` and
+//! `st_exec`: the fields of `Done`; a new field needs a change in all four. Free: the bodies.
 ghost use Rattle.std.specs.Prelude.{◌≡◌, ◌<◌, ◌^◌};
 ghost use Rattle.st_field.specs.Fields.{IsBinaryShape, HasRoom};
 ghost use Rattle.st_field.specs.Results.{done_with as done_with_of, in_accumulator as in_accumulator_of, in_field as in_field_of};

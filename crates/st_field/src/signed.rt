@@ -1,11 +1,14 @@
 //! Numbers as sign and magnitude, below 2^128, their sums and their order. Zero can have either
-//! sign.
+//! sign. operations.rt, `st_bin`, `st_dec` and `st_conn` use these numbers. docs/variable-fields.md
+//! has the rules.
 //!
-//! `number_of` in specs/Numbers.antt is the integer that such a number means, and the sums are
-//! defined by integers there. Proved: magnitude (modulo 2^128), sign and carry of each sum, and
-//! `large`, that a carry needs large inputs, by which decimal operations have none. A sum of zero
-//! has the sign of the first number. The bodies are free; the clauses are used by operations.rt,
-//! `st_bin` and `st_dec`. The sums are pinned by the definitions.
+//! Proved: `number_of` in specs/Numbers.antt is the integer that such a number means, and the sums
+//! are defined by integers there (`sum_of`, `magnitude_sum`): magnitude (modulo 2^128), sign and
+//! carry of each sum, and by the clause `large` a carry needs large inputs, so that decimal
+//! operations have no carry. A sum of zero has the sign of the first number.
+//!
+//! Pinned, by these definitions, docs/variable-fields.md, vectors/binary.txt and
+//! vectors/decimal.txt: the sums. Free: the bodies.
 ghost use Rattle.std.specs.Prelude.{◌≡◌, ◌≢◌, ◌<◌, ◌≤◌, ◌+◌, ◌+ℤ◌, ◌%◌, ◌^◌, unsigned_abs, true};
 ghost use Rattle.std.specs.Ordering.{int_cmp};
 ghost use Rattle.st_field.specs.Numbers.{number_of, exactly_one as exactly_one_of, sign_after, exceeds as exceeds_of};

@@ -1,4 +1,14 @@
 -- Decoding (from bits to an instruction) and encoding (from an instruction to bits).
+--
+-- Proved: by their `ensures` clauses these calls do what definitions here say: `decode`
+-- (decoding.rt), `encode` (encoding.rt), `checked` (decoding.rt), `decode_as` (decoding.rt), and
+-- others.
+-- Read by: definitions in Ranges of st_prep, Emitting of st_asm, Spelling of st_dis, Looking of
+-- st_plain, and others.
+-- Laws: InstructionKeepsBits (specs/Laws.antt), BitsSpellInstruction (specs/Laws.antt).
+-- Change: the meaning is fixed by docs/instructions.md, since the contracts of `st_top::stretch`
+-- and `st_account::ledger` unfold to a definition here. The form is free, with the proofs that
+-- unfold it.
 use Rattle.std.specs.Prelude.{ℕ, ◌≡◌, ◌+◌, ◌*◌, ◌%◌, ◌^◌, ◌<◌, ◌≤◌, Bool, true, false, IsTrue, IsFalse, ◌==◌, unwrap_or, is_some, Option, None, Some, if◌then◌else◌}
 use Rattle.st_format.specs.declared.operations.TheConstants.{FLOATING_GROUP, BRANCH_GROUP}
 use Rattle.st_format.specs.declared.operations.FullOp.{FullOp}
@@ -14,23 +24,20 @@ use Rattle.st_format.specs.Halves.{later, is_one, is_full, i_of, address_of, j_o
 use Rattle.st_format.specs.Operations.{half_op, branch_op, full_op, half_number, branch_number, full_number, writes_field}
 use Rattle.st_format.specs.Validity.{breaks_rules, is_invalid, misfits, misuses_p}
 
--- the branch that a half-word encodes, by the operation in its J field; invalid if J is no branch
--- operation
+-- the branch of a half-word, by its J field; invalid if J is no branch operation
 abbrev pub branch_instruction : Option BranchOp → ℕ → Instr
 branch_instruction (Some op) first = Branch op (address_of first) (i_of first)
 branch_instruction None first = Invalid first 0 false
 
--- the half-word instruction outside the floating and branch groups, by its operation; invalid if
--- there is no such operation
+-- the instruction of a half-word outside the two groups; invalid if it has no operation
 abbrev pub index_instruction : Option HalfOp → ℕ → Instr
 index_instruction (Some op) first = Half op (address_of first) (j_of first) (i_of first)
 index_instruction None first = Invalid first 0 false
 
 -- the instruction that a half-word encodes
 unfoldable pub half_word : ℕ → Instr
-half_word first =
-    if operation_of first == FLOATING_GROUP then Floating (j_of first) (address_of first)
-    (i_of first)
+half_word first = if operation_of first == FLOATING_GROUP
+    then Floating (j_of first) (address_of first) (i_of first)
     else if operation_of first == BRANCH_GROUP
     then branch_instruction (branch_op (j_of first)) first
     else index_instruction (half_op (operation_of first)) first
@@ -56,16 +63,13 @@ full_word_instruction (Order write) first second =
 full_word_instruction CounterStore first second =
     StoreCounter (bit_address_of first) (i_of first) (second_address_of second)
 
--- the instruction that a full word encodes, by its operation; invalid if there is no such operation
--- or the bits break a rule
+-- the instruction of a full word; invalid if it has no operation or its bits break a rule
 abbrev pub full_word : Option FullOp → ℕ → ℕ → Instr
 full_word None first second = Invalid first second true
-full_word (Some op) first second =
-    if breaks_rules op first second then Invalid first second true
+full_word (Some op) first second = if breaks_rules op first second then Invalid first second true
     else full_word_instruction op first second
 
--- the instruction that two half-words encode; the second is ignored if the first is a half-word
--- instruction
+-- the instruction of two half-words; the second is ignored if the first is a half-word instruction
 unfoldable pub instruction_of : ℕ → ℕ → Instr
 instruction_of first second =
     if is_full first then full_word (full_op second) first second else half_word first
@@ -81,10 +85,8 @@ spelled_as NoWhole first second = Invalid first second true
 
 -- the instruction that two half-words encode, with its length in half-words
 abbrev pub decoded_entry : ℕ → ℕ → Decoded
-decoded_entry first second = record {
-  instr = instruction_of first second;
-  halves = if is_full first then 2 else 1;
-}
+decoded_entry first second =
+    record { instr = instruction_of first second; halves = if is_full first then 2 else 1 }
 
 -- a Boolean as a bit: 1 for true
 abbrev pub bit_of : Bool → ℕ
@@ -113,17 +115,14 @@ second_half (Vfl op d u n p length byte offset address i) =
     Some (second_half_bits p length byte offset
     (bit_of d * 2 ^ 7 + bit_of u * 2 ^ 6 + bit_of n * 2 ^ 5 + full_number (Variable op)))
 second_half (Connect kind table p length byte offset address i) =
-    Some (second_half_bits p length byte offset
-    (table * 2 ^ 4 + full_number (Connective kind)))
+    Some (second_half_bits p length byte offset (table * 2 ^ 4 + full_number (Connective kind)))
 second_half (Move swap address i second count) =
     Some (second_bits second (full_number (Transmission swap)) (count % 16))
 second_half (BitBranch sense change address i second) =
     Some (second_bits second (bit_of sense * 2 ^ 7 + change * 2 ^ 5 + full_number BitTest) 0)
-second_half (IndBranch sense off address i second) =
-    Some (second_bits second
+second_half (IndBranch sense off address i second) = Some (second_bits second
     (bit_of sense * 2 ^ 7 + bit_of off * 2 ^ 6 + full_number IndicatorTest) 0)
-second_half (StoreCounter address i second) =
-    Some (second_bits second (full_number CounterStore) 0)
+second_half (StoreCounter address i second) = Some (second_bits second (full_number CounterStore) 0)
 second_half (Transfer write address i count) =
     Some (second_bits count (full_number (Order write)) 0)
 second_half (Invalid first second full) = if full then Some second else None
@@ -132,8 +131,7 @@ second_half (Invalid first second full) = if full then Some second else None
 abbrev pub halves_of : Instr → ℕ
 halves_of instr = if is_some (second_half instr) then 2 else 1
 
--- the result of decoding the encoding of an instruction, where the half-word rest follows a
--- half-word instruction
+-- the decoded encoding of an instruction, where `rest` follows a half-word instruction
 abbrev pub reread : Instr → ℕ → Decoded
 reread instr rest = decoded_entry (first_half instr) (unwrap_or (second_half instr) rest)
 

@@ -1,4 +1,13 @@
 -- The fields of an instruction by their bits. Bits 32-63 are those of the second half-word.
+--
+-- Proved: by their `ensures` clauses these calls do what definitions here say: `decode`
+-- (decoding.rt), `length_in_halves` (decoding.rt), `encode` (encoding.rt), `field_bits`
+-- (encoding.rt), and others.
+-- Read by: definitions in Formats, Validity, Operations, Spelling of st_dis, and others.
+-- Laws: InstructionKeepsBits (specs/Laws.antt).
+-- Change: the meaning is fixed by docs/instructions.md, since the contracts of `st_top::stretch`
+-- and `st_account::ledger` unfold to a definition here. The form is free, with the proofs that
+-- unfold it.
 use Rattle.std.specs.Prelude.{ℕ, ◌+◌, ◌-◌, ◌*◌, ◌/◌, ◌%◌, ◌^◌, Bool, ◌==◌, if◌then◌else◌}
 
 -- the number in the n bits of a half-word from bit a
@@ -25,8 +34,7 @@ i_of first = half_word_part first 28 4
 unfoldable pub address_of : ℕ → ℕ
 address_of first = half_word_part first 0 19
 
--- the J field: the index word that a half-word instruction works on, or its operation within a
--- group
+-- the J field: the index word of a half-word instruction, or its operation within a group
 unfoldable pub j_of : ℕ → ℕ
 j_of first = half_word_part first 19 4
 

@@ -1,4 +1,13 @@
 -- The rules by which bits are an invalid instruction.
+--
+-- Proved: by their `ensures` clauses these calls do what definitions here say: `decode`
+-- (decoding.rt), `breaks_rules` (rules.rt), `has_miscount` (rules.rt), `has_misfit` (rules.rt), and
+-- others.
+-- Read by: definitions in Formats, WellFormed of st_strap, Describing of st_mnemonic.
+-- Laws: none names a definition of this file itself.
+-- Change: the meaning is fixed by docs/instructions.md, since the contracts of `st_top::stretch`
+-- and `st_account::ledger` unfold to a definition here. The form is free, with the proofs that
+-- unfold it.
 use Rattle.std.specs.Prelude.{ℕ, ◌%◌, Bool, true, false, not, ◌==◌, ◌&&◌, ◌||◌, nat_lt, nat_le, Option, None, Some, if◌then◌else◌}
 use Rattle.st_format.specs.declared.operations.FullOp.{FullOp}
 use Rattle.st_format.specs.declared.operations.FullOp.TheVariants.{Variable, Connective, Transmission, IndicatorTest, Order, CounterStore}
@@ -6,8 +15,7 @@ use Rattle.st_format.specs.declared.operations.TheConstants.{BRANCH_GROUP, UNUSE
 use Rattle.st_format.specs.Halves.{later, is_one, is_full, i_of, j_of, operation_of, p_of, length_of, byte_of, k_of, second_address_of}
 use Rattle.st_format.specs.Operations.{full_op, writes_field}
 
--- whether a half-word is invalid: its operation number is unused, or it is a branch with J of 6 or
--- more
+-- whether a half-word is invalid: an unused operation, or a branch with J of 6 or more
 unfoldable pub is_invalid_half : ℕ → Bool
 is_invalid_half first =
     operation_of first == UNUSED || (operation_of first == BRANCH_GROUP && nat_le 6 (j_of first))
@@ -30,8 +38,7 @@ unused_marks (Order _) second = later second 52 3
 unused_marks IndicatorTest second = later second 54 1
 unused_marks _ second = 0
 
--- whether a field has a wrong size: a decimal field needs bytes of at least four bits and a whole
--- number of bytes; a signed field needs room for its sign byte
+-- whether a size is wrong: decimal needs whole bytes of 4 bits or more, signed needs a whole byte
 abbrev pub misfits : Bool → Bool → ℕ → ℕ → Bool
 misfits decimal unsigned length byte =
     (decimal && (nat_lt byte 4 || not (length % byte == 0))) || (not unsigned && nat_lt length byte)
@@ -42,8 +49,7 @@ has_misfit (Variable _) second =
     misfits (is_one second 52) (is_one second 53) (length_of second) (byte_of second)
 has_misfit _ second = false
 
--- whether the progressive form is wrong: an immediate operand (form 1) cannot be written and has at
--- most 24 bits; forms 2 to 7 need an index word
+-- whether the progressive form is wrong: 1 writes or has over 24 bits, 2 to 7 lack an index word
 abbrev pub misuses_p : Bool → ℕ → ℕ → ℕ → Bool
 misuses_p writes p length i = (p == 1 && (writes || nat_lt 24 length)) || (nat_le 2 p && i == 0)
 
@@ -66,13 +72,10 @@ has_miscount _ second = false
 
 -- whether the bits of a full word with the given operation break one of the rules
 unfoldable pub breaks_rules : FullOp → ℕ → ℕ → Bool
-breaks_rules op first second =
-    not (unused_in_kind op second == 0)
+breaks_rules op first second = not (unused_in_kind op second == 0)
     || not (unused_k op second == 0)
     || not (unused_marks op second == 0)
-    || has_misfit op second
-    || has_misused_p op first second
-    || has_miscount op second
+    || has_misfit op second || has_misused_p op first second || has_miscount op second
 
 -- whether a full word is invalid: there is no operation, or the bits break a rule
 abbrev pub is_refused : Option FullOp → ℕ → ℕ → Bool

@@ -1,12 +1,16 @@
-//! Decoding: from the bits of an instruction, one or two half-words, to the instruction.
+//! Decoding: from the bits of an instruction, one or two half-words, to the instruction. `st_prep`
+//! and `st_dis` call `decode`; `st_next` calls `format_of` and then `decode_as`, which together are
+//! `decode`; `st_prep` and `st_lines` call `length_in_halves`. docs/instructions.md has the rules.
+//! Invalid bits are no error: they decode to a value, which the machine suppresses.
 //!
-//! Preparation decodes by `decode` (`st_prep`), or by `format_of` and then `decode_as` (`st_next`),
-//! which together are `decode`. specs/Formats.antt defines the result (`decoded_entry`); the
-//! clauses say that the call returns exactly that, for all bits, that all fields are in range, and
-//! that encoding gives the same bits again. Invalid bits are no error: they are a value, which the
-//! machine suppresses. The split into formats is for speed, and free in its form. The result is
-//! pinned by the definition, docs/instructions.md and the vectors. proofs/decoding follows the
-//! bodies of `decode_as` and `decode`.
+//! Proved: the result is `decoded_entry` of specs/Formats.antt for all bits, all fields are in
+//! range (`IsShape`), and encoding gives the same bits again. The laws are `BitsSpellInstruction`
+//! and `InstructionKeepsBits` in specs/Laws.antt. Not proved: speed.
+//!
+//! Pinned, by `decoded_entry`, docs/instructions.md, docs/CLAIMS.md, vectors/checks.txt and
+//! vectors/words.txt: the result; by these crates: the four calls with their clauses. Free: which
+//! formats `Format` tells apart, which is for speed, if proofs/decoding follows `decode_as` and
+//! `decode`.
 ghost use Rattle.std.specs.Prelude.{◌≡◌, ℕ, None, Some, if◌then◌else◌};
 ghost use Rattle.st_format.specs.Halves.{is_full as has_ones};
 ghost use Rattle.st_format.specs.Operations.{full_op as full_op_of};

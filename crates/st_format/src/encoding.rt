@@ -1,12 +1,14 @@
-//! Encoding: from an instruction to its bits, for the assembler, which emits them, and for
-//! `st_plain`.
+//! Encoding: from an instruction to its bits, for the assembler (`st_asm`), which emits these bits,
+//! and for `st_plain`. docs/instructions.md has the rules.
 //!
-//! specs/Formats.antt defines the bits (`first_half`, `second_half`); the clauses say that the call
-//! returns exactly these, and `decodes` that they decode to the instruction again. Required is that
-//! all fields are in range (`IsShape`). The private functions compute sums of shifted fields; their
-//! form is free, as long as those clauses are proved. The bits are pinned by the definitions,
-//! docs/instructions.md and the vectors. The proof of `encode`, in proofs/encoding, follows its
-//! body.
+//! Proved: the bits are `first_half` and `second_half` of specs/Formats.antt; the clause `decodes`
+//! says that these bits decode to the instruction again. Callers must prove that all fields are in
+//! range (`IsShape`). The laws of both directions are `BitsSpellInstruction` and
+//! `InstructionKeepsBits` in specs/Laws.antt.
+//!
+//! Pinned, by these definitions, docs/instructions.md, docs/CLAIMS.md and vectors/mnemonics.txt:
+//! the bits. Free: the private functions, which compute sums of shifted fields, and the body of
+//! `encode`, if proofs/encoding follows.
 ghost use Rattle.std.specs.Prelude.{◌≡◌, ◌+◌, ◌*◌, ◌<◌, ◌^◌, ℕ, unwrap_or, is_some};
 ghost use Rattle.st_format.specs.Halves.{is_full, half_bits as half_bits_of, first_bits as first_bits_of, second_half_bits as field_bits_of, second_bits as second_bits_of};
 ghost use Rattle.st_format.specs.Operations.{full_number as full_number_of};

@@ -1,10 +1,11 @@
-//! The fields of an instruction by their bits. Bits 32-63 are those of the second half-word.
+//! The fields of an instruction by their bits. Only decoding.rt, rules.rt and operations.rt call
+//! these functions. `half` is any half-word, `first` a first one, `second` a second one, whose bits
+//! are numbered 32-63. docs/instructions.md has the formats, lib.rt the pictures.
 //!
-//! Decoding and the rules of validity read fields by these calls only. specs/Halves.antt defines
-//! the bits of each field; the clause `value` says that the call returns exactly that, and the
-//! others bound it. The places are those of the two formats in lib.rt and are pinned by
-//! specs/Halves.antt; the shifts are free. `half` is any half-word, `first` a first one, `second` a
-//! second one. The proof of `part`, in proofs/fields, follows its body.
+//! Proved: the clause `value` of each call is the definition of its field in specs/Halves.antt, the
+//! other clauses bound the result. Pinned, by these definitions, docs/instructions.md,
+//! vectors/words.txt and vectors/mnemonics.txt: the places of the fields. Free: the shifts, if
+//! proofs/fields follows the body of `part`.
 ghost use Rattle.std.specs.Prelude.{◌≡◌, ◌+◌, ◌<◌, ◌≤◌, ◌^◌};
 ghost use Rattle.st_format.specs.Halves.{half_word_part as part_of, later as later_of, is_full as is_full_of, i_of, address_of, j_of, operation_of, bit_address_of, second_address_of, p_of, length_of, byte_of, offset_of, k_of, words_moved, or_greatest as or_greatest_of};
 

@@ -1,13 +1,16 @@
 //! Instructions and their fields: the values to which bits decode and from which the assembler
-//! encodes.
+//! encodes. docs/instructions.md has the formats. `st_prep`, `st_exec`, `st_next`, `st_plain`,
+//! `st_asm` and `st_dis` distinguish cases by these variants. Field names are shared by the
+//! variants: `i` is the index word that modifies the address, `j` the index word that the operation
+//! works on, `sense` the value of the bit for which a branch is taken.
 //!
-//! `IsShape` in specs/Formats.antt has the range of each field. Decoding is proved to yield such
-//! values, and encoding requires them. Field names are shared by the variants: `i` is the index
-//! word that modifies the address, `j` the index word that is worked on, `sense` the value of the
-//! bit for which a branch is taken. Variants and fields are pinned by the definitions of most
-//! crates: a new kind of instruction is a variant here, with its cases in specs/Formats.antt,
-//! decoding.rt and encoding.rt; `st_prep`, `st_exec` and `st_dis` then need theirs. The bodies are
-//! free.
+//! Proved: `is_valid` and the defaults are definitions of specs/Formats.antt; `IsShape` there has
+//! the range of each field; decoding yields such values, and encoding requires such values.
+//!
+//! Pinned, by specs/Formats.antt, docs/instructions.md and the definitions of the crates named
+//! above: variants and fields. A new kind of instruction is a variant here, with its cases in
+//! specs/Formats.antt, decoding.rt and encoding.rt; docs/changing.md lists the other places. Free:
+//! the bodies.
 use crate::operations::{FullOp, UNUSED};
 use st_bits::{BranchOp, ConnKind, HalfOp, VflOp};
 

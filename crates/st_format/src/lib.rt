@@ -1,5 +1,13 @@
-//! The two instruction formats, their decoding and their encoding. `docs/instructions.md` has the
-//! rules.
+//! The two instruction formats, their decoding and their encoding. docs/instructions.md has the
+//! rules. `st_prep` and `st_next` decode for the machine, `st_dis` for the disassembler; `st_asm`
+//! and `st_plain` encode. `st_exec` and `st_ring` use `Instr`, `st_mnemonic` the groups of
+//! operations, `st_lines` lengths.
+//!
+//! Proved: decoding is `decoded_entry`, encoding `first_half` and `second_half` of
+//! specs/Formats.antt. Decoding and encoding are inverse: the laws `BitsSpellInstruction` and
+//! `InstructionKeepsBits` in specs/Laws.antt. Pinned, by these definitions, docs/instructions.md,
+//! docs/CLAIMS.md, vectors/words.txt and vectors/mnemonics.txt: the bits. Free: the bodies, if
+//! their proofs in proofs/ follow.
 //!
 //! A half-word instruction has 32 bits:
 //!

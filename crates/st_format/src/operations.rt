@@ -1,10 +1,15 @@
-//! The operations of both formats by their numbers in the instruction, in both directions.
+//! The operations of both formats by their numbers in the instruction. decoding.rt goes from a
+//! number to an operation, `None` if there is none; encoding.rt goes back. `st_prep` and
+//! `st_mnemonic` call `writes_field`, which tells whether an operation writes its field; `st_exec`
+//! and `st_next` use `FullOp` too. docs/instructions.md has the numbers.
 //!
-//! specs/Operations.antt has the tables of numbers and mnemonics and defines each look-up by them;
-//! each clause says that the call returns exactly that, so the matches here are proved to be those
-//! tables. Numbers are pinned by the tables and the vectors. Decoding goes from a number to an
-//! operation, `None` if there is none; encoding goes back. The form of the matches is free. A law
-//! of `st_laws` has the figures of the three constants.
+//! Proved: each look-up is the definition of its name in specs/Operations.antt (`full_op`,
+//! `half_number` and so on), by the tables of numbers and mnemonics there.
+//!
+//! Pinned, by these tables, docs/instructions.md and vectors/mnemonics.txt: the numbers; by the law
+//! `FormatsInFigures` (specs/Laws.antt of `st_laws`): the three constants; by the crates named:
+//! `FullOp` and `writes_field`. Free: the form of the matches. docs/changing.md lists what a new
+//! operation changes.
 ghost use Rattle.std.specs.Prelude.{◌≡◌, ◌<◌};
 ghost use Rattle.st_format.specs.Operations.{half_op as half_op_of, branch_op as branch_op_of, full_op as full_op_of, kind as kind_of, half_number as half_number_of, branch_number as branch_number_of, vfl_number as vfl_number_of, kind_number as kind_number_of, numbered_op as numbered_op_of, writes_field as writes_field_of};
 

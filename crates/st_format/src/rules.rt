@@ -1,12 +1,14 @@
 //! The rules by which the bits of a full word with a known operation are an invalid instruction:
 //! unused bits that are not zero, wrong sizes of a field, a wrong progressive form, a wrong count
-//! of an order.
+//! of an order. docs/instructions.md lists them. decoding.rt calls `breaks_rules`; `st_mnemonic`
+//! (descriptions.rt) calls `misfits_field` for the fields of cards.
 //!
-//! `breaks_rules` in specs/Validity.antt defines them, one definition for each private function
-//! here; each clause says that the call returns exactly that. Decoding makes an invalid instruction
-//! of such bits. `st_mnemonic` uses `misfits_field` for the fields of cards. A new rule is a
-//! definition and a case of `breaks_rules` there, and a function and a case here. The bodies are
-//! free. The rules are pinned by the definitions, docs/instructions.md and the vectors.
+//! Proved: the results are `breaks_rules` and `misfits` of specs/Validity.antt, which has one
+//! definition for each private function here.
+//!
+//! Pinned, by these definitions, docs/instructions.md and vectors/checks.txt: the rules. Free: the
+//! bodies, and the split into private functions together with their definitions. A new rule is a
+//! definition and a case of `breaks_rules` in specs/Validity.antt, and a function and a case here.
 ghost use Rattle.std.specs.Prelude.{◌≡◌};
 ghost use Rattle.st_format.specs.Validity.{breaks_rules as breaks_rules_of, unused_in_kind as unused_in_kind_of, unused_k as unused_k_of, unused_marks as unused_marks_of, misfits, has_misfit as has_misfit_of, misuses_p, has_misused_p as has_misused_p_of, miscounts, has_miscount as has_miscount_of};
 

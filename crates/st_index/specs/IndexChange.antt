@@ -1,4 +1,12 @@
 -- Index arithmetic: the effective address, changes of value and count, and the index indicators.
+--
+-- Proved: by their `ensures` clauses these calls do what definitions here say: `count_down`
+-- (change.rt), `add_value` (change.rt), `advance` (change.rt), `counts` (change.rt), and others.
+-- Read by: definitions in SpeculativeChanges of st_prep, Entry of st_prep.
+-- Laws: none names a definition of this file itself.
+-- Change: the meaning is fixed by docs/index-words.md, since the contracts of `st_top::stretch` and
+-- `st_account::ledger` unfold to a definition here. The form is free, with the proofs that unfold
+-- it.
 use Rattle.std.specs.Prelude.{ℕ, zero, suc, ◌+◌, ◌-◌, ◌%◌, ◌^◌, ℤ, pos, negsuc, ◌+ℤ◌, neg_ℤ, Bool, ◌==◌, ◌||◌, ◌&&◌, nat_lt, if◌then◌else◌, List, [], ◌∷◌}
 use Rattle.std.specs.declared.cmp.Ordering.{Ordering}
 use Rattle.std.specs.declared.cmp.Ordering.TheVariants.{Less, Equal, Greater}
@@ -48,8 +56,7 @@ comparison_indicator Less = indicator INDEX_LOW
 comparison_indicator Equal = indicator INDEX_EQUAL
 comparison_indicator Greater = indicator INDEX_HIGH
 
--- the indicators that a comparison of a with b turns on and off: exactly one of XL, XE and XH is on
--- after it
+-- the indicators by a comparison of a with b: exactly one of XL, XE and XH is on after it
 abbrev pub comparison : ℤ → ℤ → Ind
 comparison a b = record {
   on = comparison_indicator (int_cmp a b);
@@ -72,8 +79,7 @@ abbrev pub flag_indicator : ℕ → ℕ
 flag_indicator zero = 0
 flag_indicator (suc _) = indicator INDEX_FLAG
 
--- the indicators that an index word turns on and off: XCZ, one of XVLZ, XVZ and XVGZ, and XF, which
--- is never turned off
+-- the indicators by an index word: XCZ, one of XVLZ, XVZ and XVGZ, and XF, never turned off
 abbrev pub index_result : ℕ → Ind
 index_result y = record {
   on = count_indicator (count_of y) + sign_indicator (index_value y) + flag_indicator (part y 25 1);
@@ -81,8 +87,7 @@ index_result y = record {
       ∷ []);
 }
 
--- the number that a progressive form adds to the value: the increment e for V+I, V+IC and V+ICR
--- (forms 2 to 4), its negative for V-I, V-IC and V-ICR (forms 5 to 7)
+-- what a form adds to the value: e for V+I, V+IC, V+ICR (2 to 4), -e for V-I, V-IC, V-ICR (5 to 7)
 abbrev pub increment_of : ℕ → ℕ → ℤ
 increment_of form e = if nat_lt form 5 then pos e else neg_ℤ (pos e)
 
@@ -99,15 +104,7 @@ abbrev pub progressive_word : ℕ → ℕ → ℕ → ℕ
 progressive_word form x e =
     let y = with_added x (increment_of form e) in if is_counting form then with_lower_count y else y
 
--- the result of a progressive form that leaves the index word y: the word, whether a refill
--- follows, and the indicators
-abbrev pub progressive_outcome : ℕ → ℕ → Changed
-progressive_outcome form y = record {
-  word = y;
-  refill = is_refilling form && count_of y == 0;
-  ind = index_result y;
-}
-
--- the result of a progressive form with increment e on the index word x
+-- the result of a progressive form with increment e on the index word x, before a refill
 abbrev pub progression : ℕ → ℕ → ℕ → Changed
-progression form x e = progressive_outcome form (progressive_word form x e)
+progression form x e = let y = progressive_word form x e in
+    record { word = y; refill = is_refilling form && count_of y == 0; ind = index_result y }

@@ -1,11 +1,16 @@
-//! Changes of an index word, and the effective address, for preparation (`st_prep`).
+//! Changes of an index word, and the effective address, a bit address. An index word holds a signed
+//! value of 24 bits and a sign, a count of 18 bits and a refill address. docs/index-words.md has
+//! the rules. Only `st_prep` uses the calls. A refill is only announced here (`refill`): `st_prep`
+//! reads the word.
 //!
-//! An index word holds a signed value of 24 bits and a sign, a count of 18 bits and a refill
-//! address. specs/IndexChange.antt defines each result, and each clause says that the call returns
-//! exactly that; besides, parts that do not change are proved unchanged. Refills are only announced
-//! here (`refill`): the caller reads the word. The private helpers are free; the numbers of the
-//! progressive forms are those of the instruction's P field and are pinned. The proof of
-//! `add_value`, in proofs/change, follows its body.
+//! Proved: each result is a definition of specs/IndexChange.antt (`effective_address`,
+//! `with_added`, `with_lower_count`, `progression`). The clauses `rest`, `count` and `value` say
+//! which parts do not change, `bound` that an address is below 2^24.
+//!
+//! Pinned, by these definitions, docs/index-words.md and vectors/index.txt: the results of the four
+//! public calls, and `Changed`; by docs/instructions.md (the P field): the numbers of the
+//! progressive forms. Free: the private functions and the bodies, if proofs/change follows that of
+//! `add_value`.
 ghost use Rattle.std.specs.Prelude.{◌≡◌, ◌<◌, ◌≤◌, ◌^◌, unsigned_abs, ◌==◌, ◌&&◌};
 ghost use Rattle.st_bits.specs.Bits.{part};
 ghost use Rattle.st_bits.specs.IndexWord.{index_value as value, count_of as count};

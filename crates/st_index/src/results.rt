@@ -1,10 +1,10 @@
-//! The indicators of comparisons and of changed index words.
+//! The indicators of comparisons and of changed index words. An `Ind` has the indicators to turn on
+//! and those to turn off, each as a word in which indicator n is bit n. docs/index-words.md has the
+//! rules. `st_prep` (speculative.rt) calls `compare` and `index_result`; change.rt calls
+//! `index_result` for progressive forms.
 //!
-//! An `Ind` has the indicators to turn on and those to turn off, each as a word in which indicator
-//! n is bit n. `comparison` and `index_result` in specs/IndexChange.antt define them, and each
-//! clause says that the call returns exactly that. Used by preparation (`st_prep`) and, for
-//! progressive forms, by change.rt. The bodies are free. The results are pinned by the definitions,
-//! docs/index-words.md and vectors/index.txt.
+//! Proved: the results are `comparison` and `index_result` of specs/IndexChange.antt. Pinned, by
+//! these definitions, docs/index-words.md and vectors/index.txt: the results. Free: the bodies.
 ghost use Rattle.std.specs.Prelude.{◌≡◌};
 ghost use Rattle.st_index.specs.IndexChange.{comparison, index_result as index_result_of};
 

@@ -1,9 +1,11 @@
-//! The sum of selected index values, which the operation LVS loads.
+//! The sum of selected index values, which the operation LVS loads. The list has 16 bits, one for
+//! each index word. docs/instructions.md has the rule. Only `st_prep` (speculative.rt) calls
+//! `sum_values`.
 //!
-//! The list has 16 bits, one for each index word. `selected_sum` in specs/IndexChange.antt defines
-//! the sum; the clause `value` says that the call returns exactly that, and `bound` that it cannot
-//! overflow. The body is free, but the proof in proofs/selection follows its loop. Used by
-//! `st_prep`. The result is pinned by the definition, docs/index-words.md and vectors/index.txt.
+//! Proved: the clause `value` says that the sum is `selected_sum` of specs/IndexChange.antt, the
+//! clause `bound` that its magnitude is at most 2^28, so no sum overflows. Pinned, by
+//! `selected_sum`, docs/instructions.md and vectors/index.txt: the sum. Free: the body, if
+//! proofs/selection follows its loop.
 ghost use Rattle.std.specs.Prelude.{◌≡◌, ◌<◌, ◌≤◌, ◌^◌, ◌-◌, ◌*◌, unsigned_abs};
 ghost use Rattle.std.specs.Int.{bit_at};
 ghost use Rattle.st_bits.specs.Bits.{bits};

@@ -1,10 +1,18 @@
 -- How the fetch unit advances, and the premises of its calls.
+--
+-- Proved: by their `ensures` clauses these calls do what definitions here say: `prepare_before`
+-- (fetch_unit.rt), `prepare_own_before` (fetch_unit.rt), `advance` (fetch_unit.rt), `begin`
+-- (fetch_unit.rt), and others.
+-- Laws: ReadsSoFarComeFirst (specs/Laws.antt).
+-- Change: no page fixes these definitions, since no contract of a program unfolds to them; they
+-- change together with the clauses, definitions and laws that name them. docs/inside.md describes
+-- the subject.
 use Rattle.std.specs.Prelude.{ℕ, ◌≡◌, ◌+◌, ◌-◌, ◌^◌, ◌≤◌, true, List, ◌++◌, All, map, Option}
 use Rattle.st_bits.specs.Indicators.{IsIndicatorIfAny}
 use Rattle.st_bits.specs.declared.limits.TheConstants.{MOST_DELAY}
 use Rattle.st_state.specs.Machine.{Machine, word}
 use Rattle.st_prep.specs.declared.entries.Fetched.{Fetched}
-use Rattle.st_prep.specs.declared.entries.Prepared.{Prepared}
+use Rattle.st_prep.specs.declared.entries.Prepared.{Prepared as Plan}
 use Rattle.st_prep.specs.declared.entries.Fetching.{Fetching as Given}
 use Rattle.st_prep.specs.declared.entries.Fetching.TheVariants.{Found}
 use Rattle.st_prep.specs.Fetch.{reading_by}
@@ -24,6 +32,8 @@ use Rattle.st_segment.specs.Entries.{entry, entry_with}
 use Rattle.st_next.specs.Known.{IsStateBefore}
 use Rattle.st_next.specs.Progress.{IsNext, Rests, reads_so_far, preparation_without_side}
 use Rattle.st_next.specs.declared.fetch_unit.FetchUnit.{FetchUnit}
+use Rattle.st_next.specs.declared.fetch_unit.Advance.{Advance}
+use Rattle.st_next.specs.declared.fetch_unit.Advance.TheVariants.{Asked, Waits, Prepared}
 
 -- the ticks of an issue state lie close together and are early enough
 pub record IsIssueInTime (f : IssueState) : Type 0 where
@@ -76,8 +86,20 @@ pub record IsPreparedBy (now : ℕ) (x : List ℕ) (s : Machine) (next : FetchUn
   pub done : next.words.awaited ≤ now
   pub prepared : next ≡ prepared_as next.fetched.value x s next
 
+-- the number of words requested so far
+abbrev pub count_so_far : FetchUnit → ℕ
+count_so_far next = next.entry.own.len + next.entry.target.len
+
+-- the effect of requesting the next word, of waiting up to the tick `due`, or of preparing the entry
+unfoldable pub AdvancesTo : List ℕ → ℕ → IssueState → List ℕ → Machine → FetchUnit → FetchUnit → ℕ → Advance → Type 0
+AdvancesTo ds n f x s before after due Asked =
+    GoesOnTo ds n (due - 1) f x s before after 0 × (count_so_far after ≡ count_so_far before + 1)
+AdvancesTo ds n f x s before after due Waits = GoesOnTo ds n (due - 1) f x s before after due
+AdvancesTo ds n f x s before after due Prepared =
+    GoesOnTo ds n (due - 1) f x s before after 0 × IsPreparedBy (due - 1) x s after
+
 -- p is the plan of every possible state before a planned entry, at the tick of its preparation
-abbrev pub IsPlanAtItsTick : List ℕ → Machine → FetchUnit → Prepared → Type 0
+abbrev pub IsPlanAtItsTick : List ℕ → Machine → FetchUnit → Plan → Type 0
 IsPlanAtItsTick x s next p = (ds : List ℕ) (n now : ℕ) (f : IssueState) (t : Option ℕ) (u : Machine) →
     IsIndicatorIfAny t → IsStateBefore now f.past x s u → IsNext ds n t u f next →
     now ≡ next.formed.p → ((entry t u).serial ≡ true → u ≡ s) → p ≡ plan u t

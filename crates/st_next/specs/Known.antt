@@ -1,4 +1,11 @@
 -- The known part of the state before the next entry, while older entries are not completed.
+--
+-- Proved: no `ensures` clause names a definition of this file.
+-- Read by: definitions in Going, Progress, Going of st_ahead.
+-- Laws: NextEntriesAreKnown (specs/Laws.antt of st_ahead).
+-- Change: no page fixes these definitions, since no contract of a program unfolds to them; they
+-- change together with the clauses, definitions and laws that name them. docs/inside.md describes
+-- the subject.
 use Rattle.std.specs.Prelude.{ℕ, ◌≡◌, ◌≤◌, List}
 use Rattle.st_bits.specs.declared.register.TheConstants.{INTERRUPT_ADDRESS, BOUNDS, FIRST_STORAGE_WORD}
 use Rattle.st_state.specs.Machine.{Machine, IsMachine, word}

@@ -1,4 +1,8 @@
 -- Laws of the reads of the fetch unit.
+--
+-- Proved: each law has its lemma in proofs/Laws.antt, with its name in small letters.
+-- Claimed: docs/CLAIMS.md names EntriesArePlannedInTime, ReadsSoFarComeFirst, ReadsSoFarGiveTheBus.
+-- Change: docs/promises.txt lists each law, and the gate compares the list with the laws.
 use Rattle.std.specs.Prelude.{◌≡◌, ℕ, List, [], ◌++◌, ◌≤◌, Option, true, false, ◌<◌}
 use Rattle.st_state.specs.Machine.{Machine}
 use Rattle.st_rows.specs.Asked.{bus_after_reads, prepared_asked}

@@ -1,4 +1,13 @@
 -- How much of the next entry is known.
+--
+-- Proved: by their `ensures` clauses these calls do what definitions here say: `new`
+-- (fetch_unit.rt), `restart` (fetch_unit.rt).
+-- Read by: definitions in Going, Forecast of st_ahead, Going of st_ahead.
+-- Laws: EntriesBeginAnywhere (specs/Laws.antt), ReadsSoFarComeFirst (specs/Laws.antt),
+-- EntriesArePlannedInTime (specs/Laws.antt), ReadsSoFarGiveTheBus (specs/Laws.antt).
+-- Change: no page fixes these definitions, since no contract of a program unfolds to them; they
+-- change together with the clauses, definitions and laws that name them. docs/inside.md describes
+-- the subject.
 use Rattle.std.specs.Prelude.{ℕ, ◌≡◌, ◌≤◌, ◌==◌, max, true, false, if◌then◌else◌, List, [], ◌++◌, ◌⊎◌, Option, option_map}
 use Rattle.st_bits.specs.Indicators.{IsIndicatorIfAny}
 use Rattle.st_state.specs.Machine.{Machine}

@@ -1,4 +1,12 @@
 -- The words of the entry that is prepared next, as an observer is notified of them.
+--
+-- Proved: by their `ensures` clauses these calls do what definitions here say: `advance`
+-- (fetch_unit.rt), `begin` (fetch_unit.rt), `plan` (fetch_unit.rt), `plan_before` (fetch_unit.rt),
+-- and others.
+-- Laws: none names a definition of this file itself.
+-- Change: no page fixes these definitions, since no contract of a program unfolds to them; they
+-- change together with the clauses, definitions and laws that name them. docs/inside.md describes
+-- the subject.
 use Rattle.std.specs.Prelude.{ℕ, ◌≡◌, if◌then◌else◌, List, [], ◌++◌}
 use Rattle.st_rows.specs.Rows.{own_uses, target_uses, index_uses, words_tick}
 use Rattle.st_rows.specs.Supplies.{told}

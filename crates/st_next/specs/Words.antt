@@ -1,4 +1,12 @@
 -- The instruction words of an entry that are requested so far.
+--
+-- Proved: by their `ensures` clauses these calls do what definitions here say: `ask_own`
+-- (fetch_unit.rt), `ask_target` (fetch_unit.rt), `with_word` (fetch_unit.rt).
+-- Read by: definitions in Progress, Told.
+-- Laws: none names a definition of this file itself.
+-- Change: no page fixes these definitions, since no contract of a program unfolds to them; they
+-- change together with the clauses, definitions and laws that name them. docs/inside.md describes
+-- the subject.
 use Rattle.std.specs.Prelude.{ℕ, ◌≡◌, ◌+◌, ◌≤◌, ◌==◌, false, if◌then◌else◌, List, None}
 use Rattle.st_rows.specs.Entries.{no_runs}
 use Rattle.st_rows.specs.Rows.{words_tick}

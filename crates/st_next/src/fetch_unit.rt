@@ -1,22 +1,18 @@
-//! The fetch unit: the entry (instruction) that is prepared next, to the extent that it is known
-//! while older ones are in flight. `docs/timetable.md` has the rules, `docs/inside.md` the calls.
+//! The fetch unit: the entry (instruction) that is prepared next, as far as it is known while older
+//! ones are in flight. docs/timetable.md has the rules, docs/inside.md the calls. `plan_before`
+//! requests instruction words until one is written by an entry that completes at `due` or later;
+//! `prepare` completes the preparation at its tick P; `plan` does both for a state without entries
+//! in flight. `st_ahead` calls `new`, `restart`, `plan_before` and `prepare`, and sets `place`;
+//! `st_plain` calls `new` and `plan` for the ledger; `st_account` keeps a unit.
 //!
-//! `plan_before` requests instruction words until one is written by an entry that completes at
-//! `due` or later; `prepare` completes the preparation at its tick P, with the word of storage that
-//! an index change takes. `plan` does both for a state without entries in flight. The caller passes
-//! the committed state, the issue state and the index words with early changes (`PlanContext`);
-//! ticks and addresses are those of `st_rows`.
+//! Proved: for every state before the entry that agrees with the known part (`IsStateBefore`,
+//! specs/Known.antt) what is known stays that state's entry with its A and P (`IsNext`,
+//! specs/Progress.antt); `prepare` gives its plan (`IsPlanAtItsTick`, specs/Going.antt). Laws
+//! (specs/Laws.antt): `ReadsSoFarComeFirst`, `EntriesArePlannedInTime`.
 //!
-//! The look-ahead of `st_ahead` calls `new`, `restart`, `plan_before` and `prepare`; it also sets
-//! `place`, and lets `st_rows` go on with `words`. For the ledger `st_plain` calls `new` and
-//! `plan`, and `st_account` keeps a unit. All three read other fields.
-//!
-//! Proved: for every state before the entry that agrees with the known part (`IsStateBefore` in
-//! specs/Known.antt) what is known stays that state's entry (`IsNext` in specs/Progress.antt), with
-//! its A and P; `prepare` gives its plan (`IsPlanAtItsTick` in specs/Going.antt). `plan_before`
-//! stops only if nothing more can be known (`Rests`). That the reads come first in the row, and
-//! that no entry is planned too late, is in specs/Laws.antt. Pinned: the order of requests. Free:
-//! inlining, and the shortcut `spelled`, whose gain is measured and not proved.
+//! Pinned, by these definitions, docs/timetable.md, vectors/timetable.txt and these crates:
+//! clauses, fields, order of requests. Free: inlining, and the shortcut `spelled`, whose gain is
+//! measured only.
 ghost use Rattle.std.specs.Prelude.{◌≡◌, ℕ, ◌+◌, ◌-◌, ◌<◌, ◌≤◌, true, false, max, take, map, List, [], ◌∷◌, ◌++◌, Option, IfSome, is_none, is_some, get_or, if◌then◌else◌};
 ghost use Rattle.st_bits.specs.Indicators.{IsIndicatorIfAny};
 ghost use Rattle.st_bits.specs.Storage.{words_of_storage};
@@ -40,7 +36,7 @@ ghost use Rattle.st_segment.specs.Alone.{words_of_run};
 ghost use Rattle.st_segment.specs.Entries.{entry as entry_of, side_to_read as side_to_read_of};
 ghost use Rattle.st_next.specs.Words.{words_alone, run_with_word as with_word_of};
 ghost use Rattle.st_next.specs.Progress.{IsUnread, IsKnown, IsNextReady};
-ghost use Rattle.st_next.specs.Going.{given_so_far, IsIssueInTime, IsEarly, GoesOnTo, IsReadFurther, IsPreparedBy, IsPlanAtItsTick, as_entry, prepared_as};
+ghost use Rattle.st_next.specs.Going.{given_so_far, IsIssueInTime, IsEarly, GoesOnTo, AdvancesTo, IsReadFurther, IsPreparedBy, IsPlanAtItsTick, as_entry, prepared_as};
 ghost use Rattle.st_next.specs.Told.{formed_told, IsToldFurther};
 
 use st_banks::Delays;
@@ -81,7 +77,7 @@ pub struct FetchUnit {
 }
 
 /// The input to the planning of the next entry: the delays and the number of levels, the committed
-/// state, the issue state before the entry, and the index words with all early changes.
+/// state, the issue state before the entry, and the index words with all speculative changes.
 #[derive(Clone, Copy)]
 pub struct PlanContext<'a, 'b> {
     /// The delays and the number of levels of the machine.
@@ -90,7 +86,7 @@ pub struct PlanContext<'a, 'b> {
     pub state: &'a State,
     /// The issue state before the entry.
     pub issue: &'b IssueState,
-    /// The index words with the early changes of all levels.
+    /// The index words with the speculative changes of all levels.
     pub index: &'b [u64; 16],
 }
 
@@ -100,6 +96,17 @@ struct Spelled {
     format: Format,
     first: u32,
     second: u32,
+}
+
+// What a call of `advance` did.
+#[derive(Clone, Copy, Debug, PartialEq, Eq)]
+enum Advance {
+    // It requested the next word.
+    Asked,
+    // Nothing: the next word, one of the target of EX, awaits the previous entry.
+    Waits,
+    // It prepared the entry, of which all words are known.
+    Prepared,
 }
 
 impl FetchUnit {
@@ -270,15 +277,22 @@ impl FetchUnit {
         self.entry.target = with_word(self.entry.target, w);
     }
 
-    // The latest completion that the entry awaits, to the extent that the words so far show it:
-    // that of a writer of one of them, or of a serializing previous entry.
+    // Whether the entry awaits a completion at the tick `due` or later, to the extent that the words
+    // so far show it: that of a writer of one of them, or of a serializing previous entry.
     #[inline(always)]
-    fn waits_for(&self, issue: &IssueState) -> u64
-        ensures { result ≡ max self.now.words.awaited (if issue.now.serial then issue.now.c
-            else 0) }
+    fn is_waiting(&self, issue: &IssueState, due: u64) -> bool
+        ensures yes { result ≡ true →
+            due ≤ max self.now.words.awaited (if issue.now.serial then issue.now.c else 0) }
+        ensures no { result ≡ false →
+            max self.now.words.awaited (if issue.now.serial then issue.now.c else 0) < due }
     {
-        let alone = if issue.serial { issue.c } else { 0 };
-        self.words.awaited.max(alone)
+        if self.words.awaited >= due {
+            return true;
+        }
+        if !issue.serial {
+            return false;
+        }
+        issue.c >= due
     }
 
     /// Requests the words of the entry in order, and plans the entry after the last one, by the
@@ -313,7 +327,7 @@ impl FetchUnit {
             (self.new ≡ self.old) × (log.new ≡ log.old) }
     {
         let issue = context.issue;
-        if self.waits_for(issue) >= due {
+        if self.is_waiting(issue, due) {
             return false;
         }
         if !self.prepare_own_before(due, context, log, watch) {
@@ -466,6 +480,47 @@ impl FetchUnit {
         ensures prepared { result ≡ true → IsPreparedBy (due - 1) context.now.index.now
             context.now.state.now self.new }
     {
+        'words: loop {
+            if self.words.awaited >= due {
+                return false;
+            }
+            if let Some(spelled) = self.spelled(context.state) {
+                self.prepare_spelled(spelled, context.index, context.state);
+                return true;
+            }
+            match self.advance(due, context, log, watch) {
+                Advance::Asked => {}
+                Advance::Waits => return false,
+                Advance::Prepared => return true,
+            }
+        }
+    }
+
+    // Requests the next word of the entry, or prepares the entry without its index-side word, if
+    // all of its words are known. `prepare_before` calls it for entries that `spelled` does not
+    // find.
+    #[inline(never)]
+    fn advance<W: Watch>(
+        &mut self,
+        due: u64,
+        context: &PlanContext<'_, '_>,
+        log: &mut Log,
+        watch: &mut W,
+    ) -> Advance
+        requires known { let b = context.now in let t = b.timing in IsKnown
+            t.delays.now.list t.levels (due - 1) b.issue.now b.index.now b.state.now self.old }
+        requires issue { IsIssueInTime context.now.issue.now }
+        requires unplanned { self.old.planned ≡ false }
+        requires soon { self.old.words.awaited < due }
+
+        ensures next { let b = context.now in let t = b.timing in AdvancesTo t.delays.now.list
+            t.levels b.issue.now b.index.now b.state.now self.old self.new due result }
+        ensures further { let b = context.now in IsReadFurther
+            b.timing.delays.now.list b.issue.now self.old self.new log.old log.new }
+        ensures told { let b = context.now in IsToldFurther W.noted
+            b.timing.delays.now.list b.issue.now self.old self.new watch.old watch.new }
+        ensures unplanned { self.new.planned ≡ false }
+    {
         let PlanContext {
             timing,
             state,
@@ -473,29 +528,24 @@ impl FetchUnit {
             index: x,
         } = *context;
         let delays = timing.delays;
-        'words: loop {
-            if self.words.awaited >= due {
-                return false;
+        match self.given(x, state) {
+            Given::Next {
+                word,
+                target: false,
+            } => {
+                self.ask_own(word, issue, delays, log, watch);
+                Advance::Asked
             }
-            if let Some(spelled) = self.spelled(state) {
-                self.prepare_spelled(spelled, x, state);
-                return true;
+            Given::Next { word, target: true } => {
+                if issue.c >= due {
+                    return Advance::Waits;
+                }
+                self.ask_target(word, issue, delays, log, watch);
+                Advance::Asked
             }
-            match self.given(x, state) {
-                Given::Next {
-                    word,
-                    target: false,
-                } => self.ask_own(word, issue, delays, log, watch),
-                Given::Next { word, target: true } => {
-                    if issue.c >= due {
-                        return false;
-                    }
-                    self.ask_target(word, issue, delays, log, watch);
-                }
-                Given::Found(fetched) => {
-                    self.prepare_found(fetched, x, state);
-                    return true;
-                }
+            Given::Found(fetched) => {
+                self.prepare_found(fetched, x, state);
+                Advance::Prepared
             }
         }
     }

@@ -9,7 +9,7 @@ use Rattle.st_format.specs.declared.instruction.Instr.{Instr}
 use Rattle.st_format.specs.declared.instruction.Instr.TheVariants.{Half, Branch, Floating, Vfl, Connect, Move, BitBranch, IndBranch, StoreCounter, Transfer, Invalid}
 use Rattle.st_index.specs.IndexChange.{with_added, one_less, with_lower_count, selected_sum, is_counting, increment_of, progressive_word}
 use Rattle.st_prep.specs.declared.speculative.SpeculativeChange.{SpeculativeChange}
-use Rattle.st_prep.specs.SpeculativeChanges.{without_change, change_of_comparison, change_of_index, index_side_word, half_change, progressive_change, change}
+use Rattle.st_prep.specs.SpeculativeChanges.{without_change, change_of_comparison, change_of_index, half_change, progressive_change, change}
 use Rattle.st_prep.specs.Ranges.{HasFields, IsChange}
 use Rattle.st_prep.proofs.Choices.{of_choice}
 
@@ -76,9 +76,9 @@ half_change-fits Lx xs a j x e r n w h s = changed-fits j x _ None n w (refilled
 half_change-fits Lv xs a j x e r n w h s = changed-fits j x _ None n w (front-below x _ w (omega arith)) tt
 half_change-fits Lc xs a j x e r n w h s = changed-fits j x _ None n w (count-below x _ w (omega arith)) tt
 half_change-fits Lr xs a j x e r n w h s = changed-fits j x _ None n w (refill-below x _ w (omega arith)) tt
-half_change-fits VPlus xs a j x e r n w h s = changed-fits j x _ None n w (value-below x (index_value x +ℤ index_value (index_side_word r)) w) tt
+half_change-fits VPlus xs a j x e r n w h s = changed-fits j x _ None n w (value-below x (index_value x +ℤ index_value (unwrap_or r 0)) w) tt
 half_change-fits VPlusC xs a j x e r n w h s =
-    changed-fits j x _ None n w (lower_count-below _ (value-below x (index_value x +ℤ index_value (index_side_word r)) w)) tt
+    changed-fits j x _ None n w (lower_count-below _ (value-below x (index_value x +ℤ index_value (unwrap_or r 0)) w)) tt
 half_change-fits Lvs xs a j x e r n w h s = changed-fits j x _ None n w (value-below x (selected_sum (bits 16 (a / 8)) xs) w) tt
 half_change-fits Lvi xs a j x e r n w h s = changed-fits j x _ None n w (value-below x (pos e) w) tt
 half_change-fits Lci xs a j x e r n w h s = changed-fits j x _ None n w (count-below x _ w (omega arith)) tt

@@ -1,4 +1,11 @@
 -- States with equal next entries.
+--
+-- Proved: no `ensures` clause names a definition of this file.
+-- Laws: IndicatorsAreNotSeen (specs/Laws.antt), PlansDependOnWhatIsRead (specs/Laws.antt),
+-- IndicatorsArePassedOver (specs/Laws.antt of st_exec).
+-- Change: no page fixes these definitions, since no contract of a program unfolds to them; they
+-- change together with the clauses, definitions and laws that name them. docs/machine.md describes
+-- the subject.
 use Rattle.std.specs.Prelude.{ℕ, ◌≡◌, ◌≢◌, All, IfSome, Option, length}
 use Rattle.st_bits.specs.declared.register.TheConstants.{INTERRUPT_ADDRESS, BOUNDS, INDICATORS}
 use Rattle.st_state.specs.Machine.{Machine, word}

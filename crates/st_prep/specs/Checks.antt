@@ -1,4 +1,13 @@
 -- The checks before an instruction is executed. The first check that fails suppresses it.
+--
+-- Proved: by their `ensures` clauses these calls do what definitions here say: `operation_fault`
+-- (faults.rt), `area_access` (faults.rt), `effective_instr` (faults.rt), `fault` (faults.rt), and
+-- others.
+-- Read by: definitions in Plan, Looking of st_plain.
+-- Laws: none names a definition of this file itself.
+-- Change: the meaning is fixed by docs/machine.md, since the contracts of `st_top::stretch` and
+-- `st_account::ledger` unfold to a definition here. The form is free, with the proofs that unfold
+-- it.
 use Rattle.std.specs.Prelude.{ℕ, zero, suc, ◌+◌, ◌/◌, Bool, true, false, nat_lt, if◌then◌else◌, List, [], ◌∷◌, Option, None, Some, unwrap_or}
 use Rattle.std.specs.Option.{option_or}
 use Rattle.st_bits.specs.declared.register.TheConstants.{FIRST_STORAGE_WORD}
@@ -35,8 +44,7 @@ unfoldable pub forbidden_side : ℕ → Bool → Option ℕ → Option ℕ
 forbidden_side bounds enabled None = None
 forbidden_side bounds enabled (Some w) = forbidden_by bounds enabled Read w
 
--- the access to the area of an order, which is eight words above the registers: the printer reads
--- it, the reader writes it
+-- the access to the eight words of an order's area: the printer reads them, the reader writes them
 abbrev pub area_access : Bool → Access
 area_access false = Write
 area_access true = Read
@@ -63,9 +71,7 @@ first_found [] = None
 first_found (check ∷ []) = check
 first_found (check ∷ next ∷ checks) = option_or check (first_found (next ∷ checks))
 
--- the indicator of the first check that fails, in this order: the instruction's words and those of
--- the target of EX, the operation, EX of EX, the index-side word, each word read, each word
--- written, the area of an order (which reads and writes no other words)
+-- the indicator of the first check that fails; a.fault is of its own words and those of EX's target
 unfoldable pub fault : ResolvedEntry → ℕ → Bool → Option ℕ
 fault a bounds enabled = first_found
     (a.fault

@@ -1,5 +1,14 @@
 -- The parts of an entry that follow from its instruction: the words that it reads and writes, the
 -- counter after it, the value that it stores, its cost, and whether it is serializing.
+--
+-- Proved: by their `ensures` clauses these calls do what definitions here say: `after`
+-- (outcome.rt), `after_branch` (outcome.rt), `after_count` (outcome.rt), `after_half` (outcome.rt),
+-- and others.
+-- Read by: definitions in Plan, Ranges, Operand of st_exec, EntryLines of st_lines, and others.
+-- Laws: none names a definition of this file itself.
+-- Change: the meaning is fixed by docs/machine.md, since the contracts of `st_top::stretch` and
+-- `st_account::ledger` unfold to a definition here. The form is free, with the proofs that unfold
+-- it.
 use Rattle.std.specs.Prelude.{ℕ, ◌+◌, ◌/◌, ◌%◌, ◌^◌, Bool, true, false, not, ◌==◌, ◌&&◌, ◌||◌, nat_lt, nat_le, if◌then◌else◌, List, slice_index, Option, None, Some}
 use Rattle.st_bits.specs.declared.register.TheConstants.{FIRST_STORAGE_WORD}
 use Rattle.st_bits.specs.Bits.{part}
@@ -7,7 +16,7 @@ use Rattle.st_bits.specs.IndexWord.{count_of, refill_of}
 use Rattle.st_bits.specs.declared.operations.HalfOp.{HalfOp}
 use Rattle.st_bits.specs.declared.operations.HalfOp.TheVariants.{Sx, Sv, Sc, Sr, Sva, Cb, Cbr}
 use Rattle.st_bits.specs.declared.operations.BranchOp.{BranchOp}
-use Rattle.st_bits.specs.declared.operations.BranchOp.TheVariants.{B, Br, Be, Bd, Bew, Nop}
+use Rattle.st_bits.specs.declared.operations.BranchOp.TheVariants.{Br, Be, Bd, Bew, Nop}
 use Rattle.st_bits.specs.declared.operations.VflOp.{VflOp}
 use Rattle.st_bits.specs.declared.operations.VflOp.TheVariants.{St, Mul, MulAdd, Div, Lcv}
 use Rattle.st_format.specs.declared.operations.FullOp.TheVariants.{Variable, Connective}
@@ -78,8 +87,7 @@ words_written (Vfl op d u n p length byte offset address i) e =
 words_written (Connect kind table p length byte offset address i) e =
     if writes_field (Connective kind) then field_words e length else no_words
 words_written (Move swap address i second count) e = words_moved_to swap (e / 64) (second / 2) count
-words_written (BitBranch sense change address i second) e = if change == 0 then no_words
-    else one_run (e / 64) 1
+words_written (BitBranch _ change _ _ _) e = if change == 0 then no_words else one_run (e / 64) 1
 words_written (StoreCounter address i second) e = one_run (e / 64) 1
 words_written _ e = no_words
 
@@ -104,18 +112,14 @@ after_half _ x e following = following
 
 -- the counter after a branch; BR adds to the counter before it
 abbrev pub after_branch : BranchOp → ℕ → ℕ → ℕ → ℕ
-after_branch B counter e following = e / 32
 after_branch Br counter e following = (counter + e / 32) % 2 ^ 19
-after_branch Be counter e following = e / 32
-after_branch Bd counter e following = e / 32
 after_branch Bew counter e following = following
 after_branch Nop counter e following = following
+after_branch _ counter e following = e / 32
 
--- the counter after an instruction, given the counter before it and that of the following
--- instruction; branches on a bit and on an indicator are decided only at completion
+-- the counter after an instruction; branches on a bit and on an indicator are decided at completion
 unfoldable pub counter_after : Instr → List ℕ → ℕ → ℕ → ℕ → ℕ
-counter_after (Half op address j i) x e counter following =
-    after_half op (slice_index x j) e following
+counter_after (Half op _ j _) x e _ following = after_half op (slice_index x j) e following
 counter_after (Branch op address i) x e counter following = after_branch op counter e following
 counter_after (StoreCounter address i second) x e counter following = second
 counter_after _ x e counter following = following

@@ -1,4 +1,15 @@
 -- The place of the next entry of a state, and the instruction that is fetched there.
+--
+-- Proved: by their `ensures` clauses these calls do what definitions here say: `address`
+-- (fetching.rt), `fetch_all` (fetching.rt), `fetch_on` (fetching.rt), `index_words` (fetching.rt),
+-- and others.
+-- Read by: definitions in Alike, Plan, Entries of st_segment, Progress of st_next, and others.
+-- Laws: EntriesRead36WordsAtMost (specs/Laws.antt), EntriesWithATargetAreAlone (specs/Laws.antt),
+-- InstructionWordsComeOneByOne (specs/Laws.antt), IndicatorsAreNotSeen (specs/Laws.antt), and
+-- others.
+-- Change: the meaning is fixed by docs/machine.md, since the contracts of `st_top::stretch` and
+-- `st_account::ledger` unfold to a definition here. The form is free, with the proofs that unfold
+-- it.
 use Rattle.std.specs.Prelude.{ℕ, ◌+◌, ◌*◌, ◌%◌, ◌^◌, List, take, drop, Option, None, Some}
 use Rattle.st_bits.specs.Bits.{part}
 use Rattle.st_bits.specs.declared.register.TheConstants.{INTERRUPT_ADDRESS, FIRST_INDEX_WORD, BOUNDS}
@@ -13,13 +24,10 @@ index_words s = take 16 (drop FIRST_INDEX_WORD s.words)
 
 -- ---- places
 
--- the left half of the table word of an interrupt by indicator i
-abbrev pub table_address : Machine → ℕ → ℕ
-table_address s i = 2 * ((part (word s INTERRUPT_ADDRESS) 0 18 + i) % 2 ^ 18)
-
+-- the address of the next instruction: for an interrupt, that of the left half of its table word
 abbrev pub address_by : Option ℕ → Machine → ℕ
 address_by None s = s.ic
-address_by (Some i) s = table_address s i
+address_by (Some i) s = 2 * ((part (word s INTERRUPT_ADDRESS) 0 18 + i) % 2 ^ 18)
 
 -- the place of the next entry, or of the table instruction of an interrupt
 unfoldable pub place_of : Machine → Option ℕ → Place
@@ -27,8 +35,7 @@ place_of s table = record { counter = s.ic; address = address_by table s; table 
 
 -- ---- fetching
 
--- the reading of the entry at a place with these index words, in a state of which only the boundary
--- register and the interrupt flag matter
+-- the reading of the entry at a place with these index words, as the bounds of a state allow it
 abbrev pub reading_by : List ℕ → Machine → Place → Reading
 reading_by x s place = reading_at_place x (word s BOUNDS) s.enabled place
 

@@ -1,4 +1,15 @@
 -- The preparation of an entry, from a decode context and from a state.
+--
+-- Proved: by their `ensures` clauses these calls do what definitions here say: `prepare`
+-- (preparation.rt), `prepare_in` (preparation.rt), `look` (preparation.rt), `change_by_side`
+-- (preparation.rt), and others.
+-- Read by: definitions in Alike, Progress of st_next, Trails of st_exec, Entries of st_segment, and
+-- others.
+-- Laws: EntriesRead36WordsAtMost (specs/Laws.antt), IndicatorsAreNotSeen (specs/Laws.antt),
+-- LooksAgree (specs/Laws.antt), OrdersAreNotSeen (specs/Laws.antt), and others.
+-- Change: the meaning is fixed by docs/machine.md, since the contracts of `st_top::stretch` and
+-- `st_account::ledger` unfold to a definition here. The form is free, with the proofs that unfold
+-- it.
 use Rattle.std.specs.Prelude.{ℕ, ◌≡◌, Bool, true, false, ◌||◌, List, Option, None, Some, is_some, option_map}
 use Rattle.st_state.specs.Machine.{Machine, word}
 use Rattle.st_bits.specs.Indicators.{indicator}
@@ -15,8 +26,7 @@ use Rattle.st_prep.specs.Reading.{is_execute}
 use Rattle.st_prep.specs.Fetch.{index_words, place_of, words_fetched}
 use Rattle.st_prep.specs.Checks.{effective_instr, fault}
 
--- the inputs to preparation: the place of the entry, the result of fetching there, the sixteen
--- index words, the boundary register, and whether interrupts are enabled
+-- the inputs to preparation: x are the sixteen index words, bounds is the boundary register
 pub record DecodeContext : Type 0 where
   pub place : Place
   pub fetched : Fetched
@@ -25,13 +35,8 @@ pub record DecodeContext : Type 0 where
   pub enabled : Bool
 
 abbrev pub decode_context_of : Place → Fetched → List ℕ → Machine → DecodeContext
-decode_context_of place fetched x s = record {
-  place = place;
-  fetched = fetched;
-  x = x;
-  bounds = word s BOUNDS;
-  enabled = s.enabled;
-}
+decode_context_of place fetched x s =
+    record { place = place; fetched = fetched; x = x; bounds = word s BOUNDS; enabled = s.enabled }
 
 -- ---- from a decode context
 
@@ -39,11 +44,9 @@ decode_context_of place fetched x s = record {
 abbrev pub is_alone : Place → Fetched → Bool
 is_alone place f = is_some place.table || is_execute f.instr.instr
 
--- an entry before its checks, with the fault of its words; the length of EX is one half-word,
--- regardless of its target
+-- an entry before its checks, with the fault of its words; EX has its own length, not its target's
 unfoldable pub resolved_at : Place → Fetched → List ℕ → ResolvedEntry
-resolved_at place f x =
-    let instr = effective_instr f in
+resolved_at place f x = let instr = effective_instr f in
     let e = effective x instr in
     record {
       instr = instr;
@@ -63,8 +66,7 @@ resolved s =
 
 -- an entry is serializing by its operation, or because a register is among its words
 unfoldable pub is_serial : ResolvedEntry → Bool
-is_serial a =
-    a.alone || is_serial_operation a.instr || is_register a.side || has_register a.reads
+is_serial a = a.alone || is_serial_operation a.instr || is_register a.side || has_register a.reads
     || has_register a.writes
 
 -- the needs of an entry with this fault: the index-side word, and whether the entry is serializing
@@ -98,8 +100,7 @@ suppressed_entry place a i = record {
 
 -- an entry that is not suppressed, given its index-side word
 unfoldable pub entry_at : Place → ResolvedEntry → List ℕ → Option ℕ → Prepared
-entry_at place a x read =
-    let following = counter_behind place a.halves in
+entry_at place a x read = let following = counter_behind place a.halves in
     let speculative = change x a.instr a.e read in
     record {
       place = place;

@@ -1,4 +1,15 @@
 -- Ranges of places, of fetched instructions, and of prepared entries.
+--
+-- Proved: by their `ensures` clauses these calls do what definitions here say:
+-- `prepare_without_side` (preparation.rt), `effective_instr` (faults.rt), `fetch_all`
+-- (fetching.rt), `fetch_on` (fetching.rt), and others.
+-- Read by: definitions in Trails of st_exec, Levels of st_ring.
+-- Laws: OperandsAreFew (specs/Laws.antt), PlansAreInRange (specs/Laws.antt),
+-- EntriesAheadLeaveTheRest (specs/Laws.antt of st_exec), EntriesAreBounded (specs/Laws.antt of
+-- st_exec), and others.
+-- Change: no page fixes these definitions, since no contract of a program unfolds to them; they
+-- change together with the clauses, definitions and laws that name them. docs/machine.md describes
+-- the subject.
 use Rattle.std.specs.Prelude.{ℕ, ◌≡◌, ◌+◌, ◌/◌, ◌<◌, ◌≤◌, ◌^◌, true, false, None, IfSome}
 use Rattle.st_bits.specs.Indicators.{IsIndicatorIfAny}
 use Rattle.st_bits.specs.Storage.{words_of_storage}

@@ -1,8 +1,16 @@
 -- The reading of an entry: its instruction words are read in sequence, and the contents so far
 -- determine the next word.
+--
+-- Proved: by their `ensures` clauses these calls do what definitions here say: `halves_known`
+-- (fetching.rt), `halves_of` (fetching.rt), `part_at` (fetching.rt), `second_known` (fetching.rt),
+-- and others.
+-- Read by: definitions in Fetch, Alike, Checks, Plan, and others.
+-- Laws: InstructionWordsComeOneByOne (specs/Laws.antt), EntriesRead36WordsAtMost (specs/Laws.antt).
+-- Change: the meaning is fixed by docs/machine.md, since the contracts of `st_top::stretch` and
+-- `st_account::ledger` unfold to a definition here. The form is free, with the proofs that unfold
+-- it.
 use Rattle.std.specs.Prelude.{ℕ, suc, ◌+◌, ◌*◌, ◌/◌, ◌%◌, Bool, true, false, ◌==◌, if◌then◌else◌, List, [], ◌∷◌, drop, Option, None, Some, is_none}
 use Rattle.st_bits.specs.Bits.{part}
-use Rattle.st_bits.specs.declared.operations.HalfOp.{HalfOp}
 use Rattle.st_bits.specs.declared.operations.HalfOp.TheVariants.{Ex}
 use Rattle.st_format.specs.declared.instruction.Instr.{Instr}
 use Rattle.st_format.specs.declared.instruction.Instr.TheVariants.{Half, Invalid}
@@ -21,8 +29,7 @@ use Rattle.st_prep.specs.SpeculativeChanges.{effective}
 
 -- ---- readings
 
--- a reading finds something, or reads a word whose content determines the rest; the flag says
--- whether the word belongs to the target of EX
+-- what is found, or a word to read, whose content determines the rest; true: of the target of EX
 pub data Reading : Type 0 where
   Finds : Fetched → Reading
   Reads : Bool → ℕ → (ℕ → Reading) → Reading
@@ -77,25 +84,17 @@ allowed_found first second = record { decoded = decoded_entry first second; faul
 abbrev pub Continuation : Type 0
 Continuation = FoundInstruction → Reading
 
--- the reading of the second half-word of an instruction, at h; it may be in the word v of the first
--- one, whose content is known
+-- the reading of an instruction's second half-word, at h; the first one's word v has this content
 abbrev pub with_second : Option ℕ → Bool → ℕ → ℕ → ℕ → ℕ → Continuation → Reading
 with_second (Some i) target first h v content use_it =
     use_it (record { decoded = decoded_entry first 0; fault = Some i })
 with_second None target first h v content use_it =
-    if h / 2 == v then use_it (record {
-      decoded = decoded_entry first (half_of content h);
-      fault = None;
-    })
-    else Reads target (h / 2) (λ c. use_it (record {
-      decoded = decoded_entry first (half_of c h);
-      fault = None;
-    }))
+    if h / 2 == v then use_it (allowed_found first (half_of content h))
+    else Reads target (h / 2) (λ c. use_it (allowed_found first (half_of c h)))
 
 -- the reading of the instruction at h, given the content of its first word
 unfoldable pub with_first : Bool → ℕ → Bool → ℕ → ℕ → Continuation → Reading
-with_first target bounds enabled h content use_it =
-    let first = half_of content h in
+with_first target bounds enabled h content use_it = let first = half_of content h in
     let own = decoded_entry first 0 in
     if own.halves == 2
     then with_second (forbidden_by bounds enabled Fetch ((h + 1) / 2)) target first (h + 1)
@@ -115,13 +114,9 @@ instruction_at target bounds enabled h use_it =
 
 -- ---- an entry
 
--- EX executes the instruction that it points to
-abbrev pub is_execute_op : HalfOp → Bool
-is_execute_op Ex = true
-is_execute_op _ = false
-
+-- whether an instruction is EX, which executes the instruction that it points to
 unfoldable pub is_execute : Instr → Bool
-is_execute (Half op address j i) = is_execute_op op
+is_execute (Half Ex address j i) = true
 is_execute _ = false
 
 -- EX with its target
@@ -142,8 +137,7 @@ fetched_plain own = record { instr = own; target = None; fault = None }
 
 -- the rest of a reading after the entry's own instruction: for EX, its target is read
 unfoldable pub own_use : List ℕ → ℕ → Bool → Continuation
-own_use x bounds enabled own =
-    if is_execute own.decoded.instr
+own_use x bounds enabled own = if is_execute own.decoded.instr
     then instruction_at true bounds enabled (effective x own.decoded.instr / 32)
     (λ target. Finds (with_target own.decoded target))
     else Finds (fetched_alone own)

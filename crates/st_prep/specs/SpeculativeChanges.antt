@@ -1,4 +1,14 @@
 -- Effective addresses, and changes of index words before the operands of an instruction are read.
+--
+-- Proved: by their `ensures` clauses these calls do what definitions here say: `bit_address`
+-- (addresses.rt), `effective_address` (addresses.rt), `field_address` (addresses.rt),
+-- `half_address` (addresses.rt), and others.
+-- Read by: definitions in Plan, Reading, Ahead of st_exec, Unwinding of st_ring.
+-- Laws: SpeculativeChangesLeaveTheirIndexWords (specs/Laws.antt of st_exec), IndexWordsRunAhead
+-- (specs/Laws.antt of st_segment).
+-- Change: the meaning is fixed by docs/machine.md, since the contracts of `st_top::stretch` and
+-- `st_account::ledger` unfold to a definition here. The form is free, with the proofs that unfold
+-- it.
 use Rattle.std.specs.Prelude.{ℕ, ◌*◌, ◌/◌, ℤ, pos, neg_ℤ, ◌==◌, nat_lt, if◌then◌else◌, List, slice_index, slice_set, Option, None, Some, unwrap_or}
 use Rattle.st_bits.specs.Bits.{bits, part, with_part}
 use Rattle.st_bits.specs.IndexWord.{index_value, count_of, refill_of, index_word_with_value, with_count, with_refill}
@@ -66,17 +76,14 @@ half_side _ x e = None
 
 -- the word that a progressive form reads for its index word, whose content is x
 unfoldable pub progressive_side : ℕ → ℕ → ℕ → Option ℕ
-progressive_side p x address =
-    if nat_lt p 2 then None
+progressive_side p x address = if nat_lt p 2 then None
     else let c = progression p x address in if c.refill then Some (refill_of c.word) else None
 
 -- the index-side word of an instruction with the effective address e
 unfoldable pub side : List ℕ → Instr → ℕ → Option ℕ
 side x (Half op address j i) e = half_side op (slice_index x j) e
-side x (Vfl op d u n p length byte offset address i) e =
-    progressive_side p (slice_index x i) address
-side x (Connect kind table p length byte offset address i) e =
-    progressive_side p (slice_index x i) address
+side x (Vfl _ _ _ _ p _ _ _ address i) e = progressive_side p (slice_index x i) address
+side x (Connect _ _ p _ _ _ address i) e = progressive_side p (slice_index x i) address
 side x _ e = None
 
 -- ---- the change
@@ -96,52 +103,43 @@ change_of_index j x y refill = record {
   ind = index_result y;
 }
 
--- the index-side word, or 0 if there is none
-abbrev pub index_side_word : Option ℕ → ℕ
-index_side_word read = unwrap_or read 0
-
--- the change of index word j, whose content is x, by a half-word instruction
+-- the change by a half-word instruction: x is index word j, a the address part, r the word it reads
 unfoldable pub half_change : HalfOp → List ℕ → ℕ → ℕ → ℕ → ℕ → Option ℕ → SpeculativeChange
-half_change Lx xs address j x e read = change_of_index j x (index_side_word read) None
-half_change Lv xs address j x e read = change_of_index j x
-    (with_part x 0 25 (part (index_side_word read) 0 25)) None
-half_change Lc xs address j x e read = change_of_index j x
-    (with_count x (count_of (index_side_word read))) None
-half_change Lr xs address j x e read = change_of_index j x
-    (with_refill x (refill_of (index_side_word read))) None
-half_change VPlus xs address j x e read = change_of_index j x
-    (with_added x (index_value (index_side_word read))) None
-half_change VPlusC xs address j x e read =
-    change_of_index j x (with_lower_count (with_added x (index_value (index_side_word read)))) None
-half_change Kv xs address j x e read = change_of_comparison (index_value x)
-    (index_value (index_side_word read))
-half_change Lvs xs address j x e read =
-    change_of_index j x (index_word_with_value x (selected_sum (bits 16 (address / 8)) xs)) None
-half_change Lvi xs address j x e read = change_of_index j x (index_word_with_value x (pos e)) None
-half_change Lci xs address j x e read = change_of_index j x (with_count x (e / 64)) None
-half_change Lri xs address j x e read = change_of_index j x (with_refill x (e / 64)) None
-half_change VPlusI xs address j x e read = change_of_index j x (with_added x (pos e)) None
-half_change VMinusI xs address j x e read = change_of_index j x (with_added x (neg_ℤ (pos e))) None
-half_change VPlusIC xs address j x e read = change_of_index j x
+half_change Lx xs a j x e r = change_of_index j x (unwrap_or r 0) None
+half_change Lv xs a j x e r = change_of_index j x
+    (with_part x 0 25 (part (unwrap_or r 0) 0 25)) None
+half_change Lc xs a j x e r = change_of_index j x (with_count x (count_of (unwrap_or r 0))) None
+half_change Lr xs a j x e r = change_of_index j x (with_refill x (refill_of (unwrap_or r 0))) None
+half_change VPlus xs a j x e r = change_of_index j x
+    (with_added x (index_value (unwrap_or r 0))) None
+half_change VPlusC xs a j x e r =
+    change_of_index j x (with_lower_count (with_added x (index_value (unwrap_or r 0)))) None
+half_change Kv xs a j x e r = change_of_comparison (index_value x) (index_value (unwrap_or r 0))
+half_change Lvs xs a j x e r =
+    change_of_index j x (index_word_with_value x (selected_sum (bits 16 (a / 8)) xs)) None
+half_change Lvi xs a j x e r = change_of_index j x (index_word_with_value x (pos e)) None
+half_change Lci xs a j x e r = change_of_index j x (with_count x (e / 64)) None
+half_change Lri xs a j x e r = change_of_index j x (with_refill x (e / 64)) None
+half_change VPlusI xs a j x e r = change_of_index j x (with_added x (pos e)) None
+half_change VMinusI xs a j x e r = change_of_index j x (with_added x (neg_ℤ (pos e))) None
+half_change VPlusIC xs a j x e r = change_of_index j x
     (with_lower_count (with_added x (pos e))) None
-half_change VPlusICR xs address j x e read = change_of_index j x
-    (with_lower_count (with_added x (pos e))) read
-half_change Kvi xs address j x e read = change_of_comparison (index_value x) (pos e)
-half_change Kc xs address j x e read =
-    change_of_comparison (pos (count_of x)) (pos (count_of (index_side_word read)))
-half_change Kci xs address j x e read = change_of_comparison (pos (count_of x)) (pos (e / 64))
-half_change Cb xs address j x e read = change_of_index j x (with_lower_count x) None
-half_change Cbr xs address j x e read = change_of_index j x (with_lower_count x) read
-half_change R xs address j x e read = change_of_index j x (index_side_word read) None
-half_change _ xs address j x e read = without_change
+half_change VPlusICR xs a j x e r = change_of_index j x (with_lower_count (with_added x (pos e))) r
+half_change Kvi xs a j x e r = change_of_comparison (index_value x) (pos e)
+half_change Kc xs a j x e r =
+    change_of_comparison (pos (count_of x)) (pos (count_of (unwrap_or r 0)))
+half_change Kci xs a j x e r = change_of_comparison (pos (count_of x)) (pos (e / 64))
+half_change Cb xs a j x e r = change_of_index j x (with_lower_count x) None
+half_change Cbr xs a j x e r = change_of_index j x (with_lower_count x) r
+half_change R xs a j x e r = change_of_index j x (unwrap_or r 0) None
+half_change _ xs a j x e r = without_change
 
 -- the change of index word i, whose content is x, by a progressive form
 unfoldable pub progressive_change : ℕ → ℕ → ℕ → ℕ → Option ℕ → SpeculativeChange
 progressive_change p i x address read =
     if nat_lt p 2 then without_change else change_of_index i x (progressive_word p x address) read
 
--- the speculative change by an instruction with the effective address e, given the content of its
--- index-side word
+-- the change by an instruction with effective address e, given the content of its index-side word
 unfoldable pub change : List ℕ → Instr → ℕ → Option ℕ → SpeculativeChange
 change x (Half op address j i) e read = half_change op x address j (slice_index x j) e read
 change x (Vfl op d u n p length byte offset address i) e read =

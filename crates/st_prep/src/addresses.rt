@@ -1,13 +1,16 @@
 //! Effective addresses: the address part of an instruction plus the value of its index word, as a
-//! bit address of 24 bits.
+//! bit address of 24 bits. A half-word instruction has a half-word address of 19 bits, which counts
+//! 32 bits each; a full word has a bit address. In a progressive form (p of 2 or more) the field
+//! begins at the old value of index word I. Index word number 0 means none. fetching.rt (for EX)
+//! and preparation.rt call `effective_address`. docs/index-words.md and docs/instructions.md have
+//! the rules.
 //!
-//! A half-word instruction has a half-word address of 19 bits, which counts 32 bits each; a full
-//! word has a bit address. In a progressive form (p of 2 or more) the field begins at the old value
-//! of index word I. Index word number 0 means none.
+//! Proved: the result is `effective` of specs/SpeculativeChanges.antt (`value`), and below 2^24
+//! (`bound`).
 //!
-//! fetching.rt (for EX, which executes the instruction at its address) and preparation.rt call it.
-//! Proved: the result is `effective` in specs/SpeculativeChanges.antt, and below 2^24. Free: the
-//! bodies. A new instruction format needs a case here and in that definition.
+//! Pinned, by `effective`, docs/index-words.md, docs/instructions.md and vectors/index.txt: the
+//! result. Free: the bodies. A new instruction format needs a case here and in `effective`; the
+//! compiler names the match here.
 ghost use Rattle.std.specs.Prelude.{◌≡◌, ◌<◌, ◌^◌};
 ghost use Rattle.st_prep.specs.SpeculativeChanges.{index_operand as index_part_of, half_word_address as half_address_of, full_word_address as bit_address_of, field_address as field_address_of, effective as effective_of};
 ghost use Rattle.st_prep.specs.Ranges.{HasFields};

@@ -1,21 +1,17 @@
 //! The data structures of preparation: the place of an entry, the words fetched there, its needs,
-//! and the prepared entry, which `st_exec` completes and a look-ahead level of `st_ring` holds.
-//! `docs/machine.md` ("How an instruction is prepared") has the rules.
+//! and the prepared entry. An entry is one instruction on its way; EX and its target are one.
+//! docs/machine.md ("How an instruction is prepared") has the rules. All addresses are `u32`: each
+//! field says which. fetching.rt, runs.rt, speculative.rt and preparation.rt make the values,
+//! `st_next` a `Fetched`, `st_ahead` a `Place`. `st_exec`, `st_next`, `st_ring`, `st_ahead`,
+//! `st_back`, `st_sweep`, `st_plain`, `st_account` and `st_lines` read `Prepared`.
 //!
-//! An entry is one instruction on its way; EX and its target are one. Addresses of words,
-//! half-words (below 2^19) and bits (below 2^24) all are `u32`: each field says which. There is no
-//! code here, and no invariant: the makers promise the ranges of `Ranges` in specs/ (`IsPlace`,
-//! `IsFetched`, `IsFetching`, `IsNeeds`, `IsRuns`, `IsResolvedEntry`, `IsPrepared`). Law, for every
-//! state: `PlansAreInRange` in specs/Laws.antt.
+//! Proved: nothing here, since there is no code. The makers promise the ranges of specs/Ranges.antt
+//! (`IsPlace`, `IsPrepared` and so on); law, for every state: `PlansAreInRange` (specs/Laws.antt).
 //!
-//! fetching.rt makes `Place`, `Fetched` and `Fetching`, runs.rt `Words`, speculative.rt
-//! `IndexChange`, and preparation.rt the rest. `st_ahead` makes a `Place` too, and `st_next` a
-//! `Fetched`. `ResolvedEntry` stays in this crate. `st_exec`, `st_next`, `st_ring`, `st_ahead`,
-//! `st_back`, `st_sweep` and the ledger read `Prepared`.
-//!
-//! A new field of an entry needs its value in `Plan` of specs/ and in preparation.rt, for a
-//! suppressed entry too; one of `Fetched` needs it in `Reading` of specs/, in fetching.rt and in
-//! `st_next`.
+//! Pinned, by specs/Plan.antt, specs/Reading.antt and the specs of these crates: the fields. A new
+//! field of an entry needs its value in specs/Plan.antt and preparation.rt, for a suppressed entry
+//! too; one of `Fetched` in specs/Reading.antt, fetching.rt and `st_next`. Free: `ResolvedEntry`,
+//! which stays in this crate.
 use st_bits::Ind;
 use st_format::{Decoded, Instr};
 

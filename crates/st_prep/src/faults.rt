@@ -1,14 +1,17 @@
 //! The checks before an instruction is executed. The first check that an entry fails gives the
 //! indicator with which it is suppressed: it does nothing but turn that indicator on.
+//! preparation.rt calls `fault`. docs/machine.md ("The checks") has the rules. The order is: a
+//! forbidden instruction word, an invalid operation, EX of EX, a forbidden index-side word (the
+//! word that changes or is compared with an index word), forbidden operand words, forbidden written
+//! words, and the forbidden area of an order.
 //!
-//! The order is: a forbidden instruction word, an invalid operation, EX of EX (EX executes the
-//! instruction at its address), a forbidden index-side word (the word of storage that changes or is
-//! compared with an index word), forbidden operand words, forbidden written words, and the
-//! forbidden area of an order.
+//! Proved: the result is `fault` of specs/Checks.antt (`value`), an indicator if there is one
+//! (`bound`).
 //!
-//! Used by preparation.rt. Proved: `fault` is the definition of this name in specs/Checks.antt,
-//! with just this order, so the order is pinned; the bodies are free. `AREA` is pinned too: an
-//! order moves eight words.
+//! Pinned, by that definition, docs/machine.md and vectors/checks.txt: the checks and this order;
+//! by `forbidden_area` of specs/Checks.antt and docs/machine.md: `AREA`, since an order moves eight
+//! words. Free: the bodies, if proofs/faults follows the loop of `forbidden_run`. A new check is a
+//! case here and in specs/Checks.antt.
 ghost use Rattle.std.specs.Prelude.{◌≡◌, ◌<◌, ◌^◌};
 ghost use Rattle.std.specs.Option.{option_or};
 ghost use Rattle.st_bits.specs.Indicators.{IsIndicatorIfAny};

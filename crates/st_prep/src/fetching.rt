@@ -1,15 +1,17 @@
 //! Fetching of an entry, one instruction word at a time: which word is read next, and the decoded
-//! instruction once all have been read.
+//! instruction once all have been read. An entry has at most four instruction words: two of its
+//! own, and two of the target if it is EX. The caller passes the contents of the words so far.
+//! `st_next` calls `fetch_on` and `halves_known` as words arrive; preparation.rt and `st_plain`
+//! call `fetch_all`, which reads all words from a state; `st_exec`, `st_ahead` and `st_plain` call
+//! `place_of`. docs/machine.md ("Instruction words") has the rules.
 //!
-//! An entry has at most four instruction words: two of its own, and two of the target if it is EX,
-//! which executes the instruction at its address. The caller passes the contents of the words so
-//! far. `st_next` calls `fetch_on` and `halves_known` as words arrive, and `fetch_all` reads all
-//! words from a state at once.
+//! Proved: each result is that of specs/Reading.antt, which asks for words one by one, after the
+//! given contents (`left_after`); the place is `place_of` of specs/Fetch.antt. Law:
+//! `InstructionWordsComeOneByOne` (specs/Laws.antt).
 //!
-//! Proved: each result is that of `Reading` in specs/, which asks for words one by one, after the
-//! given contents (`left_after`); the place is `place_of` in specs/Fetch.antt. Pinned by these: the
-//! order of the words, and that a word is checked before it is read. Free: how the known part is
-//! found (`Part`).
+//! Pinned, by these definitions, docs/machine.md and vectors/checks.txt: the order of the words,
+//! and that a word is checked before it is read. Free: how the known part is found (`Part`), if
+//! proofs/fetching follows.
 ghost use Rattle.std.specs.Prelude.{◌≡◌, ℕ, ◌+◌, ◌/◌, ◌<◌, ◌≤◌, ◌^◌, Bool, true, false, None, IfSome, length, drop, slice_index};
 ghost use Rattle.st_bits.specs.Indicators.{IsIndicatorIfAny};
 ghost use Rattle.st_state.specs.Machine.{IsMachine, word};

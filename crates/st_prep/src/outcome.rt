@@ -1,14 +1,15 @@
 //! Parts of an entry (one instruction) that follow from its instruction: the counter after it (a
 //! half-word address), the value that it stores, its cost in ticks, and whether it is serializing
-//! (waits for all before it and holds back all after it).
+//! (waits for all before it and holds back all after it). preparation.rt calls them. Branches on a
+//! bit or an indicator are decided only at completion, in `st_exec`; here the counter is that of
+//! the next instruction. docs/machine.md has the tables.
 //!
-//! Used by preparation.rt. Branches on a bit or an indicator are decided only at completion, in
-//! `st_exec`; here the counter is that of the next instruction.
+//! Proved: the results are `counter_behind`, `counter_after`, `value_stored`, `cost` and
+//! `is_serial_operation` of specs/Entry.antt. A cost is 1 to 24: law `EntriesAreBounded`
+//! (specs/Laws.antt of `st_exec`), by proofs/OutcomeLemmas.antt.
 //!
-//! Proved: each result is the definition in specs/Entry.antt: `counter_after`, `value_stored`,
-//! `cost`, `is_serial_operation`. Another cost is a change in that definition too, and
-//! `OutcomeLemmas` of proofs/ holds costs between 1 and 24. A new operation needs its case here
-//! only where the last arm does not fit.
+//! Pinned, by these definitions, docs/machine.md and vectors/costs.txt: these results. Free: the
+//! bodies. A new operation needs its case here only where the last arm does not fit.
 ghost use Rattle.std.specs.Prelude.{◌≡◌, ◌<◌, ◌^◌};
 ghost use Rattle.st_prep.specs.Entry.{counter_behind as next_of, after_count as after_count_of, after_half as after_half_of, after_branch as after_branch_of, counter_after as after_of};
 ghost use Rattle.st_prep.specs.Entry.{stored_part as stored_part_of, value_stored as value_of, binary_cost as binary_cost_of, decimal_cost as decimal_cost_of, cost as cost_of, is_serial_operation as acts_alone_of};

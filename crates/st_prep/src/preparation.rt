@@ -1,15 +1,18 @@
-//! Resolved and prepared entries: the steps before are put together to the complete preparation of
-//! an entry.
+//! Resolved and prepared entries: the other modules' results are put together to the complete
+//! preparation of an entry. `plan_in` prepares the next entry of a state in one call, for `st_exec`
+//! and `st_sweep`; `prepare_without_side`, `side_word` and `change_by_side` do so in two steps, for
+//! the fetch unit `st_next`, which reads the index-side word (the word that changes an index word
+//! or is compared with one) later; `st_exec` and `st_ring` call `change_index`. docs/machine.md has
+//! the rules. docs/CLAIMS.md also offers `look`, `prepare` and `prepare_in`, which no program
+//! calls.
 //!
-//! `plan_in` prepares the next entry of a state at once, for `st_exec` and `st_sweep`;
-//! `prepare_without_side`, `side_word` and `change_by_side` do so in two steps, for the fetch unit
-//! `st_next`, which reads the index-side word (the word of storage that changes an index word or is
-//! compared with one) later.
+//! Proved: the entry is `plan`, or `prepared_entry` of a decode context, of specs/Plan.antt; by the
+//! clause `states` only the boundary register and the interrupt flag of the state matter. The laws
+//! are in specs/Laws.antt, as `PlansAreInRange` and `LooksAgree`.
 //!
-//! Proved: the entry is `plan`, or `prepared_entry` of a decode context, in specs/Plan.antt; that
-//! only the boundary register and the interrupt flag of the state matter is the clause `states`.
-//! `docs/CLAIMS.md` also offers `look`, `prepare` and `prepare_in`. Free: the bodies. The fields of
-//! a suppressed entry are pinned by `suppressed_entry`.
+//! Pinned, by specs/Plan.antt, docs/machine.md and vectors/checks.txt: the prepared entry, a
+//! suppressed one included (`suppressed_entry`); by these crates and docs/CLAIMS.md: the calls.
+//! Free: the bodies, if proofs/preparation follows.
 ghost use Rattle.std.specs.Prelude.{◌≡◌, ℕ, ◌<◌, ◌^◌, true, Option, IfSome, is_some, option_map};
 ghost use Rattle.st_bits.specs.Indicators.{indicator as indicator_of, IsIndicatorIfAny};
 ghost use Rattle.st_bits.specs.Storage.{words_of_storage};

@@ -1,13 +1,16 @@
 //! The words that an entry (one instruction) reads and writes, as two runs of consecutive words, by
-//! its instruction and its effective address (a bit address).
+//! its instruction and its effective address (a bit address). Registers, words below 32, count
+//! among them. Words past storage can occur; the checks of faults.rt then suppress the entry.
+//! preparation.rt calls `reads` and `writes`; `st_exec` calls `reads_field`, `st_lines`
+//! `has_register` and `is_register`. docs/machine.md has the table.
 //!
-//! Registers, words below 32, count among them. Words past storage can occur; the checks of
-//! faults.rt then suppress the entry.
+//! Proved: the results are `reads`, `words_written`, `reads_field`, `has_register` and
+//! `is_register` of specs/Entry.antt; runs have at most 16 words (`IsRuns` of specs/Ranges.antt).
+//! The law `OperandsAreFew` (specs/Laws.antt) is about them.
 //!
-//! Used by preparation.rt; `st_exec` and `st_lines` use the public tests. Proved: the results are
-//! `reads`, `words_written`, `has_register` and `is_register` of specs/Entry.antt, and runs have at
-//! most 16 words (`IsRuns`). Their order is pinned: operands are read, and forwarded, in this
-//! order. A new operation that reads or writes needs its case here and there.
+//! Pinned, by these definitions, docs/machine.md and vectors/timetable.txt: the words and their
+//! order, in which operands are read and forwarded. Free: the bodies. A new operation that reads or
+//! writes needs its case here and in specs/Entry.antt.
 ghost use Rattle.std.specs.Prelude.{◌≡◌, ◌<◌, ◌^◌};
 ghost use Rattle.st_prep.specs.Entry.{no_words, one_run as one_run_of, two_runs as two_runs_of, field_words as field_words_of, operand_words as operand_words_of, words_moved_from as words_moved_from_of, words_moved_to as words_moved_to_of};
 ghost use Rattle.st_prep.specs.Entry.{is_index_store as is_index_store_of, reads_field as reads_field_of, reads as reads_of, words_written as writes_of, has_register as has_register_of, is_register as is_register_of};

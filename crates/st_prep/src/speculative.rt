@@ -1,12 +1,16 @@
 //! Speculative changes: the change of one index word and of indicators that an instruction makes
-//! when it is prepared, before its operands are read and before it is known to complete.
+//! when it is prepared, before its operands are read and before it is known to complete. `x` are
+//! the sixteen index words, `e` is the effective address (a bit address), and `read` is the content
+//! of the index-side word: the word of storage that the change takes, for example that of LX.
+//! preparation.rt calls `side` and `change`; levels of `st_ring` keep the old word to undo the
+//! change. docs/machine.md and docs/index-words.md have the rules.
 //!
-//! `x` are the sixteen index words, `e` is the effective address (a bit address), and `read` is the
-//! content of the index-side word: the word of storage that the change takes, for example that of
-//! LX. Used by preparation.rt; levels keep the old word (`IndexChange::kept`) to undo the change.
+//! Proved: the results are `side` and `change` of specs/SpeculativeChanges.antt, case by case. Law:
+//! `IndexSideWordsChangeIndexWordsAlone` (specs/Laws.antt).
 //!
-//! Proved: the results are `side` and `change` of specs/SpeculativeChanges.antt, case by case, so
-//! each operation's arm is pinned by its arm there. Free: the bodies.
+//! Pinned, by these definitions, docs/index-words.md and vectors/index.txt: the change of each
+//! operation. Free: the bodies. A new operation on index words needs its arm here and in
+//! specs/SpeculativeChanges.antt.
 ghost use Rattle.std.specs.Prelude.{◌≡◌, ◌<◌, ◌^◌, slice_index};
 ghost use Rattle.st_prep.specs.SpeculativeChanges.{refill_word as refill_word_of, half_side as half_side_of, progressive_side as progressive_side_of, side as side_of};
 ghost use Rattle.st_prep.specs.SpeculativeChanges.{without_change, change_of_comparison as compared_of, change_of_index as changed_of, half_change as half_change_of, progressive_change as progressive_change_of, change as change_of};

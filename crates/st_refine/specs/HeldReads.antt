@@ -1,4 +1,10 @@
 -- The held instruction words after reads.
+--
+-- Proved: no `ensures` clause names a definition of this file.
+-- Laws: HeldWordsAreThoseOfReads (specs/Laws.antt).
+-- Change: no page fixes these definitions, since no contract of a program unfolds to them; they
+-- change together with the clauses, definitions and laws that name them. docs/inside.md describes
+-- the subject.
 use Rattle.std.specs.Prelude.{ℕ, if◌then◌else◌, List, [], ◌∷◌, ◌++◌}
 use Rattle.st_fetch.specs.declared.fetched.AskedWord.{AskedWord}
 use Rattle.st_rows.specs.BusTimes.{answer_at, Read, after_one}

@@ -1,4 +1,9 @@
 -- Laws of machines that are reached by calls within the protocol.
+--
+-- Proved: each law has its lemma in proofs/Laws.antt, with its name in small letters.
+-- Claimed: docs/CLAIMS.md names BanksHaveTheFirstReads, CompletionsAreSteps, CompletionsComeInTime,
+-- HeldWordsAreThoseOfReads, and others.
+-- Change: docs/promises.txt lists each law, and the gate compares the list with the laws.
 use Rattle.std.specs.Prelude.{ℕ, suc, ◌≡◌, ◌+◌, ◌-◌, ◌<◌, ◌≤◌, ◌^◌, false, List, ◌++◌, All, None, Some, IfSome, ◌*◌, ◌||◌, nat_lt, nat_le, is_some, length, take, slice_get, slice_index_or, true, if◌then◌else◌, [], ◌∷◌, get_or}
 use Rattle.st_rows.specs.Asked.{bus_after_reads}
 use Rattle.st_rows.specs.BusTimes.{Read}

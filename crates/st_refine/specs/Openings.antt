@@ -1,4 +1,11 @@
 -- The opening of a segment, and machines that are at one.
+--
+-- Proved: no `ensures` clause names a definition of this file.
+-- Laws: RowsTellTheLevels (specs/Laws.antt), BanksHaveTheFirstReads (specs/Laws.antt),
+-- OpeningsAreKept (specs/Laws.antt), OpeningsFollow (specs/Laws.antt).
+-- Change: no page fixes these definitions, since no contract of a program unfolds to them; they
+-- change together with the clauses, definitions and laws that name them. docs/inside.md describes
+-- the subject.
 use Rattle.std.specs.Prelude.{ℕ, zero, suc, ◌≡◌, ◌≤◌, ◌==◌, false, if◌then◌else◌, List, [], ◌∷◌, ◌++◌, All, Option, None, IfSome}
 use Rattle.st_state.specs.Machine.{Machine}
 use Rattle.st_state.specs.Interrupts.{state_with_signal}

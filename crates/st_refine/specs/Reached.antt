@@ -1,4 +1,14 @@
 -- Overlapped machines that are reached by calls within the protocol.
+--
+-- Proved: by their `ensures` clauses these calls do what definitions here say: `reader_of_job`
+-- (beginning.rt of st_run), `shape_of` (driven.rt of st_run), `decide` (leaving.rt of st_run),
+-- `leave` (leaving.rt of st_run), and others.
+-- Read by: definitions in Overlapped of st_run, Scenes of st_run.
+-- Laws: CompletionsAreSteps (specs/Laws.antt), MachinesKeepTheirDelays (specs/Laws.antt),
+-- OpeningsAreKept (specs/Laws.antt), OpeningsFollow (specs/Laws.antt), and others.
+-- Change: no page fixes these definitions, since no contract of a program unfolds to them; they
+-- change together with the clauses, definitions and laws that name them. docs/inside.md describes
+-- the subject.
 use Rattle.std.specs.Prelude.{ℕ, ◌≡◌, ◌+◌, ◌≤◌, ◌<◌, ◌^◌, true, false, if◌then◌else◌, List, length, All, Option, Some, IsSome, IfSome}
 use Rattle.st_bits.specs.declared.limits.TheConstants.{MOST_DELAY}
 use Rattle.st_state.specs.Machine.{Machine, IsMachine}

@@ -1,4 +1,11 @@
 -- The view of the levels, and the effect of calls on it.
+--
+-- Proved: no `ensures` clause names a definition of this file.
+-- Laws: LevelsAreLent (specs/Laws.antt), LevelsAreUnwound (specs/Laws.antt), CompletionsAreSteps
+-- (specs/Laws.antt), RowsTellTheLevels (specs/Laws.antt), and others.
+-- Change: no page fixes these definitions, since no contract of a program unfolds to them; they
+-- change together with the clauses, definitions and laws that name them. docs/inside.md describes
+-- the subject.
 use Rattle.std.specs.Prelude.{ℕ, ◌≡◌, ◌+◌, nat_le, List, [], ◌∷◌, ◌++◌, Option, option_map, unwrap_or, ◌⊎◌}
 use Rattle.st_bits.specs.declared.register.TheConstants.{FIRST_INDEX_WORD}
 use Rattle.st_state.specs.Machine.{Machine, word}

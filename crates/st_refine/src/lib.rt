@@ -1,9 +1,13 @@
-//! Consequences of the calls of the overlapped machine: laws of all machines that are reached by
-//! calls within the protocol. `docs/inside.md` explains them. This crate has no executable code.
+//! Laws only, no code that runs: consequences of the calls of the overlapped machine (`st_ahead`),
+//! for all machines that are reached by calls within the protocol. docs/inside.md explains them.
+//! `st_run` uses the laws for its clauses, `st_causes` for its laws.
 //!
-//! The laws are in specs/Laws.antt, each with its statement in words: completions are steps of
-//! sequential execution and come in time, the levels are the entries in flight, flushes restore the
-//! index words, and an opening of a segment follows from the one before. specs/Reached.antt and
-//! specs/Openings.antt define the protocol. `st_run` uses them for its clauses. A changed clause of
-//! `st_ahead` changes proofs here. Laws may be added.
+//! Proved: the statements in specs/Laws.antt, each with its sentence: for instance completions are
+//! steps of sequential execution and come in time (`CompletionsAreSteps`, `CompletionsComeInTime`),
+//! flushes restore the index words (`LevelsAreUnwound`), and an opening of a segment follows from
+//! the one before (`OpeningsFollow`).
+//!
+//! Pinned, by docs/promises.txt: each statement, and the protocol (specs/Reached.antt,
+//! specs/Openings.antt); docs/CLAIMS.md names those that carry a promise. Free: the proofs; laws
+//! may be added. A changed clause of `st_ahead` changes proofs here.
 #![tactic(auto, using(st_bits::specs::Storage::words_of_storage_is))]

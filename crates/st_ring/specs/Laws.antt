@@ -1,4 +1,7 @@
 -- Laws of levels that are the entries in flight after a state.
+--
+-- Proved: each law has its lemma in proofs/Laws.antt, with its name in small letters.
+-- Change: docs/promises.txt lists each law, and the gate compares the list with the laws.
 use Rattle.std.specs.Prelude.{◌≡◌, ℕ, ◌+◌, ◌<◌, ◌≤◌, true, false, List, [], length, All, Option, None}
 use Rattle.st_bits.specs.Indicators.{IsIndicatorIfAny}
 use Rattle.st_state.specs.Machine.{Machine, IsMachine, word}

@@ -1,4 +1,10 @@
 -- The eight slots of a ring of levels.
+--
+-- Proved: invariants and ghost fields of types name these definitions; no `ensures` clause does.
+-- Laws: none names a definition of this file itself.
+-- Change: no page fixes these definitions, since no contract of a program unfolds to them; they
+-- change together with the clauses, definitions and laws that name them. docs/inside.md describes
+-- the subject.
 use Rattle.std.specs.Prelude.{◌≡◌, ℕ, ◌<◌, ◌≤◌, List, length, All}
 use Rattle.st_ring.specs.declared.level.Level.{Level}
 use Rattle.st_ring.specs.OneLevel.{HasNumber}

@@ -1,4 +1,13 @@
 -- The levels of a machine: entries that are prepared and not completed, with their planned rows.
+--
+-- Proved: by their `ensures` clauses these calls do what definitions here say: `complete`
+-- (levels.rt), `fill` (levels.rt), `push` (levels.rt), `due` (levels.rt), and others.
+-- Read by: definitions in Forecast of st_ahead, Inside of st_ahead, Ticked of st_ahead.
+-- Laws: LevelsComeInOrder (specs/Laws.antt), LevelsAreTheEntriesAhead (specs/Laws.antt),
+-- WritersAreSeen (specs/Laws.antt), LevelsPassSignalsOver (specs/Laws.antt), and others.
+-- Change: no page fixes these definitions, since no contract of a program unfolds to them; they
+-- change together with the clauses, definitions and laws that name them. docs/inside.md describes
+-- the subject.
 use Rattle.std.specs.Prelude.{ℕ, ◌≡◌, ◌-◌, ◌^◌, ◌≤◌, ◌<◌, Bool, false, ◌==◌, if◌then◌else◌, List, [], ◌∷◌, length, All, Option, None, Some}
 use Rattle.st_state.specs.Machine.{Machine}
 use Rattle.st_prep.specs.Plan.{plan}
@@ -15,7 +24,7 @@ use Rattle.st_ring.specs.Slots.{slot_of, slots_of, AreKept}
 use Rattle.st_ring.specs.declared.plans.PlannedRow.{PlannedRow}
 use Rattle.st_ring.specs.declared.levels.Completed.{Completed}
 
--- the view of the levels: the ring, the planned rows, and the index words with the early changes
+-- the view of the levels: the ring, planned rows, and index words with speculative changes
 pub record LevelsView : Type 0 where
   pub ring : List Level
   pub plans : List PlannedRow

@@ -1,4 +1,12 @@
 -- One level of the look-ahead.
+--
+-- Proved: by their `ensures` clauses these calls do what definitions here say: `begin` (level.rt),
+-- `put_word` (level.rt), `fill` (ring.rt), `get` (ring.rt), and others.
+-- Read by: definitions in LevelRing, Slots.
+-- Laws: none names a definition of this file itself.
+-- Change: no page fixes these definitions, since no contract of a program unfolds to them; they
+-- change together with the clauses, definitions and laws that name them. docs/inside.md describes
+-- the subject.
 use Rattle.std.specs.Prelude.{ℕ, ◌<◌, max, List, slice_set, Option, Some, IfSome}
 use Rattle.st_prep.specs.declared.entries.Prepared.{Prepared}
 use Rattle.st_ring.specs.declared.level.Level.{Level}

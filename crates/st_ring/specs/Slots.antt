@@ -1,4 +1,13 @@
 -- The operand words that a level has at a tick.
+--
+-- Proved: by their `ensures` clauses these calls do what definitions here say: `came_at`
+-- (filling.rt), `coming` (filling.rt), `fill_all` (filling.rt), `fill_level` (filling.rt), and
+-- others.
+-- Read by: definitions in Levels, Shown of st_ahead.
+-- Laws: LevelsAreLent (specs/Laws.antt of st_refine).
+-- Change: no page fixes these definitions, since no contract of a program unfolds to them; they
+-- change together with the clauses, definitions and laws that name them. docs/inside.md describes
+-- the subject.
 use Rattle.std.specs.Prelude.{ℕ, ◌≡◌, ◌+◌, ◌-◌, Bool, not, ◌&&◌, ◌||◌, nat_lt, nat_le, if◌then◌else◌, List, [], ◌∷◌, get_or, slice_index_or, Option, None, Some}
 use Rattle.st_bits.specs.declared.register.TheConstants.{FIRST_STORAGE_WORD}
 use Rattle.st_state.specs.Machine.{Machine, word}

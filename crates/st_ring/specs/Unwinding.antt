@@ -1,10 +1,17 @@
--- The index words after the early changes of levels, and how these changes are undone.
+-- The index words after the speculative changes of levels, and how these changes are undone.
+--
+-- Proved: by their `ensures` clauses these calls do what definitions here say: `undo_into`
+-- (ring.rt), `put_back` (ring.rt).
+-- Laws: LevelsAreLent (specs/Laws.antt of st_refine).
+-- Change: no page fixes these definitions, since no contract of a program unfolds to them; they
+-- change together with the clauses, definitions and laws that name them. docs/inside.md describes
+-- the subject.
 use Rattle.std.specs.Prelude.{IfSome, ◌≡◌, ℕ, List, [], ◌∷◌, slice_index, slice_set, Option, None, Some}
 use Rattle.st_prep.specs.SpeculativeChanges.{words_after}
 use Rattle.st_prep.specs.declared.entries.IndexChange.{IndexChange}
 use Rattle.st_ring.specs.declared.level.Level.{Level}
 
--- the index words after the early changes of the levels, in order
+-- the index words after the speculative changes of the levels, in order
 unfoldable pub index_words_after : List ℕ → List Level → List ℕ
 index_words_after x [] = x
 index_words_after x (level ∷ levels) = index_words_after (words_after x level.prepared.index) levels

@@ -1,13 +1,16 @@
 //! The operand words that arrive in the slots of levels (entries in flight): the first two operand
-//! words of an entry, as soon as storage has answered them.
+//! words of an entry, as soon as storage has answered them. docs/timetable.md has the rules.
 //!
-//! levels.rt calls `fill_all` when a tick is over. The contents come from the state: no older level
-//! writes a word that has arrived. Completion does not use the slots; they belong to the ring that
-//! a machine lends to readers.
+//! levels.rt calls `fill_all`, the only public function, when a tick is over. The contents come
+//! from the state: no older level writes a word that has arrived. Completion does not use the
+//! slots; they belong to the ring that a machine lends to readers.
 //!
-//! Proved: each level becomes `level_with_words` of specs/Slots.antt, at arrival ticks of its
-//! planned row; a register arrives when the entry is prepared, and transmissions have no slots.
-//! Free: the early tests, which save time. Pinned: two slots.
+//! Proved, by the clause `levels` of `fill_all`: each level becomes `level_with_words` of
+//! specs/Slots.antt, at the arrival ticks of its planned row (plans.rt). A register arrives when
+//! the entry is prepared. Transmissions have no slots.
+//!
+//! Pinned, by specs/Slots.antt and `have` of `Level` (level.rt): two slots. Free: the early tests,
+//! which save time.
 ghost use Rattle.std.specs.Prelude.{◌≡◌, ◌≢◌, ℕ, ◌+◌, ◌<◌, ◌≤◌, true, length, slice_get, slice_set, All, None, Some, Option};
 ghost use Rattle.st_prep.specs.Ranges.{IsPrepared};
 ghost use Rattle.st_ring.specs.declared.level.Level.{Level as LevelOf};

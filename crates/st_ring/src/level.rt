@@ -1,12 +1,15 @@
-//! A level of the look-ahead: an entry that is prepared and not completed, with its P and the
-//! operand words that have arrived.
+//! A level of the look-ahead: an entry that is prepared and not completed, with its P (tick of
+//! preparation) and the operand words that have arrived. docs/timetable.md has the rules. ring.rt
+//! keeps eight levels and calls the two functions here, which write a level in place. Ticks count
+//! from the start of the run. `r` is a running maximum of arrivals; R of the row is in the planned
+//! row (plans.rt).
 //!
-//! ring.rt keeps eight of these and calls the two functions here, which write a level in place;
-//! filling.rt puts words in. Ticks count from the start of the run. `r` is a running maximum, and R
-//! of the row is in the planned row (plans.rt).
+//! Proved: a level becomes `prepared_at` by `begin`, and `level_with_word` by `put_word`
+//! (specs/OneLevel.antt).
 //!
-//! Proved: the level is `prepared_at` or `level_with_word` of specs/OneLevel.antt. A new field
-//! needs its value there, and in `Default`, which marks an unused slot. Free: the bodies.
+//! Pinned, by these two definitions and by `LevelView` of `st_ahead`, which shows a level: the
+//! fields. A new field needs its value there, and in `Default`, which marks an unused slot. Free:
+//! the bodies.
 ghost use Rattle.std.specs.Prelude.{◌≡◌, ◌<◌};
 ghost use Rattle.st_ring.specs.OneLevel.{level_with_word as filled_of, prepared_at};
 

@@ -1,15 +1,18 @@
 //! The levels of a machine, its entries in flight (prepared, not complete): they are pushed,
 //! filled, completed and undone, together with their planned rows and the index words with early
-//! changes.
+//! changes. docs/timetable.md has the rules.
 //!
-//! `st_ahead` makes these calls: an entry is pushed at its P (tick of preparation), completed at
-//! its C, and all are undone when a flush ends their segment. The caller passes the committed state
-//! and the plan of `st_rows`.
+//! Only `st_ahead` uses `Levels`: an entry is pushed at its P (tick of preparation), completed at
+//! its C, and all levels are undone when a flush ends their segment. The caller passes the
+//! committed state and the plan of `st_rows`.
 //!
 //! Proved, for all delays: levels that are the entries in flight after a state (`AreAhead` in
-//! specs/Levels.antt) are so after each call; completion is the execution of the next entry of the
-//! state (`IsCompleted`); `undo` restores the index words of the state. Pinned by that: the order,
-//! and when `x` is taken from the state (after a serializing entry). Free: the rings.
+//! specs/Levels.antt) are so after each call; completion executes the next entry of the state
+//! (`IsCompleted` there); `undo` restores the index words of the state.
+//!
+//! Pinned, by `AreAhead` and the proofs of `st_ahead`: the order of the levels, the public calls
+//! with their clauses, and that `x` is taken from the state after a serializing entry. Free: the
+//! two rings (ring.rt, plans.rt).
 ghost use Rattle.std.specs.Prelude.{◌≡◌, ℕ, ◌<◌, ◌≤◌, ◌^◌, length, Option, None, Some, List, [], ◌∷◌, ◌++◌, slice_get, All, false, true};
 ghost use Rattle.st_bits.specs.Indicators.{IsIndicatorIfAny};
 ghost use Rattle.st_state.specs.Machine.{Machine, IsMachine, word as word_of};
@@ -51,7 +54,7 @@ pub struct Completed {
     pub mispredicted: Option<u32>,
 }
 
-/// The levels of a machine of N levels, 1 to 8, and the index words with their early changes.
+/// The levels of a machine of N levels, 1 to 8, and the index words with their speculative changes.
 #[derive(Drop)]
 pub struct Levels<const N: usize> {
     ring: SpecRing<N>,
@@ -101,7 +104,7 @@ impl<const N: usize> Levels<N> {
         &self.ring
     }
 
-    /// The index words with the early changes of all levels.
+    /// The index words with the speculative changes of all levels.
     pub fn index(&self) -> &[u64; 16]
         ensures words { result.now ≡ self.now.x }
         ensures few { length self.now.ring ≤ N }

@@ -1,16 +1,18 @@
 //! The planned rows of the levels (entries in flight), oldest first: the ticks R (operands there)
 //! and C (complete), and the arrival ticks of operands, which `st_rows` computed when the entry
-//! became a level. `docs/timetable.md` has the rules of these ticks.
+//! became a level. docs/timetable.md has the rules of these ticks.
 //!
 //! levels.rt keeps this ring in step with the ring of levels, so that row k belongs to level k, and
 //! completes a level at `c`. filling.rt reads `fills`; `st_ahead` shows by `r` that a level is
-//! ready. Only clauses read the snapshot `issue`. A new field needs its value in `planned_row`, and
-//! its meaning in `IsLevel` of specs/Levels.antt.
+//! ready. Only clauses read the snapshot `issue`.
 //!
 //! Proved: the list is that of pushes at the end and removals at the front, each row with the ticks
-//! that `push` was given (`planned_row` in specs/PlannedRows.antt). That these are the ticks of the
-//! level's entry is proved in levels.rt (`AreAhead` in specs/Levels.antt). Pinned: eight slots, as
-//! in ring.rt. Free: the ring, as long as `window` gives the list.
+//! that `push` was given (`planned_row` in specs/PlannedRows.antt). That these ticks are those of
+//! the level's entry is proved in levels.rt (`AreAhead` in specs/Levels.antt).
+//!
+//! Pinned, by `IsLevel` of specs/Levels.antt: the fields. A new field needs its value in
+//! `planned_row` and its meaning in `IsLevel`. Pinned, by ring.rt: eight slots. Free: the ring, as
+//! long as `window` gives the list.
 ghost use Rattle.std.specs.Prelude.{◌≡◌, ◌+◌, ◌<◌, ◌≤◌, [], ◌∷◌, ◌++◌, length, drop, slice_get, Some};
 ghost use Rattle.st_ring.specs.PlannedRows.{planned_row};
 

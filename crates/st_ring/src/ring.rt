@@ -1,14 +1,17 @@
 //! The ring of look-ahead levels (entries in flight), oldest first: at most N of eight slots, N
 //! from 1 to 8.
 //!
-//! levels.rt uses it for its machine, and lends it to readers. `push`, `get` and `retire` copy a
-//! level; only tests call them, and `docs/CLAIMS.md` offers them. The machine writes in place.
-//! Undoing goes from the youngest level to the oldest, because a later one can change the index
-//! word of an earlier one again.
+//! levels.rt uses the ring for its machine, and lends it to readers (`st_ahead`, `st_run`). `push`,
+//! `get` and `retire` copy a level; only tests call them, and docs/CLAIMS.md offers them. The
+//! machine writes in place by `push_prepared`. Undoing goes from the youngest level to the oldest,
+//! because a later level can change the index word of an earlier level again.
 //!
 //! Proved: each call is one of a list, and `undo_into` gives `unwound` of specs/Unwinding.antt,
-//! which are the first index words if each level kept the word that it replaced. Free: the ring.
-//! Pinned: the order of undoing, and eight slots (`IsLevelRing`).
+//! which are the first index words if each level kept the word that it replaced.
+//!
+//! Pinned, by `unwound`: the order of undoing. Pinned, by `IsLevelRing` of specs/LevelRing.antt:
+//! eight slots. Pinned, by docs/CLAIMS.md: the calls that it names. Free: how the ring keeps its
+//! list.
 ghost use Rattle.std.specs.Prelude.{◌≡◌, ℕ, ◌+◌, ◌<◌, ◌≤◌, List, [], ◌∷◌, ◌++◌, length, drop, slice_get, slice_set, MatchOption, IfSome, Some};
 ghost use Rattle.st_ring.specs.declared.level.Level.{Level as LevelOf};
 ghost use Rattle.st_ring.specs.OneLevel.{HasNumber, level_with_word as filled_of, prepared_at};

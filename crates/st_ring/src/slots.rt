@@ -1,10 +1,13 @@
 //! Two tests of a prepared entry (instruction) for the levels: whether it is a transmission (T or
 //! SWAP), whose operands have no slots, and whether it is mispredicted, with the counter by which
-//! the entries after it were prepared.
+//! the entries after it were prepared. docs/timetable.md has the rules. filling.rt calls
+//! `is_transmission`, levels.rt `mispredicted`.
 //!
-//! filling.rt and levels.rt call them. Proved: the results are `is_transmission` of `st_prep` and
-//! `is_mispredicted` of `st_exec`, with the predicted counter, a half-word address. Free: the
-//! bodies.
+//! Proved: the results are `is_transmission` of `st_prep` and `is_mispredicted` of `st_exec`, with
+//! the predicted counter, a half-word address.
+//!
+//! Pinned, by these definitions and specs/Slots.antt: which entries are transmissions, and that
+//! they have no slots, whatever they read. Free: the bodies.
 ghost use Rattle.std.specs.Prelude.{◌≡◌, None, Some, if◌then◌else◌};
 ghost use Rattle.st_prep.specs.FewWords.{is_transmission as is_transmission_of};
 ghost use Rattle.st_prep.specs.Ranges.{IsPrepared};

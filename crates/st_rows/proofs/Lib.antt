@@ -17,4 +17,5 @@ pub mod Parts
 pub mod LogLaws
 pub mod Writers
 mod Shifted
+mod Places
 pub mod Laws

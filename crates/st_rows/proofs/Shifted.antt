@@ -1,7 +1,6 @@
 -- The ring of the last eight entries, and the effect of adding one.
 use Rattle.std.specs.Prelude.{Bool, if◌then◌else◌, slice_set}
 use Rattle.std.proofs.Common.{◌≡◌, ℕ, zero, suc, ◌+◌, ◌-◌, ◌*◌, ◌%◌, ◌<◌, ◌≤◌, true, false, List, [], ◌∷◌, length, take, refl, arith}
-use mir.Val.{bool_byte}
 use Rattle.st_fetch.specs.Queue.{window}
 use Rattle.st_rows.specs.Entries.{has_words, writer_bits}
 use Rattle.st_rows.specs.declared.past.Past.{Past}
@@ -45,11 +44,6 @@ window-put head xs newest inside eight =
 bit-small : (b : Bool) → (if b then 1 else 0) ≤ 1
 bit-small true = omega arith
 bit-small false = omega arith
-
--- the code's bit of a test is that of the definition
-pub bit-is : (b : Bool) → bool_byte b ≡ (if b then 1 else 0)
-bit-is true = refl
-bit-is false = refl
 
 -- the bits of the entries move along with the entries
 pub bits-shifted : (newest : Past) (xs : List Past) → length xs ≡ 8

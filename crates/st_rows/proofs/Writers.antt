@@ -59,13 +59,23 @@ writer-inside (entry ∷ past) (suc i) is =
     let inside = writer-inside past i (sym (ap (λ m. bit_at m i) (bits-above (writer_bits past) (has_words entry.writes))) ∙ (sym (bit_at-suc _ i) ∙ is)) in
     omega arith
 
--- each remaining bit belongs to an entry, and each entry that writes the word has one
+-- a bit that is 1 belongs to an entry that writes a word
+has-bit : (b : Bool) (bit : ℕ) → bit ≡ (if b then 1 else 0) → bit ≡ 1 → b ≡ true
+has-bit true bit is one = refl
+has-bit false bit is one = absurd (omega arith)
+
+writer-some : (past : List Past) (i : ℕ) → bit_at (writer_bits past) i ≡ 1 → has_words (nth past i).writes ≡ true
+writer-some past i is = has-bit (has_words (nth past i).writes) _ (writer-bit past i) is
+
+-- each remaining bit belongs to an entry that writes a word, and each entry that writes the word
+-- has one
 pub record IsLeft (past : List Past) (w left : ℕ) : Type 0 where
   pub inside : (i : ℕ) → bit_at left i ≡ 1 → i < length past
+  pub some : (i : ℕ) → bit_at left i ≡ 1 → has_words (nth past i).writes ≡ true
   pub others : (i : ℕ) → i < length past → bit_at left i ≡ 0 → is_among w (nth past i).writes ≡ false
 
 pub all-left : (past : List Past) (w : ℕ) → IsLeft past w (writer_bits past)
-all-left past w = record { inside = writer-inside past; others = λ i inside. silent past w i }
+all-left past w = record { inside = writer-inside past; some = writer-some past; others = λ i inside. silent past w i }
 
 -- no entry writes the word
 latest-none : (past : List Past) (w : ℕ) → ((i : ℕ) → i < length past → is_among w (nth past i).writes ≡ false) → latest_done past w ≡ 0
@@ -130,6 +140,9 @@ module _ (past : List Past) (w left : ℕ) (some : 0 < left) (fits : left < 2 ^ 
   pub newest-inside : trailing_zeros w64 left < length past
   newest-inside = is.inside _ (bit_at-trailing_zeros w64 left some fits).1
 
+  pub newest-some : has_words (nth past (trailing_zeros w64 left)).writes ≡ true
+  newest-some = is.some _ (bit_at-trailing_zeros w64 left some fits).1
+
   pub newest-writes : true ≡ is_among w (nth past (trailing_zeros w64 left)).writes → (nth past (trailing_zeros w64 left)).c ≡ latest_done past w
   newest-writes here =
       latest-here past w _ here (λ j less. is.others j (omega (arith, newest-inside)) ((bit_at-trailing_zeros w64 left some fits).2 j less))
@@ -150,6 +163,7 @@ module _ (past : List Past) (w left : ℕ) (some : 0 < left) (fits : left < 2 ^ 
       let lowest = bit_at-trailing_zeros w64 left some fits in
       record {
         inside = λ i one. is.inside i (omega (arith, bit_at_and left (bit_not w64 (1 * 2 ^ at % 2 ^ 64)) i));
+        some = λ i one. is.some i (omega (arith, bit_at_and left (bit_not w64 (1 * 2 ^ at % 2 ^ 64)) i));
         others = λ i inside none. elim (cases_eq i at) [
           | inl same ↦ rw same (sym writes)
           | inr other ↦ is.others i inside (sym (bit_at_clear_other w64 left at lowest.0 i (omega arith) other) ∙ none)

@@ -1,4 +1,14 @@
 -- The reads of an entry, in order, and their effect on the bus.
+--
+-- Proved: by their `ensures` clauses these calls do what definitions here say: `request` (bus.rt),
+-- `word` (fetching.rt), `fill` (issue.rt), `follow` (issue.rt), and others.
+-- Read by: definitions in Standing of st_account, Ahead of st_segment, Going of st_next, Progress
+-- of st_next, and others.
+-- Laws: EntriesAskInParts (specs/Laws.antt), ReadsAreWantedInTime (specs/Laws.antt),
+-- LateReadsChangeNothing (specs/Laws.antt), RowsMakeTheirReads (specs/Laws.antt), and others.
+-- Change: the meaning is fixed by docs/timetable.md, since the contracts of `st_top::stretch` and
+-- `st_account::ledger` unfold to a definition here. The form is free, with the proofs that unfold
+-- it.
 use Rattle.std.specs.Prelude.{ℕ, zero, suc, ◌+◌, true, false, nat_lt, if◌then◌else◌, List, [], ◌∷◌, ◌++◌, Option, None, Some}
 use Rattle.st_bits.specs.Storage.{words_of_storage}
 use Rattle.st_fetch.specs.Planned.{tick_of}
@@ -38,8 +48,7 @@ operands_asked past p w (suc n) = data_asked past w p ++ operands_asked past p (
 
 -- the reads of the operand words of two runs
 abbrev pub runs_asked : List Past → WordRuns → ℕ → List Read
-runs_asked past reads p =
-    operands_asked past p reads.one.first reads.one.len
+runs_asked past reads p = operands_asked past p reads.one.first reads.one.len
     ++ operands_asked past p reads.two.first reads.two.len
 
 -- the read of a following word that lies in storage, unless it is held

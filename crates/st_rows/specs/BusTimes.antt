@@ -1,4 +1,13 @@
 -- The ticks at which reads are accepted and answered. The list of delays is ds.
+--
+-- Proved: by their `ensures` clauses these calls do what definitions here say: `read` (bus.rt),
+-- `request` (bus.rt), `new` (bus.rt), `look_if` (account.rt of st_account), and others.
+-- Read by: definitions in Asked, Notes, Uses, Rows, and others.
+-- Laws: ReadsAreNoLater (specs/Laws.antt), ReadsComeInOrder (specs/Laws.antt),
+-- LateReadsChangeNothing (specs/Laws.antt), MadeReadsAreAnsweredSoon (specs/Laws.antt), and others.
+-- Change: the meaning is fixed by docs/timetable.md, since the contracts of `st_top::stretch` and
+-- `st_account::ledger` unfold to a definition here. The form is free, with the proofs that unfold
+-- it.
 use Rattle.std.specs.Prelude.{ℕ, ◌+◌, Bool, true, if◌then◌else◌, List, replicate, Option, None, Some}
 use Rattle.st_banks.specs.Bank.{accept_tick, answered_at}
 use Rattle.st_banks.specs.Delay.{answer_tick}
@@ -6,8 +15,7 @@ use Rattle.st_banks.specs.declared.answers.LastAnswers.{LastAnswers}
 use Rattle.st_fetch.specs.Planned.{no_word, tick_of, asked_for}
 use Rattle.st_rows.specs.declared.bus.Bus.{Bus}
 
--- a read: its word, the tick of its request, and whether the word is held from this request on, as
--- instruction words are
+-- a read: its word, the tick of its request, and whether the word is held from then on
 pub record Read : Type 0 where
   pub w : ℕ
   pub want : ℕ
@@ -42,8 +50,7 @@ module _ (ds : List ℕ) (b : Bus) (w want : ℕ) where
 module _ (ds : List ℕ) (b : Bus) where
   -- the bus after a read
   abbrev pub after_one : Read → Bus
-  after_one r =
-      let next = bus_after_read ds b r.w r.want in
+  after_one r = let next = bus_after_read ds b r.w r.want in
       let held = asked_for b.held.words r.w (answer_at ds b r.w r.want) in
       if r.fetch then record next { held = record { words = held } } else next
 

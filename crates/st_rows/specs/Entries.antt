@@ -1,9 +1,19 @@
 -- The words of runs, and the completion tick of the latest writer of a word.
-use Rattle.std.specs.Prelude.{◌≡◌, ℕ, ◌<◌, ◌≤◌, true, false, All, length, ◌+◌, ◌*◌, Bool, ◌&&◌, ◌||◌, nat_lt, nat_le, if◌then◌else◌, List, [], ◌∷◌}
+--
+-- Proved: by their `ensures` clauses these calls do what definitions here say: `keep_words`
+-- (past.rt), `has` (entry.rt), `widened` (past.rt), `widened_by` (past.rt), and others.
+-- Read by: definitions in Supplies, Levels, Rows, Uses, and others.
+-- Laws: RowsAreInOrder (specs/Laws.antt), WritersAreSeen (specs/Laws.antt of st_ring),
+-- InstructionWordsAreThoseOfTheRun (specs/Laws.antt of st_ahead).
+-- Change: the meaning is fixed by docs/timetable.md, since the contracts of `st_top::stretch` and
+-- `st_account::ledger` unfold to a definition here. The form is free, with the proofs that unfold
+-- it.
+use Rattle.std.specs.Prelude.{◌≡◌, ℕ, ◌<◌, ◌≤◌, true, false, All, length, ◌+◌, ◌*◌, Bool, ◌&&◌, ◌||◌, nat_lt, nat_le, if◌then◌else◌, List, [], ◌∷◌, map, get_or}
 use Rattle.st_fetch.specs.Queue.{window}
 use Rattle.st_rows.specs.declared.entry.WordRun.{WordRun}
 use Rattle.st_rows.specs.declared.entry.WordRuns.{WordRuns}
 use Rattle.st_rows.specs.declared.past.Past.{Past}
+use Rattle.st_rows.specs.declared.past.Done.{Done}
 
 -- the word w is in a run
 unfoldable pub is_in : ℕ → WordRun → Bool
@@ -30,8 +40,7 @@ unfoldable pub writer_bits : List Past → ℕ
 writer_bits [] = 0
 writer_bits (entry ∷ past) = 2 * writer_bits past + (if has_words entry.writes then 1 else 0)
 
--- the completion tick of the latest entry that writes the word w, 0 if none does; the entries are
--- in order, newest first
+-- the completion tick of the latest entry (the first in the list) that writes w, 0 if none does
 unfoldable pub latest_done : List Past → ℕ → ℕ
 latest_done [] w = 0
 latest_done (entry ∷ past) w = if is_among w entry.writes then entry.c else latest_done past w
@@ -40,11 +49,30 @@ latest_done (entry ∷ past) w = if is_among w entry.writes then entry.c else la
 abbrev pub is_outside : ℕ → ℕ → ℕ → Bool
 is_outside low high w = nat_lt w low || nat_le high w
 
--- a ring of eight entries with the newest one at head, one bit per entry, and bounds of all words
--- from 32 up that these entries write
-pub record IsEntryRing (head : ℕ) (entries : List Past) (bits low high : ℕ) : Type 0 where
+-- the content of an unused place
+abbrev pub no_entry : Done
+no_entry = record { c = 0; entry = record { marker = record {}; value = record { c = 0; writes = no_runs } } }
+
+-- the entries in the places of a ring, and their completion ticks
+abbrev pub entries_in : List Done → List Past
+entries_in places = map (λ place. place.entry.value) places
+
+abbrev pub ticks_in : List Done → List ℕ
+ticks_in places = map (λ place. place.c) places
+
+-- the entry in a place; past the end, one without words
+abbrev pub entry_in : List Past → ℕ → Past
+entry_in entries i = get_or entries i (record { c = 0; writes = no_runs })
+
+-- a ring of eight entries with the newest one at head: their ticks, the words of those that write
+-- any, one bit per entry, and bounds of all words from 32 up that they write
+pub record IsEntryRing (head : ℕ) (entries : List Past) (done : List ℕ) (writes : List WordRuns) (bits low high : ℕ) : Type 0 where
   pub inside : head < 8
   pub whole : length entries ≡ 8
+  pub wide : length writes ≡ 8
+  pub ticks : done ≡ map (λ entry. entry.c) entries
+  pub words : (i : ℕ) → i < 8 → has_words (entry_in entries i).writes ≡ true →
+      get_or writes i no_runs ≡ (entry_in entries i).writes
   pub writers : bits ≡ writer_bits (window head 8 entries)
   pub bounds : (w : ℕ) → 32 ≤ w → is_outside low high w ≡ true →
       All (λ entry. is_among w entry.writes ≡ false) (window head 8 entries)

@@ -1,4 +1,10 @@
 -- A list of words with room for 48, which ignores words that are appended when it is full.
+--
+-- Proved: by their `ensures` clauses these calls do what definitions here say: `push` (uses.rt).
+-- Laws: none names a definition of this file itself.
+-- Change: no page fixes these definitions, since no contract of a program unfolds to them; they
+-- change together with the clauses, definitions and laws that name them. docs/timetable.md
+-- describes the subject.
 use Rattle.std.specs.Prelude.{◌≡◌, refl, List, [], ◌∷◌, ◌++◌, take}
 use Rattle.arrayvec.specs.ArrayVec.{ArrayVec}
 use Rattle.st_rows.specs.declared.uses.Use.{Use}

@@ -1,4 +1,9 @@
 -- Laws of the ticks of all entries.
+--
+-- Proved: each law has its lemma in proofs/Laws.antt, with its name in small letters.
+-- Claimed: docs/CLAIMS.md names CompletionsAreBounded, EntriesAskInParts, LateReadsChangeNothing,
+-- MoreLevelsAreNoLater, and others.
+-- Change: docs/promises.txt lists each law, and the gate compares the list with the laws.
 use Rattle.std.specs.Prelude.{◌≡◌, ℕ, List, [], ◌∷◌, ◌++◌, ◌+◌, ◌*◌, ◌<◌, ◌≤◌, ◌||◌, true, length, get_or, max, All}
 use Rattle.st_rows.specs.Ranges.{AreDelaysUpTo, IsEntryInTime, IsNear, IsTight}
 use Rattle.st_rows.specs.Entries.{latest_done}

@@ -1,4 +1,12 @@
 -- When the ticks of one machine are at most those of another.
+--
+-- Proved: no `ensures` clause names a definition of this file.
+-- Laws: EntriesAreNoLater (specs/Laws.antt), MoreLevelsAreNoLater (specs/Laws.antt),
+-- OlderEntriesAreDoneBefore (specs/Laws.antt), OlderEntriesDecideNothing (specs/Laws.antt), and
+-- others.
+-- Change: no page fixes these definitions, since no contract of a program unfolds to them; they
+-- change together with the clauses, definitions and laws that name them. docs/timetable.md
+-- describes the subject.
 use Rattle.std.specs.Prelude.{ℕ, ◌≡◌, ◌+◌, ◌≤◌, ◌<◌, false, List, [], ◌∷◌, length, All, IfSome, take}
 use Rattle.std.specs.List.{AllZip}
 use Rattle.st_fetch.specs.declared.fetched.AskedWord.{AskedWord}

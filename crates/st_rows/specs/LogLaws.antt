@@ -1,4 +1,7 @@
 -- Laws of the log of reads, by which the end of a segment undoes late reads.
+--
+-- Proved: each law has its lemma in proofs/LogLaws.antt, with its name in small letters.
+-- Change: docs/promises.txt lists each law, and the gate compares the list with the laws.
 use Rattle.std.specs.Prelude.{ℕ, ◌≡◌, ◌≤◌, List, [], ◌∷◌, ◌++◌, length, take, drop}
 use Rattle.st_rows.specs.Asked.{bus_after_reads, made_before}
 use Rattle.st_rows.specs.BusTimes.{Read}

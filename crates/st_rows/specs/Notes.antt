@@ -8,6 +8,16 @@
 -- LogLaws.antt: ticks of records rise (`AcceptsRise`); undoing late reads leaves the banks as the
 -- early reads do (`UndoneIsMadeBefore`); 64 records are enough if at most 64 reads follow those
 -- after which the bus is free (`FewAreUndone`); reads and ticks keep `IsLogged` (`LogsGoOn`).
+--
+-- Proved: by their `ensures` clauses these calls do what definitions here say: `read` (bus.rt),
+-- `request` (bus.rt), `word` (fetching.rt), `fill` (issue.rt), and others.
+-- Read by: definitions in Going of st_next, Forecast of st_ahead, Inside of st_ahead, Standing of
+-- st_account.
+-- Laws: UndoneIsMadeBefore (specs/LogLaws.antt), AcceptsRise (specs/LogLaws.antt), FewAreUndone
+-- (specs/LogLaws.antt), LogsGoOn (specs/LogLaws.antt), and others.
+-- Change: no page fixes these definitions, since no contract of a program unfolds to them; they
+-- change together with the clauses, definitions and laws that name them. docs/timetable.md
+-- describes the subject.
 use Rattle.std.specs.Prelude.{ℕ, ◌≡◌, ◌<◌, nat_lt, if◌then◌else◌, List, [], ◌∷◌, ◌++◌, take, All}
 use Rattle.st_banks.specs.Bank.{last_of, answered_at}
 use Rattle.st_rows.specs.BusTimes.{accept_at, Read, after_one}

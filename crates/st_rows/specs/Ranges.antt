@@ -1,4 +1,16 @@
 -- Ranges of the numbers of entries, buses and issue states.
+--
+-- Proved: by their `ensures` clauses these calls do what definitions here say: `new` (issue.rt),
+-- `finish` (rows.rt of st_plain), `fill` (levels.rt of st_ring), `plan` (fetch_unit.rt of st_next),
+-- and others.
+-- Read by: definitions in Levels, Going of st_next, Forecast of st_ahead, Going of st_ahead, and
+-- others.
+-- Laws: BusesAreFreeInTime (specs/Laws.antt), CompletionsAreBounded (specs/Laws.antt),
+-- OperandsAreThereBeforeCompletion (specs/Laws.antt), MadeReadsAreAnsweredSoon (specs/Laws.antt),
+-- and others.
+-- Change: no page fixes these definitions, since no contract of a program unfolds to them; they
+-- change together with the clauses, definitions and laws that name them. docs/timetable.md
+-- describes the subject.
 use Rattle.std.specs.Prelude.{ℕ, ◌≡◌, ◌+◌, ◌*◌, ◌≤◌, ◌<◌, true, List, length, All, IfSome}
 use Rattle.st_bits.specs.declared.limits.TheConstants.{MOST_DELAY}
 use Rattle.st_bits.specs.Storage.{words_of_storage}

@@ -1,4 +1,11 @@
 -- The sources of the words that an entry uses, as observers are notified of them.
+--
+-- Proved: by their `ensures` clauses these calls do what definitions here say: `read` (bus.rt),
+-- `request` (bus.rt), `word` (fetching.rt), `fill` (issue.rt), and others.
+-- Read by: definitions in Uses of st_plain, Told of st_next, Served of st_reasons.
+-- Laws: none names a definition of this file itself.
+-- Change: the meaning is fixed by docs/timetable.md, since the contract of `st_account::ledger`
+-- unfolds to a definition here. The form is free, with the proofs that unfold it.
 use Rattle.std.specs.Prelude.{ℕ, ◌+◌, if◌then◌else◌, List, [], ◌∷◌, map, Option, None, Some}
 use Rattle.std.specs.List.{position}
 use Rattle.st_banks.specs.Bank.{last_of}

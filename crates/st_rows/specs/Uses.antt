@@ -1,6 +1,14 @@
 -- The words that an entry uses, in order: when each is requested, and whether it is read. The reads
 -- of an entry, the bus after them and the arrival of its words are derived from these uses. The
 -- machine has the delays ds.
+--
+-- Proved: by their `ensures` clauses these calls do what definitions here say: `side` (issue.rt),
+-- `follow` (issue.rt), `read_operands` (issue.rt), `read_run` (issue.rt), and others.
+-- Read by: definitions in Words, Rows, Asked, Supplies, and others.
+-- Laws: UsesMakeTheirReads (specs/Laws.antt).
+-- Change: the meaning is fixed by docs/timetable.md, since the contracts of `st_top::stretch` and
+-- `st_account::ledger` unfold to a definition here. The form is free, with the proofs that unfold
+-- it.
 use Rattle.std.specs.Prelude.{ℕ, zero, suc, ◌+◌, max, Bool, true, false, nat_lt, if◌then◌else◌, List, [], ◌∷◌, ◌++◌, Option, None, Some}
 use Rattle.st_fetch.specs.Planned.{tick_of}
 use Rattle.st_rows.specs.BusTimes.{Read, bus_if, answer_if}
@@ -13,8 +21,7 @@ use Rattle.st_rows.specs.declared.uses.Role.{Role}
 use Rattle.st_rows.specs.declared.uses.Role.TheVariants.{Instruction, Index, Operand, Following}
 use Rattle.st_rows.specs.declared.uses.Wish.{Wish}
 
--- the use of a word: its read, on the current bus; and the tick at which the word arrives if no
--- read is made, because it is held or forwarded
+-- the use of a word: its read, the bus before it, and when a held or forwarded word comes unread
 pub record Use : Type 0 where
   pub role : Role
   pub read : Read
@@ -37,14 +44,12 @@ is_held Instruction = true
 is_held Following = true
 is_held role = false
 
--- an instruction word is requested once the words before it are answered and the writers of these
--- words are complete
+-- an instruction word is requested when those before it are answered and their writers complete
 abbrev pub want_of : Role → Fetching → ℕ → ℕ
 want_of Instruction s from = max (max from s.answered) s.awaited
 want_of role s from = from
 
--- the latest arrival so far, including this word: for the index-side word, its own arrival; a forwarded
--- operand does not count, since the entry waits anyway for the completion of all earlier entries
+-- the latest arrival with this word; not of a forwarded operand, whose writer is awaited anyway
 abbrev pub answered_by : Role → ℕ → ℕ → Option ℕ → ℕ
 answered_by Operand before there (Some done) = before
 answered_by Index before there o = there
@@ -52,15 +57,13 @@ answered_by role before there o = max before there
 
 -- the tick at which a forwarded word arrives: the completion of its latest writer, if later than the tick
 abbrev pub forwarded_at : List Past → ℕ → ℕ → Option ℕ
-forwarded_at past w tick =
-    let done = latest_done past w in
+forwarded_at past w tick = let done = latest_done past w in
     if nat_lt tick done then Some done else None
 
 module _ (ds : List ℕ) (past : List Past) where
-  -- the use of a requested word
+  -- the use of a requested word x, when the reads of the entry have come to s
   abbrev pub use_of : Fetching → Wish → Use
-  use_of s x =
-      let want = want_of x.role s x.from in
+  use_of s x = let want = want_of x.role s x.from in
       record {
         role = x.role;
         read = record { w = x.w; want = want; fetch = is_held x.role };
@@ -70,13 +73,11 @@ module _ (ds : List ℕ) (past : List Past) where
 
   -- the progress of the entry after a use
   unfoldable pub behind_use : Fetching → Use → Fetching
-  behind_use s u =
-      let there = answer_if ds u.bus u.read.w u.read.want u.unread in
+  behind_use s u = let there = answer_if ds u.bus u.read.w u.read.want u.unread in
       record {
         bus = bus_if ds u.bus u.read u.unread;
         answered = answered_by u.role s.answered there u.unread;
-        awaited =
-            if u.read.fetch then max s.awaited (latest_done past u.read.w) else s.awaited;
+        awaited = if u.read.fetch then max s.awaited (latest_done past u.read.w) else s.awaited;
       }
 
   -- the uses of requested words, in order

@@ -1,5 +1,13 @@
 -- The progress of an entry after one word, or after the words of a run, as the calls of the code
 -- proceed. `Rows` defines it for the list of all words of the entry.
+--
+-- Proved: by their `ensures` clauses these calls do what definitions here say: `read_operands`
+-- (issue.rt), `read_run` (issue.rt), `side` (issue.rt), `read` (reading.rt), and others.
+-- Read by: definitions in Supplies, Levels of st_ring, Progress of st_next, Shown of st_ahead, and
+-- others.
+-- Laws: OperandsAreThereBeforeCompletion (specs/Laws.antt).
+-- Change: the meaning is fixed by docs/timetable.md, since the contract of `st_account::ledger`
+-- unfolds to a definition here. The form is free, with the proofs that unfold it.
 use Rattle.std.specs.Prelude.{ℕ, ◌+◌, Bool, nat_lt, if◌then◌else◌, List, [], ◌∷◌, Option}
 use Rattle.st_bits.specs.Storage.{words_of_storage}
 use Rattle.st_rows.specs.BusTimes.{answer_if, bus_after_request}

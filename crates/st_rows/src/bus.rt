@@ -1,17 +1,18 @@
 //! The bus: the one way to the banks of storage, which accepts at most one read a tick, in the
 //! order of the requests; and which instruction words are held (an instruction buffer of four).
-//! `docs/timetable.md` has the rules.
+//! docs/timetable.md has the rules.
 //!
 //! fetching.rt, reading.rt and issue.rt make their reads here, instruction words and following
-//! words by `request`, others by `read`. Every read is recorded in the log, so that it can be
-//! undone, and reported to an observer (`Watch`), which the ledger needs. Addresses are word
-//! addresses; callers keep all ticks up to 2^64 - 512. issue.rt reads `free` for A, the tick of an
-//! address; at the end of a segment `st_ahead` and `st_account` take `banks` and undo the log.
+//! words by `request`, others by `read`. Each read is added to the log (log.rt) and told to an
+//! observer (`Watch`). Addresses are word addresses; ticks are at most 2^64 - 512. issue.rt reads
+//! `free`; `st_ahead` and `st_account` take `banks` at the end of a segment.
 //!
-//! Proved: the answers and the bus after them are those of specs/BusTimes.antt, the log (at most
-//! 64 records) is that of specs/Notes.antt, and the observer hears what specs/Supplies.antt has.
-//! Laws of successive reads are in specs/Laws.antt (`ReadsComeInOrder`) and specs/LogLaws.antt.
-//! Pinned: one read a tick, in order, at the latest of want, turn and bank. Free: the bodies.
+//! Proved: the answers and the bus after them are those of specs/BusTimes.antt (clauses `value`,
+//! `after`), the log has at most 64 records (specs/Notes.antt), the observer hears what
+//! specs/Supplies.antt says. Law: `ReadsComeInOrder` (specs/Laws.antt).
+//!
+//! Pinned, by specs/BusTimes.antt and docs/timetable.md: one read a tick, in order, at the latest
+//! of want, turn and bank; four held words. Free: the bodies.
 ghost use Rattle.std.specs.Prelude.{◌≡◌, ◌-◌, ◌≤◌, ◌^◌, ◌∷◌, [], take, false};
 ghost use Rattle.st_rows.specs.BusTimes.{no_reads, bus_after_read, answer_at, bus_after_request, answer_tick_on};
 ghost use Rattle.st_fetch.specs.Planned.{tick_of};
@@ -98,6 +99,7 @@ impl Bus {
 
     /// Requests an instruction word. A word that is not held is read, and is held from then on.
     /// Returns the tick of its answer.
+    #[inline(always)]
     pub fn request<W: Watch>(
         &mut self,
         log: &mut Log,

@@ -1,12 +1,14 @@
 //! The data of an entry (one executed instruction) that the timetable uses: its words, its cost in
-//! ticks, and two properties. The instruction itself plays no part.
+//! ticks, and two properties. The instruction itself plays no part. docs/timetable.md has the
+//! rules. `st_next` fills an `Entry` in from the prepared entry, and `st_segment` takes the
+//! registers out of the words that are read. past.rt calls the tests.
 //!
-//! `st_next` fills it in from the prepared entry, and `st_segment` takes the registers out of the
-//! words that are read. Proved: the tests `has` and `any` are those of specs/Entries.antt; `Ranges`
-//! there has the ranges that the calls of issue.rt require (`IsEntryInTime`).
+//! Proved: the tests `has` and `any` are `is_in`, `is_among` and `has_words` of specs/Entries.antt;
+//! specs/Ranges.antt has the ranges that the calls of issue.rt require (`IsEntryInTime`).
 //!
-//! A new field is a new input of the timetable, and changes `Rows` in specs/ and `entry_with` in
-//! `st_segment`. Runs hold at most 16 words. Free: the bodies of the tests.
+//! Pinned, by specs/Rows.antt and `entry_with` of `st_segment`: the fields. A new field is a new
+//! input of the timetable, and changes both. A run has at most 16 words (`IsEntryInTime`). Free:
+//! the bodies of the tests.
 ghost use Rattle.std.specs.Prelude.{◌≡◌};
 ghost use Rattle.st_rows.specs.Entries.{is_in, is_among, has_words};
 

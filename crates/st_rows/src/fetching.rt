@@ -1,13 +1,15 @@
-//! The progress of an entry (one executed instruction) through its instruction words: each is
+//! The progress of an entry (one executed instruction) through its instruction words: each word is
 //! requested in order, after the answers of the words before it and after the completion of earlier
-//! entries that write those.
+//! entries that write those words. docs/timetable.md has the rules.
 //!
-//! `st_next` calls `word` for each word; reading.rt continues with the operand words in this
+//! `st_next` calls `restart` and `word`; reading.rt continues with the operand words in this
 //! structure. `wanted` has the tick of the first request; ticks are at most 2^64 - 512.
 //!
-//! Proved: the progress after a word is `fetch_word` of specs/Words.antt, and the log and the
-//! observer get that request. Pinned: the next word, and the address, await the completion of each
-//! earlier entry that writes a word so far (`awaited`). Free: the bodies.
+//! Proved: the progress after a word is `fetch_word` of specs/Words.antt (clause `after`). The log
+//! and the observer get the request of that word (clauses `log` and `told`).
+//!
+//! Pinned, by `fetch_word` and docs/timetable.md: the next word, and the address, await the
+//! completion of each earlier entry that writes a word so far (`awaited`). Free: the bodies.
 ghost use Rattle.std.specs.Prelude.{◌≡◌, ◌-◌, ◌≤◌, ◌^◌, ◌∷◌, [], max};
 ghost use Rattle.st_fetch.specs.Planned.{tick_of};
 ghost use Rattle.st_rows.specs.Asked.{word_asked};

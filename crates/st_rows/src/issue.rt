@@ -1,15 +1,18 @@
 //! The issue state, which is the input to the timetable row of the next entry (a scoreboard with
-//! the state of fetch), and the computation of that row.
+//! the state of fetch), and the computation of that row. docs/timetable.md has the rules.
 //!
 //! `form` gives A and P (address formed, prepared), `fill` gives R and C (operands there,
-//! complete), and `pass` goes to the next entry. `st_next` calls `form`, `st_ahead` calls `fill`
-//! and `pass`, and `st_plain` calls `follow` and `pass`. Ticks count from the start of the run; C
-//! of the last entry is at most 2^63 + 2^20.
+//! complete), `pass` goes to the next entry. `st_next` calls `form`, `st_ahead` `fill` and `pass`,
+//! `st_plain` `follow` and `pass`. Ticks count from the start of the run; C of the last entry is at
+//! most 2^63 + 2^20.
 //!
 //! Proved: the row is `row_of_entry`, and the state after it `issue_after_entry`, of
-//! specs/Rows.antt, with all reads in the log (specs/Asked.antt). So each formula here is pinned by
-//! one there. Free: inlining and the split into functions. `docs/changes/timetable.patch` changes a
-//! rule.
+//! specs/Rows.antt. The log and the observer get all reads of the entry (specs/Asked.antt; clauses
+//! `log`, `told`).
+//!
+//! Pinned, by the definitions of specs/Rows.antt, docs/timetable.md and vectors/timetable.txt: each
+//! formula of a tick. docs/changes/timetable.patch is an example that changes one. Free: inlining
+//! and the split into functions.
 ghost use Rattle.std.specs.Prelude.{◌≡◌, ◌+◌, ◌-◌, ◌≤◌, ◌^◌, ◌++◌, [], ℕ, All, IfSome, List};
 ghost use Rattle.st_bits.specs.declared.limits.TheConstants.{MOST_DELAY};
 ghost use Rattle.st_rows.specs.Asked.{side_asked, operands_asked, runs_asked, inside_asked, following_asked, prepared_asked};
@@ -48,7 +51,7 @@ pub struct EntryTicks {
 }
 
 /// The input to the row of the next entry, as `docs/timetable.md` defines it.
-#[derive(Debug, Default, Drop)]
+#[derive(Default, Drop)]
 pub struct IssueState {
     /// The bus after the reads of the entries so far.
     pub bus: Bus,

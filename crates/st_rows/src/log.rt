@@ -1,14 +1,15 @@
 //! A log of reads, by which late reads of a segment (the entries between two flushes) are undone:
-//! when it ends, reads that the banks would accept later are not made, and the banks are as if they
-//! had not been planned.
+//! when a segment ends, reads that the banks would accept later are not made, and the banks are as
+//! if none of these reads had been planned. docs/timetable.md has the rules. bus.rt adds a record
+//! for each read; `st_ahead` and `st_account` call `undo` at the end of a segment. Addresses are
+//! word addresses.
 //!
-//! bus.rt adds a record for each read; `st_ahead` and `st_account` call `undo` at the end of a
-//! segment. Addresses are word addresses.
+//! Proved: the log has the last 64 records (clause of `put`), and `undo` gives `answers_left` of
+//! specs/Notes.antt. That 64 are enough is the law `FewAreUndone` (specs/LogLaws.antt).
 //!
-//! Proved: the log has the last 64 records, and `undo` gives `answers_left` of specs/Notes.antt.
-//! That 64 are enough is a law (`FewAreUndone` in specs/LogLaws.antt). The number is in the clauses
-//! and in both of these; from 39 up any number would do, and a power of two makes the ring cheap.
-//! Free: the ring.
+//! Pinned, by the clauses of `put` and of bus.rt and by `FewAreUndone`: the number 64. From 39 up
+//! any number would do if all these change; a power of two makes the ring cheap. Free: the ring, if
+//! proofs/log follows.
 ghost use Rattle.std.specs.Prelude.{◌≡◌, ◌∷◌, ◌≤◌, [], take, MatchOption};
 ghost use Rattle.st_rows.specs.Notes.{AreSettled, answers_left};
 

@@ -1,13 +1,16 @@
 //! The operand words of an entry, read in order from its preparation on: each word is read from its
-//! bank, or forwarded from its latest writer, if that completes later than the request.
+//! bank, or forwarded from its latest writer, if that writer completes later than the request.
+//! docs/timetable.md has the rules.
 //!
-//! issue.rt reads the runs of an entry; `st_plain` does so for the ledger, with the registers noted
-//! between them. A run has at most 16 words, from 32 up. The result of `read` is the tick of
-//! arrival.
+//! issue.rt reads the runs of an entry by `read` and `read_on`; `st_plain` calls `read_on` for the
+//! ledger, with the registers noted between the runs. A run has at most 16 words, from 32 up. The
+//! result of `read` is the tick of arrival.
 //!
-//! Proved: the progress is `read_words` of specs/Words.antt; log and observer get the reads in that
-//! order. Pinned: a forwarded word makes no read, and does not delay R, the tick at which operands
-//! are there. Free: the loop.
+//! Proved: the progress is `read_words` of specs/Words.antt (clause `value` of `read_on`); the log
+//! and the observer get the reads in this order (clauses `log`, `told`).
+//!
+//! Pinned, by specs/Words.antt and docs/timetable.md: a forwarded word makes no read, and does not
+//! delay R, the tick at which operands are there. Free: the loop.
 ghost use Rattle.std.specs.Prelude.{◌≡◌, ◌-◌, ◌≤◌, ◌^◌, ◌∷◌, []};
 ghost use Rattle.st_rows.specs.Asked.{data_asked, operands_asked};
 ghost use Rattle.st_rows.specs.Notes.{log_after_reads};

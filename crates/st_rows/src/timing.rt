@@ -1,10 +1,13 @@
 //! The parameters of the timetable that do not depend on the program: the delays of reads in ticks,
-//! and the number of look-ahead levels, 1 to 8.
+//! and the number of look-ahead levels, 1 to 8. docs/timetable.md has the rules. `st_next`,
+//! `st_ahead`, `st_plain` and `st_account` pass a `Timing` with each entry to issue.rt.
 //!
-//! `st_next`, `st_ahead`, `st_plain` and `st_account` pass it with each entry. Its two ghost fields
-//! carry the proof that the number of levels is in range. The largest number, 8, is that of the
-//! entries that `LastEntries` keeps, so a larger one changes past.rt, the rings of `st_ring`, and
-//! their clauses. Free: the names; there is no code here. A further parameter is a field.
+//! Proved: nothing is computed here. Its two ghost fields carry the proof that the number of levels
+//! is in range.
+//!
+//! Pinned, by past.rt, which keeps eight entries, and by the rings of `st_ring`: the largest number
+//! of levels, 8. A larger number changes these files and their clauses. A further parameter is a
+//! field, and an argument of `row_of_entry` (specs/Rows.antt). Free: the names.
 ghost use Rattle.std.specs.Prelude.{◌≤◌};
 
 use st_banks::Delays;

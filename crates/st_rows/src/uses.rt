@@ -1,13 +1,16 @@
 //! The words that an entry (one executed instruction) uses, and the source of each: read, held,
-//! forwarded, or a register. The ledger writes them and finds from them why an instruction waited.
+//! forwarded, or a register (docs/ledger.md, "Uses"). `Uses` is an observer (`Watch`), which the
+//! calls of this crate notify of each word in order. `st_plain` adds the registers; `st_lines`
+//! writes the words, and `st_reasons` finds from them why an instruction waited. Addresses are word
+//! addresses.
 //!
-//! `Uses` is an observer (`Watch`), which the calls of this crate notify of each word in order;
-//! `st_plain` adds the registers. Addresses are word addresses. At most 39 words come, and `push`
-//! ignores words after the 48th.
+//! Proved: `push` gives `uses_with` of specs/KeptUses.antt; the clauses `told` of bus.rt,
+//! fetching.rt, reading.rt and issue.rt say which words these are.
 //!
-//! Proved: the list is that of `uses_with` in specs/KeptUses.antt; which words these are is in the
-//! clauses `told` of the calls. `ROOM` is 48 in the clauses here and in those of `st_plain` and
-//! `st_reasons`, so another number changes these too. Free: the array.
+//! Pinned, by `uses_with`, docs/ledger.md and vectors/ledger/lines.txt: the order of the words.
+//! Pinned, by the clause `fits` and the proofs of `st_plain` and `st_reasons`: `ROOM`, 48. At most
+//! 39 words come; `push` ignores words after the 48th. A new `Supply` or `Role` needs its cases in
+//! `st_lines` and `st_reasons`. Free: the array.
 ghost use Rattle.std.specs.Prelude.{◌≡◌, ◌≤◌, ◌∷◌, [], length};
 ghost use Rattle.st_rows.specs.KeptUses.{uses_with};
 

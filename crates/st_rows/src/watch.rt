@@ -1,13 +1,17 @@
-//! Observers of the words that an entry (instruction) requests: the timetable (this crate's bus.rt,
-//! fetching.rt and issue.rt) notifies one of each word, in order, with its role and source.
+//! Observers of the words that an entry (instruction) requests: bus.rt, fetching.rt, reading.rt and
+//! issue.rt notify one of each word, in order, with its role and source. docs/ledger.md has the
+//! lines that the ledger makes of these words ("Uses").
 //!
-//! The overlapped machine (`st_next`) uses `Nobody`, so that nothing is stored; the ledger
-//! (`st_plain`) uses `Uses` to list the words. Another observer implements `Watch` with `noted`,
-//! the observer after some words, and proves its laws (`noted_none`, `noted_more`). The calls of
-//! bus.rt, fetching.rt and issue.rt then promise, in their clauses `told`, exactly which words.
+//! The overlapped machine (`st_ahead`, by the calls of `st_next`) uses `Nobody`, so that nothing is
+//! stored; the ledger (`st_plain`) uses `Uses` to list the words. Another observer implements
+//! `Watch` with `noted`, the observer after some words, and proves its laws (`noted_none`,
+//! `noted_more`).
 //!
-//! Proved: each method is `noted` of one word. Pinned: three methods for the sources `Read`, `Held`
-//! and `Forwarded` of `Supply`; its fourth, a register, is never requested. Free: the bodies.
+//! Proved: each method is `noted` of one word. The clauses `told` of the calls that notify say
+//! exactly which words come.
+//!
+//! Pinned, by the clauses `told` and by `Supply` of uses.rt: three methods, for the sources `Read`,
+//! `Held` and `Forwarded`. The fourth source, a register, is never requested. Free: the bodies.
 ghost use Rattle.std.specs.Prelude.{◌≡◌, refl, ◌∷◌, ◌++◌, [], List};
 ghost use Rattle.st_rows.specs.Supplies.{writer_back};
 ghost use Rattle.st_rows.specs.KeptUses.{uses_with, uses_with_none, uses_with_more};

@@ -1,4 +1,4 @@
--- The index words with the early changes of the entries in flight.
+-- The index words with the speculative changes of the entries in flight.
 use Rattle.std.proofs.Common.{◌≡◌, ℕ, zero, suc, ◌<◌, false, Option, None, refl, sym, ◌∙◌, ap}
 use Rattle.std.specs.Prelude.{IfSome}
 use Rattle.st_state.specs.Machine.{Machine, IsMachine}
@@ -8,7 +8,7 @@ use Rattle.st_prep.specs.Plan.{plan}
 use Rattle.st_prep.proofs.PlanLemmas.{plan-prepared}
 use Rattle.st_exec.specs.Ahead.{IsPast}
 use Rattle.st_exec.specs.Completion.{prediction}
-use Rattle.st_exec.proofs.UnwrittenLemmas.{early-index_words, predicted-past}
+use Rattle.st_exec.proofs.UnwrittenLemmas.{speculative-index_words, predicted-past}
 use Rattle.st_segment.specs.Predictions.{predictions, table_behind, split_words}
 use Rattle.st_segment.specs.Alone.{RunAhead}
 use Rattle.st_segment.proofs.PredictionLemmas.{behind-none, behind-indicator, predictions-machine, predictions-next}
@@ -35,7 +35,7 @@ split-change k t s m some =
     let u = predictions k t s in
     let i = table_behind k t in
     let n = predictions-machine k t s m some in
-    early-index_words (plan u i) u i (plan-prepared u i n (behind-indicator k t some)) n
+    speculative-index_words (plan u i) u i (plan-prepared u i n (behind-indicator k t some)) n
 
 pub index-split : (k : ℕ) (t : Option ℕ) (s : Machine) → IsMachine s → IfSome t (λ i. i < 64) → RunAhead k t s
     → index_words (predictions k t s) ≡ split_words k t s

@@ -36,7 +36,7 @@ entry-same t s u h =
 pub plan-same : (s u : Machine) → AreAlikeBesideOrders s u → (plan s None).serial ≡ false → plan u None ≡ plan s None
 plan-same s u h free = plan-beside_ahead s u None h free
 
--- ---- early changes
+-- ---- speculative changes
 
 with-words : (s u : Machine) (vs ws : List ℕ) → AreAlikeBesideOrders s u → length ws ≡ length vs
     → ((w : ℕ) → w ≢ 11 → get_or ws w 0 ≡ get_or vs w 0)

@@ -1,4 +1,13 @@
 -- Predicted entries without a serializing one among them, and the words that they write.
+--
+-- Proved: by their `ensures` clauses these calls do what definitions here say: `push` (levels.rt of
+-- st_ring), `contents` (fetch_unit.rt of st_next), `word_at` (fetch_unit.rt of st_next).
+-- Read by: definitions in Levels of st_ring, Going of st_next, Going of st_ahead.
+-- Laws: PredictionsLeaveTheRest (specs/Laws.antt), SignalsArePassedOver (specs/Laws.antt),
+-- EntriesAreInRange (specs/Laws.antt), EntriesBehindAreSeen (specs/Laws.antt), and others.
+-- Change: no page fixes these definitions, since no contract of a program unfolds to them; they
+-- change together with the clauses, definitions and laws that name them. docs/timetable.md
+-- describes the subject.
 use Rattle.std.specs.Prelude.{ℕ, zero, suc, ◌≡◌, ◌+◌, false, Bool, ◌||◌, List, [], ◌∷◌, Option, None}
 use Rattle.st_state.specs.Machine.{Machine}
 use Rattle.st_prep.specs.Plan.{plan}

@@ -1,4 +1,15 @@
 -- The next entry of a state, as the timetable sees it.
+--
+-- Proved: by their `ensures` clauses these calls do what definitions here say: `above_registers`
+-- (runs.rt), `side_to_read` (runs.rt), `words_to_read` (runs.rt), `words_to_write` (runs.rt), and
+-- others.
+-- Read by: definitions in Ahead, Alone, Going of st_next, Levels of st_ring, and others.
+-- Laws: EntriesAreKnownEarly (specs/Laws.antt), EntriesAreInRange (specs/Laws.antt),
+-- SignalsArePassedOver (specs/Laws.antt), LevelsAreTheEntriesAhead (specs/Laws.antt of st_ring),
+-- and others.
+-- Change: the meaning is fixed by docs/timetable.md, since the contracts of `st_top::stretch` and
+-- `st_account::ledger` unfold to a definition here. The form is free, with the proofs that unfold
+-- it.
 use Rattle.std.specs.Prelude.{ℕ, ◌-◌, suc, ◌&&◌, nat_le, if◌then◌else◌, is_none, List, [], ◌∷◌, length, take, drop, Option, None, Some}
 use Rattle.st_bits.specs.declared.register.TheConstants.{FIRST_STORAGE_WORD}
 use Rattle.st_state.specs.Machine.{Machine, word}
@@ -22,8 +33,7 @@ run_of (w ∷ ws) = record { first = w; len = suc (length ws) }
 
 -- a run of words without the registers at its start, which make no read
 unfoldable pub above_registers : ℕ → ℕ → WordRun
-above_registers first n =
-    if nat_le FIRST_STORAGE_WORD first then record { first = first; len = n }
+above_registers first n = if nat_le FIRST_STORAGE_WORD first then record { first = first; len = n }
     else record { first = FIRST_STORAGE_WORD; len = n - (FIRST_STORAGE_WORD - first) }
 
 -- the operand words that are read from storage
@@ -45,9 +55,8 @@ side_to_read (Some w) = if nat_le FIRST_STORAGE_WORD w then Some w else None
 
 -- ---- from the fetched and prepared entry
 
--- an entry of its own instruction words and those of the target of EX, of its needs and its
--- preparation, and of two indicators: that of the interrupt of a table instruction, and that of a
--- word that may not be fetched. If there is neither, following words are requested
+-- an entry of its words, those of the target of EX, its needs, its preparation, the indicator of
+-- its interrupt if it is a table instruction, and the indicator of a word that may not be fetched
 abbrev pub entry_with : WordRun → WordRun → Needs → Prepared → Option ℕ → Option ℕ → Entry
 entry_with own target needed prepared table forbidden = record {
   own = own;
@@ -77,8 +86,7 @@ module _ (table : Option ℕ) (s : Machine) where
 
   -- the next entry of a state, or its table instruction
   unfoldable pub entry : Entry
-  entry =
-      let place = place_of s table in
+  entry = let place = place_of s table in
       let own = run_of (take own_count instruction_words) in
       let target = run_of (drop own_count instruction_words) in
       let forbidden = (words_fetched s place).fault in

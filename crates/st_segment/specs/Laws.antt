@@ -6,6 +6,11 @@
 -- st_refine, st_run, st_account and st_causes use the laws or their lemmas, except
 -- `EntriesBehindAreSeen`, which docs/CLAIMS.md names with four others. A changed statement changes
 -- docs/promises.txt.
+--
+-- Proved: each law has its lemma in proofs/Laws.antt, with its name in small letters.
+-- Claimed: docs/CLAIMS.md names EntriesBehindAreSeen, IndexWordsRunAhead, PredictionsLeaveTheRest,
+-- SignalsArePassedOver, and others.
+-- Change: docs/promises.txt lists each law, and the gate compares the list with the laws.
 use Rattle.std.specs.Prelude.{◌≡◌, ℕ, suc, ◌<◌, ◌≤◌, true, false, ◌++◌, [], ◌∷◌, List, Option, None}
 use Rattle.std.specs.List.{AllZip}
 use Rattle.st_bits.specs.Indicators.{IsIndicatorIfAny}
@@ -49,8 +54,9 @@ pub record PredictionsGoOn : Type 0 where
       issue_behind ds n (suc k) t s f ≡ issue_behind ds n 1 (table_behind k t) (predictions k t s)
       (issue_behind ds n k t s f)
 
--- The index words with k + 1 early changes are those of the k-th predicted state with the last
--- change (`change`). Without a serializing entry, k changes give those of this state (`state`).
+-- The index words with k + 1 speculative changes are those of the k-th predicted state with the
+-- last change (`change`). Without a serializing entry, k changes give those of this state
+-- (`state`).
 pub record IndexWordsRunAhead : Type 0 where
   pub change : (k : ℕ) (t : Option ℕ) (s : Machine) → IsMachine s → IsIndicatorIfAny t →
       split_words (suc k) t s

@@ -1,4 +1,4 @@
--- Predicted steps from a state, and the index words after the early changes of their entries.
+-- Predicted steps from a state, and the index words after the speculative changes of their entries.
 -- docs/machine.md ("Running ahead") says which step is predicted.
 --
 -- While its entries are in flight, the machine does not have these states. Definitions of st_ring,
@@ -8,14 +8,22 @@
 -- predicted state (`IndexWordsRunAhead`), and words 0 to 6, and words from 32 up that no entry
 -- writes, stay as they are (`PredictionsLeaveTheRest`); a predicted step is the step but for the
 -- counter of a mispredicted branch (`StepsArePredictions`).
+--
+-- Proved: by their `ensures` clauses these calls do what definitions here say: `push` (levels.rt of
+-- st_ring).
+-- Read by: definitions in Forecast of st_ahead, Going of st_ahead, Refined of st_refine, Levels of
+-- st_ring, and others.
+-- Laws: EntriesBehindAreSeen (specs/Laws.antt), IndexWordsRunAhead (specs/Laws.antt),
+-- PredictionsGoOn (specs/Laws.antt), PredictionsLeaveTheRest (specs/Laws.antt), and others.
+-- Change: the meaning is fixed by docs/timetable.md, since the contract of `st_top::stretch`
+-- unfolds to a definition here. The form is free, with the proofs that unfold it.
 use Rattle.std.specs.Prelude.{ℕ, zero, suc, List, Option, None}
 use Rattle.st_state.specs.Machine.{Machine}
 use Rattle.st_prep.specs.Fetch.{index_words}
 use Rattle.st_prep.specs.Plan.{plan, state_at_entry}
 use Rattle.st_exec.specs.Completion.{state_with_speculative_changes, prediction}
 
--- the state after k predicted steps; the first step is the table instruction of an interrupt, if
--- one was taken
+-- the state after k predicted steps, of which the first takes an interrupt, if there is one
 unfoldable pub predictions : ℕ → Option ℕ → Machine → Machine
 predictions zero table s = s
 predictions (suc k) table s = predictions k None (prediction table s)
@@ -25,12 +33,11 @@ abbrev pub table_behind : ℕ → Option ℕ → Option ℕ
 table_behind zero table = table
 table_behind (suc k) table = None
 
--- the state with the early change of its next entry: an index word and indicators
+-- the state with the speculative change of its next entry: an index word and indicators
 abbrev pub after_speculative_change : Option ℕ → Machine → Machine
 after_speculative_change table s = state_with_speculative_changes (plan s table) (state_at_entry table s)
 
--- the index words of a state with k entries in flight: those after the early changes of all k
--- entries
+-- the index words with k entries in flight: those after the speculative changes of all k
 unfoldable pub split_words : ℕ → Option ℕ → Machine → List ℕ
 split_words zero table s = index_words s
 split_words (suc k) table s =

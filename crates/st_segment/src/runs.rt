@@ -1,11 +1,12 @@
-//! The words that an entry (instruction) reads from storage, and those that it writes, from the
-//! words of its preparation: registers (words below 32) make no read and are left out of the words
-//! that are read.
+//! The words that an entry (instruction) reads from storage, and the words that it writes, from the
+//! words of its preparation. Registers (words below 32) make no read and are left out of the words
+//! that are read. docs/timetable.md has the rules. `st_next` calls the three functions when it
+//! plans an entry; `st_sweep` calls `words_to_write`. Runs are consecutive words, at most 16.
 //!
-//! `st_next` calls these functions when it plans an entry. Runs are consecutive words, at most 16.
-//! Proved: each result is the definition of this name in specs/Entries.antt. Pinned: written
-//! registers are kept, but nothing waits for them, because an entry that uses a register as a word
-//! is serializing. Free: the bodies.
+//! Proved: each result is the definition of this name in specs/Entries.antt.
+//!
+//! Pinned, by these definitions: written registers are kept. Nothing waits for a written register,
+//! because an entry that uses a register as a word is serializing. Free: the bodies.
 ghost use Rattle.std.specs.Prelude.{◌≡◌};
 ghost use Rattle.st_segment.specs.Entries.{above_registers as above_registers_of, words_to_read as words_to_read_of, words_to_write as words_to_write_of, side_to_read as side_to_read_of};
 
@@ -17,11 +18,12 @@ use st_rows::{WordRun, WordRuns};
 fn above_registers(first: u32, len: u8) -> WordRun
     ensures { result ≡ above_registers_of first len }
 {
-    let above = first.max(FIRST_STORAGE_WORD);
-    let registers = (above - first) as u8;
+    if first >= FIRST_STORAGE_WORD {
+        return WordRun { first, len };
+    }
     WordRun {
-        first: above,
-        len: len.saturating_sub(registers),
+        first: FIRST_STORAGE_WORD,
+        len: len.saturating_sub((FIRST_STORAGE_WORD - first) as u8),
     }
 }
 

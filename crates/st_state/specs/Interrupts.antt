@@ -1,5 +1,15 @@
 -- Indicators: indicator n is bit n of the indicator register, and bit n of the mask register is its
 -- mask bit.
+--
+-- Proved: by their `ensures` clauses these calls do what definitions here say: `leftmost`
+-- (indicators.rt), `turned` (indicators.rt), `apply` (lib.rt), `pending` (lib.rt), and others.
+-- Read by: definitions in Effect of st_exec, Plan of st_prep, Completion of st_exec, Outcome of
+-- st_exec, and others.
+-- Laws: OrdersArePassedOver (specs/Laws.antt of st_exec), UndoingPassesRegistersOver
+-- (specs/Laws.antt of st_back).
+-- Change: the meaning is fixed by docs/machine.md, since the contracts of `st_top::stretch` and
+-- `st_account::ledger` unfold to a definition here. The form is free, with the proofs that unfold
+-- it.
 use Rattle.std.specs.Prelude.{ℕ, zero, suc, ◌+◌, ◌*◌, ◌^◌, Bool, ◌==◌, ◌&&◌, if◌then◌else◌, Option, None, Some}
 use Rattle.std.specs.Int.{bit_at}
 use Rattle.st_bits.specs.declared.storage.Ind.{Ind}
@@ -7,8 +17,7 @@ use Rattle.st_bits.specs.declared.register.TheConstants.{INDICATORS, MASK}
 use Rattle.st_bits.specs.Indicators.{indicator, is_on}
 use Rattle.st_state.specs.Machine.{Machine, word, with_word}
 
--- an indicator after an update: on if its bit in on is one, off if its bit in off is one, otherwise
--- unchanged
+-- an indicator after an update: 1 if its bit in on is one, else 0 if its bit in off is one
 abbrev pub turned_bit : ℕ → ℕ → ℕ → ℕ
 turned_bit on off was = if on == 1 then 1 else if off == 1 then 0 else was
 

@@ -1,4 +1,14 @@
 -- The architectural state of the machine between two instructions.
+--
+-- Proved: by their `ensures` clauses these calls do what definitions here say: `new` (lib.rt),
+-- `word` (lib.rt), `apply` (lib.rt), `protects` (lib.rt), and others.
+-- Read by: definitions in Interrupts, Boundary, Orders, View, and others.
+-- Laws: EntriesRead36WordsAtMost (specs/Laws.antt of st_prep), EntriesLeaveWhatTheyDoNotWrite
+-- (specs/Laws.antt of st_exec), PredictionsLeaveTheRest (specs/Laws.antt of st_segment),
+-- WritersAreSeen (specs/Laws.antt of st_ring), and others.
+-- Change: the meaning is fixed by docs/machine.md, since the contracts of `st_top::stretch` and
+-- `st_account::ledger` unfold to a definition here. The form is free, with the proofs that unfold
+-- it.
 use Rattle.std.specs.Prelude.{ℕ, ◌≡◌, ◌+◌, ◌<◌, ◌≤◌, ◌^◌, Bool, false, List, length, slice_index, slice_set, Option, None, Some}
 use Rattle.st_bits.specs.Bits.{all_bits, put, words_of}
 use Rattle.st_bits.specs.Registers.{register_word, fixed_from}
@@ -6,8 +16,7 @@ use Rattle.st_bits.specs.Storage.{words_of_storage}
 use Rattle.st_bits.specs.declared.register.TheConstants.{MASK, FIRST_STORAGE_WORD}
 use Rattle.st_state.specs.declared.devices.Order.{Order}
 
--- the architectural state: storage, the program counter, the marks for interrupts and waiting, the
--- count of completed instructions, and the order of each device
+-- the state: storage, program counter, interrupts enabled, waiting, completed instructions, orders
 pub record Machine : Type 0 where
   pub words : List ℕ
   pub ic : ℕ
@@ -31,24 +40,20 @@ state_with_store s w x = with_word s w (register_word w x)
 
 -- the state after the bits b are written to storage from bit address a; fixed bits keep their value
 abbrev pub state_with_bits : Machine → ℕ → List ℕ → Machine
-state_with_bits s a b = record s {
-  words = fixed_from 0
-      (words_of (length s.words) (put (all_bits s.words) a b));
-}
+state_with_bits s a b =
+    record s { words = fixed_from 0 (words_of (length s.words) (put (all_bits s.words) a b)) }
 
--- the initial state: storage is the image, the fixed bits of the mask are set, and the program
--- counter is the start address
+-- the initial state: storage is the image, with the fixed bits of the mask
 abbrev pub opening_state : List ℕ → ℕ → Machine
-opening_state image start =
-    record {
-      words = slice_set image MASK (register_word MASK 0);
-      ic = start;
-      enabled = false;
-      waiting = false;
-      done = 0;
-      reader = None;
-      printer = None;
-    }
+opening_state image start = record {
+  words = slice_set image MASK (register_word MASK 0);
+  ic = start;
+  enabled = false;
+  waiting = false;
+  done = 0;
+  reader = None;
+  printer = None;
+}
 
 -- the area of an order, if there is one, is eight words of storage above the registers
 abbrev pub HasArea : Option Order → Type 0

@@ -1,13 +1,16 @@
 //! The two devices, reader and printer, and their orders: pending transfers of eight words between
-//! a device and storage.
+//! a device and storage. An order takes effect once `due` instructions are complete; `word` is a
+//! word address. `RD` and `WR` make orders (`st_exec`), `st_run` serves orders between two
+//! instructions, and `State`, `st_ahead` and `st_run` call `is_due`. docs/machine.md has the rules.
 //!
-//! An order takes effect once `due` instructions are complete (`is_due`); `word` is a word address.
-//! The rule is `Orders` in specs/. `RD` and `WR` make orders (`st_exec`), and `st_run` serves them
-//! between two instructions.
+//! Proved: `is_due` is the definition of its name in specs/Orders.antt. That an area lies in
+//! storage above the registers is part of the invariant of `State` (`HasArea` of
+//! specs/Machine.antt), not of `Order`.
 //!
-//! Proved: `is_due` is its definition. That an area lies in storage above the registers is part of
-//! the invariant of `State`, not of `Order`. A third device changes at least `Device`, `State`,
-//! `Orders`, `Transfer` in `st_exec` and `Run` in `st_run`. Free: the body.
+//! Pinned, by specs/Orders.antt, specs/Machine.antt and `interlude` of `st_run` (specs/Run.antt
+//! there): the fields of `Order` and the two devices. A third device changes at least `Device`,
+//! `State`, specs/Orders.antt, transfers.rt of `st_exec` and specs/Run.antt of `st_run`. Free: the
+//! body.
 ghost use Rattle.std.specs.Prelude.{◌≡◌};
 ghost use Rattle.st_state.specs.Orders.{is_due as is_due_of};
 

@@ -1,11 +1,14 @@
 //! The leftmost pending indicator, and updates of the indicators: bits of word 11 that are set by
-//! results and faults, and that can interrupt.
+//! results and faults, and that can interrupt. Indicator n is bit n of a word, and bit 0 is the
+//! leftmost. `State` calls both functions, and `st_exec` calls `turned`. docs/machine.md has the
+//! rules.
 //!
-//! Indicator n is bit n of a word, and bit 0 is the leftmost. `State` calls both functions, and
-//! `st_exec` calls `turned`.
+//! Proved: the results are `first_from` and `indicator_word` of specs/Interrupts.antt, for all
+//! words.
 //!
-//! Proved: each result is its definition in `Interrupts` of specs/, for all words. The form of the
-//! bodies is free: `leading_zeros` replaces the search from 0 to 63 that the definition describes.
+//! Pinned, by these definitions and docs/machine.md: the leftmost indicator counts, and an
+//! indicator that is in both words is on. Free: the bodies (`leading_zeros` replaces the search
+//! from 0 to 63 that the definition describes), if proofs/indicators follows.
 ghost use Rattle.std.specs.Prelude.{◌≡◌};
 ghost use Rattle.st_bits.specs.Indicators.{IsIndicatorIfAny};
 ghost use Rattle.st_state.specs.Interrupts.{first_from, is_pending, indicator_word as turned_of};

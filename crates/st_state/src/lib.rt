@@ -1,12 +1,16 @@
 //! The architectural state: storage with its registers, the program counter, the flags for enabled
 //! interrupts and for waiting, the count of completed instructions, and the orders of the devices.
+//! docs/machine.md has the rules. `st_prep` reads it; `st_exec`, `st_back` and `st_ahead` read and
+//! write it by these calls and the public fields; crates of runs, reports and the ledger show it.
 //!
-//! `st_exec`, `st_back` and `st_ahead` read and write it by these calls and the public fields.
-//! Proved: each call has the result or new state of `Machine`, `Boundary`, `Interrupts` and
-//! `Orders` in specs/; the invariant is `IsMachine`. Only `State::new` allocates. How words are
-//! kept is free, as long as `View` in specs/ maps them to a `Machine`. The fixed bits below are
-//! those of `fix_register` in `st_bits`, and the order of the checks in `may` is that of
-//! `forbidden_by`.
+//! Proved: each call has the result or new state of specs/Machine.antt, Boundary.antt,
+//! Interrupts.antt or Orders.antt; the invariant is `IsMachine` (specs/Machine.antt), which a step
+//! keeps (the law `EntriesLeaveStates` of `st_exec`). Only `State::new` allocates.
+//!
+//! Pinned, by `fix_register` of `st_bits` and docs/machine.md: the fixed bits below. Pinned, by
+//! `forbidden_by` of specs/Boundary.antt: the order of the checks in `may`. Pinned, by
+//! specs/View.antt and the crates named above: the public fields. Free: how words are kept, as long
+//! as specs/View.antt maps them to a `Machine`, if proofs/State follows.
 //!
 //! Words 0 to 31 of storage are the registers. A letter is a bit that can be one, `.` is always
 //! zero and `1` always one; bit 0 is leftmost.
@@ -37,7 +41,6 @@
 //!    13  remainder ($RM); 14 factor ($FT), 15 transit ($TR)
 //! 16-31  index words: value, sign, flags, count, refill
 //! ```
-//! `docs/machine.md` has the rules.
 #![tactic(auto, using(st_bits::specs::Storage::words_of_storage_is))]
 
 ghost use Rattle.std.specs.Prelude.{◌≡◌, ◌+◌, ◌*◌, ◌<◌, ◌≤◌, ◌^◌, IfOk, IsNone};

@@ -1,9 +1,13 @@
 //! Three reads of a state as functions, where a caller's proof needs the clause and not the field:
 //! the program counter (half-words), the interrupt flag, and the count of completed instructions.
+//! `st_ahead`, `st_run`, `st_lines` and `st_account` call them. docs/machine.md describes the
+//! state.
 //!
-//! `st_ahead`, `st_run`, `st_lines` and `st_account` call them. Proved: each returns its field of
-//! the state; `counter_in` also provides the invariant `IsMachine`. Free to change: the bodies. The
-//! clauses are pinned by the proofs of these callers.
+//! Proved: each function returns its field of the state (`Machine` in specs/Machine.antt);
+//! `counter_in` also gives the invariant `IsMachine` (clause `machine`) and that the counter is
+//! below 2^19 (clause `bound`).
+//!
+//! Pinned, by the proofs of these four crates: the names and clauses. Free: the bodies.
 ghost use Rattle.std.specs.Prelude.{◌≡◌, ◌<◌, ◌^◌};
 ghost use Rattle.st_state.specs.Machine.{IsMachine};
 

@@ -1,4 +1,13 @@
 -- Parts of the view of the levels of a machine.
+--
+-- Proved: by their `ensures` clauses these calls do what definitions here say: `count` (lib.rt),
+-- `level_line` (lib.rt), `snap_line` (lib.rt), `first_level` (telling.rt of st_telling), and
+-- others.
+-- Read by: definitions in Running of st_telling.
+-- Laws: none names a definition of this file itself.
+-- Change: no page fixes these definitions, since no contract of a program unfolds to them; they
+-- change together with the clauses, definitions and laws that name them. docs/report.md describes
+-- the subject.
 use Rattle.std.specs.Prelude.{ℕ, zero, suc, List, [], ◌∷◌, Option, None, Some, option_map}
 use Rattle.st_ahead.specs.declared.events.LevelView.{LevelView}
 

@@ -1,13 +1,15 @@
 //! The lines of the timetable, from views of the overlapped machine: rows, flushed entries,
-//! snapshots and their levels. `docs/report.md` has the rules.
+//! snapshots and their levels. docs/report.md has the lines. `st_telling` writes them; `st_report`
+//! formats the bytes of each line, and need not depend on the machine. Addresses are half-word
+//! addresses, ticks count from the start of the run. Lines are not allocated.
 //!
-//! `st_telling` writes these lines. Addresses are half-word addresses and ticks count from the
-//! start of the run; the bytes of each line are formatted by `st_report`, so that it need not
-//! depend on the machine.
+//! Proved, by the `ensures` of each call: each line is `row_line`, `drop_line`, `lev_line` or
+//! `snap_line` of specs/Line.antt of `st_report`; a snapshot has the number of levels before the
+//! first empty place (`levels_standing` in specs/Shown.antt).
 //!
-//! Proved: each line is that of `Line` in `st_report`, with the number of levels before the first
-//! empty place (`levels_standing` in specs/Shown.antt). Another form of a line is a change in
-//! `st_report`. Free: the bodies. Lines are not allocated.
+//! Pinned, by these clauses and docs/report.md: which field of a view goes where in a line. Another
+//! form of a line is a change in `st_report`. A new field of `View` or `LevelView` (`st_ahead`) is
+//! shown only if a clause here names it. Free: the bodies.
 #![tactic(auto)]
 
 ghost use Rattle.std.specs.Prelude.{◌≡◌, ◌≤◌, length, option_map};

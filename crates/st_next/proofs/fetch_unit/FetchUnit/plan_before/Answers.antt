@@ -5,31 +5,31 @@ use Rattle.st_next.proofs.Asking.{known-seen, plan-words, plan-asks, plan-tells,
 use Rattle.st_next.proofs.Telling.{told-then, told-nothing}
 use Rattle.st_next.proofs.fetch_unit.FetchUnit.plan_before.Goals as goal
 
-pub returns-then-waits_for-due-clause-next : goal.returns-then-waits_for-due-clause-next
-returns-then-waits_for-due-clause-next g c =
-    goes-waits _ _ _ _ _ _ _ _ c.requires.unplanned (omega (arith, c.waits_for.ensures, c.if-waits_for-due.true))
+pub returns-then-is_waiting-clause-next : goal.returns-then-is_waiting-clause-next
+returns-then-is_waiting-clause-next g c =
+    goes-waits _ _ _ _ _ _ _ _ c.requires.unplanned (c.if-is_waiting.ensures.yes refl)
 
-pub returns-then-waits_for-due-clause-further : goal.returns-then-waits_for-due-clause-further
-returns-then-waits_for-due-clause-further g c = further-nothing _ _ _ _
+pub returns-then-is_waiting-clause-further : goal.returns-then-is_waiting-clause-further
+returns-then-is_waiting-clause-further g c = further-nothing _ _ _ _
 
 pub prepare_own_before-requires-clause-known : goal.prepare_own_before-requires-clause-known
-prepare_own_before-requires-clause-known g c = (c.requires.known (omega (arith, c.waits_for.ensures, c.if-waits_for-due.false)))
+prepare_own_before-requires-clause-known g c = (c.requires.known (c.if-is_waiting.ensures.no refl))
 
 pub returns-then-not-prepare_own_before-clause-still : goal.returns-then-not-prepare_own_before-clause-still
-returns-then-not-prepare_own_before-clause-still g c late = absurd (omega (arith, late, c.waits_for.ensures, c.if-waits_for-due.false))
+returns-then-not-prepare_own_before-clause-still g c late = absurd (omega (arith, late, c.if-is_waiting.ensures.no refl))
 
 pub returns-clause-still : goal.returns-clause-still
-returns-clause-still g c late = absurd (omega (arith, late, c.waits_for.ensures, c.if-waits_for-due.false))
+returns-clause-still g c late = absurd (omega (arith, late, c.if-is_waiting.ensures.no refl))
 
 pub form-self-requires-clause-entry : goal.form-self-requires-clause-entry
 form-self-requires-clause-entry g c =
     let p = (c.if-not-prepare_own_before.ensures.prepared refl) in
-    known-seen _ _ _ _ _ _ _ c.if-not-prepare_own_before.ensures.unplanned (known-then _ _ _ _ _ _ _ _ _ (c.requires.known (omega (arith, c.waits_for.ensures, c.if-waits_for-due.false))) c.if-not-prepare_own_before.ensures.next) p.done _ refl p.found p.prepared
+    known-seen _ _ _ _ _ _ _ c.if-not-prepare_own_before.ensures.unplanned (known-then _ _ _ _ _ _ _ _ _ (c.requires.known (c.if-is_waiting.ensures.no refl)) c.if-not-prepare_own_before.ensures.next) p.done _ refl p.found p.prepared
 
 pub form-self-requires-clause-words : goal.form-self-requires-clause-words
 form-self-requires-clause-words g c =
     let p = (c.if-not-prepare_own_before.ensures.prepared refl) in
-    plan-words _ _ _ _ _ _ _ c.if-not-prepare_own_before.ensures.unplanned (known-then _ _ _ _ _ _ _ _ _ (c.requires.known (omega (arith, c.waits_for.ensures, c.if-waits_for-due.false))) c.if-not-prepare_own_before.ensures.next) p.done _ refl p.found p.prepared
+    plan-words _ _ _ _ _ _ _ c.if-not-prepare_own_before.ensures.unplanned (known-then _ _ _ _ _ _ _ _ _ (c.requires.known (c.if-is_waiting.ensures.no refl)) c.if-not-prepare_own_before.ensures.next) p.done _ refl p.found p.prepared
 
 pub returns-clause-next : goal.returns-clause-next
 returns-clause-next g c =
@@ -47,7 +47,7 @@ pub returns-clause-further : goal.returns-clause-further
 returns-clause-further g c =
     let p = (c.if-not-prepare_own_before.ensures.prepared refl) in
     further-then _ _ _ _ _ _ _ _ c.if-not-prepare_own_before.ensures.further
-    (plan-asks _ _ _ _ _ _ _ c.if-not-prepare_own_before.ensures.unplanned (known-then _ _ _ _ _ _ _ _ _ (c.requires.known (omega (arith, c.waits_for.ensures, c.if-waits_for-due.false))) c.if-not-prepare_own_before.ensures.next) p.done _ refl p.found p.prepared _ _ _ (record {
+    (plan-asks _ _ _ _ _ _ _ c.if-not-prepare_own_before.ensures.unplanned (known-then _ _ _ _ _ _ _ _ _ (c.requires.known (c.if-is_waiting.ensures.no refl)) c.if-not-prepare_own_before.ensures.next) p.done _ refl p.found p.prepared _ _ _ (record {
       rest = refl;
       awaited = c.form-self.ensures.awaited;
       address = c.form-self.ensures.address;
@@ -55,8 +55,8 @@ returns-clause-further g c =
       tick = c.form-self.ensures.tick;
     }) c.form-self.ensures.log)
 
-pub returns-then-waits_for-due-clause-told : goal.returns-then-waits_for-due-clause-told
-returns-then-waits_for-due-clause-told g c = told-nothing g.W.Watch.noted _ _ g.met.W.Watch.noted_none _ _
+pub returns-then-is_waiting-clause-told : goal.returns-then-is_waiting-clause-told
+returns-then-is_waiting-clause-told g c = told-nothing g.W.Watch.noted _ _ g.met.W.Watch.noted_none _ _
 
 pub returns-clause-told : goal.returns-clause-told
 returns-clause-told g c =

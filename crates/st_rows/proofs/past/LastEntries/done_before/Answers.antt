@@ -1,15 +1,17 @@
-use Rattle.std.proofs.Common.{◌≡◌, ◌+◌, ◌-◌, ◌%◌, get_or, ap, sym, ◌∙◌, arith}
-use Rattle.st_fetch.proofs.Windows.{get_or-window}
-use Rattle.st_rows.specs.Entries.{no_runs}
+use Rattle.std.proofs.Common.{◌≡◌, ◌+◌, ◌-◌, ◌%◌, get_or, ap, ◌∙◌, arith}
+use Rattle.std.proofs.lemmas.List.{get_or_default}
+use Rattle.st_rows.specs.Entries.{no_entry}
 use Rattle.st_rows.specs.Rows.{done_before}
-use Rattle.st_rows.specs.declared.past.Past.{Past}
+use Rattle.st_rows.specs.declared.past.Done.{Done}
+use Rattle.st_rows.proofs.Places.{count-places, tick-at}
 use Rattle.st_rows.proofs.past.LastEntries.done_before.Goals as goal
 
 pub returns : goal.returns
 returns c =
     let q = c.self.inside in
-    let none : Past = record { c = 0; writes = no_runs } in
+    let counted = count-places q.head q.done q.writes q.writers q.bounds.low q.bounds.high c.self.invariant in
     let place : (q.head + c.args.n - 1) % 8 ≡ (q.head + (c.args.n - 1)) % 8 = omega (arith, c.requires.0) in
-    ap (λ j. (get_or q.entries j none).c) place
-    ∙ sym (ap (λ (e : Past). e.c) (get_or-window 8 q.head 8 q.entries c.self.invariant.inside (omega arith) c.self.invariant.whole (c.args.n - 1) none (omega (arith, c.requires.1))))
+    ap (λ (it : Done). it.c) (get_or_default q.done ((q.head + c.args.n - 1) % 8) _ no_entry (omega (arith, counted)))
+    ∙ ap (λ j. (get_or q.done j no_entry).c) place
+    ∙ tick-at q.head q.done q.writes q.writers q.bounds.low q.bounds.high c.self.invariant (c.args.n - 1) no_entry (omega (arith, c.requires.1))
     ∙ ap (done_before c.args.n) c.self.view_is

@@ -1,48 +1,47 @@
 use Rattle.std.proofs.Common.{◌<◌, ap, sym, ◌∙◌, subst, arith}
 use Rattle.std.specs.Int.{trailing_zeros, w64}
-use Rattle.st_fetch.proofs.Windows.{length-window, get_or-window}
-use Rattle.st_rows.specs.Entries.{no_runs, is_among}
+use Rattle.st_rows.proofs.Places.{count, words-at}
+use Rattle.st_rows.specs.Entries.{is_among, entries_in}
 use Rattle.st_rows.specs.Supplies.{writer_back}
 use Rattle.st_fetch.specs.Queue.{window}
-use Rattle.st_rows.specs.declared.past.Past.{Past}
-use Rattle.st_rows.proofs.Writers.{IsLeft, all-left, none-back, newest-inside, newest-back, fewer-left, next-left}
+use Rattle.st_rows.proofs.Writers.{IsLeft, all-left, none-back, newest-inside, newest-some, newest-back, fewer-left, next-left}
 use Rattle.st_rows.proofs.past.LastEntries.latest_back.Goals as goal
 
 pub writers-init : goal.writers-init
 writers-init c =
-    let past = window c.self.inside.head 8 c.self.inside.entries in
+    let past = window c.self.inside.head 8 (entries_in c.self.inside.done) in
     subst (IsLeft past c.args.w) (sym c.self.invariant.writers) (all-left past c.args.w)
 
 pub returns-then-has : goal.returns-then-has
 returns-then-has c =
     let q = c.self.inside in
-    let past = window q.head 8 q.entries in
+    let past = window q.head 8 (entries_in q.done) in
     let at = trailing_zeros w64 c.writers.left in
-    let counted = length-window 8 q.head 8 q.entries c.self.invariant.inside (omega arith) c.self.invariant.whole in
+    let counted = count q.head q.done q.writes q.writers q.bounds.low q.bounds.high c.self.invariant in
     let below : at < 8 = omega (arith, counted, newest-inside past c.args.w c.writers.left (omega arith) (omega arith) c.writers.invariant) in
-    let none : Past = record { c = 0; writes = no_runs } in
-    let same = get_or-window 8 q.head 8 q.entries c.self.invariant.inside (omega arith) c.self.invariant.whole at none below in
+    let some = newest-some past c.args.w c.writers.left (omega arith) (omega arith) c.writers.invariant in
+    let same = words-at q.head q.done q.writes q.writers q.bounds.low q.bounds.high c.self.invariant at below some in
     newest-back past c.args.w c.writers.left (omega arith) (omega arith) c.writers.invariant
-    (c.if-has.ensures ∙ ap (λ (e : Past). is_among c.args.w e.writes) (sym same))
+    (c.if-has.ensures ∙ ap (is_among c.args.w) same)
     ∙ ap (λ seen. writer_back seen c.args.w) c.self.view_is
 
 pub writers-smaller : goal.writers-smaller
 writers-smaller c =
-    fewer-left (window c.self.inside.head 8 c.self.inside.entries) c.args.w c.writers.left (omega arith) (omega arith) c.writers.invariant
+    fewer-left (window c.self.inside.head 8 (entries_in c.self.inside.done)) c.args.w c.writers.left (omega arith) (omega arith) c.writers.invariant
 
 pub writers-preserved : goal.writers-preserved
 writers-preserved c =
     let q = c.self.inside in
-    let past = window q.head 8 q.entries in
+    let past = window q.head 8 (entries_in q.done) in
     let at = trailing_zeros w64 c.writers.left in
-    let counted = length-window 8 q.head 8 q.entries c.self.invariant.inside (omega arith) c.self.invariant.whole in
+    let counted = count q.head q.done q.writes q.writers q.bounds.low q.bounds.high c.self.invariant in
     let below : at < 8 = omega (arith, counted, newest-inside past c.args.w c.writers.left (omega arith) (omega arith) c.writers.invariant) in
-    let none : Past = record { c = 0; writes = no_runs } in
-    let same = get_or-window 8 q.head 8 q.entries c.self.invariant.inside (omega arith) c.self.invariant.whole at none below in
+    let some = newest-some past c.args.w c.writers.left (omega arith) (omega arith) c.writers.invariant in
+    let same = words-at q.head q.done q.writes q.writers q.bounds.low q.bounds.high c.self.invariant at below some in
     next-left past c.args.w c.writers.left (omega arith) (omega arith) c.writers.invariant (omega (arith, counted))
-    (c.if-has.ensures ∙ ap (λ (e : Past). is_among c.args.w e.writes) (sym same))
+    (c.if-has.ensures ∙ ap (is_among c.args.w) same)
 
 pub returns : goal.returns
 returns c =
-    none-back (window c.self.inside.head 8 c.self.inside.entries) c.args.w c.writers.left (omega arith) c.writers.invariant
+    none-back (window c.self.inside.head 8 (entries_in c.self.inside.done)) c.args.w c.writers.left (omega arith) c.writers.invariant
     ∙ ap (λ seen. writer_back seen c.args.w) c.self.view_is

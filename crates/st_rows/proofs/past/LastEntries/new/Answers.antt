@@ -1,17 +1,21 @@
 use Rattle.std.proofs.Common.{◌≡◌, false, refl, arith}
 use Rattle.std.proofs.lemmas.List.Elements.{All-replicate}
-use Rattle.st_rows.specs.Entries.{is_among, writer_bits}
+use Rattle.st_rows.specs.Entries.{no_runs, is_among, writer_bits}
 use Rattle.st_rows.specs.declared.past.Past.{Past}
+use Rattle.st_rows.proofs.Places.{none-written}
 use Rattle.st_rows.proofs.Writers.{silent-runs}
 use Rattle.st_rows.proofs.past.LastEntries.new.Goals as goal
 
 pub invariant_of-result : goal.invariant_of-result
 unfolding writer_bits
 invariant_of-result c =
-    let is = c.default.ensures in
-    record {
+    rw (c.no_entry.ensures, c.no_entry-2.ensures, c.no_entry-3.ensures, c.no_entry-4.ensures, c.no_entry-5.ensures, c.no_entry-6.ensures, c.no_entry-7.ensures, c.no_entry-8.ensures)
+    (record {
       inside = omega arith;
       whole = refl;
-      writers = rw (is.1.0.1, is.1.1.1) refl;
-      bounds = λ w above out. All-replicate (λ (e : Past). is_among w e.writes ≡ false) 8 c.default.result (silent-runs w c.default.result is.1.0.1 is.1.1.1);
-    }
+      wide = refl;
+      ticks = refl;
+      words = λ i below some. absurd (none-written i below some);
+      writers = refl;
+      bounds = λ w above out. All-replicate (λ (e : Past). is_among w e.writes ≡ false) 8 (record { c = 0; writes = no_runs }) (silent-runs w (record { c = 0; writes = no_runs }) refl refl);
+    })

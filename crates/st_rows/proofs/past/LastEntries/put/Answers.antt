@@ -1,10 +1,9 @@
-use Rattle.std.proofs.Common.{◌≡◌, ◌∷◌, List, take, length-set, ap, ◌∙◌, arith}
-use Rattle.std.proofs.lemmas.List.{get_or-set_same}
+use Rattle.std.proofs.Common.{◌∷◌, ◌+◌, ◌-◌, ◌%◌, List, take, length, length-set, ap, ◌∙◌, arith}
 use Rattle.st_rows.specs.declared.past.Past.{Past}
-use Rattle.st_rows.specs.Entries.{has_words}
+use Rattle.st_rows.specs.Entries.{entries_in}
 use Rattle.st_fetch.specs.Queue.{window}
-use Rattle.st_fetch.proofs.Windows.{length-window}
-use Rattle.st_rows.proofs.Shifted.{bit-is, bits-shifted, window-put}
+use Rattle.st_rows.proofs.Places.{count, entries-put, ticks-put, words-put}
+use Rattle.st_rows.proofs.Shifted.{bits-shifted, window-put}
 use Rattle.st_rows.proofs.Writers.{unwritten-put}
 use Rattle.st_rows.proofs.past.LastEntries.put.Goals as goal
 
@@ -12,22 +11,27 @@ pub invariant_of-self : goal.invariant_of-self
 invariant_of-self c =
     let q = c.self.inside in
     let is = c.self.invariant in
-    let kept : c.any-writes.result ≡ has_words c.args.newest.writes =
-    c.any-writes.ensures ∙ ap (λ (p : Past). has_words p.writes) (get_or-set_same q.entries _ c.args.newest _ (omega (arith, is.whole))) in
+    let past = window q.head 8 (entries_in q.done) in
+    let put = entries-put q.head q.done q.writes q.writers q.bounds.low q.bounds.high is c.put_done.new.place c.keep_words.new.place c.args.newest c.put_done.ensures.tick c.put_done.ensures.entry c.keep_words.ensures.words in
     record {
       inside = omega arith;
-      whole = length-set q.entries _ c.args.newest ∙ is.whole;
+      whole = ap length put ∙ length-set (entries_in q.done) _ c.args.newest ∙ is.whole;
+      wide = length-set q.writes _ c.keep_words.new.place ∙ is.wide;
+      ticks = ticks-put q.head q.done q.writes q.writers q.bounds.low q.bounds.high is c.put_done.new.place c.keep_words.new.place c.args.newest c.put_done.ensures.tick c.put_done.ensures.entry c.keep_words.ensures.words;
+      words = words-put q.head q.done q.writes q.writers q.bounds.low q.bounds.high is c.put_done.new.place c.keep_words.new.place c.args.newest c.put_done.ensures.tick c.put_done.ensures.entry c.keep_words.ensures.words;
       writers =
-          rw (c.from.ensures, bit-is c.any-writes.result, kept, is.writers, window-put q.head q.entries c.args.newest is.inside is.whole)
-          (bits-shifted c.args.newest (window q.head 8 q.entries) (length-window 8 q.head 8 q.entries is.inside (omega arith) is.whole));
+          rw (c.keep_words.ensures.writers, is.writers, put, window-put q.head (entries_in q.done) c.args.newest is.inside is.whole)
+          (bits-shifted c.args.newest past (count q.head q.done q.writes q.writers q.bounds.low q.bounds.high is));
       bounds = λ w above out.
-          let all = c.widened-self-inside.ensures w above out in
-          rw (window-put q.head q.entries c.args.newest is.inside is.whole)
-          (unwritten-put w c.args.newest (window q.head 8 q.entries) all.0 all.1 (is.bounds w above all.2));
+          let all = c.keep_words.ensures.bounds w above out in
+          rw (put, window-put q.head (entries_in q.done) c.args.newest is.inside is.whole)
+          (unwritten-put w c.args.newest past all.0 all.1 (is.bounds w above all.2));
     }
 
 pub returns : goal.returns
 returns c =
     let q = c.self.inside in
-    window-put q.head q.entries c.args.newest c.self.invariant.inside c.self.invariant.whole
+    let is = c.self.invariant in
+    ap (window ((q.head + 8 - 1) % 8) 8) (entries-put q.head q.done q.writes q.writers q.bounds.low q.bounds.high is c.put_done.new.place c.keep_words.new.place c.args.newest c.put_done.ensures.tick c.put_done.ensures.entry c.keep_words.ensures.words)
+    ∙ window-put q.head (entries_in q.done) c.args.newest is.inside is.whole
     ∙ ap (λ (past : List Past). c.args.newest ∷ take 7 past) c.self.view_is
