@@ -12,14 +12,14 @@ use Rattle.std.proofs.lemmas.List.Elements.{All-nil, All-cons, All-head, All-tai
 use Rattle.st_text.specs.Number.{is_filled}
 use Rattle.st_card.specs.Cards.{text_in, card_at, cards_from, cards_of}
 use Rattle.st_text.specs.Pieces.{pieces_of}
-use Rattle.st_card.specs.Controls.{Asked, nothing_asked, asked_with_card, is_in_range}
-use Rattle.st_card.specs.Limits.{IsWithinLimits, AreDelays, is_signal, is_part, is_tick}
+use Rattle.st_card.specs.Controls.{Asked, asked_with_card, is_in_range}
+use Rattle.st_card.specs.Limits.{IsWithinLimits, AreDelays}
 use Rattle.st_card.specs.declared.cards.Card.{Card}
 use Rattle.st_card.specs.declared.cards.CardKind.{CardKind}
 use Rattle.st_card.specs.declared.cards.CardKind.TheVariants.{Comment, Control, Statement as StatementCard}
 use Rattle.st_card.specs.declared.faults.Fault.{Fault}
 use Rattle.st_card.specs.declared.faults.Fault.TheVariants.{BadControlCard, CardAfterEnd}
-use Rattle.st_card.proofs.LimitLemmas.{added-kept}
+use Rattle.st_card.proofs.LimitLemmas.{added-kept, nothing-within, others-within}
 use Rattle.st_expr.specs.Name.{is_name, is_name_byte, padded_name}
 use Rattle.st_strap.specs.Order.{next_reading, reading_map}
 use Rattle.st_strap.specs.Saying.{statement_of}
@@ -33,7 +33,7 @@ use Rattle.st_asm.specs.Values.{value_modulo, values_of}
 use Rattle.st_asm.specs.Checks.{value_fault}
 use Rattle.st_asm.specs.Places.{placing_of, place_in}
 use Rattle.st_asm.specs.Naming.{Named, naming_at_start, name_fault, name_step, name_card, name_pass, place_of_card, symbol_of}
-use Rattle.st_asm.specs.Valuing.{Emitted, laying_at_start, value_statement, value_saying, value_card, value_pass}
+use Rattle.st_asm.specs.Valuing.{Emitted, emitting_at_start, value_statement, value_saying, value_card, value_pass}
 use Rattle.st_asm.specs.Assembly.{together, with_defaults}
 use Rattle.st_asm.specs.Sound.{IsLocation, IsSymbol, IsAssemblySound}
 use Rattle.st_asm.specs.Kept.{IsReadCard, IsDeck, IsNamed, IsSoundLayout}
@@ -215,22 +215,8 @@ form-kept job s card is =
     ok-unless IsDeck (first_fault_of card.kind card.fault) (form_kind card.kind s card.number card.fault (text_in job card))
     (form_kind-kept s card.number card.fault (text_in job card) card.kind is)
 
-unread-limits : IsWithinLimits nothing_asked
-unread-limits = record {
-  budget = lit≤ tt;
-  delays = record { each = All-nil (λ n. is_in_range 1 255 n ≡ true); few = lit≤ tt };
-  signals = record {
-    each = All-nil (λ s. is_signal s ≡ true);
-    counts = λ i j d le below. omega arith;
-    few = lit≤ tt;
-  };
-  dumps = record { each = All-nil (λ p. is_part p ≡ true); few = lit≤ tt };
-  snaps = record { each = All-nil (λ t. is_tick t ≡ true); rising = λ i below. omega arith; few = lit≤ tt };
-  back = lit≤ tt;
-}
-
 unread-is : IsDeck found_at_start
-unread-is = record { lines = All-nil IsReadCard; limits = unread-limits }
+unread-is = record { lines = All-nil IsReadCard; limits = nothing-within }
 
 ended-kept : (P : Found → Type 0) (cards : ℕ) (r : Result Found Refusal) → IfOk r P → IfOk (pass_then r (with_end cards)) P
 ended-kept P cards (Ok found) is = ok-if P found.ended (Ok found) _ (λ e. is) (λ e. tt)
@@ -339,7 +325,7 @@ pub value_pass-numbers : (symbols : List (List ℕ × ℕ)) (lines : List ReadCa
 unfolding value_pass
 value_pass-numbers symbols lines places emitted is same =
     subst (λ r. IfOk r (λ t. numbers_in t.rows ≡ map (λ p. p.0.card) (zip lines places))) is
-    (pass-numbers (value_card symbols) (λ p. p.0.card) (λ t. numbers_in t.rows) (value-numbers symbols) laying_at_start (zip lines places))
+    (pass-numbers (value_card symbols) (λ p. p.0.card) (λ t. numbers_in t.rows) (value-numbers symbols) emitting_at_start (zip lines places))
     ∙ zip-cards lines places same
 
 -- ---- the whole assembly
@@ -418,14 +404,7 @@ unfolding with_defaults
 defaults-within asked is =
     let budget = budget-within asked.budget is.budget in
     let delays = delays-within asked.delays is.delays in (
-      record {
-        budget = budget.0;
-        delays = delays.0;
-        signals = is.signals;
-        dumps = is.dumps;
-        snaps = is.snaps;
-        back = is.back;
-      },
+      others-within asked _ _ is budget.0 delays.0,
       budget.1,
       delays.1,
     )

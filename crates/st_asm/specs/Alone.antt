@@ -1,4 +1,11 @@
 -- The bits that a single statement assembles to, on a card without a name at a location in storage.
+--
+-- Proved: by their `ensures` clauses these calls do what definitions here say: `emitted_alone`
+-- (alone.rt), `emitted_by` (alone.rt), `emitted_with` (alone.rt).
+-- Read by: definitions in Read of st_dis, Spelling of st_dis.
+-- Laws: none names a definition of this file itself.
+-- Change: the meaning is fixed by docs/strap.md, since the contract of `st_top::stretch` unfolds to
+-- a definition here. The form is free, with the proofs that unfold it.
 use Rattle.std.specs.Prelude.{ℕ, List, [], Option, Some, None, is_none, Result, Ok, Err, if◌then◌else◌}
 use Rattle.st_card.specs.declared.faults.Fault.{Fault}
 use Rattle.st_strap.specs.Saying.{statement_of}
@@ -12,11 +19,9 @@ use Rattle.st_asm.specs.Emitting.{bits_of}
 use Rattle.st_asm.specs.declared.values.Values.{Values}
 use Rattle.st_asm.specs.declared.alone.EmittedBits.{EmittedBits}
 
--- the bits that a statement with these values assembles to, if it has no fault at the first
--- location
+-- the bits of a statement with these values, if it has no fault at the first location
 abbrev pub emitted_with : Statement → Values → Option EmittedBits
-emitted_with s v =
-    if is_none (value_fault s v naming_at_start.location)
+emitted_with s v = if is_none (value_fault s v naming_at_start.location)
     then Some (record { length = length_in (placing_of s); bits = bits_of s v }) else None
 
 -- the bits that a statement assembles to, if its names are all in a table and it has no fault

@@ -1,4 +1,12 @@
 -- The errors of passes and of the assembler, related to the specified results.
+--
+-- Proved: by their `ensures` clauses these calls do what definitions here say: `assemble`
+-- (assembling.rt), `assemble_cards` (assembling.rt), `add_card` (forming.rt), `add_control`
+-- (forming.rt), and others.
+-- Laws: none names a definition of this file itself.
+-- Change: no page fixes these definitions, since no contract of a program unfolds to them; they
+-- change together with the clauses, definitions and laws that name them. docs/strap.md describes
+-- the subject.
 use Rattle.std.specs.Prelude.{◌≡◌, ℕ, ⊤, Result, Err}
 use Rattle.st_card.specs.declared.faults.Fault.{Fault}
 use Rattle.st_asm.specs.Pass.{Refusal}

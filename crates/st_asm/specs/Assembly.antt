@@ -1,4 +1,15 @@
 -- The assembly of a job: the form pass, then the name pass, then the value pass.
+--
+-- Proved: by their `ensures` clauses these calls do what definitions here say: `assemble`
+-- (assembling.rt), `assemble_cards` (assembling.rt), `with_defaults` (assembling.rt), `answer_run`
+-- (execution.rt of st_top), and others.
+-- Read by: definitions in Sound, Stops, Marks of st_top, Output of st_top, and others.
+-- Laws: DecksAssembleToTheirProgram (specs/Laws.antt of st_dis), MadeDecksAreNotRefused
+-- (specs/Laws.antt of st_laws), CardsOfDelaysChangeDelaysAlone (specs/DelayLaws.antt of st_top),
+-- JobsThatDifferInDelaysAlone (specs/DelayLaws.antt of st_top), and others.
+-- Change: the meaning is fixed by docs/strap.md, since the contracts of `st_top::stretch` and
+-- `st_account::ledger` unfold to a definition here. The form is free, with the proofs that unfold
+-- it.
 use Rattle.std.specs.Prelude.{ℕ, ◌==◌, List, [], ◌∷◌, length, Result, Ok, if◌then◌else◌}
 use Rattle.st_card.specs.Cards.{cards_of}
 use Rattle.st_card.specs.Controls.{Asked}
@@ -11,8 +22,7 @@ use Rattle.st_asm.specs.declared.naming.Symbol.{Symbol}
 use Rattle.st_asm.specs.declared.valuing.Listed.{Listed}
 use Rattle.st_asm.specs.declared.assembling.Assembled.{Assembled}
 
--- the result of assembling a job: the words of storage, the start, the rows of the listing, the
--- symbols, and the requests of its control cards
+-- the result of assembling a job: words of storage, start, rows of the listing, symbols, requests
 pub record Assembly : Type 0 where
   pub image : List ℕ
   pub start : ℕ
@@ -20,8 +30,7 @@ pub record Assembly : Type 0 where
   pub symbols : List Symbol
   pub asked : Asked
 
--- requests with defaults if no card sets them: a budget of 1000 instructions, and one delay of 1
--- tick
+-- requests with defaults for the unset ones: 1000 instructions, and one delay of 1 tick
 unfoldable pub with_defaults : Asked → Asked
 with_defaults asked = record asked {
   budget = if asked.budget == 0 then 1000 else asked.budget;
@@ -38,11 +47,9 @@ together found named emitted = record {
   asked = with_defaults found.asked;
 }
 
--- the result of assembling a job, or the refusal of the first faulty card in the earliest pass that
--- finds a fault
+-- the result of assembling a job, or the refusal of the earliest pass that finds a fault
 unfoldable pub assembly : List ℕ → Result Assembly Refusal
-assembly job =
-    pass_then (form_pass job (cards_of job)) (λ found.
+assembly job = pass_then (form_pass job (cards_of job)) (λ found.
     pass_then (name_pass found.lines) (λ named.
     pass_then (value_pass (table named.symbols) found.lines named.places) (λ emitted.
     Ok (together found named emitted))))

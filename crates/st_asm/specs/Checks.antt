@@ -1,4 +1,13 @@
 -- The faults of the value pass.
+--
+-- Proved: by their `ensures` clauses these calls do what definitions here say: `extent`
+-- (checks.rt), `fits` (checks.rt), `fits_index_word` (checks.rt), `in_range` (checks.rt), and
+-- others.
+-- Read by: definitions in Alone, Valuing.
+-- Laws: SizesOfStorageAgree (specs/Laws.antt of st_laws).
+-- Change: the meaning is fixed by docs/strap.md, since the contracts of `st_top::stretch` and
+-- `st_account::ledger` unfold to a definition here. The form is free, with the proofs that unfold
+-- it.
 use Rattle.std.specs.Prelude.{ℕ, ℤ, pos, negsuc, ◌+◌, ◌*◌, ◌%◌, ◌^◌, ◌==◌, ◌&&◌, ◌||◌, Bool, true, false, not, nat_le, nat_lt, unsigned_abs, [], ◌∷◌, Option}
 use Rattle.st_asm.specs.declared.checks.TheConstants.{MOST_OFFSET, MOST_MOVED, MOST_WAITED, MOST_COUNT, MOST_FLAGS}
 use Rattle.st_bits.specs.declared.register.TheConstants.{FIRST_STORAGE_WORD}
@@ -19,8 +28,7 @@ abbrev pub is_address : ℤ → Bool
 is_address (pos n) = nat_lt n (2 ^ 24)
 is_address (negsuc n) = false
 
--- whether each address of a statement is in the range of addresses; the value of an index word is
--- not an address
+-- whether each address of a statement is a bit address; an index word's value is not an address
 unfoldable pub in_range : Statement → Values → Bool
 in_range (IndexWord value count refill flags) v = is_address v.second
 in_range _ v = is_address v.first && is_address v.second
@@ -44,8 +52,7 @@ fits _ v = true
 abbrev pub is_multiple : ℕ → ℤ → Bool
 is_multiple unit a = unsigned_abs a % unit == 0
 
--- whether each address is on the boundary that its use requires: half-word boundaries for addresses
--- of half-word instructions, second addresses and the start, word boundaries for refill addresses
+-- whether each half-word address is a multiple of 32 bits, and each refill address one of 64 bits
 unfoldable pub on_boundary : Statement → Values → Bool
 on_boundary (Half op j at) v = is_multiple 32 v.first
 on_boundary (Branch op at) v = is_multiple 32 v.first

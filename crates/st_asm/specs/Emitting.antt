@@ -1,4 +1,13 @@
 -- The bits that a statement assembles to.
+--
+-- Proved: by their `ensures` clauses these calls do what definitions here say: `bits_of`
+-- (emitting.rt), `half_word` (emitting.rt), `index_of` (emitting.rt), `index_word_bits`
+-- (emitting.rt), and others.
+-- Read by: definitions in Valuing, Alone.
+-- Laws: none names a definition of this file itself.
+-- Change: the meaning is fixed by docs/strap.md, since the contracts of `st_top::stretch` and
+-- `st_account::ledger` unfold to a definition here. The form is free, with the proofs that unfold
+-- it.
 use Rattle.std.specs.Prelude.{ℕ, ℤ, ◌+◌, ◌*◌, ◌/◌, ◌^◌, unsigned_abs, Option, Some, None}
 use Rattle.st_bits.specs.Bits.{with_part}
 use Rattle.st_bits.specs.IndexWord.{index_word_with_value, with_count, with_refill}
@@ -7,7 +16,7 @@ use Rattle.st_format.specs.Formats.{first_half, second_half}
 use Rattle.st_format.specs.declared.instruction.Instr.{Instr}
 use Rattle.st_format.specs.declared.instruction.Instr.TheVariants as emitted
 use Rattle.st_strap.specs.Statements.{Spot, Statement}
-use Rattle.st_strap.specs.declared.statement.Statement.TheVariants.{Half, Sum, Refill, Branch, Floating, Vfl, Connect, Move, BitBranch, IndBranch, StoreCounter, Transfer, Data, IndexWord, Synonym, SetLocation, Reserve, End}
+use Rattle.st_strap.specs.declared.statement.Statement.TheVariants.{Half, Sum, Refill, Branch, Floating, Vfl, Connect, Move, BitBranch, IndBranch, StoreCounter, Transfer, Data, IndexWord}
 use Rattle.st_asm.specs.declared.values.Values.{Values}
 use Rattle.st_asm.specs.Numbers.{field_bits_of}
 
@@ -29,15 +38,13 @@ number_of_halves first (Some second) = first * 2 ^ 32 + second
 abbrev pub instruction_bits : Instr → ℕ
 instruction_bits instr = number_of_halves (first_half instr) (second_half instr)
 
--- the bits of an index word: a value, a count, a refill address (given as a bit address), and flags
--- in bits 25 to 27
+-- the bits of an index word: value, count, refill address (a bit address), and flags in bits 25-27
 unfoldable pub index_word_bits : ℤ → ℕ → ℤ → ℕ → ℕ
 index_word_bits value count refill flags =
     with_part (with_refill (with_count (index_word_with_value 0 value) count)
     (unsigned_abs refill / 64)) 25 3 flags
 
--- the bits that a statement assembles to, as a number; the list of LVS is in the first 16 of the 19
--- bits of the address
+-- the bits of a statement, as a number; the list of LVS is in the first 16 of the address's 19 bits
 unfoldable pub bits_of : Statement → Values → ℕ
 bits_of (Half op j at) v = instruction_bits (emitted.Half op (half_word_bits v.first) j at.index)
 bits_of (Sum j listed) v = instruction_bits (emitted.Half Lvs (listed * 8) j 0)
@@ -51,21 +58,16 @@ bits_of (Vfl op negated f at offset) v = instruction_bits
     (unsigned_abs v.first) at.index)
 bits_of (Connect kind truth f at offset) v = instruction_bits
     (emitted.Connect kind truth f.p f.length f.byte offset (unsigned_abs v.first) at.index)
-bits_of (Move swap at second count) v =
-    instruction_bits (emitted.Move swap (unsigned_abs v.first) at.index
-    (half_word_bits v.second) count)
+bits_of (Move swap at second count) v = instruction_bits
+    (emitted.Move swap (unsigned_abs v.first) at.index (half_word_bits v.second) count)
 bits_of (BitBranch sense change at second) v = instruction_bits
     (emitted.BitBranch sense change (unsigned_abs v.first) at.index (half_word_bits v.second))
-bits_of (IndBranch sense off at second) v =
-    instruction_bits (emitted.IndBranch sense off (unsigned_abs v.first) at.index
-    (half_word_bits v.second))
-bits_of (StoreCounter at second) v =
-    instruction_bits (emitted.StoreCounter (unsigned_abs v.first) at.index (half_word_bits v.second))
+bits_of (IndBranch sense off at second) v = instruction_bits
+    (emitted.IndBranch sense off (unsigned_abs v.first) at.index (half_word_bits v.second))
+bits_of (StoreCounter at second) v = instruction_bits
+    (emitted.StoreCounter (unsigned_abs v.first) at.index (half_word_bits v.second))
 bits_of (Transfer write at count) v =
     instruction_bits (emitted.Transfer write (unsigned_abs v.first) at.index count)
 bits_of (Data form minus number) v = field_bits_of form minus number
 bits_of (IndexWord value count refill flags) v = index_word_bits v.first count v.second flags
-bits_of (Synonym at) v = 0
-bits_of (SetLocation at) v = 0
-bits_of (Reserve at) v = 0
-bits_of (End at) v = 0
+bits_of _ v = 0

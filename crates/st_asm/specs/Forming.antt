@@ -1,5 +1,14 @@
 -- The form pass: it checks each card by itself, collects the requests of control cards, and finds
 -- the END card.
+--
+-- Proved: by their `ensures` clauses these calls do what definitions here say: `read_cards`
+-- (forming.rt), `add_card` (forming.rt), `add_control` (forming.rt), `add_line` (forming.rt), and
+-- others.
+-- Read by: definitions in Stops, Assembly, Kept, Valuing.
+-- Laws: CardsHaveTheirFirstFault (specs/Laws.antt), PassesStopAtTheFirstFault (specs/Laws.antt).
+-- Change: the meaning is fixed by docs/strap.md, since the contracts of `st_top::stretch` and
+-- `st_account::ledger` unfold to a definition here. The form is free, with the proofs that unfold
+-- it.
 use Rattle.std.specs.Prelude.{ℕ, ◌+◌, Bool, true, false, List, [], ◌∷◌, ◌++◌, length, Option, Some, None, Result, Ok, Err, if◌then◌else◌}
 use Rattle.st_card.specs.Cards.{text_in}
 use Rattle.st_card.specs.Controls.{Asked, nothing_asked, asked_with_card}
@@ -31,18 +40,15 @@ found_in d = record { ended = d.ended; asked = d.controls; lines = d.lines.items
 abbrev pub found_at_start : Found
 found_at_start = record { ended = false; asked = nothing_asked; lines = [] }
 
--- the fault of a statement card that precedes CardAfterEnd: any that it has by itself except a bad
--- column 1
+-- the fault of a statement card that precedes CardAfterEnd: any that it has by itself but BadName
 abbrev pub before_end : Option Fault → Option Fault
-before_end None = None
 before_end (Some BadName) = None
-before_end (Some fault) = Some fault
+before_end fault = fault
 
 -- the fault of a card that precedes the checks of the form pass, by its kind
 abbrev pub first_fault_of : CardKind → Option Fault → Option Fault
-first_fault_of Comment fault = fault
-first_fault_of Control fault = fault
 first_fault_of StatementCard fault = before_end fault
+first_fault_of _ fault = fault
 
 -- whether a statement is END
 abbrev pub is_end : Statement → Bool
@@ -55,16 +61,12 @@ with_line found line = record found { lines = found.lines ++ line ∷ [] }
 
 -- the result with one more statement card
 abbrev pub with_statement : Found → ℕ → List ℕ → Statement → Found
-with_statement found card name statement = record {
-  ended = is_end statement;
-  asked = found.asked;
-  lines = found.lines ++ saying card (name_in name) statement ∷ [];
-}
+with_statement found card name statement =
+    record (with_line found (saying card (name_in name) statement)) { ended = is_end statement }
 
 -- the result with one more control card and the requests after it
 abbrev pub with_control : Found → ℕ → Asked → Found
-with_control found card asked =
-    record { ended = found.ended; asked = asked; lines = found.lines ++ silent_line card ∷ [] }
+with_control found card asked = record (with_line found (silent_line card)) { asked = asked }
 
 -- the form pass over one control card
 unfoldable pub form_control : Found → ℕ → List ℕ → Result Found Fault
@@ -75,8 +77,7 @@ form_control found card text =
 
 -- the form pass over one statement card, given the fault that it has by itself
 unfoldable pub form_statement : Found → ℕ → Option Fault → List ℕ → Result Found Fault
-form_statement found card fault text =
-    if found.ended then Err CardAfterEnd
+form_statement found card fault text = if found.ended then Err CardAfterEnd
     else unless_faulty fault (reading_map (λ s. with_statement found card (name_field text) s)
     (statement_of (name_field text) (statement_field text)))
 
@@ -98,6 +99,5 @@ with_end cards found =
 
 -- the form pass over the cards of a job
 unfoldable pub form_pass : List ℕ → List Card → Result Found Refusal
-form_pass job cards =
-    pass_then (pass (form_card job) (λ card. card.number) found_at_start cards)
+form_pass job cards = pass_then (pass (form_card job) (λ card. card.number) found_at_start cards)
     (with_end (length cards))

@@ -1,4 +1,12 @@
 -- Invariants of the results that the passes hand on.
+--
+-- Proved: by their `ensures` clauses these calls do what definitions here say: `add_row`
+-- (valuing.rt), `add_silent` (valuing.rt), `emit` (valuing.rt), `empty_layout` (valuing.rt), and
+-- others.
+-- Laws: none names a definition of this file itself.
+-- Change: no page fixes these definitions, since no contract of a program unfolds to them; they
+-- change together with the clauses, definitions and laws that name them. docs/strap.md describes
+-- the subject.
 use Rattle.std.specs.Prelude.{◌<◌, ◌^◌, All, IsAscii, IfSome}
 use Rattle.st_bits.specs.Storage.{IsImage}
 use Rattle.st_card.specs.Limits.{IsWithinLimits}

@@ -1,10 +1,14 @@
 -- Laws of the three passes for all jobs.
+--
+-- Proved: each law has its lemma in proofs/Laws.antt, with its name in small letters.
+-- Claimed: docs/CLAIMS.md names CardsHaveTheirFirstFault, PassesStopAtTheFirstFault.
+-- Change: docs/promises.txt lists each law, and the gate compares the list with the laws.
 use Rattle.std.specs.Prelude.{◌≡◌, List, ℕ, Bool}
 use Rattle.st_card.specs.declared.cards.Card.{Card}
 use Rattle.st_asm.specs.Forming.{Found, form_card, found_at_start}
 use Rattle.st_asm.specs.Naming.{name_card, naming_at_start}
 use Rattle.st_asm.specs.Stops.{StopsAtFirst, StopsForm, StopsInOrder, form_fault}
-use Rattle.st_asm.specs.Valuing.{value_card, laying_at_start}
+use Rattle.st_asm.specs.Valuing.{value_card, emitting_at_start}
 use Rattle.std.specs.Result.{result_err}
 
 -- A pass is refused if and only if some card has a fault in the state that the cards before it
@@ -16,7 +20,7 @@ pub record PassesStopAtTheFirstFault : Type 0 where
   pub name : (on_cards : List ℕ → Bool)
       → StopsAtFirst (name_card on_cards) (λ line. line.card) naming_at_start
   pub value : (symbols : List (List ℕ × ℕ))
-      → StopsAtFirst (value_card symbols) (λ p. p.0.card) laying_at_start
+      → StopsAtFirst (value_card symbols) (λ p. p.0.card) emitting_at_start
   pub end : (job : List ℕ) (cards : List Card) → StopsForm job cards
   pub order : (job : List ℕ) → StopsInOrder job
 

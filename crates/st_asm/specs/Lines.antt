@@ -1,4 +1,12 @@
 -- A card as the form pass hands it to the later passes: its number, its name and its statement.
+--
+-- Proved: by their `ensures` clauses these calls do what definitions here say: `name_field`
+-- (line.rt), `name_in` (line.rt), `silent` (line.rt), `statement_field` (line.rt).
+-- Read by: definitions in Forming, Stops.
+-- Laws: none names a definition of this file itself.
+-- Change: the meaning is fixed by docs/strap.md, since the contracts of `st_top::stretch` and
+-- `st_account::ledger` unfold to a definition here. The form is free, with the proofs that unfold
+-- it.
 use Rattle.std.specs.Prelude.{ℕ, List, [], ◌∷◌, take, drop, Option, Some, None}
 use Rattle.st_text.specs.Blanks.{without_front_blanks, without_end_blanks}
 use Rattle.st_expr.specs.Name.{padded_name}

@@ -1,5 +1,14 @@
 -- The name pass: it defines names and assigns a location to each card.
-use Rattle.std.specs.Prelude.{◌≡◌, ◌<◌, ◌^◌, ℕ, ℤ, ◌&&◌, Bool, true, false, not, nat_le, List, [], ◌∷◌, ◌++◌, length, Option, Some, None, unwrap_or, is_some, Result, Ok, if◌then◌else◌}
+--
+-- Proved: by their `ensures` clauses these calls do what definitions here say: `name_lines`
+-- (naming.rt), `add_line` (naming.rt), `name_line` (naming.rt), `name_pass` (naming.rt), and
+-- others.
+-- Read by: definitions in Assembly, Stops, Alone, Kept.
+-- Laws: PassesStopAtTheFirstFault (specs/Laws.antt).
+-- Change: the meaning is fixed by docs/strap.md, since the contracts of `st_top::stretch` and
+-- `st_account::ledger` unfold to a definition here. The form is free, with the proofs that unfold
+-- it.
+use Rattle.std.specs.Prelude.{◌≡◌, ◌<◌, ◌^◌, ℕ, ◌&&◌, Bool, true, false, not, nat_le, List, [], ◌∷◌, ◌++◌, length, Option, Some, None, unwrap_or, is_some, Result, Ok, if◌then◌else◌}
 use Rattle.st_card.specs.Cards.{first_fault}
 use Rattle.st_card.specs.declared.faults.Fault.{Fault}
 use Rattle.st_card.specs.declared.faults.Fault.TheVariants.{NameTwice, UndefinedSymbol, SymbolNotEarlier, TooManyNames}
@@ -13,8 +22,7 @@ use Rattle.st_asm.specs.declared.naming.Symbol.{Symbol}
 use Rattle.st_asm.specs.declared.naming.Names.{Names}
 use Rattle.st_asm.specs.declared.naming.TheConstants.{MOST_NAMES}
 
--- the result of the name pass so far: the location counter, the symbols in order of definition, and
--- the locations of the cards
+-- the name pass so far: location counter, symbols in order of definition, locations of the cards
 pub record Named : Type 0 where
   pub location : ℕ
   pub symbols : List Symbol
@@ -43,16 +51,11 @@ abbrev pub is_known : (List ℕ → Bool) → Option Statement → Bool
 is_known test None = true
 is_known test (Some s) = accepts_all test s
 
--- whether the names in a statement's expressions are in the table, if they must be
-abbrev pub is_statement_earlier : List (List ℕ × ℕ) → Statement → Bool
-is_statement_earlier symbols s =
-    if needs_earlier (placing_of s) then accepts_all (is_defined symbols) s else true
-
--- whether the names in a card's expressions are in the table, if it has a statement and they must
--- be
+-- whether the names in a card's expressions are in the table, if its statement requires that
 abbrev pub is_earlier : List (List ℕ × ℕ) → Option Statement → Bool
 is_earlier symbols None = true
-is_earlier symbols (Some s) = is_statement_earlier symbols s
+is_earlier symbols (Some s) =
+    if needs_earlier (placing_of s) then accepts_all (is_defined symbols) s else true
 
 -- the fault of a card in the name pass, if it has one; the test says which names any card defines
 unfoldable pub name_fault : (List ℕ → Bool) → Named → ReadCard → Option Fault
@@ -63,27 +66,15 @@ name_fault on_cards named line = let symbols = table named.symbols in first_faul
     ∷ (is_some line.name && nat_le MOST_NAMES (length named.symbols), TooManyNames)
     ∷ [])
 
--- the value of a statement's first expression; 0 if one of its names is not defined
-abbrev pub value_at : List (List ℕ × ℕ) → Statement → ℤ
-value_at symbols s = (values_of symbols s).first
-
--- the location of a statement, given the location counter, if it has one
-abbrev pub place_of_statement : List (List ℕ × ℕ) → ℕ → Statement → Option ℕ
-place_of_statement symbols location s = place_in (placing_of s) location (value_at symbols s)
-
--- the location of a card, if it has a statement and that has one
+-- the location of a card, given the location counter, if it has a statement and that has one
 abbrev pub place_of_card : List (List ℕ × ℕ) → ℕ → Option Statement → Option ℕ
-place_of_card symbols location None = None
-place_of_card symbols location (Some s) = place_of_statement symbols location s
-
--- the location counter after a statement
-abbrev pub behind_statement : List (List ℕ × ℕ) → ℕ → Statement → ℕ
-behind_statement symbols location s = behind_in (placing_of s) location (value_at symbols s)
+place_of_card symbols here None = None
+place_of_card symbols here (Some s) = place_in (placing_of s) here (values_of symbols s).first
 
 -- the location counter after a card
 abbrev pub location_behind : List (List ℕ × ℕ) → ℕ → Option Statement → ℕ
-location_behind symbols location None = location
-location_behind symbols location (Some s) = behind_statement symbols location s
+location_behind symbols here None = here
+location_behind symbols here (Some s) = behind_in (placing_of s) here (values_of symbols s).first
 
 -- the symbol of a name with a location, if both are present
 abbrev pub symbol_of : Option (List ℕ) → Option ℕ → List Symbol

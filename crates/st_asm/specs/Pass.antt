@@ -1,4 +1,12 @@
 -- A pass processes the cards in their order and stops at the first faulty one.
+--
+-- Proved: by their `ensures` clauses these calls do what definitions here say: `read_cards`
+-- (forming.rt), `name_lines` (naming.rt).
+-- Read by: definitions in Forming, Naming, Valuing, Assembly, and others.
+-- Laws: none names a definition of this file itself.
+-- Change: the meaning is fixed by docs/strap.md, since the contracts of `st_top::stretch` and
+-- `st_account::ledger` unfold to a definition here. The form is free, with the proofs that unfold
+-- it.
 use Rattle.std.specs.Prelude.{ℕ, List, [], ◌∷◌, Option, Some, None, Result, Ok, Err}
 use Rattle.st_card.specs.declared.faults.Fault.{Fault}
 
@@ -12,8 +20,7 @@ abbrev pub onward : {S T : Type 0} → (S → Result T Refusal) → ℕ → Resu
 onward rest card (Ok state) = rest state
 onward rest card (Err fault) = Err (record { card = card; fault = fault })
 
--- the result of a pass: `next` gives the state after a card from the state before it, or the card's
--- fault
+-- a pass over cards: `next` gives the state after a card from that before it, or the card's fault
 abbrev pub pass : {S X : Type 0} → (S → X → Result S Fault) → (X → ℕ) → S → List X →
     Result S Refusal
 pass next number state [] = Ok state

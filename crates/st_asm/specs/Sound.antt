@@ -1,4 +1,12 @@
 -- Invariants of the assembler's result.
+--
+-- Proved: by their `ensures` clauses these calls do what definitions here say: `assemble`
+-- (assembling.rt), `assemble_cards` (assembling.rt).
+-- Read by: definitions in Kept, Listing of st_top.
+-- Laws: RowsComeFromTheCards (specs/CardLaws.antt of st_causes).
+-- Change: no page fixes these definitions, since no contract of a program unfolds to them; they
+-- change together with the clauses, definitions and laws that name them. docs/strap.md describes
+-- the subject.
 use Rattle.std.specs.Prelude.{◌≡◌, ℕ, ◌+◌, ◌<◌, ◌≤◌, ◌^◌, length, slice_index_or, All, IsAscii, Option, IfSome}
 use Rattle.st_bits.specs.Storage.{IsImage}
 use Rattle.st_card.specs.Limits.{IsWithinLimits}

@@ -1,5 +1,11 @@
 -- The card at which a pass stops, defined by the cards before it and its own fault; the pass that
 -- refuses a job; and the fault of a card that counts in the form pass.
+--
+-- Proved: no `ensures` clause names a definition of this file.
+-- Laws: PassesStopAtTheFirstFault (specs/Laws.antt), CardsHaveTheirFirstFault (specs/Laws.antt).
+-- Change: no page fixes these definitions, since no contract of a program unfolds to them; they
+-- change together with the clauses, definitions and laws that name them. docs/strap.md describes
+-- the subject.
 use Rattle.std.specs.Prelude.{◌≡◌, ◌↔◌, ◌⊎◌, ℕ, ◌+◌, false, List, [], ◌∷◌, ◌++◌, length, Option, None, Some, Result, Ok, Err, if◌then◌else◌}
 use Rattle.std.specs.Option.{option_or}
 use Rattle.st_card.specs.Cards.{first_fault, cards_of, text_in}

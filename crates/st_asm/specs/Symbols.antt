@@ -1,5 +1,13 @@
 -- The names in a statement's expressions, and whether they are defined.
-use Rattle.std.specs.Prelude.{ℕ, Bool, true, List, [], ◌∷◌, map, Some, None, is_some}
+--
+-- Proved: by their `ensures` clauses these calls do what definitions here say: `names_in`
+-- (symbols.rt), `knows` (symbols.rt), `knows_all` (symbols.rt), `is_known` (naming.rt), and others.
+-- Read by: definitions in Naming, Alone, Assembly, Stops, and others.
+-- Laws: none names a definition of this file itself.
+-- Change: the meaning is fixed by docs/strap.md, since the contracts of `st_top::stretch` and
+-- `st_account::ledger` unfold to a definition here. The form is free, with the proofs that unfold
+-- it.
+use Rattle.std.specs.Prelude.{ℕ, Bool, true, List, [], ◌∷◌, map, Some, is_some}
 use Rattle.std.specs.List.{list_all, list_any, filter_map}
 use Rattle.arrayvec.specs.ArrayVec.{ArrayVec}
 use Rattle.st_text.specs.Tables.{is_same, row_of}
@@ -7,7 +15,7 @@ use Rattle.st_expr.specs.declared.terms.Term.{Term}
 use Rattle.st_expr.specs.declared.terms.Atom.{Atom}
 use Rattle.st_expr.specs.declared.terms.Atom.TheVariants.{Number, Name}
 use Rattle.st_strap.specs.Statements.{Statement}
-use Rattle.st_strap.specs.declared.statement.Statement.TheVariants.{Half, Sum, Refill, Branch, Floating, Vfl, Connect, Move, BitBranch, IndBranch, StoreCounter, Transfer, Data, IndexWord, Synonym, SetLocation, Reserve, End}
+use Rattle.st_strap.specs.declared.statement.Statement.TheVariants.{Half, Branch, Floating, Vfl, Connect, Move, BitBranch, IndBranch, StoreCounter, Transfer, IndexWord, Synonym, SetLocation, Reserve, End}
 use Rattle.st_asm.specs.declared.line.ReadCard.{ReadCard}
 use Rattle.st_asm.specs.declared.naming.Symbol.{Symbol}
 
@@ -18,9 +26,6 @@ table symbols = map (λ s. (s.name, s.value)) symbols
 -- the expressions of a statement
 abbrev pub expressions : Statement → List (ArrayVec Term)
 expressions (Half op j at) = at.expr ∷ []
-expressions (Sum j listed) = []
-expressions (Refill j) = []
-expressions (Branch op None) = []
 expressions (Branch op (Some at)) = at.expr ∷ []
 expressions (Floating number at) = at.expr ∷ []
 expressions (Vfl op negated form at offset) = at.expr ∷ []
@@ -30,12 +35,12 @@ expressions (BitBranch sense change at second) = at.expr ∷ second ∷ []
 expressions (IndBranch sense off at second) = at.expr ∷ second ∷ []
 expressions (StoreCounter at second) = at.expr ∷ second ∷ []
 expressions (Transfer write at count) = at.expr ∷ []
-expressions (Data form minus number) = []
 expressions (IndexWord value count refill flags) = value ∷ refill ∷ []
 expressions (Synonym at) = at ∷ []
 expressions (SetLocation at) = at ∷ []
 expressions (Reserve at) = at ∷ []
 expressions (End at) = at ∷ []
+expressions _ = []
 
 -- whether a test accepts the name of a term; true for a number
 abbrev pub accepts_atom : (List ℕ → Bool) → Atom → Bool

@@ -1,4 +1,13 @@
 -- The value pass: it assembles the image, the start, and the rows of the listing.
+--
+-- Proved: by their `ensures` clauses these calls do what definitions here say: `add_silent`
+-- (valuing.rt), `emit` (valuing.rt), `empty_layout` (valuing.rt), `value_line` (valuing.rt), and
+-- others.
+-- Read by: definitions in Assembly, Kept, Stops.
+-- Laws: PassesStopAtTheFirstFault (specs/Laws.antt).
+-- Change: the meaning is fixed by docs/strap.md, since the contracts of `st_top::stretch` and
+-- `st_account::ledger` unfold to a definition here. The form is free, with the proofs that unfold
+-- it.
 use Rattle.std.specs.Prelude.{ℕ, ◌==◌, List, [], ◌∷◌, ◌++◌, length, replicate, Option, Some, None, unwrap_or, Result, Ok, if◌then◌else◌}
 use Rattle.std.specs.List.{zip}
 use Rattle.st_bits.specs.Bits.{bits, all_bits, put, words_of}
@@ -16,8 +25,7 @@ use Rattle.st_asm.specs.declared.values.Values.{Values}
 use Rattle.st_asm.specs.declared.valuing.Listed.{Listed}
 use Rattle.st_asm.specs.declared.valuing.Layout.{Layout}
 
--- the result of the value pass so far: the words of storage, the start as a half-word address, and
--- one row for each card
+-- the value pass so far: words of storage, start (a half-word address), and one row for each card
 pub record Emitted : Type 0 where
   pub image : List ℕ
   pub start : ℕ
@@ -28,14 +36,13 @@ abbrev pub emitted_in : Layout → Emitted
 emitted_in l = record { image = l.image.items; start = l.start; rows = l.rows.items }
 
 -- the result of the value pass over no cards
-abbrev pub laying_at_start : Emitted
-laying_at_start = record { image = replicate words_of_storage 0; start = 0; rows = [] }
+abbrev pub emitting_at_start : Emitted
+emitting_at_start = record { image = replicate words_of_storage 0; start = 0; rows = [] }
 
 -- the image with a number written to a number of bits from a bit address on
 unfoldable pub image_with : List ℕ → ℕ → ℕ → ℕ → List ℕ
-image_with image place count number =
-    if count == 0 then image else words_of (length image)
-    (put (all_bits image) place (bits count number))
+image_with image place count number = if count == 0 then image
+    else words_of (length image) (put (all_bits image) place (bits count number))
 
 -- the result with a card's statement, its values and its location added
 abbrev pub with_emitted : Emitted → ℕ → Statement → Values → Option ℕ → Emitted
@@ -71,5 +78,5 @@ value_card symbols so_far p = value_saying symbols so_far p.0.card p.0.statement
 -- the value pass over the cards of a job
 unfoldable pub value_pass : List (List ℕ × ℕ) → List ReadCard → List (Option ℕ) →
     Result Emitted Refusal
-value_pass symbols lines places = pass (value_card symbols) (λ p. p.0.card) laying_at_start
+value_pass symbols lines places = pass (value_card symbols) (λ p. p.0.card) emitting_at_start
     (zip lines places)

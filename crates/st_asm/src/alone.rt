@@ -1,12 +1,15 @@
-//! The bits that a single statement assembles to, without a job around it: the disassembler
-//! (`st_dis`) decides by it whether an instruction's statement gives the instruction's bits again.
+//! The bits that a single statement assembles to, without a job around it. The disassembler
+//! (`st_dis`, spelling.rt) decides by `emitted_alone` whether the statement of an instruction gives
+//! the instruction's bits again. docs/disassembly.md has that rule.
 //!
-//! `emitted_alone` in specs/Alone.antt defines the result, from the definitions of the passes, and
-//! pins it; the clauses say that the call returns exactly that. The bounds of `EmittedBits` are no
-//! clause here: they hold by `fits` of `placing_of` (places.rt) and by the clause of `bits_of`
-//! (emitting.rt). The location counts only in a check of storage, and is the first location of a
-//! job. The private functions are the passes for one statement; their split is free;
-//! `emitted_alone` and `emitted_with` have proofs in proofs/alone, which follow them.
+//! Proved: the result is `emitted_alone` of specs/Alone.antt, made of the definitions of the three
+//! passes; `None` is a fault of any pass. That at most 64 bits come out follows from `fits` of
+//! `placing_of` (places.rt) and the clause `below` of `bits_of` (emitting.rt); no clause here says
+//! it.
+//!
+//! Pinned: `emitted_alone`, by `st_dis` and vectors/decks.txt; that the statement is checked at
+//! FIRST_LOCATION of naming.rt, by specs/Alone.antt (the location counts only in the check of
+//! storage). Free: the split into functions, if proofs/alone follows.
 
 ghost use Rattle.std.specs.Prelude.{◌≡◌, ◌≤◌, length};
 ghost use Rattle.st_asm.specs.Alone as spec;

@@ -1,12 +1,17 @@
-//! Assembles a job: from the bytes of a deck to an image of storage, a start, a listing, symbols
-//! and requests.
+//! Assembles a job by its three passes: from the bytes of a deck to an image of storage, a start, a
+//! listing, symbols and requests. docs/strap.md has the rules and all faults. `st_top` calls
+//! `assemble` and `assemble_cards`, `st_account` calls `assemble_cards`.
 //!
-//! `st_top` and `st_account` make the calls and run the result. `assembly` in specs/Assembly.antt
-//! defines the result or the refused card; `ok` and `err` say that the calls return exactly that,
-//! or `NoMemory`. `sound` (specs/Sound.antt) says that image, start and controls meet the machine's
-//! preconditions, and `faultless` that texts are printable. The defaults of budget and delay are
-//! figures of the definition and of docs/strap.md, so pinned. Not proved: speed and memory used.
-//! The bodies are free; the proof of `assemble_cards` is in proofs/assembling.
+//! Proved: the result or the refused card is `assembly` of specs/Assembly.antt, unless memory runs
+//! out (`Explains`); `sound` says that image, start and controls meet the preconditions of the
+//! machine (`IsAssemblySound` in specs/Sound.antt), `faultless` that no card has a fault by itself.
+//! The law `PassesStopAtTheFirstFault` in specs/Laws.antt says which card is refused. Not proved:
+//! speed, and the memory that is used.
+//!
+//! Pinned: the order of the passes, by `assembly` and vectors/faults.txt; USUAL_BUDGET and
+//! USUAL_DELAY, by `with_defaults` of specs/Assembly.antt and docs/strap.md; both calls and
+//! `Assembled`, by `st_top`, `st_account` and the laws of `st_dis`. Free: the bodies, if
+//! proofs/assembling follows.
 
 ghost use Rattle.std.specs.Prelude.{◌≡◌, ◌<◌, ◌^◌, All, None, IfOk, IfErr, length, ◌==◌, if◌then◌else◌};
 ghost use Rattle.st_card.specs.Cards.{cards_of};

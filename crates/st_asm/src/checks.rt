@@ -1,12 +1,13 @@
 //! The faults of the value pass: addresses out of range, values that do not fit, wrong boundaries,
-//! and bits outside of storage.
+//! and bits outside of storage. Values and locations are in bits. docs/strap.md has the faults.
+//! valuing.rt and alone.rt call `value_fault`; what passes is what emitting.rt requires.
 //!
-//! `value_fault` in specs/Checks.antt defines the fault of a statement with known values; the
-//! clause says that the call returns exactly that, in this order of checks. Values are in bits.
-//! valuing.rt and alone.rt call it, and the checks are the preconditions of emitting.rt. A law in
-//! `st_laws` has the figures of the limits, and docs/strap.md too. A new kind of statement needs
-//! its case of `value_fault` there and its cases here. The split into functions is free. Checks and
-//! their order are pinned by the definition and vectors/faults.txt.
+//! Proved: the result is `value_fault` of specs/Checks.antt, the first fault of a statement in this
+//! order of checks. The laws of this crate (specs/Laws.antt) say which card of a job it refuses.
+//!
+//! Pinned: the four checks and their order, as vectors/faults.txt shows; the public limits, whose
+//! figures are in the law `StatementsInFigures` of `st_laws` and in docs/strap.md. A new kind of
+//! statement needs cases here and in specs/Checks.antt. Free: the split into functions.
 
 ghost use Rattle.std.specs.Prelude.{◌≡◌, ◌≤◌, ◌^◌};
 ghost use Rattle.st_asm.specs.Checks as spec;

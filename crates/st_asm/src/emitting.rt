@@ -1,13 +1,16 @@
 //! The bits that a statement assembles to: those of an instruction, of a number, or of an index
-//! word.
+//! word. docs/instructions.md has the formats. valuing.rt and alone.rt call `bits_of` for
+//! statements whose values, in bits, checks.rt has found to fit.
 //!
-//! `bits_of` in specs/Emitting.antt defines them; the clauses say that the call returns exactly
-//! these, below 2 to the number of bits of the statement. Instructions are encoded by `st_format`,
-//! which is proved to decode to them again. The list of LVS is in the first 16 of the 19 bits of
-//! its address. Required is that values, in bits, fit, which checks.rt decides before. valuing.rt
-//! and alone.rt call it. A new kind of statement needs a case of `bits_of` here and one there; the
-//! private functions are free; a change of `bits_of` needs one in proofs/emitting as well. The bits
-//! are pinned by the definition and the vectors.
+//! Proved: the result is `bits_of` of specs/Emitting.antt, below 2 to the number of bits of the
+//! statement. Instructions are encoded by `st_format`, which is proved to decode them again. The
+//! law `EmittedNumbersAreRead` (specs/Laws.antt of `st_laws`) says that the machine reads numbers
+//! again.
+//!
+//! Pinned: every bit, by specs/Emitting.antt, docs/instructions.md and vectors/mnemonics.txt; for
+//! instance the list of LVS is in the first 16 of the 19 bits of its address, and the flags of an
+//! index word in bits 25 to 27. A new kind of statement needs a case of `bits_of` here and one
+//! there. Free: the private functions, and `bits_of` if proofs/emitting follows.
 
 ghost use Rattle.std.specs.Prelude.{◌≡◌, ◌<◌, ◌^◌, unsigned_abs, IsTrue, None};
 ghost use Rattle.st_format.specs.Formats.{IsShape, second_half};

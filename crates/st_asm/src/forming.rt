@@ -1,12 +1,15 @@
-//! The form pass: it checks each card by itself, collects the requests of control cards, and finds
-//! the END card.
+//! The form pass, the first of three: it checks each card by itself, collects the requests of
+//! control cards, and finds the END card. docs/strap.md has the rules. assembling.rt calls
+//! `form_pass`; naming.rt takes its cards. `st_strap` parses statements, `st_card` control cards.
 //!
-//! It is the first of the three passes; assembling.rt calls `form_pass`, and the name pass takes
-//! its cards. `form_pass` in specs/Forming.antt defines the result or the refused card; the clauses
-//! say that the call returns exactly that, or that memory ran out. Statements are parsed in
-//! `st_strap`, control cards in `st_card`. The bodies are free; the loop of `read_cards` has its
-//! proof in proofs/forming. The result is pinned by the definition, docs/strap.md and
-//! vectors/faults.txt.
+//! Proved: the result or the refused card is `form_pass` of specs/Forming.antt, unless memory runs
+//! out. The law `CardsHaveTheirFirstFault` in specs/Laws.antt gives the order in which the faults
+//! of a card count.
+//!
+//! Pinned: the order of faults, by this law, docs/strap.md and vectors/faults.txt: a fault of its
+//! bytes, then a position before or after END, then a bad column 1, then the statement or request.
+//! A job without END is refused at the number after the last card, by `form_pass`. Free: the
+//! bodies, if proofs/forming follows the loop of `read_cards`, by the label of the loop.
 
 ghost use Rattle.std.specs.Prelude.{◌≡◌, ◌≤◌, ◌+◌, length, All, IfOk, IfErr, OnOk, Option};
 ghost use Rattle.st_bits.specs.declared.limits.TheConstants.{MOST_CARDS};

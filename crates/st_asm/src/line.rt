@@ -1,10 +1,13 @@
-//! A card as the form pass hands it to the later passes: its number, name and parsed statement.
+//! A card as the form pass passes it on: its number, its name and its parsed statement, with the
+//! columns of name (2 to 9) and statement (10 to 72), counted from 1. docs/strap.md has the
+//! columns. forming.rt makes these cards; naming.rt, symbols.rt and valuing.rt take them.
 //!
-//! Columns are counted from 1: the name is in columns 2 to 9, the statement in 10 to 72.
-//! specs/Lines.antt defines both texts, and each clause says that the call returns exactly that;
-//! `short` bounds their lengths for the callers. The columns are pinned by the definition and by
-//! docs/strap.md; the bodies are free; a change of `statement_field` needs one in proofs/line as
-//! well.
+//! Proved: each call returns exactly the definition of its name in specs/Lines.antt (`silent` is
+//! `silent_line` there); the clauses `short` bound the lengths of both texts, 8 and 63 bytes, for
+//! the callers.
+//!
+//! Pinned: the columns, by specs/Lines.antt, docs/strap.md and vectors/faults.txt. Free: the
+//! bodies, if proofs/line follows that of `statement_field`. No other crate sees this module.
 
 ghost use Rattle.std.specs.Prelude.{◌≡◌, ◌≤◌, length};
 ghost use Rattle.st_asm.specs.Lines as spec;

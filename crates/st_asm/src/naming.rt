@@ -1,12 +1,16 @@
-//! The name pass: it defines names and assigns a location to each card.
+//! The name pass, the second of three: it defines names and assigns a location, a bit address below
+//! 2^24, to each card. docs/strap.md has the rules. assembling.rt calls `name_pass`; valuing.rt
+//! takes its table and locations, `st_top` lists its symbols.
 //!
-//! It is the second of the three passes; assembling.rt calls `name_pass`, and the value pass takes
-//! its table and its locations. `name_pass` in specs/Naming.antt defines the result or the refused
-//! card; the clauses say that the call returns exactly that, or that memory ran out. `kept` is its
-//! invariant, that list and table agree and locations are below 2^24. Locations are bit addresses.
-//! MOST_NAMES has its figure in a law of `st_laws`; FIRST_LOCATION is part of the definition. The
-//! result is pinned by the definition, docs/strap.md and the vectors. The bodies are free;
-//! proofs/naming follows `name_line`, `name_lines` and `name_pass`.
+//! Proved: the result or the refused card is `name_pass` of specs/Naming.antt, unless memory runs
+//! out; list and table of symbols agree (`AreNamesKept`). The law `PassesStopAtTheFirstFault` in
+//! specs/Laws.antt says which card is refused.
+//!
+//! Pinned: the order of the four faults of `name_fault`, and that SYN, SLC and DR need names of
+//! earlier cards, other statements names of any card, by specs/Naming.antt, docs/strap.md and
+//! vectors/faults.txt; MOST_NAMES, by the law `LimitsInFigures` (specs/Laws.antt of `st_laws`);
+//! FIRST_LOCATION, word 32, by `naming_at_start`. Free: the bodies, if proofs/naming follows
+//! `name_line`, `name_lines` and `name_pass`.
 
 ghost use Rattle.std.specs.Prelude.{◌≡◌, ◌<◌, ◌^◌, ℕ, All, IfOk, IfErr, OnOk, false, ◌++◌, ◌∷◌, []};
 ghost use Rattle.st_asm.specs.Answers.{Stops, Explains};
@@ -174,7 +178,7 @@ fn is_earlier(symbols: &Symbols, statement: &Option<CompactStatement>) -> bool
 // Whether the names in a statement's expressions are defined by earlier cards, if they must be.
 fn is_statement_earlier(symbols: &Symbols, statement: &CompactStatement) -> bool
     requires { IsWellFormed statement.now }
-    ensures { result ≡ spec.is_statement_earlier symbols.now statement.now }
+    ensures { result ≡ spec.is_earlier symbols.now (Some statement.now) }
 {
     if placing_of(statement).needs_earlier() {
         knows_all(symbols, statement)
@@ -228,8 +232,8 @@ fn place_and_behind_statement(
 ) -> (Option<u32>, u32)
     requires well { IsWellFormed statement.now }
     requires location { location < 2 ^ 24 }
-    ensures place { result.0 ≡ spec.place_of_statement symbols.now location statement.now }
-    ensures behind { result.1 ≡ spec.behind_statement symbols.now location statement.now }
+    ensures place { result.0 ≡ spec.place_of_card symbols.now location (Some statement.now) }
+    ensures behind { result.1 ≡ spec.location_behind symbols.now location (Some statement.now) }
     ensures below { result.1 < 2 ^ 24 }
 {
     let placing = placing_of(statement);

@@ -1,11 +1,13 @@
 //! Numbers as the bits of fields, as the pseudo-operation DD assembles them: binary or decimal,
-//! signed or unsigned.
+//! signed or unsigned, 1 to 64 bits in bytes of 1 to 8. docs/strap.md and docs/variable-fields.md
+//! have the forms. checks.rt calls `holds`, emitting.rt `field_of`.
 //!
-//! specs/Numbers.antt defines which numbers a form holds (`holds`) and the bits (`field_bits_of`);
-//! each clause says that the call returns exactly that. `st_laws` proves that the operations of the
-//! machine read the number again. A form has 1 to 64 bits, bytes of 1 to 8. checks.rt and
-//! emitting.rt call it; the private functions are free; a change needs one in proofs/numbers, which
-//! follows most bodies. The bits are pinned by the definition, docs/strap.md and the vectors.
+//! Proved: the results are `holds` and `field_bits_of` of specs/Numbers.antt. The law
+//! `EmittedNumbersAreRead` (specs/Laws.antt of `st_laws`) says that the operations of the machine
+//! read the number again.
+//!
+//! Pinned: every bit, by specs/Numbers.antt, docs/strap.md and vectors/mnemonics.txt; flags and
+//! zones are 0. Free: the bodies, if proofs/numbers follows.
 
 ghost use Rattle.std.specs.Prelude.{◌≡◌, ◌*◌, ◌^◌, ◌<◌, ◌≤◌, IsTrue};
 ghost use Rattle.st_asm.specs.Numbers as spec;

@@ -1,12 +1,14 @@
 //! The locations of statements, and how statements change the location counter, a bit address below
-//! 2^24.
+//! 2^24. docs/strap.md has the rules. naming.rt assigns locations by it; checks.rt, valuing.rt and
+//! alone.rt take the number of bits.
 //!
-//! naming.rt assigns locations by it, and checks.rt and emitting.rt ask for the number of bits.
-//! specs/Places.antt defines the effect of each kind of statement, its location, and the counter
-//! after it, modulo 2^24; each clause says that the call returns exactly that. Overflow is no error
-//! here: checks.rt refuses bits outside of storage. A new kind of statement needs a case of
-//! `placing_of` here and of `placing_of` there. The bodies are free. Locations are pinned by the
-//! definitions, docs/strap.md and the vectors.
+//! Proved: each call returns exactly a definition of specs/Places.antt (`placing_of`, `length_in`,
+//! `place_in`, `behind_in`, `needs_earlier`). A location that overflows is no fault here, but wraps
+//! modulo 2^24; checks.rt refuses bits outside of storage.
+//!
+//! Pinned: the units 1, 32 and 64 of each kind of statement, and the wrapping, by
+//! specs/Places.antt, docs/strap.md and vectors/faults.txt. A new kind of statement needs a case of
+//! `placing_of` here and in specs/Places.antt. Free: the bodies.
 
 ghost use Rattle.std.specs.Prelude.{◌≡◌, ◌<◌, ◌≤◌, ◌^◌, IfSome};
 ghost use Rattle.st_asm.specs.Places as spec;

@@ -1,10 +1,13 @@
-//! The errors of the assembler: for callers (`st_top`, `st_account`), and between the passes.
+//! The errors of the assembler: `AsmError` for callers (`st_top`, `st_account`), and `PassStop`
+//! between the three passes, which add the card's number where they know it. docs/strap.md lists
+//! the faults.
 //!
-//! A pass stops with a fault or for lack of memory; the card's number is added where the pass knows
-//! it. specs/Answers.antt relates both errors to the specified results: `Explains` says that a
-//! refusal is exactly the specified one, and that `NoMemory` may take the place of any result.
-//! There is no third error. The errors are pinned by these relations and by the callers; the body
-//! of `at` is free.
+//! Proved: by `Explains` of specs/Answers.antt a refusal is exactly the specified one, and
+//! `NoMemory` may take the place of any result; `at` is `stopped_at` of specs/Answers.antt. Not
+//! proved: that memory suffices for any job.
+//!
+//! Pinned: the variants, by specs/Answers.antt and the callers, which match them. A new one needs a
+//! case there and, as the compiler says, in the callers. Free: the body of `at`.
 
 ghost use Rattle.std.specs.Prelude.{◌≡◌};
 ghost use Rattle.st_asm.specs.Answers as spec;

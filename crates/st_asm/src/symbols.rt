@@ -1,11 +1,13 @@
-//! The names in a statement's expressions, and whether they are defined.
+//! The names in a statement's expressions, and whether a table of symbols defines them.
+//! docs/strap.md has the rules. naming.rt calls `knows_all` and `names_in`, alone.rt `knows_all`.
 //!
-//! naming.rt and alone.rt call it. specs/Symbols.antt defines which names a statement has
-//! (`accepts_all` is about each of them); the clauses say that the calls return exactly that. A
-//! table is `Symbols` of `st_expr`; of the one that `names_in` makes only the names count. A new
-//! kind of statement needs a case of `knows_all`, one of `accepts_all` there, and one in values.rt.
-//! The results are pinned by the definitions. The form of the search is free; a change of `knows`,
-//! `add_name` and `names_in` needs one in proofs/symbols as well.
+//! Proved: `knows_all` is `accepts_all` of specs/Symbols.antt with the names of the table; the
+//! table of `names_in` has exactly the names that cards define (`names_of`). The values in the
+//! table of `names_in` mean nothing.
+//!
+//! Pinned: which expressions a statement has, by `expressions` there and docs/strap.md. A new kind
+//! of statement needs a case of `knows_all`, one of `expressions`, and one in values.rt. Free: the
+//! form of the search, if proofs/symbols follows `knows`, `add_name` and `names_in`.
 
 ghost use Rattle.std.specs.Prelude.{◌≡◌, ◌||◌, List, ℕ, IfOk, OnOk};
 ghost use Rattle.st_text.specs.Tables.{is_same};

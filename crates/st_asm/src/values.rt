@@ -1,11 +1,15 @@
-//! The values of a statement's expressions, in bits, under a symbol table.
+//! The values of a statement's expressions, in bits, under a table of symbols. A statement has at
+//! most two expressions, so two numbers serve all. docs/strap.md has the rules of expressions.
+//! naming.rt takes the first value for locations; valuing.rt and alone.rt pass both to checks.rt
+//! and emitting.rt.
 //!
-//! All statements have at most two expressions, so two numbers serve all: naming.rt uses the first
-//! for locations, checks.rt and emitting.rt use both. `values_of` in specs/Values.antt defines
-//! them, and each clause says that the call returns exactly that. Undefined names count as 0; that
-//! never shows, since the name pass refuses them. A new kind of statement needs a case of
-//! `values_of` here and one there. The definition pins the values; the split into functions is
-//! free.
+//! Proved: `values_of` is the definition of its name in specs/Values.antt, `wrapped` is
+//! `value_modulo`. A name that is not defined counts as 0; no result shows this, because the name
+//! pass refuses such names.
+//!
+//! Pinned: which expression of a statement is the first and which the second, by specs/Values.antt;
+//! the values, by docs/strap.md and vectors/texts.txt. A new kind of statement needs a case here,
+//! and one of `expressions` in specs/Symbols.antt. Free: the split into functions.
 
 ghost use Rattle.std.specs.Prelude.{◌≡◌, ◌<◌, ◌^◌, pos};
 ghost use Rattle.st_asm.specs.Values as spec;

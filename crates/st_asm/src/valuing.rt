@@ -1,13 +1,16 @@
-//! The value pass: it evaluates expressions, and assembles the image, the start, and the rows of
-//! the listing.
+//! The value pass, the last of three: it evaluates expressions, and makes the image, the start (a
+//! half-word address) and the rows of the listing. docs/strap.md has the rules. assembling.rt calls
+//! `value_pass`; `st_top` and `st_account` take the rows (`Listed`).
 //!
-//! It is the last of the three passes; assembling.rt calls `value_pass`. `value_pass` in
-//! specs/Valuing.antt defines the result or the refused card; the clauses say that the call returns
-//! exactly that, or that memory ran out. `sound` is its invariant: the image has all words of
-//! storage, registers are 0, and rows are in range. Locations are bit addresses, the start is a
-//! half-word address. Two cards may assemble to one place: the later one counts, as the definition
-//! has it. The result is pinned by the definition, docs/strap.md and the vectors. The bodies are
-//! free; proofs/valuing follows `emit`, `value_pass` and `put_bits`.
+//! Proved: the result or the refused card is `value_pass` of specs/Valuing.antt, unless memory runs
+//! out; `sound` says that the image has all words of storage, words 0 to 31 are 0, and rows are in
+//! range (`IsSoundLayout` in specs/Kept.antt). The law `PassesStopAtTheFirstFault` in
+//! specs/Laws.antt says which card is refused.
+//!
+//! Pinned: that of two cards that assemble to one place the later one counts, and that each card
+//! has a row, by specs/Valuing.antt and docs/strap.md; listings, by vectors/controls.txt; the
+//! fields of `Listed`, by `st_top` and `st_account`. Free: the bodies, if proofs/valuing follows
+//! `emit`, `value_pass` and `put_bits`.
 
 ghost use Rattle.std.specs.Prelude.{◌≡◌, ◌<◌, ◌≤◌, ◌^◌, ◌++◌, ◌∷◌, [], All, IfOk, IfErr, OnOk, IsTrue, None, length, unwrap_or, unsigned_abs, if◌then◌else◌};
 ghost use Rattle.st_asm.specs.Answers.{Stops, Explains};
@@ -92,7 +95,7 @@ pub(crate) fn value_pass(
 
 // The result of the value pass over no cards.
 fn empty_layout(alloc: Global) -> Result<Layout, AllocError>
-    ensures emitted { IfOk result (λ l. spec.emitted_in l ≡ spec.laying_at_start) }
+    ensures emitted { IfOk result (λ l. spec.emitted_in l ≡ spec.emitting_at_start) }
     ensures sound { IfOk result (λ l. IsSoundLayout (spec.emitted_in l)) }
 {
     Ok(Layout {

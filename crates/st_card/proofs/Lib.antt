@@ -3,6 +3,6 @@ pub mod TextLemmas
 pub mod LimitLemmas
 pub mod StandingLemmas
 pub mod OrderLemmas
+pub mod Requests
 pub mod LineLemmas
-pub mod EachControl
 pub mod Laws

@@ -1,5 +1,5 @@
 -- Adding a control card keeps the limits.
-use Rattle.std.proofs.Common.{◌≡◌, ◌≤◌, ◌<◌, ◌+◌, ◌-◌, ◌&&◌, ℕ, Bool, true, false, nat_le, nat_lt, List, [], ◌∷◌, ◌++◌, Option, Some, None, if◌then◌else◌, length, get_or, refl, ap, sym, subst, ◌∙◌, arith, length-append}
+use Rattle.std.proofs.Common.{◌≡◌, ◌≤◌, ◌<◌, ◌+◌, ◌-◌, ◌&&◌, ℕ, Bool, true, false, nat_le, nat_lt, List, [], ◌∷◌, ◌++◌, Option, Some, None, if◌then◌else◌, length, get_or, refl, ap, sym, subst, ◌∙◌, arith, lit≤, length-append}
 use Rattle.std.proofs.lemmas.Bool.{and_parts as both, leb-true as at_most, ltb-false as not_below, ltb-true as below}
 use Rattle.std.specs.List.{AllPass}
 use Rattle.std.specs.Option.{option_map_or}
@@ -7,20 +7,24 @@ use Rattle.std.specs.List.Sorted.{IsStrictlyIncreasing}
 use Rattle.std.proofs.lemmas.Option.{slice_get-get_or}
 use Rattle.std.proofs.Math.ListN.{get_or-append}
 use Rattle.std.proofs.Math.Seq.{get_or-append_seam}
-use Rattle.std.proofs.lemmas.List.Elements.{All-append}
+use Rattle.std.proofs.lemmas.List.Elements.{All-nil, All-append}
 use Rattle.std.proofs.lemmas.List.Sums.{AllPass-from_list_all}
 use Rattle.std.proofs.lemmas.List.Sorted.{IsNonDecreasingBy-push}
 use Rattle.st_card.specs.Controls as spec
-use Rattle.st_card.specs.Controls.{Asked, is_in_range, last_passes, numbers_before, card_number, card_numbers}
+use Rattle.st_card.specs.Controls.{Asked, nothing_asked, is_in_range, last_passes}
+use Rattle.st_card.specs.Keywords.{keyword_in, keyword_order, numbers_before, card_number, card_numbers}
 use Rattle.st_text.specs.Number.{number_if_good, is_number, digits_value, reading}
 use Rattle.st_text.specs.Pieces.{words}
 use Rattle.st_card.specs.Cards.{columns}
-use Rattle.st_text.specs.Tables.{row_of}
 use Rattle.st_text.specs.declared.numbers.Reading.TheVariants.{Bad, Large, Good}
-use Rattle.st_card.specs.Limits.{is_signal, is_part, is_tick, IsWithinLimits}
+use Rattle.st_card.specs.Limits.{is_signal, is_part, is_tick, AreDelays, IsWithinLimits}
 use Rattle.st_card.specs.declared.control_cards.Signal.{Signal}
 use Rattle.st_card.specs.declared.keywords.Keyword.{Keyword}
-use Rattle.st_card.specs.declared.keywords.Keyword.TheVariants.{Budget, Delays, Signals, Dump, Snap, Back, Listing, Trace, Time, Chart}
+use Rattle.st_card.specs.declared.keywords.Keyword.TheVariants.{Listing, Mark, Number, Pair}
+use Rattle.st_card.specs.declared.keywords.Mark.TheVariants.{Trace, Time, Chart}
+use Rattle.st_card.specs.declared.keywords.Number.TheVariants.{Budget, Delays, Snap, Back}
+use Rattle.st_card.specs.declared.keywords.Pair.TheVariants.{Signals, Dump}
+use Rattle.st_card.specs.declared.keywords.ControlForm.TheVariants.{Card}
 
 -- a conditional result is present only if its test is true
 given : (b : Bool) (x new : Asked) → (if b then Some x else None) ≡ Some new → (b ≡ true) × (x ≡ new)
@@ -31,7 +35,7 @@ only : {X : Type 0} (p : X → Bool) (x : X) → p x ≡ true → AllPass p (x �
 only p x holds = AllPass-from_list_all p (x ∷ []) (ap (λ b. b && true) holds)
 
 -- adding the card of one keyword keeps the limits if the rest is unchanged
-pub budget-kept : (kept new : Asked) (numbers : List ℕ) → spec.with_budget kept numbers ≡ Some new →
+budget-kept : (kept new : Asked) (numbers : List ℕ) → spec.with_budget kept numbers ≡ Some new →
     IsWithinLimits kept → IsWithinLimits new
 budget-kept kept new [] same limits = cc
 budget-kept kept new (n ∷ []) same limits =
@@ -47,7 +51,7 @@ budget-kept kept new (n ∷ []) same limits =
     })
 budget-kept kept new (n ∷ m ∷ ms) same limits = cc
 
-pub back-kept : (kept new : Asked) (numbers : List ℕ) → spec.with_back kept numbers ≡ Some new →
+back-kept : (kept new : Asked) (numbers : List ℕ) → spec.with_back kept numbers ≡ Some new →
     IsWithinLimits kept → IsWithinLimits new
 back-kept kept new [] same limits = cc
 back-kept kept new (n ∷ []) same limits =
@@ -63,7 +67,7 @@ back-kept kept new (n ∷ []) same limits =
     })
 back-kept kept new (n ∷ m ∷ ms) same limits = cc
 
-pub delays-kept : (kept new : Asked) (numbers : List ℕ) → spec.with_delays kept numbers ≡ Some new →
+delays-kept : (kept new : Asked) (numbers : List ℕ) → spec.with_delays kept numbers ≡ Some new →
     IsWithinLimits kept → IsWithinLimits new
 delays-kept kept new [] same limits = cc
 delays-kept kept new (n ∷ ns) same limits =
@@ -82,7 +86,7 @@ delays-kept kept new (n ∷ ns) same limits =
       back = limits.back;
     })
 
-pub dump-kept : (kept new : Asked) (numbers : List ℕ) → spec.with_dump kept numbers ≡ Some new →
+dump-kept : (kept new : Asked) (numbers : List ℕ) → spec.with_dump kept numbers ≡ Some new →
     IsWithinLimits kept → IsWithinLimits new
 dump-kept kept new [] same limits = cc
 dump-kept kept new (first ∷ []) same limits = cc
@@ -114,7 +118,7 @@ last_item {X} test (x ∷ xs) passes d some =
     let last = slice_get-get_or (x ∷ xs) (length xs) d (omega arith) in
     ap (λ k. test (get_or (x ∷ xs) k d)) here ∙ sym (ap (λ (o : Option X). option_map_or test o true) last) ∙ passes
 
-pub signal-kept : (kept new : Asked) (numbers : List ℕ) → spec.with_signal kept numbers ≡ Some new →
+signal-kept : (kept new : Asked) (numbers : List ℕ) → spec.with_signal kept numbers ≡ Some new →
     IsWithinLimits kept → IsWithinLimits new
 signal-kept kept new [] same limits = cc
 signal-kept kept new (count ∷ []) same limits = cc
@@ -164,7 +168,7 @@ rising-push xs x rising above k within =
     ] in
     step (nat_lt (k + 1) (length xs)) refl
 
-pub snap-kept : (kept new : Asked) (numbers : List ℕ) → AllPass is_tick numbers → spec.with_snap kept numbers ≡ Some new →
+snap-kept : (kept new : Asked) (numbers : List ℕ) → AllPass is_tick numbers → spec.with_snap kept numbers ≡ Some new →
     IsWithinLimits kept → IsWithinLimits new
 snap-kept kept new [] short same limits = cc
 snap-kept kept new (tick ∷ []) short same limits =
@@ -205,42 +209,43 @@ mark-kept false kept marked new limits same =
     let is_new : marked ≡ new = cc in
     subst (λ (a : Asked). IsWithinLimits a) is_new limits
 
-list-kept : (kept new : Asked) (numbers : List ℕ) → spec.with_list kept numbers ≡ Some new →
+list-kept : (kept new : Asked) (numbers : List ℕ) → spec.with_once kept.list (record kept { list = true }) numbers ≡ Some new →
     IsWithinLimits kept → IsWithinLimits new
 list-kept kept new [] same limits =
     mark-kept kept.list kept _ new (marks-kept kept true kept.trace kept.time kept.chart limits) same
 list-kept kept new (n ∷ ns) same limits = cc
 
-pub trace-kept : (kept new : Asked) (numbers : List ℕ) → spec.with_trace kept numbers ≡ Some new →
+trace-kept : (kept new : Asked) (numbers : List ℕ) → spec.with_once kept.trace (record kept { trace = true }) numbers ≡ Some new →
     IsWithinLimits kept → IsWithinLimits new
 trace-kept kept new [] same limits =
     mark-kept kept.trace kept _ new (marks-kept kept kept.list true kept.time kept.chart limits) same
 trace-kept kept new (n ∷ ns) same limits = cc
 
-pub time-kept : (kept new : Asked) (numbers : List ℕ) → spec.with_time kept numbers ≡ Some new →
+time-kept : (kept new : Asked) (numbers : List ℕ) → spec.with_once kept.time (record kept { time = true }) numbers ≡ Some new →
     IsWithinLimits kept → IsWithinLimits new
 time-kept kept new [] same limits =
     mark-kept kept.time kept _ new (marks-kept kept kept.list kept.trace true kept.chart limits) same
 time-kept kept new (n ∷ ns) same limits = cc
 
-pub chart-kept : (kept new : Asked) (numbers : List ℕ) → spec.with_chart kept numbers ≡ Some new →
+chart-kept : (kept new : Asked) (numbers : List ℕ) → spec.with_once kept.chart (record kept { chart = true }) numbers ≡ Some new →
     IsWithinLimits kept → IsWithinLimits new
 chart-kept kept new [] same limits =
     mark-kept kept.chart kept _ new (marks-kept kept kept.list kept.trace kept.time true limits) same
 chart-kept kept new (n ∷ ns) same limits = cc
 
-keyword-kept : (keyword : Keyword) (kept new : Asked) (numbers : List ℕ) → AllPass is_tick numbers →
+-- adding the request of a keyword keeps the limits
+pub keyword-kept : (keyword : Keyword) (kept new : Asked) (numbers : List ℕ) → AllPass is_tick numbers →
     spec.with_keyword keyword kept numbers ≡ Some new → IsWithinLimits kept → IsWithinLimits new
-keyword-kept Budget kept new numbers short same limits = budget-kept kept new numbers same limits
-keyword-kept Delays kept new numbers short same limits = delays-kept kept new numbers same limits
-keyword-kept Signals kept new numbers short same limits = signal-kept kept new numbers same limits
-keyword-kept Dump kept new numbers short same limits = dump-kept kept new numbers same limits
-keyword-kept Snap kept new numbers short same limits = snap-kept kept new numbers short same limits
-keyword-kept Back kept new numbers short same limits = back-kept kept new numbers same limits
+keyword-kept (Number Budget) kept new numbers short same limits = budget-kept kept new numbers same limits
+keyword-kept (Number Delays) kept new numbers short same limits = delays-kept kept new numbers same limits
+keyword-kept (Pair Signals) kept new numbers short same limits = signal-kept kept new numbers same limits
+keyword-kept (Pair Dump) kept new numbers short same limits = dump-kept kept new numbers same limits
+keyword-kept (Number Snap) kept new numbers short same limits = snap-kept kept new numbers short same limits
+keyword-kept (Number Back) kept new numbers short same limits = back-kept kept new numbers same limits
 keyword-kept Listing kept new numbers short same limits = list-kept kept new numbers same limits
-keyword-kept Trace kept new numbers short same limits = trace-kept kept new numbers same limits
-keyword-kept Time kept new numbers short same limits = time-kept kept new numbers same limits
-keyword-kept Chart kept new numbers short same limits = chart-kept kept new numbers same limits
+keyword-kept (Mark Trace) kept new numbers short same limits = trace-kept kept new numbers same limits
+keyword-kept (Mark Time) kept new numbers short same limits = time-kept kept new numbers same limits
+keyword-kept (Mark Chart) kept new numbers short same limits = chart-kept kept new numbers same limits
 
 good-short : (a b : Bool) (v n : ℕ) → nat_le v 999999999999 ≡ b →
     number_if_good (if a then (if b then Good v else Large) else Bad) ≡ Some n → is_tick n ≡ true
@@ -267,7 +272,7 @@ before-parts (Some n) None numbers same = cc
 before-parts None os numbers same = cc
 
 -- each number of a control card has at most 12 digits
-numbers-short : (words : List (List ℕ)) (numbers : List ℕ) → card_numbers words ≡ Some numbers → AllPass is_tick numbers
+pub numbers-short : (words : List (List ℕ)) (numbers : List ℕ) → card_numbers words ≡ Some numbers → AllPass is_tick numbers
 numbers-short [] numbers same =
     let none : [] ≡ numbers = cc in
     subst (λ (ns : List ℕ). AllPass is_tick ns) none (λ k d within. absurd (omega (arith, within)))
@@ -288,8 +293,35 @@ words-kept : (kept new : Asked) (words : List (List ℕ)) → spec.with_words ke
     IsWithinLimits kept → IsWithinLimits new
 words-kept kept new [] same limits = cc
 words-kept kept new (word ∷ more) same limits =
-    card-kept kept new (row_of word spec.keywords) (card_numbers more) (λ ns is. numbers-short more ns is) same limits
+    card-kept kept new (keyword_in Card word keyword_order) (card_numbers more) (λ ns is. numbers-short more ns is) same limits
 
 -- adding a control card keeps the limits
 pub added-kept : (kept new : Asked) (text : List ℕ) → spec.asked_with_card kept text ≡ Some new → IsWithinLimits kept → IsWithinLimits new
 added-kept kept new text same limits = words-kept kept new (words (columns text)) same limits
+
+-- no requests are within the limits
+pub nothing-within : IsWithinLimits nothing_asked
+nothing-within = record {
+  budget = lit≤ tt;
+  delays = record { each = All-nil (λ n. is_in_range 1 255 n ≡ true); few = lit≤ tt };
+  signals = record {
+    each = All-nil (λ s. is_signal s ≡ true);
+    counts = λ i j d le below. omega arith;
+    few = lit≤ tt;
+  };
+  dumps = record { each = All-nil (λ p. is_part p ≡ true); few = lit≤ tt };
+  snaps = record { each = All-nil (λ t. is_tick t ≡ true); rising = λ i below. omega arith; few = lit≤ tt };
+  back = lit≤ tt;
+}
+
+-- requests with another budget and other delays
+pub others-within : (a : Asked) (budget : ℕ) (delays : List ℕ) → IsWithinLimits a → budget ≤ 10000000 → AreDelays delays →
+    IsWithinLimits (record a { budget = budget; delays = delays })
+others-within a budget delays limits few are = record {
+  budget = few;
+  delays = are;
+  signals = limits.signals;
+  dumps = limits.dumps;
+  snaps = limits.snaps;
+  back = limits.back;
+}

@@ -8,6 +8,7 @@ use Rattle.std.proofs.lemmas.Option.{slice_get-get_or}
 use Rattle.std.proofs.lemmas.List.{get_or_append_left, get_or_at, get_or_default}
 use Rattle.st_card.specs.Controls.{Asked, is_in_range, last_passes, with_budget, with_delays, with_signal, with_dump, with_snap, with_back}
 use Rattle.st_card.specs.Limits.{is_signal, is_part, is_tick, AreDelays, AreSignals, AreDumps, AreSnaps}
+use Rattle.st_card.specs.Written.{IsShort}
 use Rattle.st_card.specs.declared.control_cards.Signal.{Signal}
 
 -- a conditional result is present if its test is true
@@ -96,10 +97,6 @@ module _ (a : Asked) where
   pub back-asked : (k : ℕ) → (a.back == 0) ≡ true → 1 ≤ k → k ≤ 64 → with_back a (k ∷ []) ≡ Some (record a { back = k })
   back-asked k none some few =
       taken _ _ (both_true (a.back == 0) (is_in_range 1 64 k) none (both_true _ _ (at_most 1 k some) (at_most k 64 few)))
-
--- a requested number has at most 12 digits
-abbrev IsShort : ℕ → Type 0
-IsShort n = n ≤ 999999999999
 
 pub delay-short : (done rest : List ℕ) (d : ℕ) → AreDelays (done ++ d ∷ rest) → IsShort d
 delay-short done rest d are =

@@ -1,4 +1,13 @@
--- The results of adding a control card, related to the controls before and after.
+-- What a call that adds a control card may answer (`Addition`, `CardError`), and what each answer
+-- says of the controls before and after the call.
+--
+-- Proved: by their `ensures` clauses these calls do what definitions here say: `add`
+-- (control_cards.rt), `add_back` (control_cards.rt), `add_budget` (control_cards.rt), `add_control`
+-- (control_cards.rt), and others.
+-- Laws: none names a definition of this file itself.
+-- Change: no page fixes these definitions, since no contract of a program unfolds to them; they
+-- change together with the clauses, definitions and laws that name them. docs/strap.md describes
+-- the subject.
 use Rattle.std.specs.Prelude.{◌≡◌, ◌≢◌, ℕ, Bool, true, false, List, [], ◌++◌, length, Option, Some, None, IsSome}
 use Rattle.st_card.specs.Controls.{Asked}
 use Rattle.st_card.specs.declared.faults.Fault.TheVariants.{BadControlCard}
@@ -20,7 +29,7 @@ Appends old new items Added = new ≡ old ++ items
 Appends old new items Refused = ⊥
 Appends old new items NoMemory = new ≡ old
 
--- relation of an addition's outcome to a flag before and after a keyword with these numbers sets it
+-- relation of an addition's outcome to a flag before and after; a keyword with numbers sets none
 abbrev pub Marks : Bool → Bool → List ℕ → Addition → Type 0
 Marks old new numbers Added = (old ≡ false) × (new ≡ true) × (numbers ≡ [])
 Marks old new numbers Refused = (new ≡ old) × ((old ≡ false) → length numbers ≢ 0)

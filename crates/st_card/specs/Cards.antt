@@ -1,4 +1,13 @@
 -- The cards of a job: its lines, with their kinds and the faults that each line has by itself.
+--
+-- Proved: by their `ensures` clauses these calls do what definitions here say: `first_line`
+-- (cards.rt), `split` (cards.rt), `card_at` (cards.rt), `columns` (cards.rt), and others.
+-- Read by: definitions in Controls, Keywords, Delays of st_top, Stops of st_asm, and others.
+-- Laws: CardsStandInTheirJob (specs/Laws.antt), DecksAreCutIntoTheirCards (specs/Laws.antt of
+-- st_dis), TheFirstFaultOfTheListCounts (specs/Laws.antt of st_strap).
+-- Change: the meaning is fixed by docs/strap.md, since the contracts of `st_top::stretch` and
+-- `st_account::ledger` unfold to a definition here. The form is free, with the proofs that unfold
+-- it.
 use Rattle.std.specs.Prelude.{◌≡◌, ◌≤◌, ℕ, ◌+◌, ◌==◌, ◌||◌, Bool, true, not, nat_lt, min, List, [], ◌∷◌, length, take, drop, Option, Some, None, if◌then◌else◌}
 use Rattle.std.specs.List.{list_all}
 use Rattle.std.specs.Str.Lines.{strip_carriage_return}
@@ -27,8 +36,7 @@ is_blank text = list_all (λ c. c == blank) text
 -- the kind of a card: `*` in column 1 or blank columns make a comment, `/` in column 1 a control
 -- card
 abbrev pub kind_of : List ℕ → CardKind
-kind_of text =
-    if first_column text == asterisk || is_blank (columns text) then Comment
+kind_of text = if first_column text == asterisk || is_blank (columns text) then Comment
     else (if first_column text == slash then Control else Statement)
 
 -- whether a byte is allowed in column 1: blank, `*` or `/`

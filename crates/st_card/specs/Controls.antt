@@ -1,17 +1,31 @@
 -- The requests of a job's control cards.
-use Rattle.std.specs.Prelude.{ℕ, ◌+◌, ◌==◌, ◌&&◌, Bool, true, false, nat_le, nat_lt, List, [], ◌∷◌, ◌++◌, length, slice_get, codes, Option, Some, None, if◌then◌else◌}
+--
+-- Proved: by their `ensures` clauses these calls do what definitions here say: `add`
+-- (control_cards.rt), `add_back` (control_cards.rt), `add_budget` (control_cards.rt), `add_control`
+-- (control_cards.rt), and others.
+-- Read by: definitions in Limits, Answers, Written, Forming of st_asm, and others.
+-- Laws: ControlsComeBack (specs/Laws.antt of st_dis), DelaysChangeNothingButTheTimetable
+-- (specs/DelayLaws.antt of st_top), MarksAreTheReport (specs/DelayLaws.antt of st_top).
+-- Change: the meaning is fixed by docs/strap.md, since the contracts of `st_top::stretch` and
+-- `st_account::ledger` unfold to a definition here. The form is free, with the proofs that unfold
+-- it.
+use Rattle.std.specs.Prelude.{ℕ, ◌+◌, ◌==◌, ◌&&◌, Bool, true, false, nat_le, nat_lt, List, [], ◌∷◌, ◌++◌, length, slice_get, Option, Some, None, if◌then◌else◌}
 use Rattle.std.specs.List.{list_all}
 use Rattle.std.specs.Option.{option_map_or}
 use Rattle.st_bits.specs.declared.limits.TheConstants.{LAST_WORD, MOST_INSTRUCTIONS, LONGEST_LIST, MOST_DELAY}
 use Rattle.st_bits.specs.declared.indicators.TheConstants.{CHANNEL_SIGNAL}
-use Rattle.st_card.specs.declared.limits.TheConstants.{MOST_DUMPS, MOST_SNAPS, MOST_BACK, MOST_NUMBER}
-use Rattle.st_text.specs.Number.{number_up_to}
+use Rattle.st_card.specs.declared.limits.TheConstants.{MOST_DUMPS, MOST_SNAPS, MOST_BACK}
 use Rattle.st_text.specs.Pieces.{words}
 use Rattle.st_card.specs.Cards.{columns}
-use Rattle.st_text.specs.Tables.{row_of}
 use Rattle.st_card.specs.declared.control_cards.Signal.{Signal}
 use Rattle.st_card.specs.declared.keywords.Keyword.{Keyword}
-use Rattle.st_card.specs.declared.keywords.Keyword.TheVariants.{Budget, Delays, Signals, Dump, Snap, Back, Listing, Trace, Time, Chart}
+use Rattle.st_card.specs.declared.keywords.Keyword.TheVariants.{Listing, Mark, Number, Pair}
+use Rattle.st_card.specs.declared.keywords.Mark.TheVariants.{Trace, Time, Chart}
+use Rattle.st_card.specs.declared.keywords.Number.TheVariants.{Budget, Delays, Snap, Back}
+use Rattle.st_card.specs.declared.keywords.Pair.TheVariants.{Signals, Dump}
+use Rattle.st_card.specs.declared.keywords.Control.{Control}
+use Rattle.st_card.specs.declared.keywords.ControlForm.TheVariants.{Card}
+use Rattle.st_card.specs.Keywords.{keyword_order, keyword_in, keyword_of, numbers_of, card_numbers}
 
 -- the requests of control cards: without a card numbers are 0, lists empty and flags off
 pub record Asked : Type 0 where
@@ -41,30 +55,6 @@ nothing_asked = record {
   back = 0;
 }
 
--- the keywords of control cards, each with its request
-abbrev pub keywords : List (List ℕ × Keyword)
-keywords =
-    (codes "/BUDGET", Budget) ∷ (codes "/DELAYS", Delays) ∷ (codes "/SIGNAL", Signals)
-    ∷ (codes "/DUMP", Dump)
-    ∷ (codes "/SNAP", Snap) ∷ (codes "/BACK", Back) ∷ (codes "/LIST", Listing)
-    ∷ (codes "/TRACE", Trace)
-    ∷ (codes "/TIME", Time) ∷ (codes "/CHART", Chart) ∷ []
-
--- the number that a word of a control card spells with 1 to 12 digits, if it is one
-abbrev pub card_number : List ℕ → Option ℕ
-card_number word = if nat_lt 12 (length word) then None else number_up_to MOST_NUMBER word
-
--- a list of numbers with one number put in front, if both are present
-abbrev pub numbers_before : Option ℕ → Option (List ℕ) → Option (List ℕ)
-numbers_before (Some n) (Some ns) = Some (n ∷ ns)
-numbers_before (Some n) None = None
-numbers_before None ns = None
-
--- the numbers that words spell, if each word is a number
-abbrev pub card_numbers : List (List ℕ) → Option (List ℕ)
-card_numbers [] = Some []
-card_numbers (word ∷ more) = numbers_before (card_number word) (card_numbers more)
-
 -- whether a number is in a range
 abbrev pub is_in_range : ℕ → ℕ → ℕ → Bool
 is_in_range least most n = nat_le least n && nat_le n most
@@ -85,8 +75,7 @@ with_budget kept _ = None
 -- all cards
 abbrev pub with_delays : Asked → List ℕ → Option Asked
 with_delays kept [] = None
-with_delays kept (n ∷ ns) =
-    if nat_le (length kept.delays + length (n ∷ ns)) LONGEST_LIST
+with_delays kept (n ∷ ns) = if nat_le (length kept.delays + length (n ∷ ns)) LONGEST_LIST
     && list_all (is_in_range 1 MOST_DELAY) (n ∷ ns)
     then Some (record kept { delays = kept.delays ++ n ∷ ns }) else None
 
@@ -121,38 +110,27 @@ with_back kept (k ∷ []) =
     if kept.back == 0 && is_in_range 1 MOST_BACK k then Some (record kept { back = k }) else None
 with_back kept _ = None
 
--- the requests with `/LIST` added: allowed once, without numbers
-abbrev pub with_list : Asked → List ℕ → Option Asked
-with_list kept [] = if kept.list then None else Some (record kept { list = true })
-with_list kept _ = None
-
--- the requests with `/TRACE` added: allowed once, without numbers
-abbrev pub with_trace : Asked → List ℕ → Option Asked
-with_trace kept [] = if kept.trace then None else Some (record kept { trace = true })
-with_trace kept _ = None
-
--- the requests with `/TIME` added: allowed once, without numbers
-abbrev pub with_time : Asked → List ℕ → Option Asked
-with_time kept [] = if kept.time then None else Some (record kept { time = true })
-with_time kept _ = None
-
--- the requests with `/CHART` added: allowed once, without numbers
-abbrev pub with_chart : Asked → List ℕ → Option Asked
-with_chart kept [] = if kept.chart then None else Some (record kept { chart = true })
-with_chart kept _ = None
+-- the requests with a further one, which is allowed once and without numbers
+abbrev pub with_once : Bool → Asked → List ℕ → Option Asked
+with_once asked new [] = if asked then None else Some new
+with_once asked new _ = None
 
 -- the requests with a card added that has this keyword and these numbers, if they are allowed
 abbrev pub with_keyword : Keyword → Asked → List ℕ → Option Asked
-with_keyword Budget = with_budget
-with_keyword Delays = with_delays
-with_keyword Signals = with_signal
-with_keyword Dump = with_dump
-with_keyword Snap = with_snap
-with_keyword Back = with_back
-with_keyword Listing = with_list
-with_keyword Trace = with_trace
-with_keyword Time = with_time
-with_keyword Chart = with_chart
+with_keyword (Number Budget) kept = with_budget kept
+with_keyword (Number Delays) kept = with_delays kept
+with_keyword (Pair Signals) kept = with_signal kept
+with_keyword (Pair Dump) kept = with_dump kept
+with_keyword (Number Snap) kept = with_snap kept
+with_keyword (Number Back) kept = with_back kept
+with_keyword Listing kept = with_once kept.list (record kept { list = true })
+with_keyword (Mark Trace) kept = with_once kept.trace (record kept { trace = true })
+with_keyword (Mark Time) kept = with_once kept.time (record kept { time = true })
+with_keyword (Mark Chart) kept = with_once kept.chart (record kept { chart = true })
+
+-- the requests with one request added, if it is allowed
+abbrev pub with_control : Asked → Control → Option Asked
+with_control kept control = with_keyword (keyword_of control) kept (numbers_of control)
 
 -- the requests with a card added, if its keyword and its numbers are valid
 abbrev pub with_card : Asked → Option Keyword → Option (List ℕ) → Option Asked
@@ -163,7 +141,7 @@ with_card kept None numbers = None
 -- the requests with a card of these words added: a keyword, then its numbers
 abbrev pub with_words : Asked → List (List ℕ) → Option Asked
 with_words kept [] = None
-with_words kept (word ∷ more) = with_card kept (row_of word keywords) (card_numbers more)
+with_words kept (word ∷ more) = with_card kept (keyword_in Card word keyword_order) (card_numbers more)
 
 -- the requests with one more control card of this text added; None if the card is refused
 abbrev pub asked_with_card : Asked → List ℕ → Option Asked

@@ -1,4 +1,13 @@
 -- The names of the faults of cards.
+--
+-- Proved: by their `ensures` clauses these calls do what definitions here say: `name` (faults.rt),
+-- `text_of` (faults.rt), `write_refusal` (refusal.rt of st_top), `refuse` (program.rt of
+-- st_account), and others.
+-- Read by: definitions in Output of st_top, Answers of st_account.
+-- Laws: none names a definition of this file itself.
+-- Change: the meaning is fixed by docs/strap.md, since the contracts of `st_top::stretch` and
+-- `st_account::ledger` unfold to a definition here. The form is free, with the proofs that unfold
+-- it.
 use Rattle.std.specs.Prelude.{ℕ, List, codes}
 use Rattle.st_card.specs.declared.faults.Fault.{Fault}
 use Rattle.st_card.specs.declared.faults.Fault.TheVariants.{NotAscii, CardTooLong, BadName, UnknownOperation, BadDataDescription, BadProgressive, BadFieldCount, BadExpression, BadIndex, NumberTooLarge, BadControlCard, CardAfterEnd, NoEnd, TooManyCards, NameTwice, UndefinedSymbol, SymbolNotEarlier, TooManyNames, AddressOutOfRange, ValueDoesNotFit, NotOnABoundary, LocationOutOfStorage, BadObjectCard}

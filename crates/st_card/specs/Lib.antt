@@ -1,5 +1,6 @@
 pub mod Faults
 pub mod Cards
+pub mod Keywords
 pub mod Controls
 pub mod Limits
 pub mod Written

@@ -1,4 +1,14 @@
 -- The limits of the requests that control cards can make.
+--
+-- Proved: by their `ensures` clauses these calls do what definitions here say: `add`
+-- (control_cards.rt), `new` (control_cards.rt), `due_signals` (driven.rt of st_run), `parts`
+-- (pending.rt of st_run), and others.
+-- Read by: definitions in Kept of st_asm, Sound of st_asm, DelayLines of st_object, Draft of
+-- st_object, and others.
+-- Laws: ControlsComeBack (specs/Laws.antt of st_dis), SizesOfStorageAgree (specs/Laws.antt of
+-- st_laws).
+-- Change: the meaning is fixed by docs/strap.md, since the contract of `st_top::stretch` unfolds to
+-- a definition here. The form is free, with the proofs that unfold it.
 use Rattle.std.specs.Prelude.{ℕ, ◌≤◌, ◌&&◌, Bool, nat_le, List, length}
 use Rattle.std.specs.List.{AllPass}
 use Rattle.std.specs.List.Sorted.{IsNonDecreasingBy, IsStrictlyIncreasing}

@@ -1,36 +1,35 @@
 -- The text of requests, one request a line: on control cards and in object texts.
+--
+-- Proved: by their `ensures` clauses these calls do what definitions here say: `push_controls`
+-- (written.rt), `push_requests` (written.rt), `push_line` (written.rt), `count` (control_cards.rt),
+-- and others.
+-- Read by: definitions in Deck of st_dis, Draft of st_object, Meaning of st_object, Object of
+-- st_object, and others.
+-- Laws: none names a definition of this file itself.
+-- Change: the meaning is fixed by docs/strap.md, since the contract of `st_top::stretch` unfolds to
+-- a definition here. The form is free, with the proofs that unfold it.
 use Rattle.std.specs.Prelude.{ℕ, ◌≤◌, ◌==◌, Bool, List, [], ◌∷◌, ◌++◌, map, codes, decimal, if◌then◌else◌}
 use Rattle.std.specs.List.{flat_map}
 use Rattle.st_text.specs.Bytes.{lf}
 use Rattle.st_card.specs.Controls.{Asked}
 use Rattle.st_card.specs.declared.limits.TheConstants.{MOST_NUMBER}
-use Rattle.st_card.specs.declared.written.Control.{Control}
-use Rattle.st_card.specs.declared.written.Control.TheVariants.{Budget, Delay, Signal, Dump, Trace, Time, Chart, Snap, Back}
-use Rattle.st_card.specs.declared.written.ControlForm.{ControlForm}
-use Rattle.st_card.specs.declared.written.ControlForm.TheVariants.{Card, ObjectLine}
-
--- the prefix of a request's line: `/` on a card, empty in an object text
-abbrev pub front : ControlForm → List ℕ
-front Card = codes "/"
-front ObjectLine = []
-
--- the keyword of a delay: a card may list several delays, a line of an object text has one
-abbrev pub delay_word : ControlForm → List ℕ
-delay_word Card = codes "DELAYS "
-delay_word ObjectLine = codes "DELAY "
+use Rattle.st_card.specs.declared.keywords.Mark.TheVariants.{Trace, Time, Chart}
+use Rattle.st_card.specs.declared.keywords.Number.TheVariants.{Budget, Delays, Snap, Back}
+use Rattle.st_card.specs.declared.keywords.Pair.TheVariants.{Signals, Dump}
+use Rattle.st_card.specs.declared.keywords.Keyword.{Keyword}
+use Rattle.st_card.specs.declared.keywords.Keyword.TheVariants.{Listing, Mark, Number, Pair}
+use Rattle.st_card.specs.declared.keywords.Control.{Control}
+use Rattle.st_card.specs.declared.keywords.Control.TheVariants as asks
+use Rattle.st_card.specs.declared.keywords.ControlForm.{ControlForm}
+use Rattle.st_card.specs.Keywords.{keyword_order, keyword_text}
 
 -- the line of one request, without its line end
 unfoldable pub control_line : ControlForm → Control → List ℕ
-control_line form (Budget n) = front form ++ codes "BUDGET " ++ decimal n
-control_line form (Delay d) = front form ++ delay_word form ++ decimal d
-control_line form (Signal c i) =
-    front form ++ codes "SIGNAL " ++ decimal c ++ codes " " ++ decimal i
-control_line form (Dump f t) = front form ++ codes "DUMP " ++ decimal f ++ codes " " ++ decimal t
-control_line form Trace = front form ++ codes "TRACE"
-control_line form Time = front form ++ codes "TIME"
-control_line form Chart = front form ++ codes "CHART"
-control_line form (Snap t) = front form ++ codes "SNAP " ++ decimal t
-control_line form (Back k) = front form ++ codes "BACK " ++ decimal k
+control_line form (asks.Mark mark) = keyword_text form (Mark mark)
+control_line form (asks.Number number n) =
+    keyword_text form (Number number) ++ codes " " ++ decimal n
+control_line form (asks.Pair pair a b) =
+    keyword_text form (Pair pair) ++ codes " " ++ decimal a ++ codes " " ++ decimal b
 
 -- the text of lines, each followed by its line end
 abbrev pub text_of_lines : List (List ℕ) → List ℕ
@@ -44,25 +43,22 @@ where_asked asked x = if asked then x ∷ [] else []
 abbrev pub unless_zero : {X : Type 0} → ℕ → X → List X
 unless_zero n x = if n == 0 then [] else x ∷ []
 
--- the results of applying `made` to each request, in the order in which requests are written
-module _ {X : Type 0} (made : Control → X) where
-  -- the results for the budget, delays, signals and parts of storage
-  abbrev pub orders : Asked → List X
-  orders a = unless_zero a.budget (made (Budget a.budget))
-      ++ map (λ d. made (Delay d)) a.delays
-      ++ map (λ s. made (Signal s.count s.indicator)) a.signals
-      ++ map (λ p. made (Dump p.0 p.1)) a.dumps
+-- the requests with this keyword; a listing has no line
+abbrev pub asked_by : Keyword → Asked → List Control
+asked_by (Number Budget) a = unless_zero a.budget (asks.Number Budget a.budget)
+asked_by (Number Delays) a = map (λ d. asks.Number Delays d) a.delays
+asked_by (Pair Signals) a = map (λ s. asks.Pair Signals s.count s.indicator) a.signals
+asked_by (Pair Dump) a = map (λ p. asks.Pair Dump p.0 p.1) a.dumps
+asked_by (Mark Trace) a = where_asked a.trace (asks.Mark Trace)
+asked_by (Mark Time) a = where_asked a.time (asks.Mark Time)
+asked_by (Mark Chart) a = where_asked a.chart (asks.Mark Chart)
+asked_by (Number Snap) a = map (λ t. asks.Number Snap t) a.snaps
+asked_by (Number Back) a = unless_zero a.back (asks.Number Back a.back)
+asked_by Listing a = []
 
-  -- the results for the trace, timing, timetable, snapshots and steps back
-  abbrev pub shows : Asked → List X
-  shows a = where_asked a.trace (made Trace) ++ where_asked a.time (made Time)
-      ++ where_asked a.chart (made Chart)
-      ++ map (λ t. made (Snap t)) a.snaps
-      ++ unless_zero a.back (made (Back a.back))
-
-  -- the results for all requests
-  abbrev pub controls_made : Asked → List X
-  controls_made a = orders a ++ shows a
+-- all requests that have a line, in the order in which they are written
+abbrev pub requests : Asked → List Control
+requests a = flat_map (λ keyword. asked_by keyword a) keyword_order
 
 -- a number of at most 12 digits, as a control card may have it
 abbrev pub IsShort : ℕ → Type 0
@@ -70,12 +66,6 @@ IsShort n = n ≤ MOST_NUMBER
 
 -- a request whose numbers all have at most 12 digits
 abbrev pub IsShortControl : Control → Type 0
-IsShortControl (Budget n) = IsShort n
-IsShortControl (Delay d) = IsShort d
-IsShortControl (Signal c i) = IsShort c × IsShort i
-IsShortControl (Dump f t) = IsShort f × IsShort t
-IsShortControl Trace = Unit {0}
-IsShortControl Time = Unit {0}
-IsShortControl Chart = Unit {0}
-IsShortControl (Snap t) = IsShort t
-IsShortControl (Back k) = IsShort k
+IsShortControl (asks.Mark mark) = Unit {0}
+IsShortControl (asks.Number number n) = IsShort n
+IsShortControl (asks.Pair pair a b) = IsShort a × IsShort b

@@ -1,11 +1,14 @@
-//! The cards of a job: its lines, each with its number, kind and fault.
+//! The cards of a job: its lines, each with its number, kind and fault. `split` is the first step
+//! of each command that reads a deck (`st_asm`, `st_top`, `st_account`), and of the card reader
+//! (`st_exch`). Cards are counted from 1; offsets and lengths are in bytes. docs/strap.md has the
+//! rules.
 //!
-//! `split` is the first step of every command that reads a deck. `cards_of` in specs/Cards.antt
-//! defines the cards; the clause `cards` says that the call returns exactly these, and `texts` that
-//! each lies within the job and agrees with its text. Cards are counted from 1; offsets and lengths
-//! are in bytes. MOST_CHARACTERS and COLUMNS are figures of the definition and of docs/strap.md.
-//! The bodies are free, but proofs in proofs/cards follow `split` and `first_line`. The cards of a
-//! job are pinned by the definition, docs/strap.md and the vectors.
+//! Proved: the clause `cards` says that the cards are `cards_of` of specs/Cards.antt, `texts` that
+//! each lies within the job and agrees with its text (`IsCardOf`). The law is
+//! `CardsStandInTheirJob` in specs/Laws.antt. Pinned: the cards of a job, with MOST_CHARACTERS and
+//! COLUMNS, by `cards_of`, docs/strap.md, vectors/edges.txt and vectors/faults.txt; `Card`, by
+//! these crates and `st_run`. A new kind of card is a case of `CardKind`. Free: the bodies, if
+//! proofs/cards follows those of `split` and `first_line`.
 
 ghost use Rattle.std.specs.Prelude.{◌≡◌, ◌+◌, ◌-◌, ◌^◌, ◌<◌, ◌≤◌, ℕ, length, [], ◌∷◌, ◌++◌, OnOk, All, MatchOption, IfSome, IfOk};
 ghost use Rattle.std.specs.Str.Lines.{strip_carriage_return};

@@ -1,25 +1,30 @@
 //! The requests of a job's control cards: budget, delays, signals, dumps and what the report shows.
+//! The assembler (`st_asm`) adds a card at a time (`add`), `st_object` a line of an object text at
+//! a time (`ask`); `st_run`, `st_telling`, `st_top` and `st_account` read the result. docs/strap.md
+//! has the rules.
 //!
-//! The assembler adds a card at a time (`add`), an object text a line at a time (`ask`), and
-//! `st_run`, `st_telling` and `st_top` read the result. specs/Controls.antt defines the requests
-//! with one more card; `Settles` and the clauses of `add` say that exactly these are the new ones,
-//! or that the card is refused and nothing changed. `limits` in specs/Limits.antt are kept. A new
-//! request needs a field here, a keyword, its cases in specs/Controls.antt, and its line in
-//! written.rt (docs/changing.md). Which cards are accepted is pinned by the definition,
-//! docs/strap.md and vectors/controls.txt. The bodies are free; proofs/control_cards follows
-//! `delays_in` and `add`.
+//! Proved: the new requests are those of specs/Controls.antt (`asked_with_card`, `with_keyword`),
+//! or the card is refused and nothing changed (`Settles`, `Explains` of specs/Answers.antt).
+//! `IsWithinLimits` of specs/Limits.antt is kept. Laws (specs/Laws.antt): `NumbersAgree` of
+//! `st_laws`, `ControlsComeBack` of `st_dis`. Pinned: which cards are accepted, by
+//! specs/Controls.antt, docs/strap.md and vectors/controls.txt. Free: the bodies, if
+//! proofs/control_cards follows those of `delays_in` and `add`. A new request touches the files
+//! that docs/changing.md lists.
 
-ghost use Rattle.std.specs.Prelude.{◌≡◌, ◌≤◌, [], ◌∷◌, length, Some, None, if◌then◌else◌, OnOk, OnErr, IfErr};
+ghost use Rattle.std.specs.Prelude.{◌≡◌, ◌≤◌, [], ◌∷◌, length, slice_get, Some, None, if◌then◌else◌, OnOk, OnErr, IfErr};
 ghost use Rattle.std.specs.List.{list_all};
 ghost use Rattle.std.specs.Option.{option_map};
 ghost use Rattle.st_card.specs.Controls as spec;
 ghost use Rattle.st_text.specs.Pieces.{words};
 ghost use Rattle.st_card.specs.Limits.{IsWithinLimits};
+ghost use Rattle.st_card.specs.Written.{asked_by, where_asked, unless_zero};
 ghost use Rattle.st_card.specs.Answers.{Settles, Appends, Marks, Explains};
 
 use crate::cards::columns;
 use crate::faults::Fault;
-use crate::keywords::{Addition, Keyword, keyword_of, read_numbers};
+use crate::keywords::{
+    Addition, Control, ControlForm, Keyword, Mark, Number, Pair, keyword_in, read_numbers,
+};
 use crate::limits::{MOST_BACK, MOST_DUMPS, MOST_SNAPS};
 use arrayvec::ArrayVec;
 use st_bits::indicators::CHANNEL_SIGNAL;
@@ -199,27 +204,106 @@ impl Controls {
         }
     }
 
-    /// Adds the request of a keyword with its numbers, at most 36.
+    /// Adds one request.
     ///
-    /// The request is refused if the count of numbers is wrong, if it is past a limit, or if it is
-    /// repeated where only one is allowed. After a refusal, and after a lack of memory, the
-    /// controls are unchanged.
-    pub fn ask(&mut self, keyword: Keyword, numbers: &[u64]) -> Addition
+    /// The request is refused if it is past a limit, or if it is repeated where only one is allowed.
+    /// After a refusal, and after a lack of memory, the controls are unchanged.
+    pub fn add_control(&mut self, control: Control) -> Addition
+        ensures { Settles self.old self.new (spec.with_control self.old control) result }
+    {
+        match control {
+            Control::Mark(mark) => self.ask(Keyword::Mark(mark), &[]),
+            Control::Number(number, n) => self.ask(Keyword::Number(number), &[n]),
+            Control::Pair(pair, a, b) => self.ask(Keyword::Pair(pair), &[a, b]),
+        }
+    }
+
+    /// The number of requests with this keyword that have a line.
+    pub fn count(&self, keyword: Keyword) -> usize
+        ensures { result ≡ length (asked_by keyword self.now) }
+    {
+        match keyword {
+            Keyword::Listing => 0,
+            Keyword::Mark(Mark::Trace) => usize::from(self.trace),
+            Keyword::Mark(Mark::Time) => usize::from(self.time),
+            Keyword::Mark(Mark::Chart) => usize::from(self.chart),
+            Keyword::Number(Number::Budget) => usize::from(self.budget != 0),
+            Keyword::Number(Number::Delays) => self.delays.len(),
+            Keyword::Number(Number::Snap) => self.snaps.len(),
+            Keyword::Number(Number::Back) => usize::from(self.back != 0),
+            Keyword::Pair(Pair::Signals) => self.signals.len(),
+            Keyword::Pair(Pair::Dump) => self.dumps.len(),
+        }
+    }
+
+    // The request with this keyword that has this index among them.
+    pub(crate) fn request(&self, keyword: Keyword, index: usize) -> Option<Control>
+        ensures { result ≡ slice_get (asked_by keyword self.now) index }
+    {
+        match keyword {
+            Keyword::Listing => None,
+            Keyword::Mark(Mark::Trace) => only(index, self.trace, Control::Mark(Mark::Trace)),
+            Keyword::Mark(Mark::Time) => only(index, self.time, Control::Mark(Mark::Time)),
+            Keyword::Mark(Mark::Chart) => only(index, self.chart, Control::Mark(Mark::Chart)),
+            Keyword::Number(Number::Budget) => {
+                nonzero(
+                    index,
+                    self.budget,
+                    Control::Number(Number::Budget, self.budget),
+                )
+            }
+            Keyword::Number(Number::Delays) => match self.delays.get(index) {
+                Some(delay) => Some(Control::Number(Number::Delays, u64::from(*delay))),
+                None => None,
+            },
+            Keyword::Number(Number::Snap) => match self.snaps.get(index) {
+                Some(tick) => Some(Control::Number(Number::Snap, *tick)),
+                None => None,
+            },
+            Keyword::Number(Number::Back) => {
+                let back = u64::from(self.back);
+                nonzero(index, back, Control::Number(Number::Back, back))
+            }
+            Keyword::Pair(Pair::Signals) => match self.signals.get(index) {
+                Some(signal) => Some(Control::Pair(
+                    Pair::Signals,
+                    signal.count,
+                    u64::from(signal.indicator),
+                )),
+                None => None,
+            },
+            Keyword::Pair(Pair::Dump) => match self.dumps.get(index) {
+                Some((first, last)) => Some(Control::Pair(
+                    Pair::Dump,
+                    u64::from(*first),
+                    u64::from(*last),
+                )),
+                None => None,
+            },
+        }
+    }
+
+    // Adds the request of a keyword with its numbers, at most 36.
+    //
+    // The request is refused if the count of numbers is wrong, if it is past a limit, or if it is
+    // repeated where only one is allowed. After a refusal, and after a lack of memory, the controls
+    // are unchanged.
+    fn ask(&mut self, keyword: Keyword, numbers: &[u64]) -> Addition
         requires { length numbers.now ≤ 36 }
         ensures { Settles self.old self.new
             (spec.with_keyword keyword self.old numbers.now) result }
     {
         match keyword {
-            Keyword::Budget => self.add_budget(numbers),
-            Keyword::Delays => self.add_delays(numbers),
-            Keyword::Signals => self.add_signal(numbers),
-            Keyword::Dump => self.add_dump(numbers),
-            Keyword::Snap => self.add_snap(numbers),
-            Keyword::Back => self.add_back(numbers),
             Keyword::Listing => set_mark(&mut self.list, numbers),
-            Keyword::Trace => set_mark(&mut self.trace, numbers),
-            Keyword::Time => set_mark(&mut self.time, numbers),
-            Keyword::Chart => set_mark(&mut self.chart, numbers),
+            Keyword::Mark(Mark::Trace) => set_mark(&mut self.trace, numbers),
+            Keyword::Mark(Mark::Time) => set_mark(&mut self.time, numbers),
+            Keyword::Mark(Mark::Chart) => set_mark(&mut self.chart, numbers),
+            Keyword::Number(Number::Budget) => self.add_budget(numbers),
+            Keyword::Number(Number::Delays) => self.add_delays(numbers),
+            Keyword::Number(Number::Snap) => self.add_snap(numbers),
+            Keyword::Number(Number::Back) => self.add_back(numbers),
+            Keyword::Pair(Pair::Signals) => self.add_signal(numbers),
+            Keyword::Pair(Pair::Dump) => self.add_dump(numbers),
         }
     }
 
@@ -231,7 +315,7 @@ impl Controls {
         let Some((word, rest)) = first_word(text) else {
             return Addition::Refused;
         };
-        let Some(keyword) = keyword_of(word) else {
+        let Some(keyword) = keyword_in(ControlForm::Card, word) else {
             return Addition::Refused;
         };
         let Some(numbers) = read_numbers(rest) else {
@@ -325,6 +409,28 @@ impl Controls {
             }
             _ => Addition::Refused,
         }
+    }
+}
+
+// The control, if the flag is set and the index is zero.
+fn only(index: usize, asked: bool, control: Control) -> Option<Control>
+    ensures { result ≡ slice_get (where_asked asked control) index }
+{
+    if asked && index == 0 {
+        Some(control)
+    } else {
+        None
+    }
+}
+
+// The control, if the number is not zero and the index is.
+fn nonzero(index: usize, n: u64, control: Control) -> Option<Control>
+    ensures { result ≡ slice_get (unless_zero n control) index }
+{
+    if n != 0 && index == 0 {
+        Some(control)
+    } else {
+        None
     }
 }
 

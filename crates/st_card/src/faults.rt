@@ -1,11 +1,12 @@
-//! The faults of cards: each reason for which a job is refused, and its name in the report.
+//! The faults of cards: each reason for which a job is refused, and its name in the report. All
+//! crates that parse (`st_card`, `st_expr`, `st_strap`, `st_asm`, `st_object`) return them;
+//! `st_top` and `st_account` print the name. docs/strap.md lists the faults.
 //!
-//! All crates that parse (`st_card`, `st_expr`, `st_strap`, `st_asm`, `st_object`) return them.
-//! `name_of` in specs/Faults.antt defines the names, and the clause says that `name` returns
-//! exactly that. Names are pinned by it, docs/strap.md and the vectors. The order of the variants
-//! is pinned too: `st_strap` takes it as the order in which faults count, and proves that it is
-//! `rank` of its specs/Order.antt. A new fault needs its name in specs/Faults.antt and its rank in
-//! specs/Order.antt of `st_strap`. The form of the match is free.
+//! Proved: `name` is `name_of` of specs/Faults.antt, at most 32 bytes. Pinned: the names, by this
+//! definition, docs/strap.md, vectors/faults.txt, vectors/controls.txt and vectors/objects.txt; the
+//! order of the variants, by `rank` in specs/Order.antt of `st_strap`, where it is the order in
+//! which faults count. A new fault needs a case of `text_of`, of `name_of` and of `rank`. Free: the
+//! form of the match.
 
 ghost use Rattle.std.specs.Prelude.{◌≡◌, ◌≤◌, length};
 ghost use Rattle.st_card.specs.Faults.{name_of};

@@ -1,10 +1,12 @@
-//! The limits of control cards' requests, except those that `st_bits` defines.
+//! The limits of control cards' requests, except those that `st_bits` defines. control_cards.rt and
+//! keywords.rt refuse what is beyond them, lists of `Controls` have these capacities, and
+//! `st_object` uses MOST_NUMBER. docs/strap.md names the limits.
 //!
-//! Definitions in specs/Controls.antt and specs/Limits.antt name them; their figures are pinned by
-//! the law `ControlsInFigures` of `st_laws`, docs/strap.md and vectors/controls.txt. Lists of
-//! `Controls` have these capacities. The limits are this project's choice and may change, with that
-//! law, the page and the vectors, and with new proofs here and in the crates that keep dumps,
-//! snapshots or steps.
+//! Proved: nothing here; specs/Controls.antt and specs/Limits.antt name the constants. Pinned: the
+//! figures, by the law `ControlsInFigures` (specs/Laws.antt of `st_laws`), docs/strap.md and
+//! vectors/controls.txt. Free: a limit, which is this project's choice. Its change changes that
+//! law, that page, vectors/controls.txt and model/cards.py, and needs new proofs here and in the
+//! crates that keep dumps, snapshots or steps.
 
 /// The most parts of storage that may be dumped.
 pub const MOST_DUMPS: usize = 16;

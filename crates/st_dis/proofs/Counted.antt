@@ -1,6 +1,10 @@
 -- Lemmas on the number of cards of words.
 use Rattle.std.proofs.Common.{◌≡◌, ◌≤◌, ◌+◌, ◌-◌, ◌==◌, ◌++◌, ℕ, true, false, List, [], ◌∷◌, length, map, take, drop, get_or, if◌then◌else◌, refl, ap, sym, ◌∙◌, length-append, arith}
+use Rattle.std.specs.List.{flat_map}
 use Rattle.std.proofs.lemmas.List.{take_all}
+use Rattle.st_card.specs.Controls.{Asked}
+use Rattle.st_card.specs.Written.{asked_by}
+use Rattle.st_card.specs.declared.keywords.Keyword.{Keyword}
 use Rattle.st_dis.specs.Deck.{statement_card, location_statement, location_cards, cards_of_word, word_cards}
 use Rattle.st_dis.specs.Spelling.{statements_of}
 
@@ -42,3 +46,12 @@ counted-more count n total before (x ∷ xs) some here all =
     let parts = length-append (cards_of_word 0 before x) (word_cards 1 x xs) in
     let sizes : count + n + length (word_cards 0 x xs) ≡ total = omega (arith, here, all, moved, parts) in
     ap (λ ys. count + n + length (word_cards 0 x ys)) whole ∙ sizes
+
+-- the count with the requests of one more keyword
+pub asked-more : (a : Asked) (count n total : ℕ) (keyword : Keyword) (after keywords : List Keyword) → keywords ≡ keyword ∷ after →
+    n ≡ length (asked_by keyword a) → count + length (flat_map (λ k. asked_by k a) keywords) ≡ total →
+    count + n + length (flat_map (λ k. asked_by k a) after) ≡ total
+asked-more a count n total keyword after keywords parts here all =
+    let whole = ap (λ ks. count + length (flat_map (λ k. asked_by k a) ks)) parts in
+    let size = length-append (asked_by keyword a) (flat_map (λ k. asked_by k a) after) in
+    omega (arith, whole, size, here, all)

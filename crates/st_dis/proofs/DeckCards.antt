@@ -6,11 +6,10 @@ use Rattle.std.proofs.lemmas.List.{map-append}
 use Rattle.std.proofs.lemmas.List.Elements.{All-nil, All-cons, All-head, All-tail, All-append}
 use Rattle.st_card.specs.Cards.{cards_of}
 use Rattle.st_card.specs.Controls.{Asked}
-use Rattle.st_card.specs.Written.{control_line, text_of_lines}
-use Rattle.st_card.specs.declared.written.Control.{Control}
-use Rattle.st_card.specs.declared.written.Control.TheVariants as asks
-use Rattle.st_card.specs.declared.written.ControlForm.TheVariants.{Card}
-use Rattle.st_card.proofs.EachControl.{OfEach, of_any, controls_all}
+use Rattle.st_card.specs.Written.{control_line, requests, text_of_lines}
+use Rattle.st_card.specs.declared.keywords.Control.{Control}
+use Rattle.st_card.specs.declared.keywords.Control.TheVariants as asks
+use Rattle.st_card.specs.declared.keywords.ControlForm.TheVariants.{Card}
 use Rattle.st_card.specs.declared.faults.Fault.{Fault}
 use Rattle.st_bits.specs.Storage.{words_of_storage_is}
 use Rattle.st_strap.specs.Reading.{number_expr}
@@ -190,21 +189,16 @@ end_of p = End (number_expr (32 * p.start))
 
 card-kind : (c : Control) → IsControl (control_line Card c)
 unfolding control_line
-card-kind (asks.Budget n) = refl
-card-kind (asks.Delay n) = refl
-card-kind (asks.Signal a b) = refl
-card-kind (asks.Dump a b) = refl
-card-kind asks.Trace = refl
-card-kind asks.Time = refl
-card-kind asks.Chart = refl
-card-kind (asks.Snap n) = refl
-card-kind (asks.Back n) = refl
-
-cards-kind : (a : Asked) → OfEach (λ c. IsControl (control_line Card c)) a
-cards-kind a = of_any (λ c. IsControl (control_line Card c)) card-kind a
+card-kind (asks.Mark mark) = refl
+card-kind (asks.Number number n) = refl
+card-kind (asks.Pair pair a b) = refl
 
 pub control_cards-kind : (a : Asked) → All IsControl (control_cards a)
-control_cards-kind a = controls_all IsControl (λ c. control_line Card c) a (cards-kind a)
+control_cards-kind a = mapped (requests a)
+  where
+    mapped : (cs : List Control) → All IsControl (map (control_line Card) cs)
+    mapped [] = All-nil IsControl
+    mapped (c ∷ cs) = All-cons IsControl (control_line Card c) (map (control_line Card) cs) (card-kind c) (mapped cs)
 
 -- ---- the form pass
 

@@ -2,17 +2,21 @@
 use Rattle.std.proofs.Common.{◌≤◌, ◌<◌, ◌+◌, ◌*◌, ◌/◌, ◌%◌, ◌^◌, ◌==◌, ◌++◌, ℕ, true, false, List, [], ◌∷◌, length, map, codes, decimal, if◌then◌else◌, length-append, arith}
 use Rattle.std.specs.List.{All}
 use Rattle.std.proofs.lemmas.List.Elements.{All-nil, All-cons, All-head, All-tail, All-append}
+use Rattle.std.proofs.lemmas.Bool.{leb-true}
 use Rattle.std.proofs.lemmas.Fmt.{length-decimal-le}
 use Rattle.st_text.specs.Bytes.{lf}
 use Rattle.st_text.specs.Numerals.{half_address}
 use Rattle.st_bits.specs.Storage.{words_of_storage_is}
 use Rattle.st_card.specs.Controls.{Asked}
 use Rattle.st_card.specs.Limits.{IsWithinLimits}
-use Rattle.st_card.specs.Written.{control_line, IsShortControl, text_of_lines}
-use Rattle.st_card.specs.declared.written.Control.{Control}
-use Rattle.st_card.specs.declared.written.Control.TheVariants as asks
-use Rattle.st_card.specs.declared.written.ControlForm.TheVariants.{Card}
-use Rattle.st_card.proofs.EachControl.{OfEach, of_short, controls_all}
+use Rattle.st_card.specs.Keywords.{keyword_text}
+use Rattle.st_card.specs.Written.{control_line, requests, IsShortControl, text_of_lines}
+use Rattle.st_card.specs.declared.keywords.Keyword.{Keyword}
+use Rattle.st_card.specs.declared.keywords.Keyword.TheVariants as keywords
+use Rattle.st_card.specs.declared.keywords.Control.{Control}
+use Rattle.st_card.specs.declared.keywords.Control.TheVariants as asks
+use Rattle.st_card.specs.declared.keywords.ControlForm.TheVariants.{Card}
+use Rattle.st_card.proofs.Requests.{is-word, requests-short}
 use Rattle.st_object.specs.Object.{Program, IsProgram, AreWords}
 use Rattle.st_dis.specs.Spelling.{number_text, statements_of}
 use Rattle.st_dis.specs.Deck.{statement_card, location_statement, location_cards, cards_of_word, word_cards, end_text, control_cards, deck_cards, deck_text, card_count}
@@ -124,24 +128,31 @@ paired_card : (word : List ℕ) (a b : ℕ) → length word ≤ 20 → a < 2 ^ 6
     IsCard (word ++ decimal a ++ codes " " ++ decimal b)
 paired_card word a b few small_a small_b = let short = paired word a b few small_a small_b in omega (arith, short)
 
+word-short : (keyword : Keyword) → length (keyword_text Card keyword) ≤ 8
+word-short keyword = leb-true (length (keyword_text Card keyword)) 8 (is-word Card keyword).2
+
 -- the length of a control card
 card-short : (c : Control) → IsShortControl c → IsCard (control_line Card c)
 unfolding control_line
-card-short (asks.Budget n) short = labelled_card (codes "/BUDGET ") n (omega arith) (omega (arith, short))
-card-short (asks.Delay n) short = labelled_card (codes "/DELAYS ") n (omega arith) (omega (arith, short))
-card-short (asks.Signal a b) short = paired_card (codes "/SIGNAL ") a b (omega arith) (omega (arith, short.0)) (omega (arith, short.1))
-card-short (asks.Dump a b) short = paired_card (codes "/DUMP ") a b (omega arith) (omega (arith, short.0)) (omega (arith, short.1))
-card-short asks.Trace short = omega arith
-card-short asks.Time short = omega arith
-card-short asks.Chart short = omega arith
-card-short (asks.Snap n) short = labelled_card (codes "/SNAP ") n (omega arith) (omega (arith, short))
-card-short (asks.Back n) short = labelled_card (codes "/BACK ") n (omega arith) (omega (arith, short))
-
-cards-short : (a : Asked) → IsWithinLimits a → OfEach (λ c. IsCard (control_line Card c)) a
-cards-short a limits = of_short (λ c. IsCard (control_line Card c)) card-short a limits
+card-short (asks.Mark mark) short = let few = word-short (keywords.Mark mark) in omega (arith, few)
+card-short (asks.Number number n) short =
+    let word = keyword_text Card (keywords.Number number) in
+    let few = word-short (keywords.Number number) in
+    let size = length-append word (codes " ") in
+    labelled_card (word ++ codes " ") n (omega (arith, few, size)) (omega (arith, short))
+card-short (asks.Pair pair a b) short =
+    let word = keyword_text Card (keywords.Pair pair) in
+    let few = word-short (keywords.Pair pair) in
+    let size = length-append word (codes " ") in
+    paired_card (word ++ codes " ") a b (omega (arith, few, size)) (omega (arith, short.0)) (omega (arith, short.1))
 
 pub control_cards-short : (a : Asked) → IsWithinLimits a → All IsCard (control_cards a)
-control_cards-short a limits = controls_all IsCard (λ c. control_line Card c) a (cards-short a limits)
+control_cards-short a limits = mapped (requests a) (requests-short a limits)
+  where
+    mapped : (cs : List Control) → All IsShortControl cs → All IsCard (map (control_line Card) cs)
+    mapped [] short = All-nil IsCard
+    mapped (c ∷ cs) short =
+        All-cons IsCard (control_line Card c) (map (control_line Card) cs) (card-short c (All-head IsShortControl c cs short)) (mapped cs (All-tail IsShortControl c cs short))
 
 -- each card of a deck has at most 72 characters
 pub deck_cards-short : (p : Program) → IsProgram p → AreWords p.words → All IsCard (deck_cards p)

@@ -1,5 +1,5 @@
 -- The name pass and the value pass over statements that lead from one state to another.
-use Rattle.std.proofs.Common.{◌≡◌, ℕ, zero, suc, ◌+◌, Bool, true, false, not, List, [], ◌∷◌, ◌++◌, length, Option, None, Ok, if◌then◌else◌, refl, ap, sym, ◌∙◌, append_assoc, append-nil, subst, replicate}
+use Rattle.std.proofs.Common.{◌≡◌, ℕ, zero, suc, ◌+◌, Bool, true, false, not, List, [], ◌∷◌, ◌++◌, length, Option, None, Some, Ok, if◌then◌else◌, refl, ap, sym, ◌∙◌, append_assoc, append-nil, subst, replicate}
 use Rattle.std.specs.List.{zip}
 use Rattle.st_card.specs.Cards.{first_fault}
 use Rattle.st_card.specs.declared.faults.Fault.TheVariants.{NameTwice, UndefinedSymbol, SymbolNotEarlier, TooManyNames}
@@ -11,7 +11,7 @@ use Rattle.st_asm.specs.Lines.{silent_line, saying}
 use Rattle.st_asm.specs.Symbols.{table, accepts_all, has_name, is_defined, names_of}
 use Rattle.st_asm.specs.Values.{values_of}
 use Rattle.st_asm.specs.Places.{placing_of, length_in, needs_earlier}
-use Rattle.st_asm.specs.Naming.{Named, naming_at_start, is_statement_earlier, name_fault, name_step, name_card, name_pass}
+use Rattle.st_asm.specs.Naming.{Named, naming_at_start, is_earlier, name_fault, name_step, name_card, name_pass}
 use Rattle.st_asm.specs.Forming.{is_end}
 use Rattle.st_asm.specs.Emitting.{half_word_bits, bits_of}
 use Rattle.st_asm.specs.Valuing.{Emitted, with_emitted, value_statement, value_card, value_pass}
@@ -37,7 +37,7 @@ pub record Passed (lines : List ReadCard) (here there : Stand) : Type 0 where
       ≡ Ok (emitted_at there (before ++ rows))
 
 -- the names of a card without a name are defined earlier, as there are none
-earlier : (s : Statement) → accepts_all (is_defined []) s ≡ true → is_statement_earlier [] s ≡ true
+earlier : (s : Statement) → accepts_all (is_defined []) s ≡ true → is_earlier [] (Some s) ≡ true
 earlier s known = by_role (needs_earlier (placing_of s))
   where
     by_role : (b : Bool) → (if b then accepts_all (is_defined []) s else true) ≡ true
@@ -52,7 +52,7 @@ no-name_fault : (here : Stand) (places : List (Option ℕ)) (n : ℕ) (s : State
     name_fault (has_name []) (named_at here places) (saying n None s) ≡ None
 unfolding name_fault
 no-name_fault here places n s known =
-    no_fault (accepts_all (has_name []) s) (is_statement_earlier [] s) known (earlier s known)
+    no_fault (accepts_all (has_name []) s) (is_earlier [] (Some s)) known (earlier s known)
 
 step-named : (here there : Stand) (places : List (Option ℕ)) (n : ℕ) (s : Statement) → Steps s here there →
     name_step (named_at here places) (saying n None s) ≡ named_at there (places ++ place_at here s ∷ [])

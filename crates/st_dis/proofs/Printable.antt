@@ -25,13 +25,16 @@ use Rattle.st_object.proofs.ReadBack.{parted_line}
 use Rattle.st_text.specs.Numerals.{bit_address, half_address, flag, place}
 use Rattle.st_object.specs.Object.{Program}
 use Rattle.st_card.specs.Controls.{Asked}
-use Rattle.st_card.specs.Written.{control_line, text_of_lines}
-use Rattle.st_card.specs.declared.written.Control.{Control}
-use Rattle.st_card.specs.declared.written.Control.TheVariants as asks
-use Rattle.st_card.specs.declared.written.ControlForm.TheVariants.{Card}
-use Rattle.st_card.proofs.EachControl.{OfEach, of_any, controls_all}
+use Rattle.st_card.specs.Keywords.{word}
+use Rattle.st_card.specs.Written.{control_line, requests, text_of_lines}
+use Rattle.st_card.specs.declared.keywords.Keyword.{Keyword}
+use Rattle.st_card.specs.declared.keywords.Keyword.TheVariants as keywords
+use Rattle.st_card.specs.declared.keywords.Control.{Control}
+use Rattle.st_card.specs.declared.keywords.Control.TheVariants as asks
+use Rattle.st_card.specs.declared.keywords.ControlForm.TheVariants.{Card}
 use Rattle.st_asm.specs.declared.alone.EmittedBits.{EmittedBits}
-use Rattle.st_dis.specs.Names.{half_name, branch_name, field_name, negation, kind_name, truth_digits, move_name, changes, change_name, turning, order_name, mode_name, forms, form_name}
+use Rattle.st_format.specs.Operations.{half_row, branch_row, vfl_row, conn_row}
+use Rattle.st_dis.specs.Names.{negation, truth_digits, move_name, change_name, turning, order_name, mode_name, form_name}
 use Rattle.st_dis.specs.Texts.{index_field_text, index_part_text, half_field, bit_field, second_field, number_field, offset_field, has_index, listed_fields, half_text, branch_text, description, operand_text, instruction_text}
 use Rattle.st_dis.specs.Spelling.{says, spelling_of, word_spelling, half_spelling, number_text, statements_by, statements_of}
 use Rattle.st_dis.specs.Deck.{statement_card, location_statement, location_cards, cards_of_word, word_cards, end_text, control_cards, deck_cards, deck_text}
@@ -75,7 +78,7 @@ placed_at w b = joined (decimal w) (codes ".") (decimal b) (number w) refl (numb
 
 -- ---- names
 
-half_plain : (op : HalfOp) → IsPlain (half_name op)
+half_plain : (op : HalfOp) → IsPlain (half_row op).word
 half_plain Lx = refl
 half_plain Lv = refl
 half_plain Lc = refl
@@ -104,7 +107,7 @@ half_plain Cbr = refl
 half_plain R = refl
 half_plain Ex = refl
 
-field_plain : (op : VflOp) → IsPlain (field_name op)
+field_plain : (op : VflOp) → IsPlain (vfl_row op).word
 field_plain L = refl
 field_plain Lwf = refl
 field_plain Ltrs = refl
@@ -126,7 +129,7 @@ field_plain MulAdd = refl
 field_plain Div = refl
 field_plain Lcv = refl
 
-kind_plain : (kind : ConnKind) → IsPlain (kind_name kind)
+kind_plain : (kind : ConnKind) → IsPlain (conn_row kind).word
 kind_plain C = refl
 kind_plain Cm = refl
 kind_plain Ct = refl
@@ -173,10 +176,10 @@ one_of (t ∷ ts) zero p = (and_parts (is_printable t) (list_all is_printable ts
 one_of (t ∷ ts) (suc k) p = one_of ts k (and_parts (is_printable t) (list_all is_printable ts) p).1
 
 change_plain : (change : ℕ) → IsPlain (change_name change)
-change_plain change = one_of changes change refl
+change_plain change = one_of ([] ∷ codes "Z" ∷ codes "S" ∷ codes "V" ∷ []) change refl
 
 form_plain : (p : ℕ) → IsPlain (form_name p)
-form_plain p = one_of forms p refl
+form_plain p = one_of ([] ∷ codes "(IM)" ∷ codes "(V+I)" ∷ codes "(V+IC)" ∷ codes "(V+ICR)" ∷ codes "(V-I)" ∷ codes "(V-IC)" ∷ codes "(V-ICR)" ∷ []) p refl
 
 -- ---- fields
 
@@ -224,14 +227,14 @@ operand_plain p address i offset =
 
 -- ---- instructions
 
-with_fields : (op : HalfOp) (address j i : ℕ) → IsPlain (half_name op ++ index_field_text j ++ half_field address i)
+with_fields : (op : HalfOp) (address j i : ℕ) → IsPlain ((half_row op).word ++ index_field_text j ++ half_field address i)
 with_fields op address j i =
-    joined (half_name op) (index_field_text j) (half_field address i) (half_plain op) (index_plain j) (half_field_plain address i)
+    joined (half_row op).word (index_field_text j) (half_field address i) (half_plain op) (index_plain j) (half_field_plain address i)
 
 half_text_plain : (op : HalfOp) (address j i : ℕ) → IsPlain (half_text op address j i)
-half_text_plain Ex address j i = join (half_name Ex) (half_field address i) refl (half_field_plain address i)
-half_text_plain R address j i = join (half_name R) (index_field_text j) refl (index_plain j)
-half_text_plain Lvs address j i = joined (half_name Lvs) (index_field_text j) (listed_fields 16 address) refl (index_plain j) (listed_plain 16 address)
+half_text_plain Ex address j i = join (half_row Ex).word (half_field address i) refl (half_field_plain address i)
+half_text_plain R address j i = join (half_row R).word (index_field_text j) refl (index_plain j)
+half_text_plain Lvs address j i = joined (half_row Lvs).word (index_field_text j) (listed_fields 16 address) refl (index_plain j) (listed_plain 16 address)
 half_text_plain Lx address j i = with_fields Lx address j i
 half_text_plain Lv address j i = with_fields Lv address j i
 half_text_plain Lc address j i = with_fields Lc address j i
@@ -260,10 +263,10 @@ half_text_plain Cbr address j i = with_fields Cbr address j i
 branch_text_plain : (op : BranchOp) (address i : ℕ) → IsPlain (branch_text op address i)
 branch_text_plain Bew address i = refl
 branch_text_plain Nop address i = refl
-branch_text_plain B address i = join (branch_name B) (half_field address i) refl (half_field_plain address i)
-branch_text_plain Br address i = join (branch_name Br) (half_field address i) refl (half_field_plain address i)
-branch_text_plain Be address i = join (branch_name Be) (half_field address i) refl (half_field_plain address i)
-branch_text_plain Bd address i = join (branch_name Bd) (half_field address i) refl (half_field_plain address i)
+branch_text_plain B address i = join (branch_row B).word (half_field address i) refl (half_field_plain address i)
+branch_text_plain Br address i = join (branch_row Br).word (half_field address i) refl (half_field_plain address i)
+branch_text_plain Be address i = join (branch_row Be).word (half_field address i) refl (half_field_plain address i)
+branch_text_plain Bd address i = join (branch_row Bd).word (half_field address i) refl (half_field_plain address i)
 
 text_plain : (instr : Instr) → IsPlain (instruction_text instr)
 unfolding instruction_text
@@ -271,12 +274,12 @@ text_plain (Half op address j i) = half_text_plain op address j i
 text_plain (Branch op address i) = branch_text_plain op address i
 text_plain (Floating number address i) = refl
 text_plain (Vfl op d u negated p bits byte offset address i) =
-    join (field_name op ++ negation negated ++ description d u bits byte) (operand_text p address i offset)
-    (joined (field_name op) (negation negated) (description d u bits byte) (field_plain op) (negation_plain negated) (description_plain d u bits byte))
+    join ((vfl_row op).word ++ negation negated ++ description d u bits byte) (operand_text p address i offset)
+    (joined (vfl_row op).word (negation negated) (description d u bits byte) (field_plain op) (negation_plain negated) (description_plain d u bits byte))
     (operand_plain p address i offset)
 text_plain (Connect kind truth p bits byte offset address i) =
-    join (kind_name kind ++ truth_digits truth ++ description false true bits byte) (operand_text p address i offset)
-    (joined (kind_name kind) (truth_digits truth) (description false true bits byte) (kind_plain kind) (truth_plain truth) (description_plain false true bits byte))
+    join ((conn_row kind).word ++ truth_digits truth ++ description false true bits byte) (operand_text p address i offset)
+    (joined (conn_row kind).word (truth_digits truth) (description false true bits byte) (kind_plain kind) (truth_plain truth) (description_plain false true bits byte))
     (operand_plain p address i offset)
 text_plain (Move swap address i second count) =
     join (move_name swap ++ bit_field address i ++ second_field second) (number_field count)
@@ -398,24 +401,30 @@ two_numbers : (word : List ℕ) (a b : ℕ) → IsPlain word → IsPlain (word +
 two_numbers word a b p =
     join (word ++ decimal a ++ codes " ") (decimal b) (joined word (decimal a) (codes " ") p (number a) refl) (number b)
 
+-- the word of a keyword is printable
+word_plain : (keyword : Keyword) → IsPlain (word keyword Card)
+word_plain keyword = grind arith
+
+spaced_plain : (keyword : Keyword) → IsPlain (word keyword Card ++ codes " ")
+spaced_plain keyword = join (word keyword Card) (codes " ") (word_plain keyword) refl
+
 -- each control card is printable
 card_written : (c : Control) → IsWritten (control_line Card c)
 unfolding control_line
-card_written (asks.Budget n) = control_plain (codes "BUDGET " ++ decimal n) (join (codes "BUDGET ") (decimal n) refl (number n))
-card_written (asks.Delay n) = control_plain (codes "DELAYS " ++ decimal n) (join (codes "DELAYS ") (decimal n) refl (number n))
-card_written (asks.Signal a b) = control_plain (codes "SIGNAL " ++ decimal a ++ codes " " ++ decimal b) (two_numbers (codes "SIGNAL ") a b refl)
-card_written (asks.Dump a b) = control_plain (codes "DUMP " ++ decimal a ++ codes " " ++ decimal b) (two_numbers (codes "DUMP ") a b refl)
-card_written asks.Trace = control_plain (codes "TRACE") refl
-card_written asks.Time = control_plain (codes "TIME") refl
-card_written asks.Chart = control_plain (codes "CHART") refl
-card_written (asks.Snap n) = control_plain (codes "SNAP " ++ decimal n) (join (codes "SNAP ") (decimal n) refl (number n))
-card_written (asks.Back n) = control_plain (codes "BACK " ++ decimal n) (join (codes "BACK ") (decimal n) refl (number n))
-
-cards_written : (a : Asked) → OfEach (λ c. IsWritten (control_line Card c)) a
-cards_written a = of_any (λ c. IsWritten (control_line Card c)) card_written a
+card_written (asks.Mark mark) = control_plain (word (keywords.Mark mark) Card) (word_plain (keywords.Mark mark))
+card_written (asks.Number keyword n) =
+    let front = word (keywords.Number keyword) Card ++ codes " " in
+    control_plain (front ++ decimal n) (join front (decimal n) (spaced_plain (keywords.Number keyword)) (number n))
+card_written (asks.Pair pair a b) =
+    let front = word (keywords.Pair pair) Card ++ codes " " in
+    control_plain (front ++ decimal a ++ codes " " ++ decimal b) (two_numbers front a b (spaced_plain (keywords.Pair pair)))
 
 pub controls_plain : (a : Asked) → All IsWritten (control_cards a)
-controls_plain a = controls_all IsWritten (λ c. control_line Card c) a (cards_written a)
+controls_plain a = mapped (requests a)
+  where
+    mapped : (cs : List Control) → All IsWritten (map (control_line Card) cs)
+    mapped [] = All-nil IsWritten
+    mapped (c ∷ cs) = All-cons IsWritten (control_line Card c) (map (control_line Card) cs) (card_written c) (mapped cs)
 
 -- each card of a deck is printable
 pub deck_written : (p : Program) → All IsWritten (deck_cards p)

@@ -14,7 +14,7 @@ use Rattle.st_asm.specs.Forming.{is_end}
 use Rattle.st_asm.specs.Symbols.{accepts_all, is_defined}
 use Rattle.st_asm.specs.Values.{values_of, value_modulo}
 use Rattle.st_asm.specs.Places.{placing_of, length_in, next_multiple, place_in, behind_in}
-use Rattle.st_asm.specs.Naming.{naming_at_start, place_of_statement, behind_statement}
+use Rattle.st_asm.specs.Naming.{naming_at_start, place_of_card, location_behind}
 use Rattle.st_asm.specs.Checks.{in_range, fits, on_boundary, extent, in_storage, value_fault}
 use Rattle.st_asm.specs.Emitting.{half_word_bits, bits_of}
 use Rattle.st_asm.specs.Valuing.{image_with}
@@ -37,13 +37,13 @@ stand location image start = record { location = location; image = image; start 
 
 -- the location of a statement at a state if no names are defined
 abbrev pub place_at : Stand → Statement → Option ℕ
-place_at here s = place_of_statement [] here.location s
+place_at here s = place_of_card [] here.location (Some s)
 
 -- a statement without names and without a fault leads from one state to another
 pub record Steps (s : Statement) (here there : Stand) : Type 0 where
   pub known : accepts_all (is_defined []) s ≡ true
   pub faultless : value_fault s (values_of [] s) (unwrap_or (place_at here s) 0) ≡ None
-  pub location : behind_statement [] here.location s ≡ there.location
+  pub location : location_behind [] here.location (Some s) ≡ there.location
   pub image : image_with here.image (unwrap_or (place_at here s) 0) (length_in (placing_of s)) (bits_of s (values_of [] s)) ≡ there.image
   pub start : (if is_end s then half_word_bits (values_of [] s).first else here.start) ≡ there.start
 

@@ -1,4 +1,11 @@
 -- The errors of the disassembler.
+--
+-- Proved: by their `ensures` clauses these calls do what definitions here say: `disassemble`
+-- (disassembling.rt).
+-- Laws: none names a definition of this file itself.
+-- Change: no page fixes these definitions, since no contract of a program unfolds to them; they
+-- change together with the clauses, definitions and laws that name them. docs/disassembly.md
+-- describes the subject.
 use Rattle.std.specs.Prelude.{◌≡◌, ◌<◌, ⊤}
 use Rattle.st_bits.specs.declared.limits.TheConstants.{MOST_CARDS}
 use Rattle.st_object.specs.Object.{Program}

@@ -1,9 +1,19 @@
 -- The deck of a program.
+--
+-- Proved: by their `ensures` clauses these calls do what definitions here say: `disassemble`
+-- (disassembling.rt), `push_program` (writing.rt), `card_count` (counting.rt), `push_deck`
+-- (writing.rt), and others.
+-- Read by: definitions in Answers, Marks of st_top, Delays of st_top, ObjectText of st_top, and
+-- others.
+-- Laws: DecksAreCutIntoTheirCards (specs/Laws.antt), CardsAreLines (specs/Laws.antt),
+-- DecksAssembleToTheirProgram (specs/Laws.antt), PlacesComeBack (specs/Laws.antt), and others.
+-- Change: the meaning is fixed by docs/disassembly.md, since the contract of `st_top::stretch`
+-- unfolds to a definition here. The form is free, with the proofs that unfold it.
 use Rattle.std.specs.Prelude.{ℕ, ◌+◌, ◌==◌, List, [], ◌∷◌, ◌++◌, length, map, replicate, codes, decimal, if◌then◌else◌}
 use Rattle.st_text.specs.Numerals.{half_address}
 use Rattle.st_card.specs.Controls.{Asked}
-use Rattle.st_card.specs.Written.{control_line, text_of_lines, controls_made}
-use Rattle.st_card.specs.declared.written.ControlForm.TheVariants.{Card}
+use Rattle.st_card.specs.Written.{control_line, text_of_lines, requests}
+use Rattle.st_card.specs.declared.keywords.ControlForm.TheVariants.{Card}
 use Rattle.st_object.specs.Object.{Program}
 use Rattle.st_dis.specs.Spelling.{statements_of}
 
@@ -39,7 +49,7 @@ end_text start = codes "END," ++ half_address start
 
 -- the control cards of requests
 abbrev pub control_cards : Asked → List (List ℕ)
-control_cards a = controls_made (control_line Card) a
+control_cards a = map (control_line Card) (requests a)
 
 -- the cards of a program's deck
 abbrev pub deck_cards : Program → List (List ℕ)

@@ -1,4 +1,9 @@
 -- Laws of the cards of a deck, regardless of single calls.
+--
+-- Proved: each law has its lemma in proofs/Laws.antt, with its name in small letters.
+-- Claimed: docs/CLAIMS.md names CardsAreLines, ControlsComeBack, DecksAreCutIntoTheirCards,
+-- DecksAssembleToTheirProgram, and others.
+-- Change: docs/promises.txt lists each law, and the gate compares the list with the laws.
 use Rattle.std.specs.Prelude.{◌≡◌, ◌≤◌, ◌<◌, ◌*◌, ◌^◌, ◌++◌, ℕ, [], ◌∷◌, All, map, true, false, None, Some, Ok}
 use Rattle.st_bits.specs.declared.limits.TheConstants.{MOST_CARDS, WORDS}
 use Rattle.st_text.specs.Bytes.{line_end, is_printable}

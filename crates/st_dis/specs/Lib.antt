@@ -12,6 +12,7 @@ pub use Rattle.st_card.specs.Controls
 pub use Rattle.st_card.specs.Limits
 pub use Rattle.st_format.specs.Formats
 pub use Rattle.st_format.specs.Halves
+pub use Rattle.st_format.specs.Operations
 pub use Rattle.st_object.specs.Object
 pub use Rattle.st_strap.specs.Reading
 pub use Rattle.st_strap.specs.Saying

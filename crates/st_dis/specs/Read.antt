@@ -1,4 +1,10 @@
 -- The results of assembling a sequence of statements or adding a sequence of control cards.
+--
+-- Proved: no `ensures` clause names a definition of this file.
+-- Laws: StatementsEmitTheirWord (specs/Laws.antt), ControlsComeBack (specs/Laws.antt).
+-- Change: no page fixes these definitions, since no contract of a program unfolds to them; they
+-- change together with the clauses, definitions and laws that name them. docs/disassembly.md
+-- describes the subject.
 use Rattle.std.specs.Prelude.{◌≡◌, ℕ, ◌+◌, ◌*◌, ◌^◌, List, [], ◌∷◌, Option, Some, None}
 use Rattle.st_card.specs.Controls.{Asked, asked_with_card}
 use Rattle.st_asm.specs.Alone.{emitted_alone}

@@ -1,25 +1,27 @@
 //! Counts the cards of a deck, so that a program with too many is refused before anything is
-//! written.
+//! written. docs/disassembly.md has the limit. Only disassembling.rt calls `card_count`.
 //!
-//! disassembling.rt makes the call `card_count`. `card_count` in specs/Deck.antt defines the number
-//! as the length of the list of cards that writing.rt writes, so the two modules cannot disagree;
-//! each clause `count` says that the call returns exactly the length of its part of the list. A
-//! word that is not zero has one or two statement cards, with a location card in front if the word
-//! before it is zero; END and the control cards follow. Pinned by that definition: all counts.
-//! Free: all bodies and their split, and the bounds `few`, which only have to keep sums below 2^32.
-//! The proof of the loop, in proofs/counting, follows `count_words` and names 98,304 in figures.
+//! Proved: `card_count` is the definition of its name in specs/Deck.antt, the length of the list of
+//! cards that writing.rt writes, so both modules agree; the clause `count` of each function says so
+//! for its part of the list. Not proved: speed.
+//!
+//! Pinned, by `card_count` there, docs/disassembly.md and vectors/decks.txt: all counts: a word
+//! that is not zero has one or two statement cards, with a location card in front if the word
+//! before it is zero; END and the control cards follow. Free: all bodies and their split, and the
+//! bounds `few`, which only keep sums below 2^32, if proofs/counting, which has 98,304 in figures,
+//! follows the loops.
 
 ghost use Rattle.std.specs.Prelude.{◌≡◌, ◌≤◌, ◌+◌, ◌*◌, ℕ, List, [], length, if◌then◌else◌};
 ghost use Rattle.st_bits.specs.declared.limits.TheConstants.{WORDS};
 ghost use Rattle.st_card.specs.Limits.{IsWithinLimits};
-ghost use Rattle.st_card.specs.Written.{where_asked, control_line, orders, shows};
-ghost use Rattle.st_card.specs.declared.written.ControlForm.TheVariants.{Card};
+ghost use Rattle.st_card.specs.Keywords.{keyword_order};
+ghost use Rattle.st_card.specs.Written.{asked_by};
 ghost use Rattle.st_object.specs.Object.{AreWords};
 ghost use Rattle.st_dis.specs.Deck as spec;
 ghost use Rattle.st_dis.specs.Spelling.{statements_of};
 
 use crate::spelling::{half_spelling, left_half, right_half};
-use st_card::Controls;
+use st_card::{Controls, Keyword, ORDER};
 use st_expr::Symbols;
 
 // Whether a word is two half-word instructions, each of which has a spelling. The first half of a
@@ -74,36 +76,28 @@ fn count_words(symbols: &Symbols, words: &[u64]) -> u32
     count
 }
 
-// The number of control cards up to those of parts of storage: one for the budget, and one for each
-// delay, signal and part. By the limits of `st_card` they are at most 8,209; 9,000 is a round bound
-// above.
-fn count_orders(controls: &Controls) -> u32
+// The number of control cards of the requests with a keyword.
+fn count_asked(controls: &Controls, keyword: Keyword) -> u32
     requires { IsWithinLimits controls.now }
-    ensures count { result ≡ length (orders (control_line Card) controls.now) }
-    ensures few { result ≤ 9000 }
+    ensures count { result ≡ length (asked_by keyword controls.now) }
+    ensures few { result ≤ 4096 }
 {
-    let delays = controls.delays.len() as u32;
-    let signals = controls.signals.len() as u32;
-    u32::from(controls.budget != 0) + delays + signals + controls.dumps.len() as u32
+    controls.count(keyword) as u32
 }
 
-// One if a flag is set, else zero.
-fn count_mark(asked: bool) -> u32
-    ensures count { (card : List ℕ) → result ≡ length (where_asked asked card) }
-    ensures few { result ≤ 1 }
-{
-    if asked { 1 } else { 0 }
-}
-
-// The number of control cards from the trace on: trace, timing, timetable, snapshots and steps
-// back. By the limits of `st_card` they are at most 68; 100 is a round bound above.
-fn count_shows(controls: &Controls) -> u32
+// The number of control cards.
+fn count_controls(controls: &Controls) -> u32
     requires { IsWithinLimits controls.now }
-    ensures count { result ≡ length (shows (control_line Card) controls.now) }
-    ensures few { result ≤ 100 }
+    ensures count { result ≡ length (spec.control_cards controls.now) }
+    ensures few { result ≤ 4096 * length keyword_order }
 {
-    let marks = count_mark(controls.trace) + count_mark(controls.time) + count_mark(controls.chart);
-    marks + controls.snaps.len() as u32 + u32::from(controls.back != 0)
+    let mut count = 0;
+    let mut rest = ORDER.as_slice();
+    'keywords: while let [keyword, after @ ..] = rest {
+        count += count_asked(controls, *keyword);
+        rest = after;
+    }
+    count
 }
 
 // The number of cards in the deck of a program with these words of storage. The symbol table is
@@ -119,5 +113,5 @@ pub(crate) fn card_count(symbols: &Symbols, words: &[u64], start: u32, controls:
     // Each word has 64 bits; the proof of `disassemble` bounds the length of the deck by it.
     ensures words { AreWords words.now }
 {
-    count_words(symbols, words) + 1 + count_orders(controls) + count_shows(controls)
+    count_words(symbols, words) + 1 + count_controls(controls)
 }

@@ -1,11 +1,15 @@
-//! Disassembles a program into a deck of cards that assembles to it.
+//! Disassembles a program into a deck of cards that assembles to it, or refuses it for too many
+//! cards. docs/disassembly.md has the rules. `st_top` calls `disassemble` for the command of this
+//! name.
 //!
-//! `st_top` makes the call. `deck_text` in specs/Deck.antt defines the deck; the clauses say that
-//! the call returns exactly that, at most 2,000,000 bytes, or an error: more than 20,000 cards,
-//! with their number, or no memory. That the deck assembles to the program, with its start and
-//! requests, is a law of specs/Laws.antt, proved from the assembler's definitions. The body is
-//! free: any that returns this deck. The deck is pinned by the definition, docs/disassembly.md and
-//! vectors/decks.txt. The proof of `disassemble`, in proofs/disassembling, follows its body.
+//! Proved: the deck is `deck_text` of specs/Deck.antt (clause `deck`), of at most 2,000,000 bytes
+//! (`short`) and 20,000 cards (`few`); the errors are more cards, with their number, or no memory
+//! (`Explains` of specs/Answers.antt). That the deck assembles to the program, with its start and
+//! requests, is the law `DecksAssembleToTheirProgram` (specs/Laws.antt), proved from the
+//! assembler's definitions. Not proved: that the deck is the shortest.
+//!
+//! Pinned, by the definition, docs/disassembly.md, docs/CLAIMS.md and vectors/decks.txt: the deck,
+//! the clauses and `DisError`. Free: the body, if proofs/disassembling follows.
 
 ghost use Rattle.std.specs.Prelude.{◌≡◌, ◌≤◌, IfOk, IfErr, length};
 ghost use Rattle.st_bits.specs.declared.limits.TheConstants.{LONGEST_JOB, MOST_CARDS};

@@ -1,21 +1,25 @@
 //! The mnemonics and modifiers of instructions, which texts.rt and pieces.rt put into statements.
+//! docs/strap.md and docs/instructions.md list them. No other module uses this one.
 //!
-//! specs/Names.antt defines them, mnemonics from the tables in specs/Operations.antt of
-//! `st_format`; the clause `name` says that a call returns exactly that text, and `short` bounds
-//! its length in bytes, so that a statement fits its line. So the texts here are proved to be those
-//! tables. A new operation is a row of such a table and a case of the function here. The texts are
-//! pinned by the definitions, docs/strap.md and vectors/decks.txt. Free: the form of the matches,
-//! and `short`, as long as pieces.rt and texts.rt are proved with it.
+//! Proved: each call returns exactly the definition of its name in specs/Names.antt; mnemonics of
+//! operations come from the tables in specs/Operations.antt of `st_format`. `short` bounds the
+//! length in bytes, so that a statement fits its line.
+//!
+//! Pinned, by specs/Names.antt, these tables, docs/strap.md and vectors/decks.txt: the texts. A new
+//! operation needs a row in a table of specs/Operations.antt and a case in a function here, which
+//! the compiler names. Free: the form of the matches; `short`, as long as pieces.rt and texts.rt
+//! are proved with it.
 
 ghost use Rattle.std.specs.Prelude.{◌≡◌, ◌≤◌, length};
 ghost use Rattle.st_text.specs.Numerals.{flag};
+ghost use Rattle.st_format.specs.Operations.{half_row, branch_row, vfl_row, conn_row};
 ghost use Rattle.st_dis.specs.Names as spec;
 
 use st_bits::{BranchOp, ConnKind, HalfOp, VflOp};
 
 // The mnemonic of an operation of the half-word format.
 pub(crate) fn half_name(op: HalfOp) -> &'static str
-    ensures name { result.now ≡ spec.half_name op }
+    ensures name { result.now ≡ (half_row op).word }
     ensures short { length result.now ≤ 5 }
 {
     match op {
@@ -51,7 +55,7 @@ pub(crate) fn half_name(op: HalfOp) -> &'static str
 
 // The mnemonic of a branch.
 pub(crate) fn branch_name(op: BranchOp) -> &'static str
-    ensures name { result.now ≡ spec.branch_name op }
+    ensures name { result.now ≡ (branch_row op).word }
     ensures short { length result.now ≤ 3 }
 {
     match op {
@@ -66,7 +70,7 @@ pub(crate) fn branch_name(op: BranchOp) -> &'static str
 
 // The mnemonic of an operation on a field.
 pub(crate) fn field_name(op: VflOp) -> &'static str
-    ensures name { result.now ≡ spec.field_name op }
+    ensures name { result.now ≡ (vfl_row op).word }
     ensures short { length result.now ≤ 4 }
 {
     match op {
@@ -103,7 +107,7 @@ pub(crate) fn negation(negated: bool) -> &'static str
 
 // The mnemonic of a kind of connective.
 pub(crate) fn kind_name(kind: ConnKind) -> &'static str
-    ensures name { result.now ≡ spec.kind_name kind }
+    ensures name { result.now ≡ (conn_row kind).word }
     ensures short { length result.now ≤ 2 }
 {
     match kind {

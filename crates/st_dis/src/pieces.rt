@@ -1,12 +1,14 @@
 //! Appends the parts of an instruction's text: fields, index parts, data descriptions, truth
-//! tables.
+//! tables. docs/disassembly.md has the rules. Only texts.rt composes statements of these parts.
 //!
-//! texts.rt composes statements of them. specs/Texts.antt defines each part; the clause `text` says
-//! that exactly that is appended, and `room` bounds its length, by which callers prove that a
-//! statement fits a line of 128 bytes. Addresses are bit or half-word addresses and are written as
-//! word.bit. The figures of `room` are upper bounds: 3 for a number below 256, and else the sum for
-//! the parts. The texts are pinned by the definitions and vectors/decks.txt; the bodies are free;
-//! `push_listed_fields` has its proof in proofs/pieces, which follows it.
+//! Proved: each call appends exactly the text of a definition in specs/Texts.antt (`truth_digits`
+//! is in specs/Names.antt), and its clause `room` bounds the length, by which callers prove that a
+//! statement fits a line of 128 bytes.
+//!
+//! Pinned, by these definitions, docs/disassembly.md and vectors/decks.txt: the texts: addresses
+//! are written as `word.bit`, an offset of 0 and an index part of 0 are left out. Free: the bodies,
+//! if proofs/pieces follows `push_listed_fields`; the figures of `room`, if texts.rt is still
+//! proved.
 
 ghost use Rattle.std.specs.Prelude.{◌≡◌, ◌+◌, ◌*◌, ◌≤◌, ◌<◌, ◌++◌, [], decimal, if◌then◌else◌};
 ghost use Rattle.arrayvec.specs.ArrayString.{array_string_len};

@@ -1,12 +1,15 @@
 //! The choice of instructions that have a spelling: those whose statement assembles to exactly
-//! their bits. All others are written as numbers, `DD`.
+//! their bits. All other words are written as numbers, `DD`. docs/disassembly.md has the rule.
+//! counting.rt and writing.rt call these functions for each word, or half of a word, that is not
+//! zero.
 //!
-//! counting.rt and writing.rt ask it for each word or half of a word. specs/Spelling.antt defines
-//! the choice; each clause says that the call returns exactly that. Each text is assembled again
-//! (`emitted_alone` of `st_asm`) to decide, which is also why the deck of a program is right by a
-//! law. A word is 64 bits, its left half the first 32. That the symbol table is empty is required,
-//! since no card of the deck has a name. The choice is pinned by the definition,
-//! docs/disassembly.md and vectors/decks.txt; the bodies are free.
+//! Proved: each call returns exactly the definition of its name in specs/Spelling.antt; the table
+//! of symbols is empty, since no card of a deck has a name. That the statements of a word assemble
+//! to its 64 bits is the law `StatementsEmitTheirWord` (specs/Laws.antt).
+//!
+//! Pinned, by these definitions, docs/disassembly.md and vectors/decks.txt: the choice; that each
+//! text is assembled again (`emitted_alone` of `st_asm`); MOST_CHARACTERS, which
+//! specs/Spelling.antt repeats as a figure. Free: the bodies.
 
 ghost use Rattle.std.specs.Prelude.{◌≡◌, ◌/◌, ◌%◌, ◌^◌, []};
 ghost use Rattle.std.specs.Option.{option_map};

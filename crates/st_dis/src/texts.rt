@@ -1,11 +1,14 @@
-//! The texts of instructions as statements, without a name or a comment.
+//! The texts of instructions as statements, without a name or a comment. docs/disassembly.md has
+//! the rules. Only spelling.rt calls `text_of`; a text that does not assemble to the instruction's
+//! bits is refused there.
 //!
-//! spelling.rt asks for them. `instruction_text` in specs/Texts.antt defines the text; each clause
-//! says that the call returns exactly that. It may be wrong for bits that no statement gives;
-//! spelling.rt then refuses it. A new kind of instruction needs a case of `instruction_text` and
-//! one of `text_of`. The fields have the names of `Instr` in `st_format`: `j` and `i` are numbers
-//! of index words, addresses are in bits or half-words. Texts are pinned by the definition,
-//! docs/disassembly.md and vectors/decks.txt; the split into functions is free.
+//! Proved: the text is `instruction_text` of specs/Texts.antt; it is empty for the floating group
+//! and for invalid bits. Not proved here: that the text assembles to the instruction, which
+//! spelling.rt tests.
+//!
+//! Pinned, by `instruction_text`, docs/disassembly.md and vectors/decks.txt: the texts. A new kind
+//! of instruction needs a case of `instruction_text` in specs/Texts.antt and one of `text_of` here.
+//! Free: the split into functions.
 
 ghost use Rattle.std.specs.Prelude.{◌≡◌};
 ghost use Rattle.st_dis.specs.Texts as spec;

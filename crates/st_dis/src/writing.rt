@@ -1,10 +1,15 @@
 //! Writes a deck: the cards of words that are not zero, END, and the control cards.
+//! docs/disassembly.md has the rules. disassembling.rt calls `push_deck` after counting.rt has
+//! counted the cards.
 //!
-//! disassembling.rt makes the call `push_deck`. specs/Deck.antt defines the cards; each clause says
-//! that exactly these are appended, or that memory ran out. A run of words begins with a card SLC,
-//! a word is one full-word statement, two half-word ones, or a number. Cards and their order are
-//! pinned by the definition, docs/disassembly.md and vectors/decks.txt; the split into functions is
-//! free; the loop of `push_words` has its proof in proofs/writing, which follows it.
+//! Proved: exactly the cards of specs/Deck.antt (`deck_text`) are appended, unless memory runs out.
+//! The law `CardsAreLines` (specs/Laws.antt) says that cards have only visible characters and
+//! blanks.
+//!
+//! Pinned, by specs/Deck.antt, docs/disassembly.md and vectors/decks.txt: cards and their order: a
+//! run of words begins with a card SLC, and a word is one full-word statement, two half-word ones,
+//! or a number; BLANKS, the nine blanks of `statement_card`. Free: the split into functions, if
+//! proofs/writing follows the loop of `push_words`.
 
 ghost use Rattle.std.specs.Prelude.{◌≡◌, ◌≤◌, ◌++◌, [], ◌∷◌, OnOk, map, codes, decimal, length};
 ghost use Rattle.st_bits.specs.declared.limits.TheConstants.{WORDS};

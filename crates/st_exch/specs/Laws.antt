@@ -1,4 +1,7 @@
 -- Laws of the cards in the reader of a job.
+--
+-- Proved: each law has its lemma in proofs/Laws.antt, with its name in small letters.
+-- Change: docs/promises.txt lists each law, and the gate compares the list with the laws.
 use Rattle.std.specs.Prelude.{◌≡◌, ◌<◌, ◌^◌, ℕ, List, length, All}
 use Rattle.st_exch.specs.Reader.{reader_cards}
 

@@ -1,12 +1,15 @@
-//! The cards in the card reader, a device that the program of a job reads by the order RD: the
-//! comment cards after its last statement card.
+//! The cards in the card reader, which the program of a job reads by the order RD: the comment
+//! cards after its last statement card. docs/machine.md has the rules of the reader. `st_run` and
+//! `st_top` make a reader by `of_cards`, `st_sweep` makes an empty one; no program calls `new`,
+//! which docs/CLAIMS.md offers. `st_run` takes a card for each read by `next`.
 //!
-//! `st_run` fills the reader and takes a card for each read; `st_top` and `st_account` pass it on.
-//! specs/Reader.antt defines the cards of a job and their eight words; the clauses say that the
-//! reader has exactly these, and that `next` takes the first. Contracts see a list of cards, so the
-//! queue is free; `empty` allocates nothing. Columns 2 to 65 are pinned by the definition,
-//! docs/machine.md and the vectors. proofs/hopper follows the bodies of `of_cards` and
-//! `behind_statements`.
+//! Proved: the reader has exactly the cards `reader_cards` of specs/Reader.antt, and `next` takes
+//! the first card. That each card has eight words below 2^64 is the law `CardsAreEightWords`
+//! (specs/Laws.antt). When an order takes effect is decided in `st_run`.
+//!
+//! Pinned, by `reader_cards`, docs/machine.md, docs/CLAIMS.md and vectors/orders.txt: the calls;
+//! columns 2 to 65, eight characters a word, blanks for missing columns. Free: the queue, as
+//! contracts see a list of cards; the bodies, if proofs/hopper follows.
 
 ghost use Rattle.std.specs.Prelude.{◌≡◌, ◌^◌, ◌<◌, ◌≤◌, [], ◌∷◌, ◌++◌, length, MatchOption, IfOk, OnOk};
 ghost use Rattle.st_card.specs.Cards.{IsCardOf, cards_of};

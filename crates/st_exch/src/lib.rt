@@ -1,7 +1,12 @@
-//! The devices of the exchange, by the rules of `docs/machine.md`: the cards in the card reader,
-//! and the text that the printer prints of eight words.
+//! The devices of the exchange, by the rules of docs/machine.md: the cards in the card reader
+//! (`Hopper`), and the text that the printer prints of eight words (`print_text`). `st_run` serves
+//! the orders of a job by both, and decides when an order takes effect; `st_top`, `st_sweep` and
+//! `st_account` pass a `Hopper` on, and `st_lines` calls `print_text`.
 //!
-//! `st_run` serves the orders of a job by these calls. When an order takes effect is decided there.
+//! Proved: the cards are `reader_cards` of specs/Reader.antt, the text is `line_of_words` of
+//! specs/Printer.antt; the law `CardsAreEightWords` is in specs/Laws.antt. Pinned, by these
+//! definitions, docs/machine.md, docs/CLAIMS.md and vectors/orders.txt: the public calls. Free: all
+//! that is private.
 #![tactic(auto)]
 
 mod hopper;

@@ -1,11 +1,13 @@
-//! The text of a print. The printer is a device, to which the order WR of a job's program sends
-//! eight words.
+//! The text of a print: the order WR of a job's program sends eight words to the printer, and the
+//! report has their text in a line PRT (docs/report.md, docs/machine.md). `st_run` calls
+//! `print_text` for the report, `st_lines` for the ledger.
 //!
-//! `st_run` makes the call, and the report has the text in a line PRT. `line_of_words` in
-//! specs/Printer.antt defines it; the clause says that the call returns exactly that, and
-//! `printable` that a report has no other bytes. 64 characters and the blank for unprintable bytes
-//! are pinned by the definition and docs/machine.md; the bodies are free, but proofs in
-//! proofs/printer follow the loops.
+//! Proved: the text is `line_of_words` of specs/Printer.antt, and has only printable characters
+//! (`printable`).
+//!
+//! Pinned, by this definition, docs/machine.md, docs/CLAIMS.md and vectors/orders.txt: 64
+//! characters, a blank for each byte outside 32 to 126, and no blanks at the end. Free: the bodies,
+//! if proofs/printer follows the loops.
 
 ghost use Rattle.std.specs.Prelude.{◌≡◌, ◌+◌, ◌<◌, ◌≤◌, ◌++◌, IsTrue};
 ghost use Rattle.arrayvec.specs.ArrayString.{array_string_len};

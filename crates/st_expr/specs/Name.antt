@@ -1,4 +1,12 @@
 -- Names: 1 to 8 upper-case letters and digits, the first a letter.
+--
+-- Proved: by their `ensures` clauses these calls do what definitions here say: `all_name_bytes`
+-- (names.rt), `is_name` (names.rt), `is_system_word` (names.rt), `padded` (names.rt).
+-- Read by: definitions in Term, Saying of st_strap, Lines of st_asm.
+-- Laws: none names a definition of this file itself.
+-- Change: the meaning is fixed by docs/strap.md, since the contracts of `st_top::stretch` and
+-- `st_account::ledger` unfold to a definition here. The form is free, with the proofs that unfold
+-- it.
 use Rattle.std.specs.Prelude.{ℕ, ◌-◌, ◌==◌, ◌&&◌, ◌||◌, Bool, false, nat_le, List, [], ◌∷◌, ◌++◌, length, replicate}
 use Rattle.std.specs.Char.{is_ascii_digit, is_ascii_uppercase}
 use Rattle.std.specs.List.{list_all}

@@ -1,4 +1,12 @@
 -- The terms of an expression.
+--
+-- Proved: by their `ensures` clauses these calls do what definitions here say: `bit_address`
+-- (terms.rt), `read_atom` (terms.rt), `read_place` (terms.rt), `system_atom` (terms.rt).
+-- Read by: definitions in Expression.
+-- Laws: none names a definition of this file itself.
+-- Change: the meaning is fixed by docs/strap.md, since the contracts of `st_top::stretch` and
+-- `st_account::ledger` unfold to a definition here. The form is free, with the proofs that unfold
+-- it.
 use Rattle.std.specs.Prelude.{◌≡◌, ℕ, ◌+◌, ◌*◌, false, List, [], ◌∷◌, if◌then◌else◌}
 use Rattle.std.specs.Option.{option_map_or}
 use Rattle.st_expr.specs.declared.terms.TheConstants.{LAST_ADDRESS, LAST_BIT}
@@ -7,7 +15,7 @@ use Rattle.st_text.specs.Number.{reading}
 use Rattle.st_text.specs.Pieces.{pieces_of}
 use Rattle.st_text.specs.Tables.{row_of}
 use Rattle.st_text.specs.declared.numbers.Reading.{Reading}
-use Rattle.st_text.specs.declared.numbers.Reading.TheVariants.{Bad, Large, Good}
+use Rattle.st_text.specs.declared.numbers.Reading.TheVariants.{Bad, Good}
 use Rattle.st_expr.specs.Name.{is_name, is_system_word, padded_name}
 use Rattle.st_expr.specs.System.{system_symbols}
 use Rattle.st_expr.specs.declared.terms.Term.{Term}
@@ -16,16 +24,12 @@ use Rattle.st_expr.specs.declared.terms.Atom.TheVariants.{Number, Name}
 use Rattle.st_expr.specs.declared.terms.AtomReading.{AtomReading}
 use Rattle.st_expr.specs.declared.terms.AtomReading.TheVariants.{Bad as BadAtom, Large as LargeAtom, Good as GoodAtom}
 
--- the reading of word w and bit b as bit address 64w + b: bad if one of them is bad, else large if
--- one is too large
+-- the reading of word w and bit b as 64w + b: bad if one of them is bad, else large if one is
 abbrev pub bit_reading : Reading → Reading → AtomReading
 bit_reading (Good w) (Good b) = GoodAtom (Number (64 * w + b))
-bit_reading (Good w) Large = LargeAtom
-bit_reading (Good w) Bad = BadAtom
-bit_reading Large (Good b) = LargeAtom
-bit_reading Large Large = LargeAtom
-bit_reading Large Bad = BadAtom
 bit_reading Bad b = BadAtom
+bit_reading w Bad = BadAtom
+bit_reading _ _ = LargeAtom
 
 -- the reading of `w` or `w.b`, given its pieces between points
 abbrev pub place_reading : List (List ℕ) → AtomReading
@@ -40,8 +44,7 @@ system_atom word = option_map_or (λ n. Number n) (row_of word system_symbols)
 
 -- the reading of one piece of an expression: a name, a system word, or a number
 abbrev pub atom_of : List ℕ → AtomReading
-atom_of word =
-    if is_name word then GoodAtom (Name (padded_name word))
+atom_of word = if is_name word then GoodAtom (Name (padded_name word))
     else (if is_system_word word then GoodAtom (system_atom word)
     else place_reading (pieces_of period word))
 

@@ -1,4 +1,12 @@
 -- Values of expressions under a symbol table.
+--
+-- Proved: by their `ensures` clauses these calls do what definitions here say: `part_value`
+-- (texts.rt), `sum_of` (texts.rt), `value` (texts.rt), `atom_value` (values.rt), and others.
+-- Read by: definitions in Values of st_asm.
+-- Laws: none names a definition of this file itself.
+-- Change: the meaning is fixed by docs/strap.md, since the contracts of `st_top::stretch` and
+-- `st_account::ledger` unfold to a definition here. The form is free, with the proofs that unfold
+-- it.
 use Rattle.std.specs.Prelude.{◌≡◌, ℕ, ℤ, pos, ◌+ℤ◌, ◌-ℤ◌, Bool, true, false, List, [], ◌∷◌, ◌++◌, Option, Some, None, IsSome, if◌then◌else◌}
 use Rattle.std.specs.Option.{option_map}
 use Rattle.st_text.specs.Tables.{row_of}
@@ -6,8 +14,7 @@ use Rattle.st_expr.specs.declared.terms.Atom.{Atom}
 use Rattle.st_expr.specs.declared.terms.Atom.TheVariants.{Number, Name}
 use Rattle.st_expr.specs.declared.terms.Term.{Term}
 
--- relation of a symbol table before and after a definition: a new name is appended with its value;
--- the flag says whether the name is new
+-- a symbol table before and after a definition; the flag says whether the name is new
 abbrev pub Defines : List (List ℕ × ℕ) → List (List ℕ × ℕ) → List ℕ → ℕ → Bool → Type 0
 Defines old new name value true = (row_of name old ≡ None) × (new ≡ old ++ (name, value) ∷ [])
 Defines old new name value false = IsSome (row_of name old) × (new ≡ old)
@@ -28,8 +35,7 @@ term_value symbols term = option_map (λ n. signed_value term.minus n) (atom_val
 -- the sum of two values, if both are defined
 abbrev pub plus : Option ℤ → Option ℤ → Option ℤ
 plus (Some a) (Some b) = Some (a +ℤ b)
-plus (Some a) None = None
-plus None b = None
+plus _ _ = None
 
 -- the value of a list of terms: the sum of their values, if all are defined
 abbrev pub sum_of_terms : List (List ℕ × ℕ) → List Term → Option ℤ

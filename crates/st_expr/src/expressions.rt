@@ -1,13 +1,13 @@
 //! Parses an expression: a sum of numbers and names, as most fields of a card are, for addresses,
-//! values and numbers of bits.
+//! values and numbers of bits. texts.rt calls the `pub(crate)` functions, by which `st_strap` reads
+//! fields. No program calls `read_expr`, which docs/CLAIMS.md offers. A text of 63 bytes has at
+//! most 32 terms, the capacity of `Expr`. docs/strap.md has the rules.
 //!
-//! specs/Expression.antt defines the parts of a text between its signs, and `expr_of`, the terms or
-//! the fault; the clauses say that `read_expr` returns exactly that. No program calls `read_expr`;
-//! docs/CLAIMS.md offers it. Programs call the `pub(crate)` functions through `ExprText`
-//! (texts.rt), with which `st_strap` reads fields. A text of 63 bytes has at most 32 terms, which
-//! is the capacity of `Expr`. Faults are found in one pass and terms in another; this split is
-//! free, and proofs/expressions follows it. docs/strap.md has the rules. The terms and faults are
-//! pinned by the definition, vectors/forms.txt and vectors/faults.txt.
+//! Proved: `read_expr` is `expr_of` of specs/Expression.antt, the terms or the fault.
+//!
+//! Pinned, by this definition, docs/strap.md, docs/CLAIMS.md, vectors/texts.txt and
+//! vectors/faults.txt: terms and faults; `Expr` and `read_expr`. Free: the bodies, and the split
+//! into a pass for faults and a pass for terms, if proofs/expressions follows.
 
 ghost use Rattle.std.specs.Prelude.{◌≡◌, ◌+◌, ◌≤◌, Bool, [], ◌∷◌, length, Ok, Err, IfOk, IfErr, MatchOption};
 ghost use Rattle.st_expr.specs.Expression as spec;

@@ -1,9 +1,12 @@
-//! Names of symbols on cards: 1 to 8 upper-case letters and digits, the first a letter.
+//! Names of symbols on cards: 1 to 8 upper-case letters and digits, the first a letter. `st_strap`
+//! calls `is_name`, `st_asm` calls `padded`, and terms.rt calls all three functions. docs/strap.md
+//! has the rule.
 //!
-//! specs/Name.antt defines names, system words and padding, and each clause says that the call
-//! returns exactly that. Symbols are stored with eight bytes, so the longest name is pinned by the
-//! type `[u8; 8]` in many crates, and names by the definition and docs/strap.md; the bodies are
-//! free. `st_strap` and `st_asm` use the calls.
+//! Proved: the results are `is_name`, `is_system_word` and `padded_name` of specs/Name.antt.
+//!
+//! Pinned, by these definitions, docs/strap.md, vectors/texts.txt and vectors/faults.txt: which
+//! texts are names; the longest name, by the type `[u8; 8]` in values.rt, `st_asm` and `st_report`.
+//! Free: the bodies.
 
 ghost use Rattle.std.specs.Prelude.{◌≡◌, ◌≤◌, length};
 ghost use Rattle.std.specs.List.{list_all};

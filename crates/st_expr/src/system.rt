@@ -1,11 +1,14 @@
 //! The system symbols: words that begin with `$` and have fixed values, bit addresses of registers,
-//! index words and indicators.
+//! index words and indicators. Only terms.rt calls this module. docs/strap.md and docs/machine.md
+//! list the symbols.
 //!
-//! `system_symbols` in specs/System.antt lists them from the machine's rules; the clause says that
-//! a look-up here gives what one in that list gives, for each word. A new symbol is a row in both.
-//! The order of rows here has no effect as long as names differ, but the proof compares the lists
-//! row by row. terms.rt is the only caller. The form of the search is free. The symbols are pinned
-//! by the list, docs/strap.md and the vectors.
+//! Proved: a look-up is one in `system_symbols` of specs/System.antt, for each word. The law
+//! `SymbolsAgree` (specs/Laws.antt of `st_laws`) says that the symbols have the addresses of the
+//! machine.
+//!
+//! Pinned, by `system_symbols`, docs/strap.md, docs/machine.md and vectors/mnemonics.txt: the
+//! symbols. A new symbol is a row in this list and in `system_symbols`. Free: the form of the
+//! search, and the order of rows, if both lists keep one order.
 
 ghost use Rattle.std.specs.Prelude.{◌≡◌};
 ghost use Rattle.st_text.specs.Tables.{row_of};

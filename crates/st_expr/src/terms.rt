@@ -1,11 +1,13 @@
-//! The terms of an expression: names, system symbols and numbers.
+//! Reads one piece of an expression as a term: a name, a system symbol, or a number, which is a
+//! word address `w` or a bit address `w.b` (64w + b). expressions.rt and texts.rt call `read_atom`
+//! for each piece. A `$` word that is no system symbol counts as a name; no card can define it, so
+//! the value pass refuses it. docs/strap.md has the rules.
 //!
-//! specs/Term.antt defines the reading of a piece of text (`atom_of`): a name, a system word, `w`
-//! or `w.b`, which is the bit address 64w + b, a number too large, or none of these; the clauses
-//! say that the call returns exactly that. LAST_ADDRESS and LAST_BIT are named in the definitions,
-//! and a law in `st_laws` has their figures. `$` words that are no system symbol count as names,
-//! which no card defines. The bodies are free; a change of `read_place` needs one in proofs/terms
-//! as well. The readings are pinned by the definition, docs/strap.md and the vectors.
+//! Proved: the reading is `atom_of` of specs/Term.antt: a name, a system word, `w` or `w.b`, a
+//! number too large, or none of these. Pinned: the readings, by the definition, docs/strap.md and
+//! vectors/decks.txt; the types `Term` and `Atom`, by definitions of `st_asm`; LAST_ADDRESS and
+//! LAST_BIT, by the law `ExpressionsInFigures` of `st_laws`. Free: the bodies, with proofs/terms
+//! for that of `read_place`.
 
 ghost use Rattle.std.specs.Prelude.{◌≡◌, ◌≤◌, length};
 ghost use Rattle.st_text.specs.Bytes.{period};

@@ -1,11 +1,15 @@
 //! Expressions that are kept as text: 64 bytes in place of 32 terms. The statements of a job
-//! (`st_strap`, `st_asm`) keep their fields so.
+//! (`st_strap`) keep their fields in this form, and `st_asm` takes the values of fields by `value`.
+//! docs/strap.md has the rules.
 //!
-//! Contracts see an `ExprText` as the list of its terms, as if they were kept. Proved: `read`
-//! accepts the texts that `read_expr` accepts, with equal faults; `terms` and `value` are those of
-//! that list. That the terms are parsed again at each use is free to change, and so is the private
-//! layout. The loop of `sum_of` has its proof in proofs/texts. The results are pinned by the
-//! definitions of expressions.rt.
+//! Proved: contracts see an `ExprText` as the list of its terms, as if they were kept. `read`
+//! accepts the texts that `read_expr` accepts, with equal faults (`expr_of` of
+//! specs/Expression.antt); `terms` is that list, `value` its sum (`sum_of_terms` of
+//! specs/Value.antt).
+//!
+//! Pinned, by these definitions, docs/strap.md, docs/CLAIMS.md and vectors/texts.txt: the results.
+//! Free: that the terms are parsed again at each use; the private layout; the loop of `sum_of`, if
+//! proofs/texts follows.
 
 ghost use Rattle.std.specs.Prelude.{◌≡◌, ◌+◌, ◌≤◌, ◌*◌, ◌^◌, ℕ, ℤ, pos, ◌-ℤ◌, ◌≤ℤ◌, Bool, List, ◌∷◌, length, take, IfSome};
 ghost use Rattle.arrayvec.specs.ArrayVec.{ArrayVec as ListOf};

@@ -1,12 +1,15 @@
-//! The symbol table of a job, and the values of expressions under it.
+//! The symbol table of a job, and the values of expressions under it, in bits: a symbol is a bit
+//! address. The assembler (`st_asm`) defines symbols in its name pass and takes values of fields by
+//! `ExprText` (texts.rt), which calls `term_value`; no program calls `value_of`, which
+//! docs/CLAIMS.md offers. docs/strap.md has the rules.
 //!
-//! The assembler (`st_asm`) defines symbols in its name pass; values of fields it takes by
-//! `ExprText` (texts.rt), term by term. specs/Value.antt defines the sum of terms and the effect of
-//! a definition; each clause says that the call returns exactly that. Contracts see the table as a
-//! list of names with values, in the order of definition; the map in it is free. Values are in
-//! bits: a symbol is a bit address. Sums of at most 32 terms below 2^32 cannot overflow, which
-//! `low` and `high` prove. The values are pinned by the definitions. proofs/values follows the
-//! bodies of `define_in` and `sum_of`.
+//! Proved: values are `sum_of_terms` of specs/Value.antt, and a definition of a symbol has the
+//! effect `Defines` there. Contracts see the table as a list of names with values, in the order of
+//! definition. Sums of at most 32 terms below 2^32 cannot overflow (`low`, `high`).
+//!
+//! Pinned, by these definitions, docs/strap.md, docs/CLAIMS.md and vectors/faults.txt: the values,
+//! and that the first definition of a symbol counts. Free: the map in the table; the bodies, if
+//! proofs/values follows `define_in` and `sum_of`.
 
 ghost use Rattle.std.specs.Prelude.{◌≡◌, ◌≤◌, ◌*◌, ◌^◌, ℤ, pos, ◌-ℤ◌, ◌≤ℤ◌, [], length, None, IfOk, OnErr, IfSome};
 ghost use Rattle.st_text.specs.Tables.{row_of};

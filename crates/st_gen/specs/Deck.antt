@@ -1,4 +1,12 @@
 -- The generated deck: the cards of a seed and a number of cards.
+--
+-- Proved: by their `ensures` clauses these calls do what definitions here say: `draw_statement`
+-- (statement.rt), `push_delay_card` (deck.rt), `push_drawn_card` (deck.rt), `push_drawn_cards`
+-- (deck.rt), and others.
+-- Read by: definitions in Output of st_top.
+-- Laws: MadeDecksAreNotRefused (specs/Laws.antt of st_laws).
+-- Change: the meaning is fixed by docs/deck.md, since the contract of `st_top::stretch` unfolds to
+-- a definition here. The form is free, with the proofs that unfold it.
 use Rattle.std.specs.Prelude.{ℕ, suc, zero, ◌+◌, ◌*◌, ◌/◌, ◌%◌, ◌^◌, List, [], ◌∷◌, ◌++◌, replicate, slice_index_or, codes, decimal}
 use Rattle.st_text.specs.Bytes.{blank, lf}
 use Rattle.st_gen.specs.declared.statement.TheConstants.{FIRST_DRAWN_WORD, DRAWN_WORDS}
@@ -77,13 +85,10 @@ letters AddOne = 3
 letters Connect = 4
 letters Multiply = 2
 
--- the forms in the order of their numbers
-abbrev pub deck_forms : List StatementForm
-deck_forms = LoadValue ∷ AddValue ∷ LoadWord ∷ Add ∷ Store ∷ AddOne ∷ Connect ∷ Multiply ∷ []
-
 -- the form with this number
 abbrev pub form_of : ℕ → StatementForm
-form_of number = slice_index_or deck_forms number Multiply
+form_of number = slice_index_or
+    (LoadValue ∷ AddValue ∷ LoadWord ∷ Add ∷ Store ∷ AddOne ∷ Connect ∷ []) number Multiply
 
 -- the form of the card drawn after state x: its first draw
 abbrev pub form_after : ℕ → StatementForm
@@ -126,12 +131,10 @@ delay_cards (suc n) x = delay_cards n x ++ delay_card (next_number (number_after
 
 -- the cards after the drawn ones: END and the control cards
 abbrev pub closing_cards : ℕ → ℕ → List ℕ
-closing_cards cards x =
-    card (codes "BEW") ++ card (codes "END,32.0") ++ control
-    (codes "/BUDGET " ++ decimal (cards + 2))
-    ++ delay_cards 16 x ++ control (codes "/TIME")
+closing_cards cards x = card (codes "BEW") ++ card (codes "END,32.0")
+    ++ control (codes "/BUDGET " ++ decimal (cards + 2)) ++ delay_cards 16 x
+    ++ control (codes "/TIME")
 
 -- the deck of a seed and a number of drawn cards
 abbrev pub made_deck : ℕ → ℕ → List ℕ
-made_deck number cards =
-    drawn_cards cards number ++ closing_cards cards (after_cards cards number)
+made_deck number cards = drawn_cards cards number ++ closing_cards cards (after_cards cards number)

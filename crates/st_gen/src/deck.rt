@@ -1,12 +1,15 @@
 //! The cards of the deck that the command `soak` makes from a seed: drawn statements, BEW and END,
-//! then control cards.
+//! then control cards. `st_top` (program.rt) and a test of `st_calls` call `make_deck`.
+//! docs/deck.md has the rules.
 //!
-//! specs/Deck.antt defines the deck as a list of bytes, `made_deck`; proved is that the call
-//! returns exactly that, at most 40 bytes for a card and 300 more, or an error if memory ran out.
-//! The private functions append one part each and have the same kind of clause. The deck of a seed
-//! is pinned by specs/Deck.antt, docs/deck.md and the vectors: a changed draw changes every deck.
-//! The split into functions is free; a change of `push_drawn_cards`, `push_delay_cards` and
-//! `make_deck` needs one in proofs/deck as well.
+//! Proved, by the clauses of `make_deck`: the deck is the list of bytes `made_deck` of
+//! specs/Deck.antt (`deck`), at most 40 bytes for a card and 300 more (`short`); the type of the
+//! error has only the case that memory ran out. By the law `MadeDecksAreNotRefused`
+//! (specs/Laws.antt of `st_laws`) the assembler accepts the deck, up to 19,980 drawn cards.
+//!
+//! Pinned, by `made_deck`, docs/deck.md and vectors/soak.txt: the deck of a seed; a changed draw
+//! changes every deck. Free: the split into functions, if proofs/deck follows `push_drawn_cards`,
+//! `push_delay_cards` and `make_deck`.
 
 ghost use Rattle.std.specs.Prelude.{◌≡◌, ◌+◌, ◌*◌, ◌≤◌, ◌++◌, OnOk, IfOk, length};
 ghost use Rattle.st_gen.specs.Deck.{next_number, after_card, after_cards, card, drawn_card, drawn_cards, control, delay_card, delay_cards, closing_cards, made_deck};

@@ -1,9 +1,12 @@
-//! The eight forms of a drawn card.
+//! The eight forms of a drawn card. deck.rt draws a number and calls `form_of`; statement.rt writes
+//! the statement of the form. docs/deck.md has the table of forms. No other crate sees them.
 //!
-//! The numbers are drawn by deck.rt; `form_of` in specs/Deck.antt defines which form a number has,
-//! and the clause says that the call returns exactly that. Their order is pinned by it and
-//! docs/deck.md, since it decides the deck of a seed; the form of the match is free. Numbers above
-//! 7 are not drawn; here they count as 7.
+//! Proved: the result is `form_of` of specs/Deck.antt. Numbers above 7 are not drawn; here they
+//! count as 7.
+//!
+//! Pinned, by `form_of`, docs/deck.md and vectors/soak.txt: the order of the forms, since it
+//! decides the deck of a seed. Free: the form of the match. A new form is a variant, a case of
+//! `form_of` here and in specs/Deck.antt, and its statement in statement.rt; it changes every deck.
 
 ghost use Rattle.std.specs.Prelude.{◌≡◌};
 ghost use Rattle.st_gen.specs.Deck.{form_of};

@@ -1,10 +1,13 @@
-//! The random number generator: a linear congruential generator of 64 bits, for the draws of a
-//! deck.
+//! The random number generator of a deck: a linear congruential generator of 64 bits. deck.rt
+//! creates it from the seed; deck.rt and statement.rt draw. docs/deck.md has the rule. No other
+//! crate sees it.
 //!
-//! `next_number` and `below` in specs/Deck.antt define its step and a draw, and the clauses say
-//! that a call makes exactly one step and returns exactly that number. The two constants are
-//! figures of that definition and of docs/deck.md, so they are pinned: others would change every
-//! deck. Only the form of the body is free.
+//! Proved, by the clauses of `draw`: a draw makes exactly one step, `next_number` of
+//! specs/Deck.antt (`step`), and returns `below` of the new state (`value`), which is less than the
+//! bound (`in_range`). Not proved: how random the numbers are.
+//!
+//! Pinned, by `next_number`, docs/deck.md and vectors/soak.txt: the two constants, since others
+//! change every deck. Free: the form of the body.
 
 ghost use Rattle.std.specs.Prelude.{◌≡◌, ◌<◌};
 ghost use Rattle.st_gen.specs.Deck.{next_number, below};

@@ -1,11 +1,15 @@
-//! The statements of the drawn cards, as text from the operation on.
+//! The statements of the drawn cards, as text from the operation on. deck.rt calls
+//! `draw_statement`. docs/deck.md has the table of statements. Drawn words are 4,096 to 4,351; the
+//! instructions of a deck of at most 4,000 cards end before them.
 //!
-//! `statement` in specs/Deck.antt defines the text of each form from the generator's state, and
-//! `letters` how many numbers it draws; the clauses say that a call returns exactly that text and
-//! makes exactly these draws. So texts and the order of draws are pinned, by the definition and
-//! docs/deck.md; the split into functions is free. Drawn words are 4,096 to 4,351, figures of a law
-//! of `st_laws`; the instructions of a deck of at most 4,000 cards end before them. `st_laws`
-//! proves that the assembler accepts all these statements.
+//! Proved, by the clauses of `draw_statement`: the text is `statement` of specs/Deck.antt for the
+//! form and the generator's state (`text`), and a call makes exactly as many draws as `letters`
+//! there says (`drawn`). By the law `MadeDecksAreNotRefused` (specs/Laws.antt of `st_laws`) the
+//! assembler accepts these statements.
+//!
+//! Pinned, by `statement`, docs/deck.md and vectors/soak.txt: the texts and the order of draws; by
+//! the law `DrawnWordsInFigures` (specs/Laws.antt of `st_laws`): the two constants. Free: the split
+//! into functions.
 
 ghost use Rattle.std.specs.Prelude.{◌≡◌, ◌≤◌, ◌++◌, length};
 ghost use Rattle.st_gen.specs.Deck.{number_after, field_operands, statement, letters};

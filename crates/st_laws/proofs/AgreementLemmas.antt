@@ -15,7 +15,7 @@ use Rattle.st_dec.proofs.DigitLemmas.{value_of-first, joined-decimal}
 use Rattle.st_conn.specs.Connective.{leading_zeros}
 use Rattle.st_conn.specs.Connection.{counts_of}
 use Rattle.st_text.specs.Number.{is_number, digits_value as text_value, value_after, number_if_good}
-use Rattle.st_card.specs.Controls.{card_number}
+use Rattle.st_card.specs.Keywords.{card_number}
 use Rattle.st_card.specs.Limits.{is_part}
 use Rattle.st_text.specs.declared.numbers.Reading.TheVariants.{Bad, Large, Good}
 use Rattle.st_object.specs.Meaning.{short_number}

@@ -4,14 +4,20 @@ use Rattle.std.proofs.lemmas.Bool.{and_from as both_true, le-leb as within}
 use Rattle.std.proofs.lemmas.Bool.Decides.{nat_tests}
 use Rattle.std.proofs.lemmas.List.{map-append, length-map}
 use Rattle.std.proofs.lemmas.List.Elements.{All-nil, All-cons, All-append}
-use Rattle.std.proofs.lemmas.List.Sorted.{IsNonDecreasingBy-short}
+use Rattle.std.proofs.lemmas.Simd.{map-map}
 use Rattle.std.specs.Fmt.{digits}
 use Rattle.std.specs.List.{All, AllPass}
 use Rattle.st_bits.specs.Storage.{words_of_storage}
-use Rattle.st_card.specs.Controls.{Asked, is_in_range}
+use Rattle.st_card.specs.Controls.{Asked, nothing_asked, is_in_range}
 use Rattle.st_card.specs.Written.{control_line, text_of_lines}
-use Rattle.st_card.specs.Limits.{IsWithinLimits, is_signal, is_part, is_tick}
-use Rattle.st_card.specs.declared.control_cards.Signal.{Signal}
+use Rattle.st_card.specs.Limits.{IsWithinLimits, is_tick}
+use Rattle.st_card.specs.declared.keywords.Mark.TheVariants.{Time}
+use Rattle.st_card.specs.declared.keywords.Number.TheVariants.{Delays}
+use Rattle.st_card.specs.declared.keywords.Keyword.TheVariants as keywords
+use Rattle.st_card.specs.declared.keywords.Control.{Control}
+use Rattle.st_card.specs.declared.keywords.Control.TheVariants as asks
+use Rattle.st_card.specs.declared.keywords.ControlForm.TheVariants.{Card}
+use Rattle.st_card.proofs.LimitLemmas.{nothing-within, keyword-kept, others-within}
 use Rattle.st_card.specs.Cards.{cards_of}
 use Rattle.st_text.specs.Bytes.{lf}
 use Rattle.st_strap.specs.Reading.{number_expr}
@@ -145,33 +151,14 @@ drawn_delays-length (suc n) x =
 
 -- requests with a budget, delays and timing
 abbrev asked_with : ℕ → List ℕ → Asked
-asked_with budget delays = record {
-  budget = budget;
-  delays = delays;
-  signals = [];
-  dumps = [];
-  snaps = [];
-  list = false;
-  trace = false;
-  time = true;
-  chart = false;
-  back = 0;
-}
+asked_with budget delays = record nothing_asked { budget = budget; delays = delays; time = true }
 
 asked-within : (budget : ℕ) (delays : List ℕ) → budget ≤ 10000000 → AllPass (is_in_range 1 255) delays → length delays ≤ 4096 →
     IsWithinLimits (asked_with budget delays)
-asked-within budget delays small each few = record {
-  budget = small;
-  delays = record { each = each; few = few };
-  signals = record {
-    each = All-nil (λ (s : Signal). is_signal s ≡ true);
-    counts = IsNonDecreasingBy-short (λ (s : Signal). s.count) [] (omega arith);
-    few = omega arith;
-  };
-  dumps = record { each = All-nil (λ (p : ℕ × ℕ). is_part p ≡ true); few = omega arith };
-  snaps = record { each = All-nil (λ t. is_tick t ≡ true); rising = λ k below. absurd (omega arith); few = omega arith };
-  back = omega arith;
-}
+asked-within budget delays small each few =
+    let timed : Asked = record nothing_asked { time = true } in
+    let limits : IsWithinLimits timed = keyword-kept (keywords.Mark Time) nothing_asked timed [] (All-nil (λ t. is_tick t ≡ true)) refl nothing-within in
+    others-within timed budget delays limits small (record { each = each; few = few })
 
 -- ---- the deck is a text of cards
 
@@ -220,8 +207,10 @@ controls-are : (budget : ℕ) (delays : List ℕ) → 1 ≤ budget →
 unfolding control_line
 controls-are budget delays some =
     let is : (budget == 0) ≡ false = grind (arith, nat_tests) in
-    let cards = map (λ d. codes "/DELAYS " ++ decimal d) delays in
-    rw is (ap (λ (cs : List (List ℕ)). (codes "/BUDGET " ++ decimal budget) ∷ (cs ++ codes "/TIME" ∷ [])) (append-nil (cards ++ []) ∙ append-nil cards))
+    let line : Control → List ℕ = control_line Card in
+    rw is (ap (λ (cs : List (List ℕ)). (codes "/BUDGET " ++ decimal budget) ∷ cs)
+    (map-append line (map (λ n. asks.Number Delays n) delays) (asks.Mark Time ∷ [])
+    ∙ ap (λ (cs : List (List ℕ)). cs ++ codes "/TIME" ∷ []) (map-map line (λ n. asks.Number Delays n) delays)))
 
 -- the cards after the drawn ones, without the branch and END
 five : (a b c d e : List ℕ) → a ++ b ++ c ++ d ++ e ≡ a ++ (b ++ (c ++ (d ++ e)))

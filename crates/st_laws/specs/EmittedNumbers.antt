@@ -1,4 +1,10 @@
 -- The assembled field of a number, and its reading by an operation.
+--
+-- Proved: no `ensures` clause names a definition of this file.
+-- Laws: EmittedNumbersAreRead (specs/Laws.antt).
+-- Change: no page fixes these definitions, since no contract of a program unfolds to them; they
+-- change together with the clauses, definitions and laws that name them. docs/CLAIMS.md describes
+-- the subject.
 use Rattle.std.specs.Prelude.{ℕ, ◌≡◌, Bool, true}
 use Rattle.st_mnemonic.specs.declared.form.Form.{Form}
 use Rattle.st_strap.specs.WellFormed.{IsNumberForm}

@@ -1,5 +1,10 @@
 -- Laws that relate crates which do not depend on each other, and the values of constants that
 -- definitions take from the code.
+--
+-- Proved: each law has its lemma in proofs/Laws.antt, with its name in small letters.
+-- Claimed: docs/CLAIMS.md names BanksInFigures, ControlsInFigures, CountsAgree, DigitsAgree, and
+-- others.
+-- Change: docs/promises.txt lists each law, and the gate compares the list with the laws.
 use Rattle.std.specs.Prelude.{◌≡◌, ◌≤◌, ◌<◌, ◌+◌, ◌*◌, ◌^◌, ◌==◌, ◌&&◌, ◌||◌, nat_le, nat_lt, ℕ, List, Some, map, codes, length, sum, decimal, Ok, true, Bool, false, ◌-◌, ◌++◌}
 use Rattle.st_bits.specs.declared.limits.TheConstants.{WORDS, LAST_WORD, MOST_INSTRUCTIONS, LONGEST_LIST, MOST_DELAY, LONGEST_JOB, MOST_CARDS}
 use Rattle.st_card.specs.declared.limits.TheConstants.{MOST_DUMPS, MOST_SNAPS, MOST_BACK, MOST_NUMBER}
@@ -12,7 +17,7 @@ use Rattle.st_field.specs.Digits.{value_of_digits, digits_of}
 use Rattle.st_dec.specs.DigitLists.{bytes, number_of_bytes, codes_value, decimal as digit_list}
 use Rattle.st_conn.specs.Connective.{leading_zeros}
 use Rattle.st_conn.specs.Connection.{counts_of}
-use Rattle.st_card.specs.Controls.{card_number}
+use Rattle.st_card.specs.Keywords.{card_number}
 use Rattle.st_card.specs.Limits.{is_part}
 use Rattle.st_text.specs.Tables.{row_of}
 use Rattle.st_expr.specs.System.{index_word_names, indicator_symbols, system_symbols}

@@ -1,8 +1,11 @@
-//! Laws that relate crates which do not depend on each other: the machine reads the bits that the
-//! assembler makes, and a rule that is defined in two crates is the same rule.
+//! Laws that relate crates which do not depend on each other: for instance that the machine reads
+//! the bits that the assembler makes (`EmittedNumbersAreRead`), and that a rule which is defined in
+//! two crates is equal in both (`NumbersAgree`). There is no code, and no crate uses this one.
 //!
-//! There is no code: specs/Laws.antt states the laws, proofs/ has their proofs, and no crate uses
-//! this one. The figures of constants that definitions name (limits, registers, indicators) are
-//! laws here too, so a changed constant is noticed. A law belongs here if it needs two crates of
-//! which neither uses the other.
+//! Proved: the statements of specs/Laws.antt, by the lemmas of their names in proofs/Laws.antt. The
+//! laws whose names end in "InFigures" say constants, registers and indicators in figures, so that
+//! a changed constant is noticed.
+//!
+//! Pinned, by docs/promises.txt: each statement; docs/CLAIMS.md names those that carry a promise.
+//! Free: the proofs. A law belongs here if it needs two crates of which neither uses the other.
 #![tactic(auto)]

@@ -1,4 +1,14 @@
 -- Data descriptions: modes, lengths and byte sizes in parentheses.
+--
+-- Proved: by their `ensures` clauses these calls do what definitions here say: `described_in`
+-- (descriptions.rt), `default_form` (descriptions.rt), `described` (descriptions.rt),
+-- `description_of` (descriptions.rt), and others.
+-- Read by: definitions in Faults of st_strap, Saying of st_strap, Spots of st_strap.
+-- Laws: FieldOperationsAreRead (specs/Laws.antt of st_strap), NumbersOfWordsAreRead
+-- (specs/Laws.antt of st_strap).
+-- Change: the meaning is fixed by docs/strap.md, since the contracts of `st_top::stretch` and
+-- `st_account::ledger` unfold to a definition here. The form is free, with the proofs that unfold
+-- it.
 use Rattle.std.specs.Prelude.{ℕ, ◌+◌, ◌-◌, ◌==◌, ◌||◌, Bool, true, false, not, List, [], ◌∷◌, length, take, codes, Option, None, Some, if◌then◌else◌}
 use Rattle.std.specs.Option.{option_map, option_and_then}
 use Rattle.st_text.specs.Bytes.{close_parenthesis, comma}
@@ -6,7 +16,7 @@ use Rattle.st_text.specs.Number.{reading}
 use Rattle.st_text.specs.Pieces.{pieces_of}
 use Rattle.st_text.specs.Tables.{row_of}
 use Rattle.st_text.specs.declared.numbers.Reading.{Reading}
-use Rattle.st_text.specs.declared.numbers.Reading.TheVariants.{Bad, Large, Good}
+use Rattle.st_text.specs.declared.numbers.Reading.TheVariants.{Good}
 use Rattle.st_format.specs.Validity.{misfits}
 use Rattle.st_bits.specs.declared.operations.VflOp.TheVariants.{L, St, Add, K, Mul, Div}
 use Rattle.st_mnemonic.specs.Text.{ends_with}
@@ -18,22 +28,16 @@ use Rattle.st_mnemonic.specs.declared.descriptions.Description.TheVariants.{Abse
 use Rattle.st_mnemonic.specs.declared.operations.Operation.{Operation}
 use Rattle.st_mnemonic.specs.declared.operations.Operation.TheVariants.{Floating as FloatingOperation, Vfl, Connect, Data}
 
--- the modes of data descriptions: binary or decimal with or without a sign byte, and those of the
--- floating group
+-- the modes of data descriptions: binary, decimal (U: without a sign byte), and the floating ones
 unfoldable pub modes : List (List ℕ × Mode)
-modes =
-    (codes "B", Field false false) ∷ (codes "BU", Field false true) ∷ (codes "D", Field true false)
-    ∷ (codes "DU", Field true true) ∷ (codes "N", Normalized) ∷ (codes "U", Unnormalized) ∷ []
+modes = (codes "B", Field false false) ∷ (codes "BU", Field false true)
+    ∷ (codes "D", Field true false) ∷ (codes "DU", Field true true) ∷ (codes "N", Normalized)
+    ∷ (codes "U", Unnormalized) ∷ []
 
 -- a form without a progressive form, with its length and byte size in bits
 abbrev pub plain_form : Bool → Bool → ℕ → ℕ → Form
-plain_form decimal unsigned bits byte = record {
-  decimal = decimal;
-  unsigned = unsigned;
-  length = bits;
-  byte = byte;
-  p = 0;
-}
+plain_form decimal unsigned bits byte =
+    record { decimal = decimal; unsigned = unsigned; length = bits; byte = byte; p = 0 }
 
 -- the form of a field without a data description
 abbrev pub default_form : Form
@@ -46,8 +50,7 @@ usual_byte decimal = if decimal then 4 else 8
 -- the number of a reading, if it is not zero
 abbrev pub some_number : Reading → Option ℕ
 some_number (Good n) = if n == 0 then None else Some n
-some_number Large = None
-some_number Bad = None
+some_number _ = None
 
 -- the number that a text spells, if it is from 1 to `most`
 unfoldable pub number_to : ℕ → List ℕ → Option ℕ
@@ -61,11 +64,9 @@ in_mode (Field d u) (bits ∷ []) = option_map (λ n. InForm (plain_form d u n (
 in_mode (Field d u) (bits ∷ byte ∷ []) =
     option_and_then (λ n. option_map (λ b. InForm (plain_form d u n b)) (number_to 8 byte))
     (number_to 64 bits)
-in_mode (Field d u) _ = None
 in_mode Normalized [] = Some (Floating false)
-in_mode Normalized _ = None
 in_mode Unnormalized [] = Some (Floating true)
-in_mode Unnormalized _ = None
+in_mode _ _ = None
 
 -- the description of the pieces between its commas
 abbrev pub in_pieces : List (List ℕ) → Option Description
@@ -75,12 +76,10 @@ in_pieces (mode ∷ more) = option_and_then (λ m. in_mode m more) (row_of mode 
 -- the description of a group: None if the closing parenthesis is missing
 unfoldable pub description_of : List ℕ → Option Description
 description_of [] = Some Absent
-description_of (c ∷ cs) =
-    if ends_with close_parenthesis (c ∷ cs) then in_pieces
+description_of (c ∷ cs) = if ends_with close_parenthesis (c ∷ cs) then in_pieces
     (pieces_of comma (take (length (c ∷ cs) - 2) cs)) else None
 
--- whether an operation may have a form: a valid form for operations on fields and DD, a binary
--- unsigned form for connectives
+-- whether an operation may have a form: valid for a field or DD, binary unsigned for a connective
 unfoldable pub may_have : Operation → Form → Bool
 may_have (Vfl op negated) form = not (misfits form.decimal form.unsigned form.length form.byte)
 may_have (Connect kind table) form = not (form.decimal || not form.unsigned)

@@ -1,4 +1,12 @@
 -- The text of a statement, cut into its parts.
+--
+-- Proved: by their `ensures` clauses these calls do what definitions here say: `split_word`
+-- (parts.rt), `progressed` (forms.rt), `begins_with` (parts.rt), `clean` (parts.rt), and others.
+-- Read by: definitions in Forming, Describing, Table, Faults of st_strap, and others.
+-- Laws: none names a definition of this file itself.
+-- Change: the meaning is fixed by docs/strap.md, since the contracts of `st_top::stretch` and
+-- `st_account::ledger` unfold to a definition here. The form is free, with the proofs that unfold
+-- it.
 use Rattle.std.specs.Prelude.{ℕ, ◌+◌, ◌==◌, ◌||◌, Bool, not, min, List, [], ◌∷◌, length, take, drop, filter, slice_get, false, if◌then◌else◌}
 use Rattle.std.specs.Option.{option_map_or}
 use Rattle.st_text.specs.Bytes.{blank, open_parenthesis, close_parenthesis, comma, semicolon}
@@ -31,8 +39,7 @@ operation_text statement = take (stop open_parenthesis comma statement) statemen
 abbrev pub behind_word : List ℕ → List ℕ
 behind_word statement = drop (stop open_parenthesis comma statement) statement
 
--- the length of the parenthesized group at the start of a text: up to its first `)`, or to the end
--- if there is none
+-- the length of the group at the start of a text: up to its first `)`, else to the end
 unfoldable pub group_length : List ℕ → ℕ
 group_length text = if begins_with open_parenthesis text
     then min (stop close_parenthesis close_parenthesis text + 1) (length text) else 0

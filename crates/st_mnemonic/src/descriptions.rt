@@ -1,12 +1,13 @@
 //! Data descriptions: modes, lengths and byte sizes in parentheses after a mnemonic, as
-//! `(BU,64,8)`.
+//! `(BU,64,8)`. Lengths are 1 to 64 bits, byte sizes 1 to 8. `st_strap` (reading.rt) calls
+//! `described_in`. docs/strap.md has the rules.
 //!
-//! `st_strap` makes the call `described_in`. specs/Describing.antt defines the modes, the form that
-//! a group spells, and which operations allow it; each clause says that the call returns exactly
-//! that, so the table here is proved to be that one. Lengths are 1 to 64 bits, byte sizes 1 to 8. A
-//! new mode is a row there and here. The split into functions is free, and docs/strap.md has the
-//! rules. Descriptions are pinned by the definitions, docs/strap.md and the vectors. The proof of
-//! `in_pieces`, in proofs/descriptions, follows its body.
+//! Proved: the result is `described_form` after `description_of` of specs/Describing.antt: the form
+//! that a group spells, if the operation allows it. The table of modes is `modes` there.
+//!
+//! Pinned, by these definitions, docs/strap.md, vectors/mnemonics.txt and vectors/faults.txt: the
+//! descriptions and which operation allows them. A new mode is a row in `modes` and here. Free: the
+//! split into functions, if proofs/descriptions follows `in_pieces`.
 
 ghost use Rattle.std.specs.Prelude.{◌≡◌, ◌≤◌, length, IfSome};
 ghost use Rattle.std.specs.Option.{option_and_then};

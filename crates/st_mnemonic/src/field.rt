@@ -1,9 +1,13 @@
-//! The text of a statement's field, and the list of these texts.
+//! The text of a statement's field, and the list of these texts. parts.rt makes them;
+//! descriptions.rt and `st_strap` read them. docs/strap.md has the rules of fields.
 //!
-//! `fits`, that a text has at most 63 bytes (columns 10 to 72), is part of the type: each value is
-//! proved to have it, and `st_strap` needs it to keep expressions. That bound is pinned by the card
-//! and by the clauses of `st_strap`. MOST_FIELDS is a figure in clauses of parts.rt; it may be any
-//! number above 16, the most fields of an operation, with those clauses.
+//! Proved: each text has at most 63 bytes (columns 10 to 72); `fits` is part of the type, and
+//! `st_strap` needs it to keep expressions. Not proved here: which texts a statement has; parts.rt
+//! proves this.
+//!
+//! Pinned, by docs/strap.md (the columns of a card) and the clauses of `st_strap`: the bound of 63
+//! bytes, and the type `FieldText`. Free: MOST_FIELDS, a figure in clauses of parts.rt; with these
+//! clauses it may be any number above 16, the most fields of an operation.
 
 ghost use Rattle.std.specs.Prelude.{◌≤◌, length};
 

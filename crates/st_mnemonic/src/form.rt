@@ -1,10 +1,14 @@
 //! The form of a field in storage, as a card writes it: its data description and its progressive
-//! form.
+//! form. descriptions.rt and forms.rt make it, `st_strap` keeps it in statements, and `st_asm`
+//! encodes it. docs/strap.md has the rules.
 //!
-//! Plain values without an invariant: by the definitions that descriptions.rt and forms.rt are
-//! proved to follow, they are in range. `st_strap` keeps them in statements, and `st_asm` encodes
-//! them; the definitions of these crates pin the fields, so nothing here is free. Nothing is proved
-//! here.
+//! Proved: nothing here, since the values are plain and have no invariant. They are in range by the
+//! definitions that descriptions.rt and forms.rt are proved to follow (specs/Describing.antt and
+//! specs/Forming.antt).
+//!
+//! Pinned, by these two files, by `st_strap` and `st_asm`, which read the fields, and by the law
+//! `EmittedNumbersAreRead` (specs/Laws.antt of `st_laws`): the fields and their ranges. Free: the
+//! derived traits. A new field needs its value in descriptions.rt, and its bits in `st_asm`.
 
 /// The form of a field in storage.
 #[derive(Clone, Copy, Debug, PartialEq, Eq)]

@@ -1,11 +1,14 @@
 //! Progressive forms, groups as `(V+I)` after the data description, and the choice of the group
-//! that is the data description.
+//! that is the data description. `st_strap` (reading.rt) calls `split_description` and `progressed`
+//! for each card. docs/strap.md has the rules.
 //!
-//! `st_strap` makes both public calls for each card. specs/Forming.antt defines the forms with
-//! their numbers, the two parts of the text, and which operations allow a form; each clause says
-//! that the call returns exactly that. The numbers are those of the P field of an instruction, and
-//! are pinned by the definition, docs/strap.md and vectors/forms.txt. `shorter` ensures that what
-//! follows still fits 63 bytes. The split into functions is free.
+//! Proved: the results are `description_in`, `behind_description` and `form_with_progress` of
+//! specs/Forming.antt, and `behind_group` of specs/Text.antt. By the clauses `shorter` the rest of
+//! a text is no longer than the text, so it still fits 63 bytes.
+//!
+//! Pinned, by the table `progressive_forms` of specs/Forming.antt, docs/strap.md and
+//! vectors/forms.txt: the forms; by docs/instructions.md (the P field): their numbers. Free: the
+//! split into functions. All eight numbers of the P field are in use.
 
 ghost use Rattle.std.specs.Prelude.{◌≡◌, ◌≤◌, length};
 ghost use Rattle.std.specs.Option.{option_and_then};
@@ -126,23 +129,20 @@ fn form_number(group: &[u8]) -> Option<u8>
 fn may_have_form(op: Operation, length: u8, p: u8) -> bool
     ensures { result ≡ spec.may_have_form op length p }
 {
-    p == 0 || (may_progress(op) && (p != 1 || (!writes(op) && length <= 24)))
+    p == 0
+        || match field_operation(op) {
+            Some(full) => p != 1 || (!writes_field(full) && length <= 24),
+            None => false,
+        }
 }
 
-// Whether an operation may have a progressive form: only operations on fields and connectives.
-fn may_progress(op: Operation) -> bool
-    ensures { result ≡ spec.may_progress op }
-{
-    matches!(op, Operation::Vfl { .. } | Operation::Connect { .. })
-}
-
-// Whether an operation writes its field.
-fn writes(op: Operation) -> bool
-    ensures { result ≡ spec.is_field_written op }
+// The operation on a field of an operation, if it is one.
+fn field_operation(op: Operation) -> Option<FullOp>
+    ensures { result ≡ spec.field_operation_of op }
 {
     match op {
-        Operation::Vfl { op, .. } => writes_field(FullOp::Variable(op)),
-        Operation::Connect { kind, .. } => writes_field(FullOp::Connective(kind)),
-        _ => false,
+        Operation::Vfl { op, .. } => Some(FullOp::Variable(op)),
+        Operation::Connect { kind, .. } => Some(FullOp::Connective(kind)),
+        _ => None,
     }
 }

@@ -1,11 +1,14 @@
-//! The operations by their mnemonics, the words with which statements begin.
+//! The operations by their mnemonics, the words with which statements begin. `st_strap`
+//! (reading.rt) calls `operation_of` for each card; `st_strap`, descriptions.rt and forms.rt match
+//! on `Operation`. docs/strap.md and docs/operations.md list the words.
 //!
-//! `st_strap` makes the call `operation_of` for each card. specs/Table.antt defines the tables,
-//! from those of `st_format`, and the operation of a word; each clause says that the call returns
-//! exactly that, so the tables here are proved to be those. A new mnemonic is a row in both. The
-//! order of the three look-ups in `listed_operation` is free, since no word is in two tables.
-//! Mnemonics are pinned by the definition, docs/strap.md and vectors/mnemonics.txt. The proof of
-//! `listed_operation`, in proofs/operations, follows its body.
+//! Proved: the result is `operation_of_word` of specs/Table.antt, by the tables there, which for
+//! operations of the machine are those of `st_format`; so the tables here are equal to these.
+//!
+//! Pinned, by `operation_of_word`, docs/strap.md and vectors/mnemonics.txt: the mnemonics. A new
+//! mnemonic is a row here and in specs/Table.antt (docs/changing.md has the rest). Free: the order
+//! of the three look-ups in `listed_operation`, since no word is in two tables, if
+//! proofs/operations follows.
 
 ghost use Rattle.std.specs.Prelude.{◌≡◌, false};
 ghost use Rattle.std.specs.Option.{option_or};

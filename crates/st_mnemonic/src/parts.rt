@@ -1,11 +1,14 @@
 //! The text of a statement, cut into its parts: operation, groups in parentheses, and fields
-//! between commas.
+//! between commas. A statement is columns 10 to 72 of a card, at most 63 bytes, which bounds all
+//! texts here. `st_strap` (reading.rt, fields.rt), descriptions.rt, forms.rt and operations.rt use
+//! the calls. docs/strap.md has the rules.
 //!
-//! A statement is columns 10 to 72 of a card, at most 63 bytes, which bounds all texts here.
-//! specs/Text.antt defines the parts, and each clause says that the call returns exactly that; the
-//! tables of operations and forms are not known here. `st_strap`, descriptions.rt and forms.rt use
-//! the calls. The bodies are free; proofs/parts follows `stop`, `ends_with` and the two loops. The
-//! parts are pinned by the definitions and docs/strap.md.
+//! Proved: the parts are `statement_text`, `operation_text`, `behind_word`, `group_length` and
+//! `fields_of` of specs/Text.antt; of fields and pieces the first seventeen are kept.
+//!
+//! Pinned, by these definitions, docs/strap.md and vectors/texts.txt: the parts; by `st_strap`: the
+//! public calls. Free: the bodies, if proofs/parts follows those of `stop`, `ends_with`,
+//! `without_blanks` and `pieces`.
 
 ghost use Rattle.std.specs.Prelude.{◌≡◌, ◌≤◌, ◌==◌, not, length, take, filter};
 ghost use Rattle.st_text.specs.Bytes.{blank, comma};

@@ -2,6 +2,7 @@
 use Rattle.std.proofs.Common.{◌≡◌, ◌≤◌, ◌==◌, ℕ, Bool, true, false, not, List, [], ◌∷◌, ◌++◌, Some, unwrap_or, if◌then◌else◌, refl, ap, subst, ◌∙◌, append_assoc, arith}
 use Rattle.std.proofs.lemmas.Bool.{or_right, cond_both}
 use Rattle.std.proofs.lemmas.Bool.Decides.{nat_tests}
+use Rattle.std.proofs.lemmas.List.{length-map}
 use Rattle.std.proofs.lemmas.List.Sums.{AllPass-from_list_all}
 use Rattle.std.specs.List.{flat_map}
 use Rattle.st_card.specs.Controls.{is_in_range}
@@ -59,7 +60,7 @@ completion d = record {
 }
 
 met_kept : (d : Draft) (kind : Kind) → is_met (has_line d) kind ≡ true → kind_lines (completion d) kind ≡ kind_lines d kind
-met_kept d kind met = grind arith
+met_kept d kind met = grind (arith, length-map)
 
 -- the lines of the completed draft begin with those that were read
 abbrev GoesOn : Draft → List Kind → Type 0
@@ -91,7 +92,7 @@ completion_draft d draft =
 
 completion_whole : (d : Draft) → is_whole (completion d) ≡ true
 unfolding is_whole
-completion_whole d = grind (arith, nat_tests)
+completion_whole d = grind (arith, nat_tests, length-map)
 
 -- an object text begins with the lines that were read
 pub begins : (d : Draft) (front : List ℕ) → IsDraft d → IsOrderly d → object_text_of (lines_read d) ≡ front → BeginsObjectText front

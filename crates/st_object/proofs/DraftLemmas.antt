@@ -1,21 +1,21 @@
 -- The invariants of drafts are preserved by a further line.
-use Rattle.std.proofs.Common.{◌≡◌, ◌+◌, ◌≤◌, ◌<◌, ◌-◌, ◌^◌, ℕ, Bool, true, false, nat_lt, List, [], ◌∷◌, ◌++◌, length, get_or, replicate, Option, Some, None, if◌then◌else◌, refl, length-append, arith, lit<}
-use Rattle.std.proofs.lemmas.Bool.{and_from as both_true, ltb-true as below}
+use Rattle.std.proofs.Common.{◌≡◌, ◌+◌, ◌≤◌, ◌<◌, ◌-◌, ◌^◌, ℕ, Bool, true, false, nat_lt, List, [], ◌∷◌, ◌++◌, length, get_or, replicate, Option, Some, None, if◌then◌else◌, ap, sym, ◌∙◌, length-append, arith, lit<}
+use Rattle.std.proofs.lemmas.Bool.{ltb-true as below}
 use Rattle.std.proofs.lemmas.Grind.{common_steps}
+use Rattle.std.specs.List.{AllPass}
 use Rattle.std.specs.Option.{option_map}
 use Rattle.std.proofs.lemmas.List.{length-replicate}
 use Rattle.std.proofs.lemmas.List.Elements.{All-append, All-replicate}
-use Rattle.std.proofs.lemmas.List.Sums.{AllPass-from_list_all}
 use Rattle.std.proofs.lemmas.Bool.Decides.{nat_tests}
 use Rattle.st_bits.specs.Storage.{words_of_storage}
-use Rattle.st_card.specs.Controls.{Asked, with_keyword}
-use Rattle.st_card.specs.declared.keywords.Keyword.{Keyword}
-use Rattle.st_card.specs.declared.keywords.Keyword.TheVariants as keywords
-use Rattle.st_card.specs.Limits.{is_tick, IsWithinLimits}
-use Rattle.st_card.proofs.LimitLemmas.{budget-kept, delays-kept, signal-kept, dump-kept, trace-kept, time-kept, chart-kept, snap-kept, back-kept}
-use Rattle.st_object.specs.Draft.{Draft, IsDraft, may_hold, draft_with_order, draft_with_value, with_item}
+use Rattle.st_card.specs.Keywords.{keyword_of, numbers_of}
+use Rattle.st_card.specs.Controls.{Asked, with_control}
+use Rattle.st_card.specs.declared.keywords.Control.{Control}
+use Rattle.st_card.specs.Limits.{is_tick}
+use Rattle.st_card.proofs.LimitLemmas.{keyword-kept}
+use Rattle.st_card.proofs.Requests.{then-is, then-unlisted}
+use Rattle.st_object.specs.Draft.{Draft, IsDraft, may_hold, draft_with_value, with_item}
 use Rattle.st_object.specs.declared.items.Item.{Item}
-use Rattle.st_card.specs.declared.written.Control.TheVariants.{Budget, Delay, Signal, Dump, Trace, Time, Chart, Snap, Back}
 use Rattle.st_object.specs.declared.items.Item.TheVariants.{Object, Start, Word, Fin, Ask}
 use Rattle.st_object.proofs.LineMeanings.{IsNarrow}
 
@@ -44,21 +44,15 @@ kept_word d w x draft fits small =
       unlisted = draft.unlisted;
     }
 
--- only the keyword of the listing requests a listing
-unlisted : (keyword : Keyword) (old new : Asked) (numbers : List ℕ) → (keyword ≡ keywords.Listing → ⊥) →
-    with_keyword keyword old numbers ≡ Some new → old.list ≡ new.list
-unlisted keyword old new numbers other same = grind arith
-
 -- a request within its limits preserves the invariants
-kept_asked : (d e : Draft) (place : Bool) (keyword : Keyword) (numbers : List ℕ) → (if place then draft_with_order d keyword numbers else None) ≡ Some e →
-    (keyword ≡ keywords.Listing → ⊥) →
-    ((new : Asked) → with_keyword keyword d.asked numbers ≡ Some new → IsWithinLimits d.asked → IsWithinLimits new) → IsDraft d → IsDraft e
-kept_asked d e place keyword numbers same other limits draft =
+kept_asked : (d e : Draft) (place : Bool) (c : Control) → (if place then option_map (λ a. record d { asked = a }) (with_control d.asked c) else None) ≡ Some e →
+    AllPass is_tick (numbers_of c) → IsDraft d → IsDraft e
+kept_asked d e place c same narrow draft =
     let found : (o : Option Asked) → (if place then option_map (λ a. record d { asked = a }) o else None) ≡ Some e →
     (a : Asked) × ((o ≡ Some a) × (record d { asked = a } ≡ e)) = λ o is. grind arith in
-    let new = found (with_keyword keyword d.asked numbers) same in
-    let within = limits new.0 new.1.0 draft.limits in
-    let none : new.0.list ≡ false = cc (unlisted keyword d.asked new.0 numbers other new.1.0) in
+    let new = found (with_control d.asked c) same in
+    let within = keyword-kept (keyword_of c) d.asked new.0 (numbers_of c) narrow new.1.0 draft.limits in
+    let none : new.0.list ≡ false = ap (λ a. a.list) (sym (then-is d.asked new.0 c new.1.0)) ∙ then-unlisted d.asked c ∙ draft.unlisted in
     let here : IsDraft (record d { asked = new.0 }) = assumption in rw new.1.1 at here
 
 -- an item that is accepted passes its test
@@ -75,17 +69,5 @@ kept d e (Start h) same narrow draft = by_value d e (record d { start = Some h }
 kept d e (Word w x) same narrow draft =
     by_value d e (record d { words = d.words ++ replicate (w - length d.words) 0 ++ x ∷ [] }) _ (may_hold (length d.words) w x) same
     (λ placed fits. kept_word d w x draft fits narrow)
-kept d e (Ask (Budget n)) same narrow draft = kept_asked d e _ keywords.Budget (n ∷ []) same (λ no. cc) (λ a. budget-kept d.asked a (n ∷ [])) draft
-kept d e (Ask (Delay n)) same narrow draft = kept_asked d e _ keywords.Delays (n ∷ []) same (λ no. cc) (λ a. delays-kept d.asked a (n ∷ [])) draft
-kept d e (Ask (Signal c i)) same narrow draft =
-    kept_asked d e _ keywords.Signals (c ∷ i ∷ []) same (λ no. cc) (λ a. signal-kept d.asked a (c ∷ i ∷ [])) draft
-kept d e (Ask (Dump f t)) same narrow draft = kept_asked d e _ keywords.Dump (f ∷ t ∷ []) same (λ no. cc) (λ a. dump-kept d.asked a (f ∷ t ∷ [])) draft
-kept d e (Ask Trace) same narrow draft = kept_asked d e _ keywords.Trace [] same (λ no. cc) (λ a. trace-kept d.asked a []) draft
-kept d e (Ask Time) same narrow draft = kept_asked d e _ keywords.Time [] same (λ no. cc) (λ a. time-kept d.asked a []) draft
-kept d e (Ask Chart) same narrow draft = kept_asked d e _ keywords.Chart [] same (λ no. cc) (λ a. chart-kept d.asked a []) draft
-kept d e (Ask (Snap t)) same narrow draft =
-    let tick : is_tick t ≡ true = grind (arith, nat_tests) in
-    let short = AllPass-from_list_all is_tick (t ∷ []) (both_true (is_tick t) true tick refl) in
-    kept_asked d e _ keywords.Snap (t ∷ []) same (λ no. cc) (λ a. snap-kept d.asked a (t ∷ []) short) draft
-kept d e (Ask (Back k)) same narrow draft = kept_asked d e _ keywords.Back (k ∷ []) same (λ no. cc) (λ a. back-kept d.asked a (k ∷ [])) draft
+kept d e (Ask c) same narrow draft = kept_asked d e _ c same narrow draft
 kept d e Fin same narrow draft = by_value d e (record d { ended = true }) _ true same (λ placed test. assumption)

@@ -5,21 +5,36 @@ use Rattle.std.proofs.lemmas.List.Concat.{flat_map-append}
 use Rattle.std.proofs.lemmas.Bool.Decides.{nat_tests}
 use Rattle.std.proofs.lemmas.Grind.{common_steps}
 use Rattle.std.specs.List.{flat_map}
+use Rattle.std.specs.Option.{option_map}
+use Rattle.st_card.specs.Keywords.{keyword_of}
+use Rattle.st_card.specs.Controls.{Asked, with_control}
+use Rattle.st_card.specs.Written.{asked_by}
+use Rattle.st_card.specs.declared.keywords.Control.{Control}
+use Rattle.st_card.proofs.Requests.{asked_then, then-is, then-last}
 use Rattle.st_object.specs.Lines.{word_lines}
 use Rattle.st_object.specs.Order.{order, row_of_kind, kinds_before, kinds_behind, kind_of_line, are_met, none_stands}
 use Rattle.st_object.specs.Draft.{Draft, is_empty, kind_lines, lines_read, has_line, has_place, draft_with_value, with_item}
 use Rattle.st_object.specs.declared.items.Item.{Item}
-use Rattle.st_card.specs.declared.written.Control.TheVariants.{Budget, Delay, Signal, Dump, Trace, Time, Chart, Snap, Back}
 use Rattle.st_object.specs.declared.items.Item.TheVariants.{Object, Start, Word, Fin, Ask}
 use Rattle.st_object.specs.declared.items.Kind.{Kind}
+use Rattle.st_object.specs.declared.items.Kind.TheVariants as kinds
 
 -- a list of length zero is empty
 none_of : {X : Type 0} (xs : List X) → (length xs == 0) ≡ true → xs ≡ []
 none_of [] none = refl
 none_of (x ∷ xs) none = grind (arith, nat_tests)
 
+twice_not : (b : Bool) → not (not b) ≡ true → b ≡ true
+twice_not true off = refl
+twice_not false off = cc
+
 no_lines : (d : Draft) (kind : Kind) → not (has_line d kind) ≡ true → kind_lines d kind ≡ []
-no_lines d kind off = grind (arith, nat_tests, none_of)
+no_lines d (kinds.Ask keyword) off =
+    ap (λ cs. map (λ c. Ask c) cs) (none_of (asked_by keyword d.asked) (twice_not _ off))
+no_lines d kinds.Object off = grind arith
+no_lines d kinds.Start off = grind arith
+no_lines d kinds.Word off = grind (arith, nat_tests, none_of)
+no_lines d kinds.Fin off = grind arith
 
 pub no_lines_of : (d : Draft) (kinds : List Kind) → none_stands (has_line d) kinds ≡ true → flat_map (λ kind. kind_lines d kind) kinds ≡ []
 no_lines_of d [] off = refl
@@ -92,32 +107,51 @@ abbrev said : Draft → Item → Draft
 said d Object = record d { begun = true }
 said d (Start h) = record d { start = Some h }
 said d (Word w x) = record d { words = d.words ++ replicate (w - length d.words) 0 ++ x ∷ [] }
-said d (Ask (Budget n)) = record d { asked = record d.asked { budget = n } }
-said d (Ask (Delay n)) = record d { asked = record d.asked { delays = d.asked.delays ++ n ∷ [] } }
-said d (Ask (Signal c i)) = record d { asked = record d.asked { signals = d.asked.signals ++ record { count = c; indicator = i } ∷ [] } }
-said d (Ask (Dump f t)) = record d { asked = record d.asked { dumps = d.asked.dumps ++ (f, t) ∷ [] } }
-said d (Ask Trace) = record d { asked = record d.asked { trace = true } }
-said d (Ask Time) = record d { asked = record d.asked { time = true } }
-said d (Ask Chart) = record d { asked = record d.asked { chart = true } }
-said d (Ask (Snap t)) = record d { asked = record d.asked { snaps = d.asked.snaps ++ t ∷ [] } }
-said d (Ask (Back k)) = record d { asked = record d.asked { back = k } }
+said d (Ask c) = record d { asked = asked_then d.asked c }
 said d Fin = record d { ended = true }
 
 -- an item that is accepted gives that draft
 value_said : (d e : Draft) (item : Item) → draft_with_value d item ≡ Some e → said d item ≡ e
 unfolding draft_with_value
-value_said d e item same = grind arith
+value_said d e (Ask c) same =
+    let mapped : (o : Option Asked) → option_map (λ a. record d { asked = a }) o ≡ Some e → (a : Asked) × ((o ≡ Some a) × (record d { asked = a } ≡ e)) =
+    λ o is. grind arith in
+    let new = mapped (with_control d.asked c) same in
+    ap (λ (a : Asked). record d { asked = a }) (then-is d.asked new.0 c new.1.0) ∙ new.1.1
+value_said d e Object same = grind arith
+value_said d e (Start h) same = grind arith
+value_said d e (Word w x) same = grind arith
+value_said d e Fin same = grind arith
 
 -- an item changes only the lines of its kind, and becomes the last of them
 beside_said : (d : Draft) (item : Item) → beside (said d item) (kind_of_line item) ≡ beside d (kind_of_line item)
 beside_said d item = grind arith
+
+-- a request leaves a place for others with its keyword
+pub place_kept : (d : Draft) (c : Control) (next : Asked) → with_control d.asked c ≡ Some next →
+    has_place d (kinds.Ask (keyword_of c)) ≡ true → has_place (record d { asked = next }) (kinds.Ask (keyword_of c)) ≡ true
+unfolding has_place
+place_kept d c next added placed =
+    let beside_next : beside (record d { asked = next }) (kinds.Ask (keyword_of c)) ≡ beside d (kinds.Ask (keyword_of c)) =
+    ap (λ (a : Asked). beside (record d { asked = a }) (kinds.Ask (keyword_of c))) (sym (then-is d.asked next c added)) ∙ beside_said d (Ask c) in
+    ap (λ t. t.1.0 && true && t.1.1) beside_next ∙ placed
 
 abbrev IsLast : Draft → Item → Type 0
 IsLast d item = (Grows (kind_lines d (kind_of_line item)) (kind_lines (said d item) (kind_of_line item)) item) × (has_line (said d item) (kind_of_line item) ≡ true)
 
 said_last : (d e : Draft) (item : Item) → draft_with_value d item ≡ Some e → ((row_of_kind (kind_of_line item)).repeats ≡ false → kind_lines d (kind_of_line item) ≡ []) → IsLast d item
 unfolding draft_with_value
-said_last d e item same first = grind (arith, nat_tests, word_more, filled_more, mapped_more)
+said_last d e (Ask c) same first =
+    let mapped : (o : Option Asked) → option_map (λ a. record d { asked = a }) o ≡ Some e → (a : Asked) × (o ≡ Some a) = λ o is. grind arith in
+    let new = mapped (with_control d.asked c) same in
+    let last = then-last d.asked new.0 c new.1 in (
+      ap (λ cs. map (λ c. Ask c) cs) last ∙ mapped_more (λ c. Ask c) (asked_by (keyword_of c) d.asked) c,
+      ap (λ cs. not (is_empty cs)) last ∙ filled_more (asked_by (keyword_of c) d.asked) c,
+    )
+said_last d e Object same first = grind arith
+said_last d e (Start h) same first = grind (arith, nat_tests)
+said_last d e (Word w x) same first = grind (arith, nat_tests, word_more, filled_more)
+said_last d e Fin same first = grind arith
 
 -- each accepted line changes the draft in this way
 pub added : (d e : Draft) (item : Item) → with_item d item ≡ Some e → IsPut (kind_of_line item) d item e

@@ -1,18 +1,29 @@
 -- Object texts that differ only in their delay lines contain programs that differ only in their
 -- delays.
-use Rattle.std.proofs.Common.{◌≡◌, ◌≤◌, ◌+◌, ◌==◌, ℕ, Bool, true, false, not, if◌then◌else◌, List, [], ◌∷◌, ◌++◌, map, filter, Ok, refl, sym, ◌∙◌, ap, append_assoc, append-nil, arith}
+use Rattle.std.proofs.Common.{◌≡◌, ◌≤◌, ◌+◌, ◌==◌, ℕ, Bool, true, false, not, List, [], ◌∷◌, ◌++◌, drop, map, filter, Ok, refl, sym, subst, ◌∙◌, ap, append_assoc, append-nil, arith}
 use Rattle.std.proofs.lemmas.Bool.{cond_both}
 use Rattle.std.proofs.lemmas.Bool.Decides.{nat_tests}
 use Rattle.std.proofs.lemmas.List.{map-append}
 use Rattle.std.proofs.lemmas.List.Elements.{filter-append}
 use Rattle.st_text.specs.Bytes.{line_end}
 use Rattle.st_text.specs.Pieces.{pieces_of}
-use Rattle.st_card.specs.Written.{control_line, where_asked, unless_zero, shows}
+use Rattle.std.specs.List.{All, flat_map, list_all}
+use Rattle.std.proofs.lemmas.Bool.{and_parts as both}
+use Rattle.std.proofs.lemmas.List.Elements.{All-head, All-tail}
+use Rattle.st_card.specs.Keywords.{keyword_order, keyword_of}
+use Rattle.st_card.specs.Controls.{Asked}
+use Rattle.st_card.specs.Written.{control_line, asked_by}
+use Rattle.st_card.specs.declared.keywords.Number.TheVariants.{Budget, Delays}
+use Rattle.st_card.specs.declared.keywords.Keyword.{Keyword}
+use Rattle.st_card.specs.declared.keywords.Keyword.TheVariants as keywords
+use Rattle.st_card.specs.declared.keywords.Control.{Control}
+use Rattle.st_card.specs.declared.keywords.Control.TheVariants.{Number}
+use Rattle.st_card.proofs.LimitLemmas.{others-within}
+use Rattle.st_card.proofs.Requests.{asked-keyword}
 use Rattle.st_object.specs.Lines.{line_text, word_lines}
 use Rattle.st_object.specs.Draft.{draft_at_start}
 use Rattle.st_object.specs.Object.{Program, IsProgram, AreWords, object_lines, object_text, read_from, read_text}
 use Rattle.st_object.specs.declared.items.Item.{Item}
-use Rattle.st_card.specs.declared.written.Control.TheVariants.{Budget, Delay, Signal, Dump, Trace, Time, Chart, Snap, Back}
 use Rattle.st_object.specs.declared.items.Item.TheVariants.{Object, Start, Word, Fin, Ask}
 use Rattle.st_object.proofs.AcceptedTexts.{accepted}
 use Rattle.st_object.proofs.ProgramLines.{made_again}
@@ -47,21 +58,40 @@ stay-words w [] = refl
 stay-words w (x ∷ xs) =
     cond_both (x == 0) _ _ Stay (λ none. stay-words (w + 1) xs) (λ some. ap (λ l. line_text (Word w x) ∷ l) (stay-words (w + 1) xs))
 
--- no line for an item of a list is a delay line
-stay-each : {X : Type 0} (line : X → Item) → ((x : X) → is_delay_line (line_text (line x)) ≡ false) → (xs : List X) → Stay (map line xs)
-stay-each line other [] = refl
-stay-each line other (x ∷ xs) = rw (other x) (ap (λ l. line_text (line x) ∷ l) (stay-each line other xs))
+-- whether a keyword is another one than that of the delays
+abbrev is_other : Keyword → Bool
+is_other (keywords.Number Delays) = false
+is_other _ = true
 
--- an optional line is not a delay line
-stay-if : (b : Bool) (item : Item) → is_delay_line (line_text item) ≡ false → Stay (if b then item ∷ [] else [])
-stay-if true item other = rw other refl
-stay-if false item other = refl
+not-delay : (c : Control) → is_other (keyword_of c) ≡ true → is_delay_line (line_text (Ask c)) ≡ false
+unfolding line_text control_line is_delay_line
+not-delay c other = grind arith
 
-stay-unless : (b : Bool) (item : Item) → is_delay_line (line_text item) ≡ false → Stay (if b then [] else item ∷ [])
-stay-unless true item other = refl
-stay-unless false item other = rw other refl
+stay-asks : (keyword : Keyword) → is_other keyword ≡ true → (cs : List Control) → All (λ c. keyword_of c ≡ keyword) cs → Stay (map (λ c. Ask c) cs)
+stay-asks keyword other [] same = refl
+stay-asks keyword other (c ∷ cs) same =
+    let here : keyword_of c ≡ keyword = All-head (λ c. keyword_of c ≡ keyword) c cs same in
+    rw (not-delay c (rw here other))
+    (ap (λ l. line_text (Ask c) ∷ l) (stay-asks keyword other cs (All-tail (λ c. keyword_of c ≡ keyword) c cs same)))
 
-none-stays : (delays : List ℕ) → others (lines_of (map (λ n. Ask (Delay n)) delays)) ≡ []
+fin-stays : Stay (Fin ∷ [])
+unfolding line_text is_delay_line
+fin-stays = refl
+
+-- the lines of requests other than delays are kept
+stay-keywords : (a : Asked) (keywords : List Keyword) → list_all is_other keywords ≡ true → Stay (map (λ c. Ask c) (flat_map (λ k. asked_by k a) keywords))
+stay-keywords a [] other = refl
+stay-keywords a (k ∷ more) other =
+    let tests = both (is_other k) (list_all is_other more) other in
+    subst (λ (items : List Item). Stay items) (sym (map-append (λ c. Ask c) (asked_by k a) (flat_map (λ j. asked_by j a) more)))
+    (stay-both (map (λ c. Ask c) (asked_by k a)) (map (λ c. Ask c) (flat_map (λ j. asked_by j a) more))
+    (stay-asks k tests.0 (asked_by k a) (asked-keyword k a)) (stay-keywords a more tests.1))
+
+-- the lines of delays
+abbrev delay_lines : List ℕ → List Item
+delay_lines delays = map (λ c. Ask c) (map (λ n. Number Delays n) delays)
+
+none-stays : (delays : List ℕ) → others (lines_of (delay_lines delays)) ≡ []
 unfolding line_text control_line is_delay_line
 none-stays [] = refl
 none-stays (d ∷ delays) = none-stays delays
@@ -72,22 +102,28 @@ none-stays (d ∷ delays) = none-stays delays
 abbrev head : Program → List Item
 head p = Object ∷ Start p.start ∷ [] ++ word_lines 0 p.words
 
+-- the line of the budget
+abbrev budget_lines : Program → List Item
+budget_lines p = map (λ c. Ask c) (asked_by (keywords.Number Budget) p.controls)
+
 -- the lines of a program after the delays
 abbrev rest : Program → List Item
-rest p = map (λ s. Ask (Signal s.count s.indicator)) p.controls.signals
-    ++ (map (λ q. Ask (Dump q.0 q.1)) p.controls.dumps ++ (shows Ask p.controls ++ Fin ∷ []))
+rest p = map (λ c. Ask c) (flat_map (λ k. asked_by k p.controls) (drop 2 keyword_order)) ++ Fin ∷ []
 
 -- the pieces of a program's object text between its line ends
 abbrev pieces : Program → List (List ℕ)
 pieces p = lines_of (object_lines p) ++ [] ∷ []
 
-regrouped : (w b d g m s f : List Item) → w ++ ((b ++ d ++ g ++ m) ++ s) ++ f ≡ w ++ (b ++ (d ++ (g ++ (m ++ (s ++ f)))))
-regrouped w b d g m s f = simp append_assoc refl
-
-in-parts : (p : Program) → object_lines p
-    ≡ head p ++ (unless_zero p.controls.budget (Ask (Budget p.controls.budget)) ++ (map (λ n. Ask (Delay n)) p.controls.delays ++ rest p))
-in-parts p = regrouped (head p) (unless_zero p.controls.budget (Ask (Budget p.controls.budget))) (map (λ n. Ask (Delay n)) p.controls.delays)
-    (map (λ s. Ask (Signal s.count s.indicator)) p.controls.signals) (map (λ q. Ask (Dump q.0 q.1)) p.controls.dumps) (shows Ask p.controls) (Fin ∷ [])
+in-parts : (p : Program) → object_lines p ≡ head p ++ (budget_lines p ++ (delay_lines p.controls.delays ++ rest p))
+in-parts p =
+    let budget = asked_by (keywords.Number Budget) p.controls in
+    let delays = asked_by (keywords.Number Delays) p.controls in
+    let more = flat_map (λ k. asked_by k p.controls) (drop 2 keyword_order) in
+    let ask : List Control → List Item = λ cs. map (λ c. Ask c) cs in
+    let split : ask (budget ++ (delays ++ more)) ≡ ask budget ++ (ask delays ++ ask more) =
+    map-append (λ c. Ask c) budget (delays ++ more) ∙ ap (λ (l : List Item). ask budget ++ l) (map-append (λ c. Ask c) delays more) in
+    let regrouped : (w b d m f : List Item) → w ++ (b ++ (d ++ m)) ++ f ≡ w ++ (b ++ (d ++ (m ++ f))) = λ w b d m f. simp append_assoc refl in
+    ap (λ (l : List Item). head p ++ l ++ Fin ∷ []) split ∙ regrouped (head p) (ask budget) (ask delays) (ask more) (Fin ∷ [])
 
 -- the lines of four consecutive parts, with an end
 four-parts : (w b d r : List Item) (end : List (List ℕ)) → lines_of (w ++ (b ++ (d ++ r))) ++ end
@@ -96,11 +132,11 @@ four-parts w b d r end =
     rw (map-append line_text w (b ++ (d ++ r)), map-append line_text b (d ++ r), map-append line_text d r) (simp append_assoc refl)
 
 pieces-parts : (p : Program) → pieces p
-    ≡ lines_of (head p) ++ (lines_of (unless_zero p.controls.budget (Ask (Budget p.controls.budget)))
-    ++ (lines_of (map (λ n. Ask (Delay n)) p.controls.delays) ++ (lines_of (rest p) ++ [] ∷ [])))
+    ≡ lines_of (head p) ++ (lines_of (budget_lines p)
+    ++ (lines_of (delay_lines p.controls.delays) ++ (lines_of (rest p) ++ [] ∷ [])))
 pieces-parts p =
     ap (λ items. lines_of items ++ [] ∷ []) (in-parts p)
-    ∙ four-parts (head p) (unless_zero p.controls.budget (Ask (Budget p.controls.budget))) (map (λ n. Ask (Delay n)) p.controls.delays) (rest p) ([] ∷ [])
+    ∙ four-parts (head p) (budget_lines p) (delay_lines p.controls.delays) (rest p) ([] ∷ [])
 
 -- ---- without delays
 
@@ -108,31 +144,13 @@ stay-head : (p : Program) → Stay (head p)
 unfolding line_text control_line is_delay_line
 stay-head p = ap (λ l. line_text Object ∷ line_text (Start p.start) ∷ l) (stay-words 0 p.words)
 
-stay-budget : (p : Program) → Stay (unless_zero p.controls.budget (Ask (Budget p.controls.budget)))
-unfolding line_text control_line is_delay_line
-stay-budget p = stay-unless (p.controls.budget == 0) (Ask (Budget p.controls.budget)) refl
-
-stay-show : (p : Program) → Stay (shows Ask p.controls)
-unfolding line_text control_line is_delay_line
-stay-show p =
-    let c = p.controls in
-    let trace = stay-if c.trace (Ask Trace) refl in
-    let time = stay-both (where_asked c.trace (Ask Trace)) (where_asked c.time (Ask Time)) trace (stay-if c.time (Ask Time) refl) in
-    let chart = stay-both (where_asked c.trace (Ask Trace) ++ where_asked c.time (Ask Time)) (where_asked c.chart (Ask Chart)) time (stay-if c.chart (Ask Chart) refl) in
-    let snaps = stay-both (where_asked c.trace (Ask Trace) ++ where_asked c.time (Ask Time) ++ where_asked c.chart (Ask Chart)) (map (λ t. Ask (Snap t)) c.snaps) chart
-    (stay-each (λ t. Ask (Snap t)) (λ t. refl) c.snaps) in
-    stay-both (where_asked c.trace (Ask Trace) ++ where_asked c.time (Ask Time) ++ where_asked c.chart (Ask Chart) ++ map (λ t. Ask (Snap t)) c.snaps) (unless_zero c.back (Ask (Back c.back))) snaps
-    (stay-unless (c.back == 0) (Ask (Back c.back)) refl)
+stay-budget : (p : Program) → Stay (budget_lines p)
+stay-budget p = stay-asks (keywords.Number Budget) refl (asked_by (keywords.Number Budget) p.controls) (asked-keyword (keywords.Number Budget) p.controls)
 
 stay-rest : (p : Program) → Stay (rest p)
-unfolding line_text control_line is_delay_line
 stay-rest p =
-    let signals = map (λ s. Ask (Signal s.count s.indicator)) p.controls.signals in
-    let dumps = map (λ q. Ask (Dump q.0 q.1)) p.controls.dumps in
-    let shown = shows Ask p.controls ++ Fin ∷ [] in
-    stay-both signals (dumps ++ shown) (stay-each (λ s. Ask (Signal s.count s.indicator)) (λ s. refl) p.controls.signals)
-    (stay-both dumps shown (stay-each (λ (q : ℕ × ℕ). Ask (Dump q.0 q.1)) (λ q. refl) p.controls.dumps)
-    (stay-both (shows Ask p.controls) (Fin ∷ []) (stay-show p) refl))
+    stay-both (map (λ c. Ask c) (flat_map (λ k. asked_by k p.controls) (drop 2 keyword_order))) (Fin ∷ [])
+    (stay-keywords p.controls (drop 2 keyword_order) refl) fin-stays
 
 -- four parts without delay lines, one of which is dropped
 three-left : (w b d r end : List (List ℕ)) → others w ≡ w → others b ≡ b → others d ≡ [] → others r ≡ r → others end ≡ end
@@ -149,19 +167,19 @@ unfolding is_delay_line
 empty-stays = refl
 
 others-parts : (p : Program) → others (pieces p)
-    ≡ lines_of (head p) ++ (lines_of (unless_zero p.controls.budget (Ask (Budget p.controls.budget))) ++ (lines_of (rest p) ++ [] ∷ []))
+    ≡ lines_of (head p) ++ (lines_of (budget_lines p) ++ (lines_of (rest p) ++ [] ∷ []))
 others-parts p =
     ap others (pieces-parts p)
-    ∙ three-left (lines_of (head p)) (lines_of (unless_zero p.controls.budget (Ask (Budget p.controls.budget)))) (lines_of (map (λ n. Ask (Delay n)) p.controls.delays))
+    ∙ three-left (lines_of (head p)) (lines_of (budget_lines p)) (lines_of (delay_lines p.controls.delays))
     (lines_of (rest p)) ([] ∷ []) (stay-head p) (stay-budget p) (none-stays p.controls.delays) (stay-rest p) empty-stays
 
 -- the lines of a program without delay lines
 others-lines : (p : Program) → others (lines_of (object_lines p))
-    ≡ lines_of (head p) ++ (lines_of (unless_zero p.controls.budget (Ask (Budget p.controls.budget))) ++ (lines_of (rest p) ++ []))
+    ≡ lines_of (head p) ++ (lines_of (budget_lines p) ++ (lines_of (rest p) ++ []))
 others-lines p =
     ap others (sym (append-nil (lines_of (object_lines p))) ∙ ap (λ items. lines_of items ++ []) (in-parts p)
-    ∙ four-parts (head p) (unless_zero p.controls.budget (Ask (Budget p.controls.budget))) (map (λ n. Ask (Delay n)) p.controls.delays) (rest p) [])
-    ∙ three-left (lines_of (head p)) (lines_of (unless_zero p.controls.budget (Ask (Budget p.controls.budget)))) (lines_of (map (λ n. Ask (Delay n)) p.controls.delays))
+    ∙ four-parts (head p) (budget_lines p) (delay_lines p.controls.delays) (rest p) [])
+    ∙ three-left (lines_of (head p)) (lines_of (budget_lines p)) (lines_of (delay_lines p.controls.delays))
     (lines_of (rest p)) [] (stay-head p) (stay-budget p) (none-stays p.controls.delays) (stay-rest p) refl
 
 -- the lines of a program without delay lines do not depend on its delays
@@ -186,28 +204,28 @@ passes-head : (delays : List ℕ) (p : Program) (more : List (List ℕ))
 unfolding line_text control_line is_budget_line
 passes-head delays p more = ap (λ l. line_text Object ∷ line_text (Start p.start) ∷ l) (passes-words delays 0 p.words more)
 
-spelled-each : (delays : List ℕ) → map (λ d. line_text (Ask (Delay d))) delays ≡ lines_of (map (λ n. Ask (Delay n)) delays)
+spelled-each : (delays : List ℕ) → map (λ d. line_text (Ask (Number Delays d))) delays ≡ lines_of (delay_lines delays)
 spelled-each [] = refl
-spelled-each (d ∷ delays) = ap (λ l. line_text (Ask (Delay d)) ∷ l) (spelled-each delays)
+spelled-each (d ∷ delays) = ap (λ l. line_text (Ask (Number Delays d)) ∷ l) (spelled-each delays)
 
-one-budget : (n : ℕ) → 1 ≤ n → unless_zero n (Ask (Budget n)) ≡ Ask (Budget n) ∷ []
-one-budget n some = let is : (n == 0) ≡ false = grind (arith, nat_tests) in rw is refl
+one-budget : (p : Program) → 1 ≤ p.controls.budget → budget_lines p ≡ Ask (Number Budget p.controls.budget) ∷ []
+one-budget p some = let is : (p.controls.budget == 0) ≡ false = grind (arith, nat_tests) in rw is refl
 
 -- the delay lines are inserted after the budget line
-comes : (delays : List ℕ) (n : ℕ) (more : List (List ℕ)) → 1 ≤ n → with_delay_lines delays (lines_of (unless_zero n (Ask (Budget n))) ++ more)
-    ≡ lines_of (unless_zero n (Ask (Budget n))) ++ (lines_of (map (λ d. Ask (Delay d)) delays) ++ more)
+comes : (delays : List ℕ) (p : Program) (more : List (List ℕ)) → 1 ≤ p.controls.budget →
+    with_delay_lines delays (lines_of (budget_lines p) ++ more) ≡ lines_of (budget_lines p) ++ (lines_of (delay_lines delays) ++ more)
 unfolding line_text control_line is_budget_line
-comes delays n more some =
-    ap (λ items. with_delay_lines delays (lines_of items ++ more)) (one-budget n some)
-    ∙ ap (λ l. line_text (Ask (Budget n)) ∷ (l ++ more)) (spelled-each delays)
-    ∙ sym (ap (λ items. lines_of items ++ (lines_of (map (λ d. Ask (Delay d)) delays) ++ more)) (one-budget n some))
+comes delays p more some =
+    ap (λ items. with_delay_lines delays (lines_of items ++ more)) (one-budget p some)
+    ∙ ap (λ l. line_text (Ask (Number Budget p.controls.budget)) ∷ (l ++ more)) (spelled-each delays)
+    ∙ sym (ap (λ items. lines_of items ++ (lines_of (delay_lines delays) ++ more)) (one-budget p some))
 
 exchanged : (p : Program) (delays : List ℕ) → 1 ≤ p.controls.budget → with_delay_lines delays (others (pieces p)) ≡ pieces (with_delays p delays)
 exchanged p delays some =
     let end = lines_of (rest p) ++ [] ∷ [] in
     ap (with_delay_lines delays) (others-parts p)
-    ∙ passes-head delays p (lines_of (unless_zero p.controls.budget (Ask (Budget p.controls.budget))) ++ end)
-    ∙ ap (λ l. lines_of (head p) ++ l) (comes delays p.controls.budget end some)
+    ∙ passes-head delays p (lines_of (budget_lines p) ++ end)
+    ∙ ap (λ l. lines_of (head p) ++ l) (comes delays p end some)
     ∙ sym (pieces-parts (with_delays p delays))
 
 -- ---- texts
@@ -243,14 +261,7 @@ again-read text other delays p read same good =
     let program : IsProgram (with_delays p delays) = record {
       image = is.program.image;
       start = is.program.start;
-      limits = record {
-        budget = is.program.limits.budget;
-        delays = good.limits;
-        signals = is.program.limits.signals;
-        dumps = is.program.limits.dumps;
-        snaps = is.program.limits.snaps;
-        back = is.program.limits.back;
-      };
+      limits = others-within p.controls p.controls.budget delays is.program.limits is.program.limits.budget good.limits;
       budget = is.program.budget;
       delays = good.some;
       unlisted = is.program.unlisted;

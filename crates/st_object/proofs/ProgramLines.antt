@@ -1,27 +1,28 @@
 -- The lines of a program, added one by one, make that program.
-use Rattle.std.proofs.Common.{◌≡◌, ◌≤◌, ◌<◌, ◌+◌, ◌-◌, ◌^◌, ◌==◌, ◌&&◌, ℕ, suc, Bool, true, false, nat_lt, List, [], ◌∷◌, ◌++◌, length, get_or, map, replicate, Some, None, if◌then◌else◌, refl, ap, sym, subst, ◌∙◌, append_assoc, append-nil, length-append, arith}
+use Rattle.std.proofs.Common.{◌≡◌, ◌≤◌, ◌<◌, ◌+◌, ◌-◌, ◌^◌, ◌==◌, ℕ, suc, Bool, true, false, List, [], ◌∷◌, ◌++◌, length, get_or, map, replicate, Some, refl, ap, sym, subst, ◌∙◌, append_assoc, append-nil, length-append, arith}
 use Rattle.std.proofs.lemmas.Bool.{cond_both, eqb-true as same_number, lt-ltb as below}
-use Rattle.std.specs.List.{All, flat_map}
+use Rattle.std.specs.List.{All}
 use Rattle.std.proofs.lemmas.Bool.Decides.{nat_tests}
 use Rattle.std.proofs.lemmas.Grind.{common_steps}
-use Rattle.std.proofs.lemmas.List.{length-replicate, replicate_more}
+use Rattle.std.proofs.lemmas.List.{length-map, length-replicate, map-append, replicate_more}
 use Rattle.st_bits.specs.Storage.{words_of_storage, words_of_storage_is}
-use Rattle.st_card.specs.Controls.{Asked, nothing_asked}
-use Rattle.st_card.specs.Limits.{AreDelays, AreSignals, AreDumps, AreSnaps}
-use Rattle.st_card.specs.declared.control_cards.Signal.{Signal as GivenSignal}
-use Rattle.st_card.proofs.OrderLemmas.{budget-asked, delay-asked, signal-asked, dump-asked, snap-asked, back-asked, delay-short, signal-short, dump-short, snap-short}
-use Rattle.st_card.specs.Written.{where_asked}
+use Rattle.st_card.specs.Keywords.{place, keyword_of}
+use Rattle.st_card.specs.Controls.{Asked, nothing_asked, with_control}
+use Rattle.st_card.specs.Written.{asked_by, requests}
+use Rattle.st_card.specs.declared.keywords.Number.TheVariants.{Delays}
+use Rattle.st_card.specs.declared.keywords.Keyword.{Keyword}
+use Rattle.st_card.specs.declared.keywords.Control.{Control}
+use Rattle.st_card.specs.declared.keywords.Control.TheVariants as asks
+use Rattle.st_card.proofs.Requests.{Steps, asked_before, steps-of, all-steps}
 use Rattle.st_object.specs.Lines.{word_lines}
-use Rattle.st_object.specs.Order.{order, row_of_kind}
-use Rattle.st_object.specs.Draft.{Draft, draft_at_start, is_empty, kind_lines, is_whole, has_place, may_hold, draft_with_value, with_item}
+use Rattle.st_object.specs.Draft.{Draft, draft_at_start, is_whole, has_place, may_hold, draft_with_value, with_item}
 use Rattle.st_object.specs.Meaning.{IsItem}
 use Rattle.st_object.specs.Object.{Program, IsProgram, AreWords, object_lines, filled_up, program_of}
 use Rattle.st_object.specs.declared.items.Item.{Item}
-use Rattle.st_card.specs.declared.written.Control.TheVariants.{Budget, Delay, Signal, Dump, Trace, Time, Chart, Snap, Back}
 use Rattle.st_object.specs.declared.items.Item.TheVariants.{Object, Start, Word, Fin, Ask}
-use Rattle.st_object.specs.declared.items.Kind.{Kind}
 use Rattle.st_object.specs.declared.items.Kind.TheVariants as kinds
-use Rattle.st_object.proofs.WrittenLines.{draft_of, whole_lines}
+use Rattle.st_object.proofs.FurtherLines.{place_kept}
+use Rattle.st_object.proofs.WrittenLines.{draft_of}
 
 -- a line that can be read and may come next
 abbrev IsStep : Draft → Item → Draft → Type 0
@@ -39,31 +40,12 @@ leads_on d e f (x ∷ xs) ys first second = (first.0, first.1, first.2, leads_on
 one : (d e : Draft) (item : Item) → IsStep d item e → Leads d (item ∷ []) e
 one d e item step = (e, step.0, step.1, refl)
 
--- the lines of a list's items lead from one draft to another
-leads_each : {X : Type 0} (at : List X → Draft) (line : X → Item) (Fits : List X → Type 0) →
-    ((done rest : List X) (x : X) → Fits (done ++ x ∷ rest) → IsStep (at done) (line x) (at (done ++ x ∷ []))) →
-    (done rest : List X) → Fits (done ++ rest) → Leads (at done) (map line rest) (at (done ++ rest))
-leads_each at line Fits step done [] fits = ap at (sym (append-nil done))
-leads_each at line Fits step done (x ∷ rest) fits =
-    let this = step done rest x fits in
-    let regrouped = append_assoc done (x ∷ []) rest in
-    (at (done ++ x ∷ []), this.0, this.1, rw regrouped at (leads_each at line Fits step (done ++ x ∷ []) rest (rw regrouped fits)))
-
--- an optional line leads from one draft to another
-leads_marked : (at : Bool → Draft) (item : Item) → IsStep (at false) item (at true) → (b : Bool) →
-    Leads (at false) (where_asked b item) (at b)
-leads_marked at item step false = refl
-leads_marked at item step true = one (at false) (at true) item step
-
 -- a draft before its last line
 abbrev open_draft : ℕ → List ℕ → Asked → Draft
 open_draft h ws a = record { begun = true; start = Some h; words = ws; asked = a; ended = false }
 
 some_is : (n : ℕ) → 1 ≤ n → (n == 0) ≡ false
 some_is n some = grind (arith, nat_tests)
-
-at_least : (n : ℕ) → (n == 0) ≡ false → 1 ≤ n
-at_least n some = grind (arith, nat_tests)
 
 -- the words that lines add, with zeros after them
 record Adds (h : ℕ) (ws whole : List ℕ) (items : List Item) : Type 0 where
@@ -104,95 +86,56 @@ filled_again : (last words : List ℕ) (count : ℕ) → last ++ replicate count
     filled_up last ≡ words
 filled_again last words count whole size = grind (arith, common_steps)
 
--- kinds that are consecutive in the order from a position on
-abbrev AreNext : ℕ → List Kind → Type 0
-AreNext i [] = Unit {0}
-AreNext i (kind ∷ more) = ((row_of_kind kind).place ≡ i) × AreNext (i + 1) more
+ask_added : (d : Draft) (c : Control) (next : Asked) → has_place d (kinds.Ask (keyword_of c)) ≡ true → with_control d.asked c ≡ Some next →
+    with_item d (Ask c) ≡ Some (record d { asked = next })
+unfolding draft_with_value
+ask_added d c next here added = rw (here, added)
 
--- the lines of a program, by kind
-module _ (p : Program) (ws : List ℕ) where
-  -- the requests in the lines of the kinds before a position
-  abbrev asked_before : ℕ → Asked
-  asked_before i = record {
-    budget = if nat_lt 3 i then p.controls.budget else 0;
-    delays = if nat_lt 4 i then p.controls.delays else [];
-    signals = if nat_lt 5 i then p.controls.signals else [];
-    dumps = if nat_lt 6 i then p.controls.dumps else [];
-    snaps = if nat_lt 10 i then p.controls.snaps else [];
-    list = false;
-    trace = nat_lt 7 i && p.controls.trace;
-    time = nat_lt 8 i && p.controls.time;
-    chart = nat_lt 9 i && p.controls.chart;
-    back = if nat_lt 11 i then p.controls.back else 0;
-  }
+-- requests that can be added one by one have lines that can be read one by one
+leads_asks : (keyword : Keyword) (d : Draft) (cs : List Control) (b : Asked) → has_place d (kinds.Ask keyword) ≡ true → Steps keyword d.asked cs b →
+    Leads d (map (λ c. Ask c) cs) (record d { asked = b })
+leads_asks keyword d [] b placed steps = ap (λ (a : Asked). record d { asked = a }) steps
+leads_asks keyword d (c ∷ cs) b placed steps =
+    let next : Draft = record d { asked = steps.0 } in
+    let here : has_place d (kinds.Ask (keyword_of c)) ≡ true = rw steps.2 placed in
+    let further : has_place next (kinds.Ask keyword) ≡ true = rw steps.2 at (place_kept d c steps.0 steps.1 here) in
+    (next, ask_added d c steps.0 here steps.1, steps.3, leads_asks keyword next cs b further steps.4)
 
-  abbrev draft_before : ℕ → Draft
-  draft_before i = record {
-    begun = nat_lt 0 i;
-    start = if nat_lt 1 i then Some p.start else None;
-    words = if nat_lt 2 i then ws else [];
-    asked = asked_before i;
-    ended = nat_lt 12 i;
-  }
+-- the requests of a program within its limits
+module _ (p : Program) (is : IsProgram p) (ws : List ℕ) where
+  budget : (p.controls.budget == 0) ≡ false
+  budget = some_is p.controls.budget is.budget
 
-  abbrev lines_at : Kind → List Item
-  lines_at kind = kind_lines (draft_of p) kind
+  delays : (length (map (λ n. asks.Number Delays n) p.controls.delays) == 0) ≡ false
+  delays = some_is (length (map (λ n. asks.Number Delays n) p.controls.delays)) (simp length-map (omega (arith, is.delays)))
 
-  module _ (is : IsProgram p) (words : Leads (draft_before 2) (word_lines 0 p.words) (draft_before 3)) where
-    budget : (p.controls.budget == 0) ≡ false
-    budget = some_is p.controls.budget is.budget
+  -- the lines of a keyword may come after those of the keywords before it
+  placed : (keyword : Keyword) → has_place (open_draft p.start ws (asked_before p.controls (place keyword))) (kinds.Ask keyword) ≡ true
+  unfolding has_place
+  placed keyword = grind (arith, budget, delays)
 
-    delays : is_empty p.controls.delays ≡ false
-    delays = some_is (length p.controls.delays) is.delays
+  leads_requests : Leads (open_draft p.start ws nothing_asked) (map (λ c. Ask c) (requests p.controls)) (open_draft p.start ws (record p.controls { list = false }))
+  leads_requests =
+      let R : Asked → List Control → Asked → Type 0 = λ b cs c. Leads (open_draft p.start ws b) (map (λ c. Ask c) cs) (open_draft p.start ws c) in
+      all-steps p.controls R (λ b. refl)
+      (λ b c d xs ys first second.
+      subst (λ (items : List Item). Leads (open_draft p.start ws b) items (open_draft p.start ws d)) (sym (map-append (λ c. Ask c) xs ys))
+      (leads_on (open_draft p.start ws b) (open_draft p.start ws c) (open_draft p.start ws d) (map (λ c. Ask c) xs) (map (λ c. Ask c) ys) first second))
+      (λ keyword.
+      leads_asks keyword (open_draft p.start ws (asked_before p.controls (place keyword))) (asked_by keyword p.controls) (asked_before p.controls (place keyword + 1))
+      (placed keyword) (steps-of p.controls is.limits keyword))
 
-    -- the lines of a kind lead from the requests of the kinds before it to the requests that
-    -- include its own
-    add_kind : (kind : Kind) → Leads (draft_before (row_of_kind kind).place) (lines_at kind) (draft_before ((row_of_kind kind).place + 1))
-    unfolding has_place draft_with_value
-    add_kind kinds.Object = one (draft_before 0) (draft_before 1) Object (refl, tt)
-    add_kind kinds.Start = one (draft_before 1) (draft_before 2) (Start p.start) (rw (below p.start (2 ^ 19) is.start), omega (arith, is.start))
-    add_kind kinds.Word = words
-    add_kind kinds.Budget =
-        let n : ℕ = p.controls.budget in
-        rw budget (one (draft_before 3) (draft_before 4) (Ask (Budget n))
-        (rw (budget-asked (asked_before 3) n refl is.budget is.limits.budget), omega (arith, is.limits.budget)))
-    add_kind kinds.Delay =
-        let asked = λ (done : List ℕ). record (asked_before 4) { delays = done } in
-        leads_each (λ done. record (draft_before 4) { asked = asked done }) (λ n. Ask (Delay n)) (λ xs. AreDelays xs)
-        (λ done rest n fits. (rw (budget, delay-asked (asked done) n rest fits), delay-short done rest n fits)) [] p.controls.delays is.limits.delays
-    add_kind kinds.Signal =
-        let asked = λ (done : List GivenSignal). record (asked_before 5) { signals = done } in
-        leads_each (λ done. record (draft_before 5) { asked = asked done }) (λ s. Ask (Signal s.count s.indicator)) (λ xs. AreSignals xs)
-        (λ done rest s fit. (rw (budget, delays, signal-asked (asked done) s rest fit), signal-short done rest s fit)) [] p.controls.signals is.limits.signals
-    add_kind kinds.Dump =
-        let asked = λ (done : List (ℕ × ℕ)). record (asked_before 6) { dumps = done } in
-        leads_each (λ done. record (draft_before 6) { asked = asked done }) (λ d. Ask (Dump d.0 d.1)) (λ xs. AreDumps xs)
-        (λ done rest d fits. (rw (budget, delays, dump-asked (asked done) d rest fits), dump-short done rest d fits)) [] p.controls.dumps is.limits.dumps
-    add_kind kinds.Trace =
-        leads_marked (λ b. record (draft_before 7) { asked = record (asked_before 7) { trace = b } }) (Ask Trace) (rw (budget, delays), tt) p.controls.trace
-    add_kind kinds.Time =
-        leads_marked (λ b. record (draft_before 8) { asked = record (asked_before 8) { time = b } }) (Ask Time) (rw (budget, delays), tt) p.controls.time
-    add_kind kinds.Chart =
-        leads_marked (λ b. record (draft_before 9) { asked = record (asked_before 9) { chart = b } }) (Ask Chart) (rw (budget, delays), tt) p.controls.chart
-    add_kind kinds.Snap =
-        let asked = λ (done : List ℕ). record (asked_before 10) { snaps = done } in
-        leads_each (λ done. record (draft_before 10) { asked = asked done }) (λ t. Ask (Snap t)) (λ xs. AreSnaps xs)
-        (λ done rest t fits. (rw (budget, delays, snap-asked (asked done) t rest fits), snap-short done rest t fits)) [] p.controls.snaps is.limits.snaps
-    add_kind kinds.Back =
-        let k : ℕ = p.controls.back in
-        cond_both (k == 0) [] (Ask (Back k) ∷ []) (λ items. Leads (draft_before 11) items (draft_before 12))
-        (λ none. ap (λ n. record (draft_before 11) { asked = record (asked_before 11) { back = n } }) (sym (same_number k 0 none)))
-        (λ some. one (draft_before 11) (draft_before 12) (Ask (Back k))
-        (rw (budget, delays, back-asked (asked_before 11) k refl (at_least k some) is.limits.back), omega (arith, is.limits.back)))
-    add_kind kinds.Fin = one (draft_before 12) (draft_before 13) Fin (rw (budget, delays), tt)
+  -- the last line
+  abbrev last_draft : Draft
+  last_draft = record (draft_of p) { words = ws; asked = record p.controls { list = false } }
 
-    -- the lines of consecutive kinds lead from one draft to another
-    add_kinds : (more : List Kind) (i : ℕ) → AreNext i more → Leads (draft_before i) (flat_map (λ k. lines_at k) more) (draft_before (i + length more))
-    add_kinds [] i next = let same : i ≡ i + 0 = omega arith in ap (λ j. draft_before j) same
-    add_kinds (kind ∷ more) i next =
-        let same : i + 1 + length more ≡ i + length (kind ∷ more) = omega arith in
-        leads_on (draft_before i) (draft_before (i + 1)) (draft_before (i + length (kind ∷ more))) (lines_at kind) (flat_map (λ k. lines_at k) more)
-        (rw next.0 at (add_kind kind)) (rw same at (add_kinds more (i + 1) next.1))
+  fin_added : with_item (open_draft p.start ws (record p.controls { list = false })) Fin ≡ Some last_draft
+  unfolding has_place draft_with_value
+  fin_added = rw (budget, delays)
+
+  fin_whole : is_whole last_draft ≡ true
+  unfolding is_whole
+  fin_whole = rw (budget, delays)
 
 -- the whole draft of a program, and the lines that lead to it
 pub record Makes (p : Program) : Type 0 where
@@ -201,16 +144,27 @@ pub record Makes (p : Program) : Type 0 where
   pub ended : is_whole last ≡ true
   pub program : program_of last ≡ p
 
+-- the first two lines
+leads_start : (h : ℕ) → h < 2 ^ 19 → Leads draft_at_start (Object ∷ Start h ∷ []) (open_draft h [] nothing_asked)
+unfolding has_place draft_with_value
+leads_start h small = (record draft_at_start { begun = true }, refl, tt, (open_draft h [] nothing_asked, rw (below h (2 ^ 19) small), omega (arith, small), refl))
+
 pub made_again : (p : Program) → IsProgram p → AreWords p.words → Makes p
-unfolding is_whole
 made_again p is each =
     let words = add_words p.start 0 0 [] p.words refl (λ i low. is.image.registers i (omega (arith, low))) (omega (arith, is.image.size)) each in
     let ws : List ℕ = words.last in
-    let next : AreNext 0 order = (refl, (refl, (refl, (refl, (refl, (refl, (refl, (refl, (refl, (refl, (refl, (refl, (refl, tt))))))))))))) in
+    let asks : List Item = map (λ c. Ask c) (requests p.controls) in
+    let last : Draft = last_draft p is ws in
+    let before : Draft = open_draft p.start ws (record p.controls { list = false }) in
+    let requested = leads_on (open_draft p.start [] nothing_asked) (open_draft p.start ws nothing_asked) before
+    (word_lines 0 p.words) asks words.steps (leads_requests p is ws) in
+    let finished = leads_on (open_draft p.start [] nothing_asked) before last (word_lines 0 p.words ++ asks) (Fin ∷ []) requested
+    (one before last Fin (fin_added p is ws, tt)) in
     record {
-      last = draft_before p ws 13;
-      steps = subst (λ (items : List Item). Leads draft_at_start items (draft_before p ws 13)) (whole_lines p) (add_kinds p ws is words.steps order 0 next);
-      ended = rw (some_is p.controls.budget is.budget, some_is (length p.controls.delays) is.delays);
-      program = ap (λ (s : List ℕ). record p { words = s; controls = asked_before p ws 13 }) (filled_again ws p.words words.zeros words.filled is.image.size)
+      last = last;
+      steps = leads_on draft_at_start (open_draft p.start [] nothing_asked) last (Object ∷ Start p.start ∷ []) (word_lines 0 p.words ++ asks ++ Fin ∷ [])
+          (leads_start p.start is.start) finished;
+      ended = fin_whole p is ws;
+      program = ap (λ (s : List ℕ). record p { words = s; controls = record p.controls { list = false } }) (filled_again ws p.words words.zeros words.filled is.image.size)
           ∙ ap (λ (b : Bool). record p { controls = record p.controls { list = b } }) (sym is.unlisted);
     }

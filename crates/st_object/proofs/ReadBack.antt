@@ -8,7 +8,7 @@ use Rattle.st_object.specs.Draft.{Draft, draft_at_start, with_item, is_whole}
 use Rattle.st_object.specs.Meaning.{IsItem}
 use Rattle.st_object.specs.Object.{Program, IsProgram, AreWords, object_lines, object_text, program_of, draft_with_line, read_from, read_text}
 use Rattle.st_object.specs.declared.items.Item.{Item}
-use Rattle.st_object.proofs.Spellings.{short_small, lacks-decimal, lacks-hex, spelled_again}
+use Rattle.st_object.proofs.Spellings.{short_small, lacks-decimal, lacks-hex, parted_once, spelled_again}
 use Rattle.st_object.proofs.LineByLine.{read_step}
 use Rattle.st_object.proofs.ProgramLines.{Leads, made_again}
 
@@ -26,8 +26,7 @@ lacks-spelled item short = grind (arith, lacks_number, lacks_behind, lacks-hex)
 
 -- the first line of a text
 pub parted_line : (line rest : List ℕ) → lacks 10 line ≡ true → pieces_of 10 (line ++ 10 ∷ rest) ≡ line ∷ pieces_of 10 rest
-parted_line [] rest lacking = refl
-parted_line (c ∷ cs) rest lacking = grind (arith, parted_line cs rest)
+parted_line line rest lacking = parted_once 10 line rest lacking
 
 -- the lines of the text of items
 pub parted-text_of : (items : List Item) (d e : Draft) → Leads d items e → pieces_of 10 (object_text_of items) ≡ map line_text items ++ [] ∷ []

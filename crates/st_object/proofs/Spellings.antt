@@ -1,25 +1,39 @@
 -- The line of an item is read as that item, and a line that is read as an item is its line.
-use Rattle.std.proofs.Common.{◌≡◌, ◌<◌, ◌+◌, ◌*◌, ◌/◌, ◌%◌, ◌^◌, ◌==◌, ℕ, suc, zero, true, not, List, [], ◌∷◌, ◌++◌, Some, length, decimal, refl, sym, ◌∙◌, ap, length-append, arith, rules}
+use Rattle.std.proofs.Common.{◌≡◌, ◌<◌, ◌+◌, ◌*◌, ◌/◌, ◌%◌, ◌^◌, ◌==◌, ℕ, suc, zero, true, not, List, [], ◌∷◌, ◌++◌, Option, Some, None, if◌then◌else◌, nat_lt, false, ◌≤◌, length, decimal, refl, sym, ◌∙◌, ap, append_assoc, length-append, arith, rules}
 use Rattle.std.specs.Char.{is_ascii_digit}
 use Rattle.std.specs.List.{list_all}
 use Rattle.std.specs.Cmp.Lexicographic.{other_text}
 use Rattle.std.proofs.lemmas.Bool.Decides.{nat_tests}
 use Rattle.std.proofs.lemmas.Grind.{common_steps}
 use Rattle.std.proofs.lemmas.Str.Parse.{IsNumeralModel, numerals_by_fold}
-use Rattle.std.proofs.lemmas.Fmt.{digits_decimal, digits_value-decimal, decimal_nonempty}
+use Rattle.std.proofs.lemmas.Bool.{eq-eqb}
+use Rattle.std.proofs.lemmas.Fmt.{digits_decimal, digits_value-decimal, decimal_nonempty, length-decimal-le}
+use Rattle.std.proofs.lemmas.List.{take_all}
 use Rattle.std.proofs.lemmas.List.Folds.{list_all-append}
 use Rattle.std.proofs.Math.Nat.{mod-eq_of_lt, pow-succ', add-mul}
 use Rattle.st_text.specs.Numerals.{hex_digit, hex_text, hex_word, half_address}
-use Rattle.st_text.specs.Number.{digits_value, value_after}
-use Rattle.st_text.specs.Pieces.{lacks}
+use Rattle.st_text.specs.Number.{is_filled, digits_value, value_after}
+use Rattle.st_text.specs.Pieces.{pieces_of, lacks}
 use Rattle.st_text.specs.Tables.{is_same}
+use Rattle.st_card.specs.Cards.{columns}
+use Rattle.std.specs.Option.{option_map, option_and_then}
+use Rattle.st_card.specs.Keywords.{keyword_text, card_number, control_in}
 use Rattle.st_card.specs.Written.{IsShort, control_line}
+use Rattle.st_card.specs.declared.keywords.ControlForm.TheVariants.{ObjectLine}
+use Rattle.st_card.specs.declared.keywords.Mark.{Mark}
+use Rattle.st_card.specs.declared.keywords.Keyword.{Keyword}
+use Rattle.st_card.specs.declared.keywords.Control.{Control}
+use Rattle.st_card.specs.declared.keywords.Number.{Number}
+use Rattle.st_card.specs.declared.keywords.Pair.{Pair}
+use Rattle.st_card.specs.declared.keywords.Keyword.TheVariants as keywords
+use Rattle.st_card.specs.declared.keywords.Control.TheVariants as asks
 use Rattle.st_object.specs.Lines.{line_text}
-use Rattle.st_object.specs.Meaning.{parts_at, short_number, two_numbers, IsItem, hex_digit_in, hex_number, word_in, item_behind, item_loosely, item_in}
+use Rattle.st_object.specs.Meaning.{parts_at, short_number, two_numbers, IsItem, hex_digit_in, hex_number, word_in, kind_of_word, item_behind, item_loosely, item_in}
 use Rattle.st_object.specs.declared.items.Item.{Item}
-use Rattle.st_object.specs.declared.items.Item.TheVariants.{Start, Word}
+use Rattle.st_object.specs.declared.items.Item.TheVariants.{Object, Start, Word, Ask, Fin}
 use Rattle.st_object.specs.declared.items.Kind.TheVariants as kinds
-use Rattle.st_object.proofs.Parts.{parts_around}
+use Rattle.st_object.proofs.Parts.{parts_around, parts_none}
+use Rattle.st_card.proofs.Requests.{is-word}
 
 own : IsNumeralModel (λ ds. list_all is_ascii_digit ds ≡ true) (value_after 0)
 own = numerals_by_fold _ (search rules) value_after (search rules)
@@ -110,10 +124,86 @@ start_again h short =
     let same : 2 * (h / 2) + 32 * (h % 2) / 32 ≡ h = omega arith in
     rw (both_numbers 46 (h / 2) (32 * (h % 2)) (omega arith) short (omega arith), same)
 
+-- a text without the separator is one piece
+one_piece : (at : ℕ) (text : List ℕ) → lacks at text ≡ true → pieces_of at text ≡ text ∷ []
+one_piece at [] lacking = refl
+one_piece at (c ∷ cs) lacking = grind (arith, one_piece at cs)
+
+-- a text is split at the first separator
+pub parted_once : (at : ℕ) (text rest : List ℕ) → lacks at text ≡ true → pieces_of at (text ++ at ∷ rest) ≡ text ∷ pieces_of at rest
+parted_once at [] rest lacking = rw (eq-eqb at at refl)
+parted_once at (c ∷ cs) rest lacking = grind (arith, parted_once at cs)
+
+decimal_length : (n : ℕ) → IsShort n → length (decimal n) ≤ 12
+decimal_length n short = length-decimal-le 12 n (omega arith) (omega (arith, short)) (omega (arith, short))
+
+decimal_filled : (n : ℕ) → IsShort n → is_filled (decimal n) ≡ true
+decimal_filled n short = let some : 0 < length (decimal n) = decimal_nonempty n (short_small n short) in grind (arith, nat_tests)
+
+number_read : (n : ℕ) → IsShort n → card_number (decimal n) ≡ Some n
+number_read n short =
+    let few = decimal_length n short in
+    let fits : nat_lt 12 (length (decimal n)) ≡ false = grind (arith, nat_tests) in
+    ap (λ b. if b then None else short_number (decimal n)) fits ∙ short_number-decimal n short
+
+-- the number of a request is read from its line
+one_read : (number : Number) (n : ℕ) → IsShort n → control_in (keywords.Number number) (decimal n) ≡ Some (asks.Number number n)
+one_read number n short =
+    let few = decimal_length n short in
+    let whole : columns (decimal n) ≡ decimal n = take_all 72 (decimal n) (omega (arith, few)) in
+    rw (whole, one_piece 32 (decimal n) (lacks-decimal 32 n (omega arith) (short_small n short)), decimal_filled n short, number_read n short)
+
+-- the two numbers of a request are read from its line
+two_read : (pair : Pair) (a b : ℕ) → IsShort a → IsShort b → control_in (keywords.Pair pair) (decimal a ++ 32 ∷ [] ++ decimal b) ≡ Some (asks.Pair pair a b)
+two_read pair a b short_a short_b =
+    let text : List ℕ = decimal a ++ 32 ∷ decimal b in
+    let same : decimal a ++ 32 ∷ [] ++ decimal b ≡ text = simp append_assoc refl in
+    let few_a = decimal_length a short_a in
+    let few_b = decimal_length b short_b in
+    let size = length-append (decimal a) (32 ∷ decimal b) in
+    let whole : columns text ≡ text = take_all 72 text (omega (arith, few_a, few_b, size)) in
+    let cut : pieces_of 32 text ≡ decimal a ∷ decimal b ∷ [] =
+    parted_once 32 (decimal a) (decimal b) (lacks-decimal 32 a (omega arith) (short_small a short_a))
+    ∙ ap (λ (ps : List (List ℕ)). decimal a ∷ ps) (one_piece 32 (decimal b) (lacks-decimal 32 b (omega arith) (short_small b short_b))) in
+    ap (λ t. control_in (keywords.Pair pair) t) same
+    ∙ rw (whole, cut, decimal_filled a short_a, decimal_filled b short_b, number_read a short_a, number_read b short_b)
+
+-- a keyword begins the line of its kind
+word_kind : (keyword : Keyword) → kind_of_word (keyword_text ObjectLine keyword) ≡ Some (kinds.Ask keyword)
+word_kind keyword = grind arith
+
+-- the line of a request with numbers has its meaning
+ask_again : (keyword : Keyword) (text line : List ℕ) (c : Control) → control_in keyword text ≡ Some c → line ≡ keyword_text ObjectLine keyword ++ 32 ∷ text →
+    item_loosely (parts_at 32 line) line ≡ Some (Ask c)
+ask_again keyword text line c read same =
+    let front : List ℕ = keyword_text ObjectLine keyword in
+    let cut : parts_at 32 line ≡ Some (front, text) = ap (λ l. parts_at 32 l) same ∙ parts_around 32 front text (is-word ObjectLine keyword).0 in
+    ap (λ parts. item_loosely parts line) cut
+    ∙ ap (λ kind. option_and_then (λ k. item_behind k text) kind) (word_kind keyword)
+    ∙ ap (λ (o : Option Control). option_map (λ c. Ask c) o) read
+
+-- the line of a request without numbers has its meaning
+mark_again : (mark : Mark) → item_loosely (parts_at 32 (keyword_text ObjectLine (keywords.Mark mark))) (keyword_text ObjectLine (keywords.Mark mark)) ≡ Some (Ask (asks.Mark mark))
+mark_again mark =
+    let front : List ℕ = keyword_text ObjectLine (keywords.Mark mark) in
+    ap (λ parts. item_loosely parts front) (parts_none 32 front (is-word ObjectLine (keywords.Mark mark)).0)
+    ∙ ap (λ kind. option_and_then (λ k. item_behind k []) kind) (word_kind (keywords.Mark mark))
+
 -- a line has the meaning of its item
 loosely_again : (item : Item) → IsItem item → item_loosely (parts_at 32 (line_text item)) (line_text item) ≡ Some item
 unfolding line_text control_line
-loosely_again item short = grind (arith, short_number-decimal, both_numbers, word_again, start_again)
+loosely_again (Ask (asks.Mark mark)) short = mark_again mark
+loosely_again (Ask (asks.Number number n)) short =
+    ask_again (keywords.Number number) (decimal n) _ (asks.Number number n) (one_read number n short)
+    (append_assoc (keyword_text ObjectLine (keywords.Number number)) (32 ∷ []) (decimal n))
+loosely_again (Ask (asks.Pair pair a b)) short =
+    ask_again (keywords.Pair pair) (decimal a ++ 32 ∷ [] ++ decimal b)
+    (keyword_text ObjectLine (keywords.Pair pair) ++ 32 ∷ [] ++ decimal a ++ 32 ∷ [] ++ decimal b) (asks.Pair pair a b) (two_read pair a b short.0 short.1)
+    (simp append_assoc refl)
+loosely_again Object short = refl
+loosely_again (Start h) short = grind (arith, start_again)
+loosely_again (Word w x) short = grind (arith, word_again)
+loosely_again Fin short = refl
 
 -- each line is read as the item that it spells
 pub spelled_again : (item : Item) → IsItem item → item_in (line_text item) ≡ Some item

@@ -2,7 +2,7 @@
 use Rattle.std.proofs.Common.{◌≡◌, ◌≤◌, ◌<◌, ◌-◌, ◌^◌, ℕ, true, List, ◌++◌, length, get_or, replicate, Option, Some, IfSome, unwrap_or, ap, sym, ◌∙◌, append-nil, length-append, arith, lit<}
 use Rattle.std.proofs.lemmas.Bool.Decides.{nat_tests}
 use Rattle.std.proofs.lemmas.Grind.{common_steps}
-use Rattle.std.proofs.lemmas.List.{length-replicate}
+use Rattle.std.proofs.lemmas.List.{length-map, length-replicate}
 use Rattle.std.proofs.lemmas.List.Elements.{All-append, All-replicate}
 use Rattle.st_bits.specs.Storage.{words_of_storage}
 use Rattle.st_object.specs.Lines.{word_lines}
@@ -15,7 +15,7 @@ use Rattle.st_object.proofs.WrittenLines.{whole_lines}
 has_all : (d : Draft) → is_whole d ≡ true →
     (record d { begun = true; start = Some (unwrap_or d.start 0); ended = true } ≡ d) × ((1 ≤ d.asked.budget) × (1 ≤ length d.asked.delays))
 unfolding is_whole
-has_all d whole = grind (arith, nat_tests)
+has_all d whole = grind (arith, nat_tests, length-map)
 
 -- zeros after words do not change a word that is zero
 zero_kept : (xs : List ℕ) (n k : ℕ) → get_or xs k 0 ≡ 0 → get_or (xs ++ replicate n 0) k 0 ≡ 0

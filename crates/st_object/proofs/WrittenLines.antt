@@ -1,17 +1,21 @@
 -- Lemmas on writing an object text line by line.
-use Rattle.std.proofs.Common.{◌≡◌, ◌<◌, ◌+◌, ℕ, true, List, [], ◌∷◌, ◌++◌, length, map, take, get_or, refl, ap, append_assoc, arith, Some}
+use Rattle.std.proofs.Common.{◌≡◌, ◌<◌, ◌+◌, ℕ, true, List, [], ◌∷◌, ◌++◌, length, map, take, get_or, refl, ap, sym, ◌∙◌, append_assoc, arith, Some}
+use Rattle.std.specs.List.{flat_map}
+use Rattle.std.proofs.lemmas.List.{map-append}
+use Rattle.std.proofs.lemmas.List.Folds.{flat_map-map}
 use Rattle.std.proofs.lemmas.Grind.{common_steps}
 use Rattle.std.proofs.lemmas.List.Concat.{flat_map-append}
 use Rattle.st_text.specs.Bytes.{lf}
-use Rattle.st_card.specs.Controls.{Asked}
-use Rattle.st_card.specs.Written.{control_line, text_of_lines, where_asked, unless_zero, controls_made}
-use Rattle.st_card.specs.declared.written.ControlForm.TheVariants.{ObjectLine}
-use Rattle.st_card.proofs.LineLemmas.{controls-same}
+use Rattle.st_card.specs.Keywords.{keyword_order}
+use Rattle.st_card.specs.Written.{control_line, text_of_lines, unless_zero, asked_by, requests}
+use Rattle.st_card.specs.declared.keywords.Keyword.{Keyword}
+use Rattle.st_card.specs.declared.keywords.Control.{Control}
+use Rattle.st_card.specs.declared.keywords.ControlForm.TheVariants.{ObjectLine}
 use Rattle.st_object.specs.Lines.{line_text, object_text_of, word_lines}
-use Rattle.st_object.specs.Draft.{Draft, lines_read}
+use Rattle.st_object.specs.Draft.{Draft, kind_lines, lines_read}
 use Rattle.st_object.specs.Object.{Program, object_lines}
 use Rattle.st_object.specs.declared.items.Item.{Item}
-use Rattle.st_card.specs.declared.written.Control.TheVariants.{Budget, Delay, Signal, Dump, Trace, Time, Chart, Snap, Back}
+use Rattle.st_object.specs.declared.items.Kind.TheVariants as kinds
 use Rattle.st_object.specs.declared.items.Item.TheVariants.{Object, Start, Word, Fin, Ask}
 use Rattle.st_object.proofs.FurtherLines.{word_lines-append}
 
@@ -30,22 +34,31 @@ words_more old now new xs i x within here before further =
     rw (further, before, word_taken xs i x within here, text_of-append (word_lines 0 (take i xs)) (unless_zero x (Word i x)), append_assoc)
 
 -- the text of requests as the text of items
-pub controls-written : (a : Asked) → text_of_lines (controls_made (control_line ObjectLine) a) ≡ object_text_of (controls_made Ask a)
+pub controls-written : (cs : List Control) → text_of_lines (map (control_line ObjectLine) cs) ≡ object_text_of (map (λ c. Ask c) cs)
 unfolding line_text
-controls-written a = controls-same (λ i. line_text i ++ lf) Ask (control_line ObjectLine) (λ c. refl) a
-
-regrouped : (w b d g m t i c n k f : List Item) → w ++ (b ++ (d ++ (g ++ (m ++ (t ++ (i ++ (c ++ (n ++ (k ++ f)))))))))
-    ≡ w ++ ((b ++ d ++ g ++ m) ++ (t ++ i ++ c ++ n ++ k)) ++ f
-regrouped w b d g m t i c n k f = simp append_assoc refl
+controls-written cs =
+    flat_map-map (λ l. l ++ lf) (control_line ObjectLine) cs ∙ sym (flat_map-map (λ i. line_text i ++ lf) (λ c. Ask c) cs)
 
 -- the complete draft of a program
 abbrev pub draft_of : Program → Draft
 draft_of p = record { begun = true; start = Some p.start; words = p.words; asked = p.controls; ended = true }
 
+-- the lines of requests, by keyword
+ask_lines : (p : Program) (keywords : List Keyword) →
+    flat_map (λ kind. kind_lines (draft_of p) kind) (map (λ k. kinds.Ask k) keywords ++ kinds.Fin ∷ [])
+    ≡ map (λ c. Ask c) (flat_map (λ k. asked_by k p.controls) keywords) ++ Fin ∷ []
+ask_lines p [] = refl
+ask_lines p (k ∷ more) =
+    let here : List Item = map (λ c. Ask c) (asked_by k p.controls) in
+    let later : List Item = map (λ c. Ask c) (flat_map (λ j. asked_by j p.controls) more) in
+    ap (λ (s : List Item). here ++ s) (ask_lines p more)
+    ∙ sym (append_assoc here later (Fin ∷ []))
+    ∙ ap (λ (s : List Item). s ++ Fin ∷ []) (sym (map-append (λ c. Ask c) (asked_by k p.controls) (flat_map (λ j. asked_by j p.controls) more)))
+
 -- the lines of a program's complete draft are those of the program
 pub whole_lines : (p : Program) → lines_read (draft_of p) ≡ object_lines p
-whole_lines p = ap (λ (s : List Item). Object ∷ Start p.start ∷ s) (regrouped (word_lines 0 p.words)
-    (unless_zero p.controls.budget (Ask (Budget p.controls.budget))) (map (λ n. Ask (Delay n)) p.controls.delays)
-    (map (λ s. Ask (Signal s.count s.indicator)) p.controls.signals) (map (λ q. Ask (Dump q.0 q.1)) p.controls.dumps)
-    (where_asked p.controls.trace (Ask Trace)) (where_asked p.controls.time (Ask Time)) (where_asked p.controls.chart (Ask Chart))
-    (map (λ t. Ask (Snap t)) p.controls.snaps) (unless_zero p.controls.back (Ask (Back p.controls.back))) (Fin ∷ []))
+whole_lines p =
+    let words = word_lines 0 p.words in
+    let asks : List Item = map (λ c. Ask c) (requests p.controls) in
+    ap (λ (s : List Item). Object ∷ Start p.start ∷ (words ++ s)) (ask_lines p keyword_order)
+    ∙ ap (λ (s : List Item). Object ∷ Start p.start ∷ s) (sym (append_assoc words asks (Fin ∷ [])))

@@ -1,4 +1,11 @@
 -- The results of adding a line and of reading an object text, related to the specified results.
+--
+-- Proved: by their `ensures` clauses these calls do what definitions here say: `read_object`
+-- (reading.rt), `add` (drafts.rt), `push_word` (drafts.rt), `put` (drafts.rt), and others.
+-- Laws: none names a definition of this file itself.
+-- Change: no page fixes these definitions, since no contract of a program unfolds to them; they
+-- change together with the clauses, definitions and laws that name them. docs/object-text.md
+-- describes the subject.
 use Rattle.std.specs.Prelude.{◌≡◌, ℕ, List, ◌++◌, Option, Some, None, Result, Ok, Err}
 use Rattle.st_card.specs.declared.faults.Fault.TheVariants.{BadObjectCard}
 use Rattle.st_object.specs.Draft.{Draft}

@@ -1,11 +1,18 @@
 -- The lines of delays in an object text, and its other lines.
+--
+-- Proved: no `ensures` clause names a definition of this file.
+-- Read by: definitions in Delays of st_top, Marks of st_top.
+-- Laws: ObjectTextsThatDifferInDelaysAlone (specs/DelayLaws.antt of st_top).
+-- Change: the meaning is fixed by docs/object-text.md, since the contract of `st_top::stretch`
+-- unfolds to a definition here. The form is free, with the proofs that unfold it.
 use Rattle.std.specs.Prelude.{◌≡◌, ℕ, ◌≤◌, Bool, not, if◌then◌else◌, List, [], ◌∷◌, ◌++◌, length, map, take, filter, codes}
 use Rattle.st_text.specs.Bytes.{line_end}
 use Rattle.st_text.specs.Pieces.{pieces_of}
 use Rattle.st_text.specs.Tables.{is_same}
 use Rattle.st_card.specs.Limits.{AreDelays}
 use Rattle.st_object.specs.Lines.{line_text}
-use Rattle.st_card.specs.declared.written.Control.TheVariants.{Delay}
+use Rattle.st_card.specs.declared.keywords.Number.TheVariants.{Delays}
+use Rattle.st_card.specs.declared.keywords.Control.TheVariants.{Number}
 use Rattle.st_object.specs.declared.items.Item.TheVariants.{Ask}
 
 -- whether a line of an object text is a delay line
@@ -24,7 +31,7 @@ other_lines text = filter (λ line. not (is_delay_line line)) (pieces_of line_en
 abbrev pub with_delay_lines : List ℕ → List (List ℕ) → List (List ℕ)
 with_delay_lines delays [] = []
 with_delay_lines delays (line ∷ lines) =
-    if is_budget_line line then line ∷ map (λ d. line_text (Ask (Delay d))) delays ++ lines
+    if is_budget_line line then line ∷ map (λ d. line_text (Ask (Number Delays d))) delays ++ lines
     else line ∷ with_delay_lines delays lines
 
 -- two object texts have equal lines in the same order, apart from delay lines

@@ -1,19 +1,23 @@
 -- The program that the lines of an object text have described so far, and the lines that may come
 -- next.
+--
+-- Proved: by their `ensures` clauses these calls do what definitions here say: `add` (drafts.rt),
+-- `are_met` (drafts.rt), `has_place` (drafts.rt), `is_met` (drafts.rt), and others.
+-- Read by: definitions in Object, Answers.
+-- Laws: LinesAreKept (specs/Laws.antt).
+-- Change: the meaning is fixed by docs/object-text.md, since the contract of `st_top::stretch`
+-- unfolds to a definition here. The form is free, with the proofs that unfold it.
 use Rattle.std.specs.Prelude.{ℕ, ◌≡◌, ◌≤◌, ◌<◌, ◌-◌, ◌^◌, ◌==◌, ◌&&◌, Bool, true, false, not, nat_le, nat_lt, List, [], ◌∷◌, ◌++◌, length, map, replicate, slice_index, IfSome, Option, Some, None, is_some, if◌then◌else◌}
 use Rattle.std.specs.List.{All, flat_map}
 use Rattle.std.specs.Option.{option_map}
 use Rattle.st_bits.specs.declared.register.TheConstants.{FIRST_STORAGE_WORD}
 use Rattle.st_bits.specs.Storage.{words_of_storage}
-use Rattle.st_card.specs.Controls.{Asked, nothing_asked, with_keyword}
+use Rattle.st_card.specs.Controls.{Asked, nothing_asked, with_control}
 use Rattle.st_card.specs.Limits.{IsWithinLimits}
-use Rattle.st_card.specs.declared.keywords.Keyword.{Keyword}
-use Rattle.st_card.specs.declared.keywords.Keyword.TheVariants as keywords
-use Rattle.st_card.specs.Written.{where_asked, unless_zero}
+use Rattle.st_card.specs.Written.{where_asked, asked_by}
 use Rattle.st_object.specs.Lines.{word_lines}
 use Rattle.st_object.specs.Order.{kind_of_line, order, are_met, may_follow}
 use Rattle.st_object.specs.declared.items.Item.{Item}
-use Rattle.st_card.specs.declared.written.Control.TheVariants.{Budget, Delay, Signal, Dump, Trace, Time, Chart, Snap, Back}
 use Rattle.st_object.specs.declared.items.Item.TheVariants.{Object, Start, Word, Fin, Ask}
 use Rattle.st_object.specs.declared.items.Kind.{Kind}
 use Rattle.st_object.specs.declared.items.Kind.TheVariants as kinds
@@ -51,15 +55,7 @@ abbrev pub kind_lines : Draft → Kind → List Item
 kind_lines d kinds.Object = where_asked d.begun Object
 kind_lines d kinds.Start = start_lines d.start
 kind_lines d kinds.Word = word_lines 0 d.words
-kind_lines d kinds.Budget = unless_zero d.asked.budget (Ask (Budget d.asked.budget))
-kind_lines d kinds.Delay = map (λ n. Ask (Delay n)) d.asked.delays
-kind_lines d kinds.Signal = map (λ s. Ask (Signal s.count s.indicator)) d.asked.signals
-kind_lines d kinds.Dump = map (λ p. Ask (Dump p.0 p.1)) d.asked.dumps
-kind_lines d kinds.Trace = where_asked d.asked.trace (Ask Trace)
-kind_lines d kinds.Time = where_asked d.asked.time (Ask Time)
-kind_lines d kinds.Chart = where_asked d.asked.chart (Ask Chart)
-kind_lines d kinds.Snap = map (λ t. Ask (Snap t)) d.asked.snaps
-kind_lines d kinds.Back = unless_zero d.asked.back (Ask (Back d.asked.back))
+kind_lines d (kinds.Ask keyword) = map (λ control. Ask control) (asked_by keyword d.asked)
 kind_lines d kinds.Fin = where_asked d.ended Fin
 
 -- all lines that were read, in their order
@@ -71,15 +67,7 @@ abbrev pub has_line : Draft → Kind → Bool
 has_line d kinds.Object = d.begun
 has_line d kinds.Start = is_some d.start
 has_line d kinds.Word = not (is_empty d.words)
-has_line d kinds.Budget = not (d.asked.budget == 0)
-has_line d kinds.Delay = not (is_empty d.asked.delays)
-has_line d kinds.Signal = not (is_empty d.asked.signals)
-has_line d kinds.Dump = not (is_empty d.asked.dumps)
-has_line d kinds.Trace = d.asked.trace
-has_line d kinds.Time = d.asked.time
-has_line d kinds.Chart = d.asked.chart
-has_line d kinds.Snap = not (is_empty d.asked.snaps)
-has_line d kinds.Back = not (d.asked.back == 0)
+has_line d (kinds.Ask keyword) = not (is_empty (asked_by keyword d.asked))
 has_line d kinds.Fin = d.ended
 
 -- whether every required line was read
@@ -101,29 +89,16 @@ may_hold next w x = nat_le FIRST_STORAGE_WORD w && nat_le next w && nat_lt w wor
 
 -- the draft with a word at an address, after zeros up to it, if the word is allowed there
 abbrev pub draft_with_word : Draft → ℕ → ℕ → Option Draft
-draft_with_word d w x =
-    if may_hold (length d.words) w x
+draft_with_word d w x = if may_hold (length d.words) w x
     then Some (record d { words = d.words ++ replicate (w - length d.words) 0 ++ x ∷ [] }) else None
-
--- the draft with a request, if it is within the limits of control cards
-abbrev pub draft_with_order : Draft → Keyword → List ℕ → Option Draft
-draft_with_order d keyword numbers = option_map (λ a. record d { asked = a })
-    (with_keyword keyword d.asked numbers)
 
 -- the draft with an item, without a check of its order
 unfoldable pub draft_with_value : Draft → Item → Option Draft
 draft_with_value d Object = Some (record d { begun = true })
 draft_with_value d (Start h) = with_start d h
 draft_with_value d (Word w x) = draft_with_word d w x
-draft_with_value d (Ask (Budget n)) = draft_with_order d keywords.Budget (n ∷ [])
-draft_with_value d (Ask (Delay n)) = draft_with_order d keywords.Delays (n ∷ [])
-draft_with_value d (Ask (Signal c i)) = draft_with_order d keywords.Signals (c ∷ i ∷ [])
-draft_with_value d (Ask (Dump f t)) = draft_with_order d keywords.Dump (f ∷ t ∷ [])
-draft_with_value d (Ask Trace) = draft_with_order d keywords.Trace []
-draft_with_value d (Ask Time) = draft_with_order d keywords.Time []
-draft_with_value d (Ask Chart) = draft_with_order d keywords.Chart []
-draft_with_value d (Ask (Snap t)) = draft_with_order d keywords.Snap (t ∷ [])
-draft_with_value d (Ask (Back k)) = draft_with_order d keywords.Back (k ∷ [])
+draft_with_value d (Ask control) = option_map (λ a. record d { asked = a })
+    (with_control d.asked control)
 draft_with_value d Fin = Some (record d { ended = true })
 
 -- the draft with a further item, if it may come next

@@ -1,4 +1,9 @@
 -- Laws of object texts, regardless of single calls.
+--
+-- Proved: each law has its lemma in proofs/Laws.antt, with its name in small letters.
+-- Claimed: docs/CLAIMS.md names AcceptedTextsAreWritten, LinesAreReadBack,
+-- RefusedTextsHaveABadLine, TextsAreReadAsOne, and others.
+-- Change: docs/promises.txt lists each law, and the gate compares the list with the laws.
 use Rattle.std.specs.Prelude.{◌≡◌, ℕ, List, [], ◌∷◌, ◌++◌, Some, Result, Ok, Err}
 use Rattle.st_object.specs.Lines.{line_text}
 use Rattle.st_object.specs.Draft.{Draft, with_item, lines_read}

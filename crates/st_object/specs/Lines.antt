@@ -1,10 +1,18 @@
 -- The lines of an object text, and their bytes.
+--
+-- Proved: by their `ensures` clauses these calls do what definitions here say: `push_program`
+-- (writing.rt), `push_words` (writing.rt), `spelled` (spelling.rt), `push_filled` (writing.rt), and
+-- others.
+-- Read by: definitions in Object, DelayLines, Draft, Meaning, and others.
+-- Laws: LinesAreReadBack (specs/Laws.antt).
+-- Change: the meaning is fixed by docs/object-text.md, since the contract of `st_top::stretch`
+-- unfolds to a definition here. The form is free, with the proofs that unfold it.
 use Rattle.std.specs.Prelude.{ℕ, ◌+◌, ◌==◌, List, [], ◌∷◌, ◌++◌, codes, decimal, if◌then◌else◌}
 use Rattle.std.specs.List.{flat_map}
 use Rattle.st_text.specs.Bytes.{lf}
 use Rattle.st_text.specs.Numerals.{hex_word, half_address}
 use Rattle.st_card.specs.Written.{control_line}
-use Rattle.st_card.specs.declared.written.ControlForm.TheVariants.{ObjectLine}
+use Rattle.st_card.specs.declared.keywords.ControlForm.TheVariants.{ObjectLine}
 use Rattle.st_object.specs.declared.items.Item.{Item}
 use Rattle.st_object.specs.declared.items.Item.TheVariants.{Object, Start, Word, Fin, Ask}
 

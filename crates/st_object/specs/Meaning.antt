@@ -1,6 +1,15 @@
 -- The meaning of a line of an object text.
+--
+-- Proved: by their `ensures` clauses these calls do what definitions here say: `item_loosely`
+-- (meaning.rt), `hex_digit_in` (meaning.rt), `hex_in` (meaning.rt), `item_behind` (meaning.rt), and
+-- others.
+-- Read by: definitions in Object.
+-- Laws: LinesAreReadBack (specs/Laws.antt), NumbersAgree (specs/Laws.antt of st_laws).
+-- Change: no page fixes these definitions, since no contract of a program unfolds to them; they
+-- change together with the clauses, definitions and laws that name them. docs/object-text.md
+-- describes the subject.
 use Rattle.std.specs.Prelude.{ℕ, ◌<◌, ◌+◌, ◌*◌, ◌/◌, ◌%◌, ◌^◌, ◌==◌, nat_lt, List, [], ◌∷◌, length, codes, Option, Some, None, if◌then◌else◌}
-use Rattle.std.specs.Option.{option_map, option_and_then, option_zip}
+use Rattle.std.specs.Option.{option_map, option_and_then, option_or, option_zip}
 use Rattle.st_card.specs.Written.{IsShort, IsShortControl}
 use Rattle.st_card.specs.declared.limits.TheConstants.{MOST_NUMBER}
 use Rattle.st_text.specs.Bytes.{blank, period, letter_a}
@@ -8,7 +17,8 @@ use Rattle.st_text.specs.Number.{number_up_to}
 use Rattle.st_text.specs.Tables.{is_same, row_of}
 use Rattle.st_object.specs.Lines.{line_text}
 use Rattle.st_object.specs.declared.items.Item.{Item}
-use Rattle.st_card.specs.declared.written.Control.TheVariants.{Budget, Delay, Signal, Dump, Trace, Time, Chart, Snap, Back}
+use Rattle.st_card.specs.Keywords.{keyword_order, keyword_in, control_in}
+use Rattle.st_card.specs.declared.keywords.ControlForm.TheVariants.{ObjectLine}
 use Rattle.st_object.specs.declared.items.Item.TheVariants.{Object, Start, Word, Fin, Ask}
 use Rattle.st_object.specs.declared.items.Kind.{Kind}
 use Rattle.st_object.specs.declared.items.Kind.TheVariants as kinds
@@ -44,35 +54,29 @@ word_in text = option_and_then
     (λ p. option_map (λ w. Word w (hex_number p.1 % 2 ^ 64)) (short_number p.0))
     (parts_at blank text)
 
--- the keywords at the beginning of lines, each with its kind
-abbrev pub line_keywords : List (List ℕ × Kind)
-line_keywords =
+-- the words at the beginning of lines that are no requests, each with its kind
+abbrev pub line_words : List (List ℕ × Kind)
+line_words =
     (codes "OBJECT", kinds.Object) ∷ (codes "START", kinds.Start) ∷ (codes "W", kinds.Word)
-    ∷ (codes "BUDGET", kinds.Budget)
-    ∷ (codes "DELAY", kinds.Delay) ∷ (codes "SIGNAL", kinds.Signal) ∷ (codes "DUMP", kinds.Dump)
-    ∷ (codes "TRACE", kinds.Trace) ∷ (codes "TIME", kinds.Time) ∷ (codes "CHART", kinds.Chart)
-    ∷ (codes "SNAP", kinds.Snap) ∷ (codes "BACK", kinds.Back) ∷ (codes "FIN", kinds.Fin) ∷ []
+    ∷ (codes "FIN", kinds.Fin) ∷ []
 
--- the item in the text after the keyword of a kind
+-- the kind of a line that begins with a word
+abbrev pub kind_of_word : List ℕ → Option Kind
+kind_of_word word = option_or (row_of word line_words)
+    (option_map (λ keyword. kinds.Ask keyword) (keyword_in ObjectLine word keyword_order))
+
+-- the item in the text after the word of a kind
 abbrev pub item_behind : Kind → List ℕ → Option Item
 item_behind kinds.Object text = Some Object
 item_behind kinds.Start text = option_map (λ p. Start (2 * p.0 + p.1 / 32))
     (two_numbers period text)
 item_behind kinds.Word text = word_in text
-item_behind kinds.Budget text = option_map (λ n. Ask (Budget n)) (short_number text)
-item_behind kinds.Delay text = option_map (λ n. Ask (Delay n)) (short_number text)
-item_behind kinds.Signal text = option_map (λ p. Ask (Signal p.0 p.1)) (two_numbers blank text)
-item_behind kinds.Dump text = option_map (λ p. Ask (Dump p.0 p.1)) (two_numbers blank text)
-item_behind kinds.Trace text = Some (Ask Trace)
-item_behind kinds.Time text = Some (Ask Time)
-item_behind kinds.Chart text = Some (Ask Chart)
-item_behind kinds.Snap text = option_map (λ n. Ask (Snap n)) (short_number text)
-item_behind kinds.Back text = option_map (λ n. Ask (Back n)) (short_number text)
+item_behind (kinds.Ask keyword) text = option_map (λ control. Ask control) (control_in keyword text)
 item_behind kinds.Fin text = Some Fin
 
--- the item of a keyword and the text after it
+-- the item of a word and the text after it
 abbrev pub item_of : List ℕ → List ℕ → Option Item
-item_of word rest = option_and_then (λ kind. item_behind kind rest) (row_of word line_keywords)
+item_of word rest = option_and_then (λ kind. item_behind kind rest) (kind_of_word word)
 
 -- the item of a line if its spelling is right: leading zeros, other letters and extra text are not
 -- checked here

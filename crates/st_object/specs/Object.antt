@@ -1,5 +1,15 @@
 -- Object texts, the programs that they contain, and the first bad line of any other text.
-use Rattle.std.specs.Prelude.{ℕ, ◌≡◌, ◌≤◌, ◌<◌, ◌+◌, ◌-◌, ◌^◌, false, List, [], ◌∷◌, ◌++◌, length, take, replicate, Option, is_some, unwrap_or, Result, Ok, Err, if◌then◌else◌}
+--
+-- Proved: by their `ensures` clauses these calls do what definitions here say: `read_object`
+-- (reading.rt), `push_object` (writing.rt), `write_object` (writing.rt), `add_line` (reading.rt),
+-- and others.
+-- Read by: definitions in Answers, Answers of st_top, Delays of st_top, Layers of st_top, and
+-- others.
+-- Laws: AcceptedTextsAreWritten (specs/Laws.antt), WrittenTextsAreReadBack (specs/Laws.antt),
+-- TextsAreReadAsOne (specs/Laws.antt), RefusedTextsHaveABadLine (specs/Laws.antt), and others.
+-- Change: the meaning is fixed by docs/object-text.md, since the contract of `st_top::stretch`
+-- unfolds to a definition here. The form is free, with the proofs that unfold it.
+use Rattle.std.specs.Prelude.{ℕ, ◌≡◌, ◌≤◌, ◌<◌, ◌+◌, ◌-◌, ◌^◌, false, List, [], ◌∷◌, ◌++◌, length, map, take, replicate, Option, is_some, unwrap_or, Result, Ok, Err, if◌then◌else◌}
 use Rattle.std.specs.List.{All}
 use Rattle.std.specs.Option.{option_and_then, option_map_or}
 use Rattle.st_text.specs.Bytes.{line_end}
@@ -7,7 +17,7 @@ use Rattle.st_bits.specs.Storage.{IsImage, words_of_storage}
 use Rattle.st_card.specs.Controls.{Asked}
 use Rattle.st_card.specs.Limits.{IsWithinLimits}
 use Rattle.st_text.specs.Pieces.{pieces_of}
-use Rattle.st_card.specs.Written.{text_of_lines, controls_made}
+use Rattle.st_card.specs.Written.{text_of_lines, requests}
 use Rattle.st_object.specs.Lines.{object_text_of, word_lines}
 use Rattle.st_object.specs.Draft.{Draft, draft_at_start, is_empty, is_whole, with_item}
 use Rattle.st_object.specs.Meaning.{item_in}
@@ -35,8 +45,8 @@ AreWords words = All (λ x. x < 2 ^ 64) words
 
 -- the lines of a program
 abbrev pub object_lines : Program → List Item
-object_lines p =
-    Object ∷ Start p.start ∷ [] ++ word_lines 0 p.words ++ controls_made Ask p.controls ++ Fin ∷ []
+object_lines p = Object ∷ Start p.start ∷ [] ++ word_lines 0 p.words
+    ++ map (λ control. Ask control) (requests p.controls) ++ Fin ∷ []
 
 -- the object text of a program
 abbrev pub object_text : Program → List ℕ

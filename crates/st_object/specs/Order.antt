@@ -1,8 +1,16 @@
 -- The order of the lines in an object text.
-use Rattle.std.specs.Prelude.{◌+◌, ◌&&◌, ◌||◌, Bool, true, false, not, List, [], ◌∷◌, take, drop}
+--
+-- Proved: by their `ensures` clauses these calls do what definitions here say: `row` (order.rt),
+-- `are_met` (drafts.rt), `is_met` (drafts.rt), `none_stands` (drafts.rt), and others.
+-- Read by: definitions in Draft.
+-- Laws: none names a definition of this file itself.
+-- Change: no page fixes these definitions, since no contract of a program unfolds to them; they
+-- change together with the clauses, definitions and laws that name them. docs/object-text.md
+-- describes the subject.
+use Rattle.std.specs.Prelude.{◌+◌, ◌&&◌, ◌||◌, Bool, true, false, not, List, [], ◌∷◌, ◌++◌, length, map, take, drop}
 use Rattle.std.specs.List.{list_all}
 use Rattle.st_object.specs.declared.items.Item.{Item}
-use Rattle.st_card.specs.declared.written.Control.TheVariants.{Budget, Delay, Signal, Dump, Trace, Time, Chart, Snap, Back}
+use Rattle.st_card.specs.Keywords.{keyword_order, place, is_required, keyword_of}
 use Rattle.st_object.specs.declared.items.Item.TheVariants.{Object, Start, Word, Fin, Ask}
 use Rattle.st_object.specs.declared.items.Kind.{Kind}
 use Rattle.st_object.specs.declared.items.Kind.TheVariants as kinds
@@ -13,39 +21,25 @@ abbrev pub kind_of_line : Item → Kind
 kind_of_line Object = kinds.Object
 kind_of_line (Start h) = kinds.Start
 kind_of_line (Word w x) = kinds.Word
-kind_of_line (Ask (Budget n)) = kinds.Budget
-kind_of_line (Ask (Delay d)) = kinds.Delay
-kind_of_line (Ask (Signal c i)) = kinds.Signal
-kind_of_line (Ask (Dump f t)) = kinds.Dump
-kind_of_line (Ask Trace) = kinds.Trace
-kind_of_line (Ask Time) = kinds.Time
-kind_of_line (Ask Chart) = kinds.Chart
-kind_of_line (Ask (Snap t)) = kinds.Snap
-kind_of_line (Ask (Back k)) = kinds.Back
+kind_of_line (Ask control) = kinds.Ask (keyword_of control)
 kind_of_line Fin = kinds.Fin
 
 -- the kinds of lines in their order in an object text
 abbrev pub order : List Kind
 order =
-    kinds.Object ∷ kinds.Start ∷ kinds.Word ∷ kinds.Budget ∷ kinds.Delay ∷ kinds.Signal ∷ kinds.Dump
-    ∷ kinds.Trace
-    ∷ kinds.Time ∷ kinds.Chart ∷ kinds.Snap ∷ kinds.Back ∷ kinds.Fin ∷ []
+    kinds.Object ∷ kinds.Start ∷ kinds.Word
+    ∷ (map (λ keyword. kinds.Ask keyword) keyword_order ++ kinds.Fin ∷ [])
 
--- a kind's position in the order, whether it may occur more than once, and whether it is required
+-- a kind's position in the order, whether it may occur more than once, and whether it is required;
+-- a request that may be made once only is refused by its limits
 abbrev pub row_of_kind : Kind → KindRow
 row_of_kind kinds.Object = record { place = 0; repeats = false; required = true }
 row_of_kind kinds.Start = record { place = 1; repeats = false; required = true }
 row_of_kind kinds.Word = record { place = 2; repeats = true; required = false }
-row_of_kind kinds.Budget = record { place = 3; repeats = false; required = true }
-row_of_kind kinds.Delay = record { place = 4; repeats = true; required = true }
-row_of_kind kinds.Signal = record { place = 5; repeats = true; required = false }
-row_of_kind kinds.Dump = record { place = 6; repeats = true; required = false }
-row_of_kind kinds.Trace = record { place = 7; repeats = false; required = false }
-row_of_kind kinds.Time = record { place = 8; repeats = false; required = false }
-row_of_kind kinds.Chart = record { place = 9; repeats = false; required = false }
-row_of_kind kinds.Snap = record { place = 10; repeats = true; required = false }
-row_of_kind kinds.Back = record { place = 11; repeats = false; required = false }
-row_of_kind kinds.Fin = record { place = 12; repeats = false; required = true }
+row_of_kind (kinds.Ask keyword) =
+    record { place = 3 + place keyword; repeats = true; required = is_required keyword }
+row_of_kind kinds.Fin =
+    record { place = 3 + length keyword_order; repeats = false; required = true }
 
 -- the kinds before a kind in the order
 abbrev pub kinds_before : Kind → List Kind

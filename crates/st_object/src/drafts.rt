@@ -1,13 +1,16 @@
 //! The program that the lines of an object text have described so far, and which line may come
-//! next.
+//! next. docs/object-text.md has the order of lines. reading.rt adds each line by `add`, and takes
+//! the finished draft; no other module makes drafts.
 //!
-//! reading.rt adds lines to a draft. specs/Draft.antt defines the draft with a further line, if
-//! that may come next; the clauses (`Settles`) say that the new draft is exactly that one, or that
-//! the line is refused or memory ran out. Words are stored from word 0 on, with zeros between;
-//! addresses are word addresses, a start is a half-word address. A new kind of line needs a case of
-//! `stands` and `put` here, and its cases in items.rt, order.rt, meaning.rt and spelling.rt. Which
-//! line may come next is pinned by the definition and docs/object-text.md. The bodies are free;
-//! proofs/drafts follows `none_stands` and `are_met`.
+//! Proved: by `Settles` (specs/Answers.antt) the new draft is exactly `with_item` of
+//! specs/Draft.antt, or the line is refused, or memory ran out. By the law `LinesAreKept`
+//! (specs/Laws.antt) a line that may come next is added after those already read.
+//!
+//! Pinned, by `with_item`, docs/object-text.md and vectors/objects.txt: which line may come next,
+//! and the limits of a start (a half-word address below 2^19) and of a word (not zero, above the
+//! registers, in rising order). Free: that words are kept from word 0 on with zeros between, if the
+//! view of `Draft` stays; the bodies, if proofs/drafts follows `none_stands` and `are_met`. A line
+//! that is no request needs a case of `stands` and `put`.
 
 ghost use Rattle.std.specs.Prelude.{◌≡◌, ◌≤◌, ◌-◌, ◌++◌, [], ◌∷◌, length, vec_len, replicate, true, Some, OnOk};
 ghost use Rattle.st_object.specs.Draft as spec;
@@ -18,7 +21,7 @@ use crate::items::{Item, Kind};
 use crate::order::{KindRow, ORDER, kind_of, row};
 use st_bits::WORDS;
 use st_bits::register::FIRST_STORAGE_WORD;
-use st_card::{Addition, Control, Controls, Keyword};
+use st_card::{Addition, Controls};
 use std::alloc::{AllocError, Global};
 use std::marker::Model;
 
@@ -65,15 +68,7 @@ impl Draft {
             Kind::Object => self.begun,
             Kind::Start => self.start.is_some(),
             Kind::Word => !self.words.is_empty(),
-            Kind::Budget => self.controls.budget != 0,
-            Kind::Delay => !self.controls.delays.is_empty(),
-            Kind::Signal => !self.controls.signals.is_empty(),
-            Kind::Dump => !self.controls.dumps.is_empty(),
-            Kind::Trace => self.controls.trace,
-            Kind::Time => self.controls.time,
-            Kind::Chart => self.controls.chart,
-            Kind::Snap => !self.controls.snaps.is_empty(),
-            Kind::Back => self.controls.back != 0,
+            Kind::Ask(keyword) => self.controls.count(keyword) != 0,
             Kind::Fin => self.ended,
         }
     }
@@ -166,28 +161,9 @@ impl Draft {
             Item::Object => self.put_object(),
             Item::Start(half) => self.put_start(half),
             Item::Word(address, word) => self.put_word(address, word),
-            Item::Ask(Control::Budget(n)) => self.ask(Keyword::Budget, &[n]),
-            Item::Ask(Control::Delay(ticks)) => self.ask(Keyword::Delays, &[ticks]),
-            Item::Ask(Control::Signal(count, indicator)) => self.ask(
-                Keyword::Signals,
-                &[count, indicator],
-            ),
-            Item::Ask(Control::Dump(first, last)) => self.ask(Keyword::Dump, &[first, last]),
-            Item::Ask(Control::Trace) => self.ask(Keyword::Trace, &[]),
-            Item::Ask(Control::Time) => self.ask(Keyword::Time, &[]),
-            Item::Ask(Control::Chart) => self.ask(Keyword::Chart, &[]),
-            Item::Ask(Control::Snap(tick)) => self.ask(Keyword::Snap, &[tick]),
-            Item::Ask(Control::Back(k)) => self.ask(Keyword::Back, &[k]),
+            Item::Ask(control) => self.controls.add_control(control),
             Item::Fin => self.put_fin(),
         }
-    }
-
-    // Adds a request, if it is within the limits of control cards.
-    fn ask(&mut self, keyword: Keyword, numbers: &[u64]) -> Addition
-        requires { length numbers.now ≤ 36 }
-        ensures { Settles self.new (spec.draft_with_order self.old keyword numbers.now) result }
-    {
-        self.controls.ask(keyword, numbers)
     }
 
     // Adds the line OBJECT.

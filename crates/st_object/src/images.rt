@@ -1,9 +1,14 @@
-//! The program that an object text contains, as `st_top` runs, writes or disassembles it.
+//! The program that an object text contains: storage, start and requests. `read_object` of this
+//! crate returns it; `st_top` runs, writes or disassembles it, and makes one from an assembled job.
+//! docs/object-text.md has the format.
 //!
-//! The comments of the fields have the ranges; `IsProgram` in specs/Object.antt states them.
-//! `read_object` is proved to return such a program, and `write_object` requires it. The fields are
-//! pinned by `Program` of specs/Object.antt, the view that contracts see, and by `st_top`, which
-//! reads them; nothing here is free.
+//! Proved: nothing here, there is no code. By the clauses of `read_object` a program that is read
+//! meets `IsProgram` of specs/Object.antt, the ranges in the comments of the fields; `write_object`
+//! requires `IsProgram`.
+//!
+//! Pinned, by `Program` of specs/Object.antt, which is what contracts see, and by `st_top`, which
+//! reads them: the fields. Free: the derived traits. A new field needs its line in an object text
+//! (items.rt), and its value in `st_top`.
 
 use st_card::Controls;
 use std::marker::Model;

@@ -1,12 +1,16 @@
-//! The contents of the lines of an object text, as values between parsing (meaning.rt), order
-//! (order.rt), drafts and spelling.
+//! The contents of the lines of an object text (`Item`) and their kinds (`Kind`), as values between
+//! meaning.rt, drafts.rt, order.rt, spelling.rt and writing.rt. No other crate sees them.
+//! docs/object-text.md has the lines.
 //!
-//! Nothing is proved here, and both enums are pinned by the definitions that name them.
-//! specs/Lines.antt has the text of each item, specs/Order.antt the place of each kind. A new kind
-//! of line is a variant of both enums; the compiler then names the functions that need a case, and
-//! the tables in meaning.rt and order.rt need a row.
+//! Proved: nothing here, there is no code. specs/Lines.antt has the text of each item
+//! (`line_text`), specs/Order.antt the position of each kind (`row_of_kind`).
+//!
+//! Pinned, by these two definitions: the variants. Free: the order of the variants. A line that is
+//! no request is a variant of both enums; the compiler then names the functions that need a case,
+//! and the tables in meaning.rt and order.rt need a row. A new request is a row of ORDER in
+//! order.rt and of the table of `st_card`, and nothing else here.
 
-use st_card::Control;
+use st_card::{Control, Keyword};
 
 // The contents of a line.
 #[derive(Clone, Copy)]
@@ -26,17 +30,14 @@ pub(crate) enum Item {
 // The kind of a line, by its keyword.
 #[derive(Clone, Copy)]
 pub(crate) enum Kind {
+    // OBJECT.
     Object,
+    // START.
     Start,
+    // W.
     Word,
-    Budget,
-    Delay,
-    Signal,
-    Dump,
-    Trace,
-    Time,
-    Chart,
-    Snap,
-    Back,
+    // A request, by its keyword.
+    Ask(Keyword),
+    // FIN.
     Fin,
 }

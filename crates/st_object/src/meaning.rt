@@ -1,11 +1,14 @@
-//! Parses the lines of an object text, each by itself.
+//! Parses the lines of an object text, each by itself. docs/object-text.md has the lines.
+//! reading.rt calls `item_in` for each line. The parser is loose (leading zeros, other letters);
+//! `item_in` then compares the line with the only spelling of its item (spelling.rt).
 //!
-//! reading.rt makes the call `item_in`. specs/Meaning.antt defines the item of a line; the clauses
-//! say that each call returns exactly that. The parser is loose (leading zeros, other letters), and
-//! `item_in` then compares the line with the only spelling of its item, so a line is accepted if
-//! and only if it is spelled right. The keywords are pinned by the definition, docs/object-text.md
-//! and the vectors. The split into functions is free; proofs/meaning follows `hex_in` and
-//! `parts_at`.
+//! Proved: the result is `item_in` of specs/Meaning.antt. By the law `LinesAreReadBack`
+//! (specs/Laws.antt) the line of an item is read as that item, and no other line is.
+//!
+//! Pinned, by `item_in`, docs/object-text.md and vectors/objects.txt: the words; by the law
+//! `NumbersAgree` (specs/Laws.antt of `st_laws`): numbers of at most 12 digits, as on control
+//! cards. Free: how loose the parser is, together with its definition `item_loosely`; the split
+//! into functions, if proofs/meaning follows `hex_in` and `parts_at`.
 
 ghost use Rattle.std.specs.Prelude.{◌≡◌, ◌≤◌, ◌<◌, ◌%◌, ◌^◌, IfSome};
 ghost use Rattle.std.specs.Option.{option_map};
@@ -16,24 +19,15 @@ ghost use Rattle.st_object.specs.declared.items.Kind.TheVariants as kinds;
 
 use crate::items::{Item, Kind};
 use crate::spelling::spelled;
-use st_card::Control;
 use st_card::limits::MOST_NUMBER;
+use st_card::{ControlForm, Keyword, control_in, keyword_in};
 use st_text::{cut, number_up_to, row_of};
 
-// The keywords at the beginning of lines.
-const KEYWORDS: [(&[u8], Kind); 13] = [
+// The words at the beginning of lines that are no requests.
+const WORDS: [(&[u8], Kind); 4] = [
     (b"OBJECT", Kind::Object),
     (b"START", Kind::Start),
     (b"W", Kind::Word),
-    (b"BUDGET", Kind::Budget),
-    (b"DELAY", Kind::Delay),
-    (b"SIGNAL", Kind::Signal),
-    (b"DUMP", Kind::Dump),
-    (b"TRACE", Kind::Trace),
-    (b"TIME", Kind::Time),
-    (b"CHART", Kind::Chart),
-    (b"SNAP", Kind::Snap),
-    (b"BACK", Kind::Back),
     (b"FIN", Kind::Fin),
 ];
 
@@ -99,23 +93,14 @@ fn start_in(text: &[u8]) -> Option<Item>
     Some(Item::Start(2 * word + bit / 32))
 }
 
-// Parses a signal: a number of completed instructions, and an indicator.
-fn signal_in(text: &[u8]) -> Option<Item>
-    ensures { result ≡ spec.item_behind kinds.Signal text.now }
+// Parses a request, given its keyword and the text after that.
+fn request_in(keyword: Keyword, text: &[u8]) -> Option<Item>
+    ensures { result ≡ spec.item_behind (kinds.Ask keyword) text.now }
 {
-    let (count, indicator) = two_numbers(b' ', text)?;
-    Some(Item::Ask(Control::Signal(count, indicator)))
+    Some(Item::Ask(control_in(keyword, text)?))
 }
 
-// Parses a part of storage: its first and last word address.
-fn dump_in(text: &[u8]) -> Option<Item>
-    ensures { result ≡ spec.item_behind kinds.Dump text.now }
-{
-    let (first, last) = two_numbers(b' ', text)?;
-    Some(Item::Ask(Control::Dump(first, last)))
-}
-
-// Parses the text after the keyword of this kind.
+// Parses the text after the word of this kind.
 fn item_behind(kind: Kind, text: &[u8]) -> Option<Item>
     ensures { result ≡ spec.item_behind kind text.now }
 {
@@ -123,16 +108,21 @@ fn item_behind(kind: Kind, text: &[u8]) -> Option<Item>
         Kind::Object => Some(Item::Object),
         Kind::Start => start_in(text),
         Kind::Word => word_in(text),
-        Kind::Budget => Some(Item::Ask(Control::Budget(short_number(text)?))),
-        Kind::Delay => Some(Item::Ask(Control::Delay(short_number(text)?))),
-        Kind::Signal => signal_in(text),
-        Kind::Dump => dump_in(text),
-        Kind::Trace => Some(Item::Ask(Control::Trace)),
-        Kind::Time => Some(Item::Ask(Control::Time)),
-        Kind::Chart => Some(Item::Ask(Control::Chart)),
-        Kind::Snap => Some(Item::Ask(Control::Snap(short_number(text)?))),
-        Kind::Back => Some(Item::Ask(Control::Back(short_number(text)?))),
+        Kind::Ask(keyword) => request_in(keyword, text),
         Kind::Fin => Some(Item::Fin),
+    }
+}
+
+// The kind of a line that begins with a word.
+fn kind_of_word(word: &[u8]) -> Option<Kind>
+    ensures { result ≡ spec.kind_of_word word.now }
+{
+    match row_of(&WORDS, word) {
+        Some(kind) => Some(kind),
+        None => match keyword_in(ControlForm::ObjectLine, word) {
+            Some(keyword) => Some(Kind::Ask(keyword)),
+            None => None,
+        },
     }
 }
 
@@ -140,7 +130,7 @@ fn item_behind(kind: Kind, text: &[u8]) -> Option<Item>
 fn item_of(word: &[u8], rest: &[u8]) -> Option<Item>
     ensures { result ≡ spec.item_of word.now rest.now }
 {
-    item_behind(row_of(&KEYWORDS, word)?, rest)
+    item_behind(kind_of_word(word)?, rest)
 }
 
 // Parses a line without checking its spelling.

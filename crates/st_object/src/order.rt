@@ -1,32 +1,35 @@
-//! The order of the lines in an object text: the position of each kind, and whether it repeats or
-//! is required.
+//! The order of the lines in an object text: the position of each kind, whether it repeats, and
+//! whether it is required. docs/object-text.md has this table. drafts.rt decides by `row` and ORDER
+//! which line may come next. No other crate sees them.
 //!
-//! drafts.rt decides by it which line may come next. specs/Order.antt has this table, and the
-//! clause of `row` says that they agree; docs/object-text.md and the vectors pin it too. ORDER has
-//! the kinds by position; the clauses of drafts.rt are proved with it. A new kind of line is a row
-//! of `row_of_kind` there and of `row` and ORDER here, and moves the positions after it. The form
-//! of the match is free.
+//! Proved: `row` is the table `row_of_kind` of specs/Order.antt, and `kind_of` is `kind_of_line`
+//! there. That ORDER has the kinds by position is used in the proofs of drafts.rt.
+//!
+//! Pinned, by `row_of_kind`, docs/object-text.md and vectors/objects.txt: the table; requests come
+//! between words and FIN, in the order of `st_card`. Free: the form of the match. A new request is
+//! a row of ORDER here and a row of the table in `st_card`.
 
-ghost use Rattle.std.specs.Prelude.{◌≡◌, ◌<◌};
+ghost use Rattle.std.specs.Prelude.{◌≡◌, ◌<◌, length};
 ghost use Rattle.st_object.specs.Order as spec;
 
 use crate::items::{Item, Kind};
-use st_card::Control;
+use st_card::{Keyword, Mark, Number, Pair, is_required, keyword_of, place};
 
 // The kinds of lines in their order in an object text.
-pub(crate) const ORDER: [Kind; 13] = [
+pub(crate) const ORDER: [Kind; 14] = [
     Kind::Object,
     Kind::Start,
     Kind::Word,
-    Kind::Budget,
-    Kind::Delay,
-    Kind::Signal,
-    Kind::Dump,
-    Kind::Trace,
-    Kind::Time,
-    Kind::Chart,
-    Kind::Snap,
-    Kind::Back,
+    Kind::Ask(Keyword::Number(Number::Budget)),
+    Kind::Ask(Keyword::Number(Number::Delays)),
+    Kind::Ask(Keyword::Pair(Pair::Signals)),
+    Kind::Ask(Keyword::Pair(Pair::Dump)),
+    Kind::Ask(Keyword::Mark(Mark::Trace)),
+    Kind::Ask(Keyword::Mark(Mark::Time)),
+    Kind::Ask(Keyword::Mark(Mark::Chart)),
+    Kind::Ask(Keyword::Number(Number::Snap)),
+    Kind::Ask(Keyword::Number(Number::Back)),
+    Kind::Ask(Keyword::Listing),
     Kind::Fin,
 ];
 
@@ -52,25 +55,18 @@ fn kind_row(place: usize, repeats: bool, required: bool) -> KindRow
     }
 }
 
-// A kind's position in the order, whether it may occur more than once, and whether it is required.
+// A kind's position in the order, whether it may occur more than once, and whether it is required. A
+// request that may be made once only is refused by its limits, in `st_card`.
 pub(crate) fn row(kind: Kind) -> KindRow
     ensures row { result ≡ spec.row_of_kind kind }
-    ensures within { result.place < 13 }
+    ensures within { result.place < length spec.order }
 {
     match kind {
         Kind::Object => kind_row(0, false, true),
         Kind::Start => kind_row(1, false, true),
         Kind::Word => kind_row(2, true, false),
-        Kind::Budget => kind_row(3, false, true),
-        Kind::Delay => kind_row(4, true, true),
-        Kind::Signal => kind_row(5, true, false),
-        Kind::Dump => kind_row(6, true, false),
-        Kind::Trace => kind_row(7, false, false),
-        Kind::Time => kind_row(8, false, false),
-        Kind::Chart => kind_row(9, false, false),
-        Kind::Snap => kind_row(10, true, false),
-        Kind::Back => kind_row(11, false, false),
-        Kind::Fin => kind_row(12, false, true),
+        Kind::Ask(keyword) => kind_row(3 + place(keyword), true, is_required(keyword)),
+        Kind::Fin => kind_row(3 + st_card::ORDER.len(), false, true),
     }
 }
 
@@ -82,15 +78,7 @@ pub(crate) fn kind_of(item: Item) -> Kind
         Item::Object => Kind::Object,
         Item::Start(_) => Kind::Start,
         Item::Word(_, _) => Kind::Word,
-        Item::Ask(Control::Budget(_)) => Kind::Budget,
-        Item::Ask(Control::Delay(_)) => Kind::Delay,
-        Item::Ask(Control::Signal(_, _)) => Kind::Signal,
-        Item::Ask(Control::Dump(_, _)) => Kind::Dump,
-        Item::Ask(Control::Trace) => Kind::Trace,
-        Item::Ask(Control::Time) => Kind::Time,
-        Item::Ask(Control::Chart) => Kind::Chart,
-        Item::Ask(Control::Snap(_)) => Kind::Snap,
-        Item::Ask(Control::Back(_)) => Kind::Back,
+        Item::Ask(control) => Kind::Ask(keyword_of(control)),
         Item::Fin => Kind::Fin,
     }
 }

@@ -1,11 +1,15 @@
-//! Reads an object text: the program that it contains, or the number of its bad line.
+//! Reads an object text: the program that it contains, or the number of its bad line, counted from
+//! 1. docs/object-text.md has the format. `st_top` calls `read_object` for the commands `load` and
+//! `disassemble`.
 //!
-//! `st_top` makes the call. `read_text` in specs/Object.antt defines the result; `ok` and `err` say
-//! that the call returns exactly that, or `NoMemory`. Besides, the text is the object text of the
-//! program (`same`), and a refusal names the first line with which no object text can begin
-//! (`first`). Lines are counted from 1. The bodies are free, but the proof in proofs/reading
-//! follows the loop. The result is pinned by the definition, docs/object-text.md and
-//! vectors/objects.txt.
+//! Proved: the result is `read_text` of specs/Object.antt, unless memory runs out (`ok`, `err`);
+//! the text is the object text of the program (`same`), and a refusal names the first line with
+//! which no object text can go on (`first`). The laws are `TextsAreReadAsOne` and
+//! `RefusedTextsHaveABadLine` (specs/Laws.antt). Not proved: speed.
+//!
+//! Pinned, by `read_text`, docs/object-text.md and vectors/objects.txt: which texts are read, and
+//! the number of the bad line; the fault is always `BadObjectCard`. Free: the bodies, if
+//! proofs/reading follows `read` and `read_object`.
 
 ghost use Rattle.std.specs.Prelude.{◌≡◌, ◌+◌, ◌<◌, ◌^◌, IfOk, IfErr, Ok};
 ghost use Rattle.st_card.specs.declared.faults.Fault.TheVariants.{BadObjectCard};

@@ -1,9 +1,12 @@
 //! The spelling of the lines of an object text, one text for each item, without its line end.
+//! docs/object-text.md has the lines. writing.rt writes them, and meaning.rt compares lines with
+//! them. `st_card` spells the lines of requests. No other crate calls `spelled`.
 //!
-//! writing.rt writes them, and meaning.rt compares lines with them. `line_text` in specs/Lines.antt
-//! defines each text, and the clauses say that the call returns exactly that. Words of storage have
-//! 16 hexadecimal digits, all other numbers are decimal. The texts are pinned by the definition,
-//! docs/object-text.md and vectors/objects.txt; the bodies are free.
+//! Proved: `spelled` is `line_text` of specs/Lines.antt.
+//!
+//! Pinned, by `line_text`, docs/object-text.md and vectors/objects.txt: each byte; words of storage
+//! have 16 hexadecimal digits, other numbers are decimal, a start is `word.bit`. Free: the bodies.
+//! A new kind of line needs a case here and in `line_text`.
 
 ghost use Rattle.std.specs.Prelude.{◌≡◌, ◌++◌, codes, decimal};
 ghost use Rattle.st_text.specs.Numerals.{hex_word, half_address};

@@ -1,11 +1,15 @@
-//! Writes an object text, the program's words, start and requests as lines.
+//! Writes an object text: the words of a program that are not zero, its start and its requests as
+//! lines. docs/object-text.md has the format. `st_top` calls `write_object` for the command
+//! `assemble`; the command `disassemble` writes a deck.
 //!
-//! `st_top` makes the call; `IsProgram` of specs/Object.antt is its precondition: the ranges of an
-//! `Image` (images.rt). `object_text` there defines the text; the clause `text` says that the call
-//! returns exactly that, and `again` that it is read as the program. Only words that are not zero
-//! have a line. The lines and their order are pinned by the definition, docs/object-text.md and
-//! vectors/objects.txt; the split into private functions is free; a change of `write_object`,
-//! `push_object` and `push_words` needs one in proofs/writing as well.
+//! Proved: the text is `object_text` of specs/Object.antt, unless memory runs out; and the
+//! definition `read_text`, which `read_object` follows (reading.rt), reads the text as the program
+//! (clause `again`). Required is `IsProgram` of specs/Object.antt: the ranges of an `Image`
+//! (images.rt).
+//!
+//! Pinned, by `object_text`, docs/object-text.md and vectors/objects.txt: the lines and their
+//! order. Free: the split into private functions, if proofs/writing follows `write_object`,
+//! `push_object` and `push_words`.
 
 ghost use Rattle.std.specs.Prelude.{◌≡◌, ◌++◌, [], ◌∷◌, OnOk, IfOk, Ok};
 ghost use Rattle.st_card.specs.Written.{unless_zero};

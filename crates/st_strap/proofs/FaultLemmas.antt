@@ -17,7 +17,7 @@ use Rattle.st_strap.specs.Order.{earlier_fault, both_of, reading_map, next_readi
 use Rattle.st_mnemonic.specs.Text.{statement_text, begins_with, behind_word}
 use Rattle.st_mnemonic.specs.Forming.{behind_description}
 use Rattle.st_strap.specs.Reading.{field_front, index_part, index_fields, index_parts, index_field, index_named, spot, reading_without_index, expression, number_or_fault, number_result, plain_number, signed_of, signed_number, with_selected, index_selector}
-use Rattle.st_strap.specs.Saying.{index_alone, spot_alone, expression_alone, number_alone, index_and_spot, index_and_list, operand_spot, two_addresses, spot_and_number, address_and_number, two_addresses_and_number, refill_and_flags, count_and_refill, index_word_parts, without_fields, with_fields, is_misnamed, statement_in_form, reading_of_operation, clean_statement_of, statement_of}
+use Rattle.st_strap.specs.Saying.{alone, two, followed, with_number, index_and_list, operand_spot, without_fields, with_fields, is_misnamed, statement_in_form, reading_of_operation, clean_statement_of, statement_of}
 use Rattle.st_strap.specs.Faults.{Wanted, an_index_word, an_address, a_plain_address, a_number, a_signed_number, wanted_by, has_other_count, number_reading, without_sign, is_bad, is_large, lacks_expression, lacks_index, is_past, any_field, operation_named, described_in, progressed_in, fields_in, has_bad_progressive, field_faults, faults_behind, faults_on, wanted_in}
 use Rattle.st_mnemonic.specs.declared.form.Form.{Form}
 use Rattle.st_mnemonic.specs.declared.operations.Operation.{Operation}
@@ -241,104 +241,62 @@ one-fault a k field is = is ∙ (sym (none-behind (field-fault k field)) ∙ one
 
 -- ---- the fields of each kind of operation
 
-index_alone-fault : (fields : List (List ℕ)) → result_err (index_alone fields) ≡ counted (an_index_word ∷ [], []) fields
-unfolding index_alone
-index_alone-fault [] = refl
-index_alone-fault (j ∷ []) = one-fault (index_field j) an_index_word j (index-fault j)
-index_alone-fault (j ∷ k ∷ more) = too-many (an_index_word ∷ [], []) (j ∷ k ∷ more) (omega arith)
+alone-fault : {A : Type 0} (read : List ℕ → Result A Fault) (k : Wanted) → ((field : List ℕ) → result_err (read field) ≡ field-fault k field) →
+    (fields : List (List ℕ)) → result_err (alone read fields) ≡ counted (k ∷ [], []) fields
+unfolding alone
+alone-fault read k is [] = refl
+alone-fault read k is (a ∷ []) = one-fault (read a) k a (is a)
+alone-fault read k is (a ∷ b ∷ more) = too-many (k ∷ [], []) (a ∷ b ∷ more) (omega arith)
 
-spot_alone-fault : (fields : List (List ℕ)) → result_err (spot_alone fields) ≡ counted (an_address false ∷ [], []) fields
-unfolding spot_alone
-spot_alone-fault [] = refl
-spot_alone-fault (a ∷ []) = one-fault (spot false a) (an_address false) a (address-fault false a)
-spot_alone-fault (a ∷ b ∷ more) = too-many (an_address false ∷ [], []) (a ∷ b ∷ more) (omega arith)
+two-fault : {A B : Type 0} (first : List ℕ → Result A Fault) (second : List ℕ → Result B Fault) (k l : Wanted) →
+    ((field : List ℕ) → result_err (first field) ≡ field-fault k field) → ((field : List ℕ) → result_err (second field) ≡ field-fault l field) →
+    (fields : List (List ℕ)) → result_err (two first second fields) ≡ counted (k ∷ l ∷ [], []) fields
+unfolding two
+two-fault first second k l is js [] = refl
+two-fault first second k l is js (a ∷ []) = refl
+two-fault first second k l is js (a ∷ b ∷ []) = pair-fault (first a) (second b) k a (l ∷ []) [] (b ∷ []) (is a) (one-fault (second b) l b (js b))
+two-fault first second k l is js (a ∷ b ∷ c ∷ more) = too-many (k ∷ l ∷ [], []) (a ∷ b ∷ c ∷ more) (omega arith)
 
-expression_alone-fault : (fields : List (List ℕ)) → result_err (expression_alone fields) ≡ counted (a_plain_address ∷ [], []) fields
-unfolding expression_alone
-expression_alone-fault [] = refl
-expression_alone-fault (a ∷ []) = one-fault (expression a) a_plain_address a (plain_address-fault a)
-expression_alone-fault (a ∷ b ∷ more) = too-many (a_plain_address ∷ [], []) (a ∷ b ∷ more) (omega arith)
+followed-fault : {A B : Type 0} (first : List ℕ → Result A Fault) (rest : List (List ℕ) → Result B Fault) (k : Wanted) (ks ms : List Wanted) →
+    ((field : List ℕ) → result_err (first field) ≡ field-fault k field) → ((fields : List (List ℕ)) → result_err (rest fields) ≡ counted (ks, ms) fields) →
+    Some BadFieldCount ≡ counted (k ∷ ks, ms) [] → (fields : List (List ℕ)) → result_err (followed first rest fields) ≡ counted (k ∷ ks, ms) fields
+unfolding followed
+followed-fault first rest k ks ms is js none [] = none
+followed-fault first rest k ks ms is js none (a ∷ more) = pair-fault (first a) (rest more) k a ks ms more (is a) (js more)
 
-number_alone-fault : (fields : List (List ℕ)) → result_err (number_alone fields) ≡ counted (a_signed_number ∷ [], []) fields
-unfolding number_alone
-number_alone-fault [] = refl
-number_alone-fault (a ∷ []) = one-fault (signed_number a) a_signed_number a (signed_number-fault a)
-number_alone-fault (a ∷ b ∷ more) = too-many (a_signed_number ∷ [], []) (a ∷ b ∷ more) (omega arith)
+with_number-fault : {A : Type 0} (read : List ℕ → Result A Fault) (k : Wanted) → ((field : List ℕ) → result_err (read field) ≡ field-fault k field) →
+    (fields : List (List ℕ)) → result_err (with_number read fields) ≡ counted (k ∷ [], a_number ∷ []) fields
+unfolding with_number
+with_number-fault read k is [] = refl
+with_number-fault read k is (a ∷ []) = pair-fault {B = ℕ} (read a) (Ok 0) k a [] (a_number ∷ []) [] (is a) refl
+with_number-fault read k is (a ∷ b ∷ []) = pair-fault (read a) (plain_number b) k a [] (a_number ∷ []) (b ∷ []) (is a) (one-fault (plain_number b) a_number b (number-fault b))
+with_number-fault read k is (a ∷ b ∷ c ∷ more) = too-many (k ∷ [], a_number ∷ []) (a ∷ b ∷ c ∷ more) (omega arith)
 
-index_and_spot-fault : (fields : List (List ℕ)) → result_err (index_and_spot fields) ≡ counted (an_index_word ∷ an_address false ∷ [], []) fields
-unfolding index_and_spot
-index_and_spot-fault [] = refl
-index_and_spot-fault (a ∷ []) = refl
-index_and_spot-fault (a ∷ b ∷ []) = pair-fault (index_field a) (spot false b) an_index_word a (an_address false ∷ []) [] (b ∷ [])
-    (index-fault a) (one-fault (spot false b) (an_address false) b (address-fault false b))
-index_and_spot-fault (a ∷ b ∷ c ∷ more) = too-many (an_index_word ∷ an_address false ∷ [], []) (a ∷ b ∷ c ∷ more) (omega arith)
+spot-fault : (fields : List (List ℕ)) → result_err (alone (spot false) fields) ≡ counted (an_address false ∷ [], []) fields
+spot-fault = alone-fault (spot false) (an_address false) (address-fault false)
 
-two_addresses-fault : (fields : List (List ℕ)) → result_err (two_addresses fields) ≡ counted (an_address false ∷ a_plain_address ∷ [], []) fields
-unfolding two_addresses
-two_addresses-fault [] = refl
-two_addresses-fault (a ∷ []) = refl
-two_addresses-fault (a ∷ b ∷ []) = pair-fault (spot false a) (expression b) (an_address false) a (a_plain_address ∷ []) [] (b ∷ [])
-    (address-fault false a) (one-fault (expression b) a_plain_address b (plain_address-fault b))
-two_addresses-fault (a ∷ b ∷ c ∷ more) = too-many (an_address false ∷ a_plain_address ∷ [], []) (a ∷ b ∷ c ∷ more) (omega arith)
-
-spot_and_number-fault : (fields : List (List ℕ)) → result_err (spot_and_number fields) ≡ counted (an_address false ∷ a_number ∷ [], []) fields
-unfolding spot_and_number
-spot_and_number-fault [] = refl
-spot_and_number-fault (a ∷ []) = refl
-spot_and_number-fault (a ∷ b ∷ []) = pair-fault (spot false a) (plain_number b) (an_address false) a (a_number ∷ []) [] (b ∷ [])
-    (address-fault false a) (one-fault (plain_number b) a_number b (number-fault b))
-spot_and_number-fault (a ∷ b ∷ c ∷ more) = too-many (an_address false ∷ a_number ∷ [], []) (a ∷ b ∷ c ∷ more) (omega arith)
-
-address_and_number-fault : (fields : List (List ℕ)) → result_err (address_and_number fields) ≡ counted (a_plain_address ∷ a_number ∷ [], []) fields
-unfolding address_and_number
-address_and_number-fault [] = refl
-address_and_number-fault (a ∷ []) = refl
-address_and_number-fault (a ∷ b ∷ []) = fault-mapped _ (both_of (expression a) (plain_number b))
-    ∙ pair-fault (expression a) (plain_number b) a_plain_address a (a_number ∷ []) [] (b ∷ [])
-    (plain_address-fault a) (one-fault (plain_number b) a_number b (number-fault b))
-address_and_number-fault (a ∷ b ∷ c ∷ more) = too-many (a_plain_address ∷ a_number ∷ [], []) (a ∷ b ∷ c ∷ more) (omega arith)
-
-two_addresses_and_number-fault : (fields : List (List ℕ)) →
-    result_err (two_addresses_and_number fields) ≡ counted (an_address false ∷ a_plain_address ∷ a_number ∷ [], []) fields
-unfolding two_addresses_and_number
-two_addresses_and_number-fault [] = refl
-two_addresses_and_number-fault (a ∷ more) = pair-fault (spot false a) (address_and_number more) (an_address false) a (a_plain_address ∷ a_number ∷ []) [] more
-    (address-fault false a) (address_and_number-fault more)
+expression-fault : (fields : List (List ℕ)) → result_err (alone expression fields) ≡ counted (a_plain_address ∷ [], []) fields
+expression-fault = alone-fault expression a_plain_address plain_address-fault
 
 operand-fault : (form : Form) (fields : List (List ℕ)) →
     result_err (operand_spot form fields) ≡ counted (an_address (nat_le 2 form.p) ∷ [], a_number ∷ []) fields
 unfolding operand_spot
-operand-fault form [] = refl
-operand-fault form (a ∷ []) = pair-fault {B = ℕ} (spot (nat_le 2 form.p) a) (Ok 0) (an_address (nat_le 2 form.p)) a [] (a_number ∷ []) []
-    (address-fault (nat_le 2 form.p) a) refl
-operand-fault form (a ∷ b ∷ []) = pair-fault (spot (nat_le 2 form.p) a) (plain_number b) (an_address (nat_le 2 form.p)) a [] (a_number ∷ []) (b ∷ [])
-    (address-fault (nat_le 2 form.p) a) (one-fault (plain_number b) a_number b (number-fault b))
-operand-fault form (a ∷ b ∷ c ∷ more) = too-many (an_address (nat_le 2 form.p) ∷ [], a_number ∷ []) (a ∷ b ∷ c ∷ more) (omega arith)
+operand-fault form = with_number-fault (spot (nat_le 2 form.p)) (an_address (nat_le 2 form.p)) (address-fault (nat_le 2 form.p))
 
-refill_and_flags-fault : (fields : List (List ℕ)) → result_err (refill_and_flags fields) ≡ counted (a_plain_address ∷ [], a_number ∷ []) fields
-unfolding refill_and_flags
-refill_and_flags-fault [] = refl
-refill_and_flags-fault (a ∷ []) = fault-mapped _ (both_of {B = ℕ} (expression a) (Ok 0))
-    ∙ pair-fault {B = ℕ} (expression a) (Ok 0) a_plain_address a [] (a_number ∷ []) [] (plain_address-fault a) refl
-refill_and_flags-fault (a ∷ b ∷ []) = fault-mapped _ (both_of (expression a) (plain_number b))
-    ∙ pair-fault (expression a) (plain_number b) a_plain_address a [] (a_number ∷ []) (b ∷ [])
-    (plain_address-fault a) (one-fault (plain_number b) a_number b (number-fault b))
-refill_and_flags-fault (a ∷ b ∷ c ∷ more) = too-many (a_plain_address ∷ [], a_number ∷ []) (a ∷ b ∷ c ∷ more) (omega arith)
+addresses-fault : (fields : List (List ℕ)) → result_err (two (spot false) expression fields) ≡ counted (an_address false ∷ a_plain_address ∷ [], []) fields
+addresses-fault = two-fault (spot false) expression (an_address false) a_plain_address (address-fault false) plain_address-fault
 
-count_and_refill-fault : (fields : List (List ℕ)) →
-    result_err (count_and_refill fields) ≡ counted (a_number ∷ a_plain_address ∷ [], a_number ∷ []) fields
-unfolding count_and_refill
-count_and_refill-fault [] = refl
-count_and_refill-fault (a ∷ more) = fault-mapped _ (both_of (plain_number a) (refill_and_flags more))
-    ∙ pair-fault (plain_number a) (refill_and_flags more) a_number a (a_plain_address ∷ []) (a_number ∷ []) more
-    (number-fault a) (refill_and_flags-fault more)
+addresses_and_number-fault : (fields : List (List ℕ)) →
+    result_err (followed (spot false) (two expression plain_number) fields) ≡ counted (an_address false ∷ a_plain_address ∷ a_number ∷ [], []) fields
+addresses_and_number-fault = followed-fault (spot false) (two expression plain_number) (an_address false) (a_plain_address ∷ a_number ∷ []) []
+    (address-fault false) (two-fault expression plain_number a_plain_address a_number plain_address-fault number-fault) refl
 
-index_word_parts-fault : (fields : List (List ℕ)) →
-    result_err (index_word_parts fields) ≡ counted (a_plain_address ∷ a_number ∷ a_plain_address ∷ [], a_number ∷ []) fields
-unfolding index_word_parts
-index_word_parts-fault [] = refl
-index_word_parts-fault (a ∷ more) = pair-fault (expression a) (count_and_refill more) a_plain_address a (a_number ∷ a_plain_address ∷ []) (a_number ∷ []) more
-    (plain_address-fault a) (count_and_refill-fault more)
+index_word-fault : (fields : List (List ℕ)) →
+    result_err (followed expression (followed plain_number (with_number expression)) fields)
+    ≡ counted (a_plain_address ∷ a_number ∷ a_plain_address ∷ [], a_number ∷ []) fields
+index_word-fault = followed-fault expression (followed plain_number (with_number expression)) a_plain_address (a_number ∷ a_plain_address ∷ []) (a_number ∷ [])
+    plain_address-fault (followed-fault plain_number (with_number expression) a_number (a_plain_address ∷ []) (a_number ∷ [])
+    number-fault (with_number-fault expression a_plain_address plain_address-fault) refl) refl
 
 without_fields-fault : (statement : Statement) (fields : List (List ℕ)) → result_err (without_fields statement fields) ≡ counted ([], []) fields
 unfolding without_fields
@@ -411,26 +369,28 @@ index_and_list-fault (j ∷ k ∷ ks) =
 
 fields-of-fault : (op : Operation) (form : Form) (fields : List (List ℕ)) → result_err (with_fields op form fields) ≡ counted (wanted_by op form) fields
 unfolding with_fields
-fields-of-fault (Half op) form fields = fault-mapped _ (index_and_spot fields) ∙ index_and_spot-fault fields
+fields-of-fault (Half op) form fields = fault-mapped _ (two index_field (spot false) fields)
+    ∙ two-fault index_field (spot false) an_index_word (an_address false) index-fault (address-fault false) fields
 fields-of-fault Sum form fields = fault-mapped _ (index_and_list fields) ∙ index_and_list-fault fields
-fields-of-fault Refill form fields = fault-mapped _ (index_alone fields) ∙ index_alone-fault fields
-fields-of-fault Execute form fields = fault-mapped _ (spot_alone fields) ∙ spot_alone-fault fields
-fields-of-fault (Branch op) form fields = fault-mapped _ (spot_alone fields) ∙ spot_alone-fault fields
+fields-of-fault Refill form fields = fault-mapped _ (alone index_field fields) ∙ alone-fault index_field an_index_word index-fault fields
+fields-of-fault Execute form fields = fault-mapped _ (alone (spot false) fields) ∙ spot-fault fields
+fields-of-fault (Branch op) form fields = fault-mapped _ (alone (spot false) fields) ∙ spot-fault fields
 fields-of-fault (Bare op) form fields = without_fields-fault _ fields
-fields-of-fault (Floating number) form fields = fault-mapped _ (spot_alone fields) ∙ spot_alone-fault fields
+fields-of-fault (Floating number) form fields = fault-mapped _ (alone (spot false) fields) ∙ spot-fault fields
 fields-of-fault (Vfl op negated) form fields = fault-mapped _ (operand_spot form fields) ∙ operand-fault form fields
 fields-of-fault (Connect kind table) form fields = fault-mapped _ (operand_spot form fields) ∙ operand-fault form fields
-fields-of-fault (Move swap) form fields = fault-mapped _ (two_addresses_and_number fields) ∙ two_addresses_and_number-fault fields
-fields-of-fault (BitBranch sense change) form fields = fault-mapped _ (two_addresses fields) ∙ two_addresses-fault fields
-fields-of-fault (IndBranch sense off) form fields = fault-mapped _ (two_addresses fields) ∙ two_addresses-fault fields
-fields-of-fault StoreCounter form fields = fault-mapped _ (two_addresses fields) ∙ two_addresses-fault fields
-fields-of-fault (Transfer write) form fields = fault-mapped _ (spot_and_number fields) ∙ spot_and_number-fault fields
-fields-of-fault Data form fields = fault-mapped _ (number_alone fields) ∙ number_alone-fault fields
-fields-of-fault IndexWord form fields = fault-mapped _ (index_word_parts fields) ∙ index_word_parts-fault fields
-fields-of-fault Synonym form fields = fault-mapped _ (expression_alone fields) ∙ expression_alone-fault fields
-fields-of-fault SetLocation form fields = fault-mapped _ (expression_alone fields) ∙ expression_alone-fault fields
-fields-of-fault Reserve form fields = fault-mapped _ (expression_alone fields) ∙ expression_alone-fault fields
-fields-of-fault End form fields = fault-mapped _ (expression_alone fields) ∙ expression_alone-fault fields
+fields-of-fault (Move swap) form fields = fault-mapped _ (followed (spot false) (two expression plain_number) fields) ∙ addresses_and_number-fault fields
+fields-of-fault (BitBranch sense change) form fields = fault-mapped _ (two (spot false) expression fields) ∙ addresses-fault fields
+fields-of-fault (IndBranch sense off) form fields = fault-mapped _ (two (spot false) expression fields) ∙ addresses-fault fields
+fields-of-fault StoreCounter form fields = fault-mapped _ (two (spot false) expression fields) ∙ addresses-fault fields
+fields-of-fault (Transfer write) form fields = fault-mapped _ (two (spot false) plain_number fields)
+    ∙ two-fault (spot false) plain_number (an_address false) a_number (address-fault false) number-fault fields
+fields-of-fault Data form fields = fault-mapped _ (alone signed_number fields) ∙ alone-fault signed_number a_signed_number signed_number-fault fields
+fields-of-fault IndexWord form fields = fault-mapped _ (followed expression (followed plain_number (with_number expression)) fields) ∙ index_word-fault fields
+fields-of-fault Synonym form fields = fault-mapped _ (alone expression fields) ∙ expression-fault fields
+fields-of-fault SetLocation form fields = fault-mapped _ (alone expression fields) ∙ expression-fault fields
+fields-of-fault Reserve form fields = fault-mapped _ (alone expression fields) ∙ expression-fault fields
+fields-of-fault End form fields = fault-mapped _ (alone expression fields) ∙ expression-fault fields
 
 progressed-fault : (p : Option Form) (op : Operation) (fields : List (List ℕ)) →
     result_err (next_reading BadProgressive p (λ f. with_fields op f fields))

@@ -5,7 +5,7 @@ use Rattle.std.proofs.lemmas.Bool.Decides.{nat_tests}
 use Rattle.st_card.specs.declared.faults.Fault.TheVariants.{BadFieldCount}
 use Rattle.st_strap.specs.Order.{both_of, reading_map}
 use Rattle.st_strap.specs.Reading.{index_field, index_selector}
-use Rattle.st_strap.specs.Saying.{index_alone, spot_alone, expression_alone, number_alone, index_and_spot, index_and_list, operand_spot, two_addresses, spot_and_number, address_and_number, two_addresses_and_number, refill_and_flags, count_and_refill, index_word_parts, without_fields, with_fields}
+use Rattle.st_strap.specs.Saying.{alone, two, followed, with_number, index_and_list, operand_spot, without_fields, with_fields}
 use Rattle.st_mnemonic.specs.declared.form.Form.{Form}
 use Rattle.st_strap.specs.declared.statement.Statement.TheVariants.{Sum}
 use Rattle.st_mnemonic.specs.declared.operations.Operation.{Operation}
@@ -28,7 +28,7 @@ long_list a b more many =
 
 past_five : (op : Operation) (form : Form) (a b c d e : List ℕ) (more : List (List ℕ)) → 13 ≤ length more →
     with_fields op form (a ∷ b ∷ c ∷ d ∷ e ∷ take 12 more) ≡ with_fields op form (a ∷ b ∷ c ∷ d ∷ e ∷ more)
-unfolding with_fields index_alone spot_alone expression_alone number_alone index_and_spot operand_spot two_addresses spot_and_number address_and_number two_addresses_and_number refill_and_flags count_and_refill index_word_parts without_fields
+unfolding with_fields alone two followed with_number operand_spot without_fields
 past_five (HalfOperation op) form a b c d e more long = refl
 past_five SumOperation form a b c d e more long =
     let front : length (take 12 more) ≡ 12 = length-take-le 12 more (omega arith) in

@@ -10,7 +10,7 @@ use Rattle.st_strap.specs.Order.{next_reading, reading_map}
 use Rattle.st_mnemonic.specs.Describing.{modes, plain_form, number_to, in_mode, description_of, may_have, described_form}
 use Rattle.st_mnemonic.specs.Forming.{progressive_forms, open_group, is_form, description_in, behind_description, form_number, may_have_form, is_behind_groups, form_with_progress}
 use Rattle.st_strap.specs.Reading.{last_open, index_start, field_front, index_part, reading_without_index, number_result, signed_of, signed_number}
-use Rattle.st_strap.specs.Saying.{number_alone, with_fields, is_misnamed, statement_in_form, reading_of_operation, clean_statement_of, statement_of}
+use Rattle.st_strap.specs.Saying.{alone, with_fields, is_misnamed, statement_in_form, reading_of_operation, clean_statement_of, statement_of}
 use Rattle.st_mnemonic.specs.declared.form.Form.{Form}
 use Rattle.st_strap.specs.declared.statement.Statement.TheVariants.{Data}
 use Rattle.st_mnemonic.specs.declared.operations.Operation.TheVariants.{Data as DataOperation}
@@ -47,11 +47,11 @@ number-decimal n small =
 
 -- the field after the description is read as the number
 field-read : (n : ℕ) → n < 2 ^ 64 → with_fields DataOperation word_form (fields_of (44 ∷ decimal n)) ≡ Ok (Data word_form false n)
-unfolding with_fields number_alone fields_of
+unfolding with_fields alone fields_of
 field-read n small =
     let ds = decimal-digits n small in
     let one = lacks-parted 44 (decimal n) (digits-lack 44 (decimal n) (low_other 44 (omega arith)) ds) in
-    ap (λ (fields : List (List ℕ)). reading_map (λ p. Data word_form p.0 p.1) (number_alone fields)) one
+    ap (λ (fields : List (List ℕ)). reading_map (λ p. Data word_form p.0 p.1) (alone signed_number fields)) one
     ∙ ap (λ r. reading_map (λ p. Data word_form p.0 p.1) r) (number-decimal n small)
 
 -- a text that begins with a comma has no progressive form

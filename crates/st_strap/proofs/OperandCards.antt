@@ -25,7 +25,7 @@ use Rattle.st_mnemonic.specs.Describing.{modes, plain_form, some_number, number_
 use Rattle.st_mnemonic.specs.Forming.{progressive_forms, open_group, is_form, description_in, behind_description, form_number, may_have_form, form_with_progress}
 use Rattle.st_strap.specs.Reading.{field_front, index_part, index_fields, index_parts, index_field, index_named, spot, reading_without_index, number_or_fault, number_result, plain_number, number_expr, index_start}
 use Rattle.st_strap.specs.Spots.{number_spot, operands_text, AreOperandNumbers, progressive_form}
-use Rattle.st_strap.specs.Saying.{index_and_spot, operand_spot, without_fields, with_fields, is_misnamed, statement_in_form, reading_of_operation, clean_statement_of, statement_of}
+use Rattle.st_strap.specs.Saying.{two, with_number, operand_spot, without_fields, with_fields, is_misnamed, statement_in_form, reading_of_operation, clean_statement_of, statement_of}
 use Rattle.st_mnemonic.specs.declared.form.Form.{Form}
 use Rattle.st_strap.specs.declared.statement.Statement.TheVariants.{Half, Branch, Vfl, Connect}
 use Rattle.st_mnemonic.specs.declared.descriptions.Description.{Description}
@@ -102,10 +102,10 @@ index-fields-read j w b small_j small_w small_b =
 
 half-said : (op : HalfOp) (j w b : ℕ) → 1 ≤ j → j ≤ 7 → w ≤ 262143 → b ≤ 63 →
     reading_of_operation (HalfOperation op) (44 ∷ (index_text j ++ 44 ∷ place_text w b)) ≡ Ok (Half op j (number_spot (64 * w + b) 0))
-unfolding with_fields index_and_spot
+unfolding with_fields two
 half-said op j w b some few fits_w fits_b =
     plain-said (HalfOperation op) (index_text j ++ 44 ∷ place_text w b)
-    ∙ (ap (λ (fields : List (List ℕ)). reading_map (λ p. Half op p.0 p.1) (index_and_spot fields))
+    ∙ (ap (λ (fields : List (List ℕ)). reading_map (λ p. Half op p.0 p.1) (two index_field (spot false) fields))
     (index-fields-read j w b (omega arith) (omega arith) (omega arith))
     ∙ (ap (λ r. reading_map (λ p. Half op p.0 p.1) (both_of r (spot false (place_text w b)))) (index-read j some few)
     ∙ ap (λ r. reading_map (λ p. Half op p.0 p.1) (both_of (Ok j) r)) (place-spot w b fits_w fits_b)))
@@ -346,14 +346,14 @@ two-fields w b o small_w small_b small_o =
 module _ (d u : Bool) (n s : ℕ) where
   one-operand : (w b : ℕ) → w ≤ 262143 → b ≤ 63 →
       operand_spot (plain_form d u n s) (fields_of (44 ∷ place_text w b)) ≡ Ok (number_spot (64 * w + b) 0, 0)
-  unfolding operand_spot
+  unfolding operand_spot with_number
   one-operand w b fits_w fits_b =
       ap (λ (fields : List (List ℕ)). operand_spot (plain_form d u n s) fields) (one-field w b (omega arith) (omega arith))
       ∙ ap (λ r. both_of r (Ok 0)) (place-spot w b fits_w fits_b)
 
   two-operands : (w b o : ℕ) → w ≤ 262143 → b ≤ 63 → o < 2 ^ 64 →
       operand_spot (plain_form d u n s) (fields_of (44 ∷ (place_text w b ++ 44 ∷ decimal o))) ≡ Ok (number_spot (64 * w + b) 0, o)
-  unfolding operand_spot
+  unfolding operand_spot with_number
   two-operands w b o fits_w fits_b small_o =
       ap (λ (fields : List (List ℕ)). operand_spot (plain_form d u n s) fields) (two-fields w b o (omega arith) (omega arith) small_o)
       ∙ (ap (λ r. both_of r (plain_number (decimal o))) (place-spot w b fits_w fits_b)
@@ -608,7 +608,7 @@ progressive_text j = codes "(V+I),0.32($X" ++ (48 + j) ∷ 41 ∷ []
 
 progressive-formed : (n j : ℕ) → 1 ≤ j → j ≤ 7 →
     statement_in_form (VflOperation Mul false) (unsigned_form n) (progressive_text j) ≡ Ok (Vfl Mul false (progressive_form n) (number_spot 32 j) 0)
-unfolding statement_in_form form_with_progress group_length form_number open_group progressive_forms may_have_form fields_of with_fields operand_spot spot index_start index_named index_parts
+unfolding statement_in_form form_with_progress group_length form_number open_group progressive_forms may_have_form fields_of with_fields operand_spot with_number spot index_start index_named index_parts
 progressive-formed n j some few =
     of_seven (λ k. statement_in_form (VflOperation Mul false) (unsigned_form n) (progressive_text k)
     ≡ Ok (Vfl Mul false (progressive_form n) (number_spot 32 k) 0))

@@ -20,7 +20,7 @@ use Rattle.st_strap.specs.Order.{next_reading, reading_map}
 use Rattle.st_mnemonic.specs.Describing.{default_form, description_of, described_form}
 use Rattle.st_mnemonic.specs.Forming.{progressive_forms, open_group, description_in, behind_description, form_number, may_have_form, form_with_progress}
 use Rattle.st_strap.specs.Reading.{field_front, index_part, reading_without_index, expression, number_expr}
-use Rattle.st_strap.specs.Saying.{expression_alone, with_fields, is_misnamed, statement_in_form, reading_of_operation, clean_statement_of, statement_of}
+use Rattle.st_strap.specs.Saying.{alone, with_fields, is_misnamed, statement_in_form, reading_of_operation, clean_statement_of, statement_of}
 use Rattle.st_mnemonic.specs.declared.form.Form.{Form}
 use Rattle.st_strap.specs.declared.statement.Statement.TheVariants.{SetLocation, End}
 use Rattle.st_mnemonic.specs.declared.operations.Operation.{Operation}
@@ -133,10 +133,10 @@ place-expression w b fits_w fits_b =
 
 -- the single field of a card with an address
 place-field : (w b : ℕ) → w ≤ 262143 → b ≤ 63 →
-    expression_alone (fields_of (44 ∷ place_text w b)) ≡ Ok (number_expr (64 * w + b))
-unfolding expression_alone fields_of
+    alone expression (fields_of (44 ∷ place_text w b)) ≡ Ok (number_expr (64 * w + b))
+unfolding alone fields_of
 place-field w b fits_w fits_b =
-    ap (λ (fields : List (List ℕ)). expression_alone fields)
+    ap (λ (fields : List (List ℕ)). alone expression fields)
     (lacks-parted 44 (place_text w b) (place-lacks 44 w b (low_other 44 (omega arith)) refl (omega arith) (omega arith)))
     ∙ place-expression w b fits_w fits_b
 

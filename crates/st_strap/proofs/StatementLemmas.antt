@@ -24,9 +24,9 @@ use Rattle.st_mnemonic.specs.Text.{statement_text, operation_text, behind_word, 
 use Rattle.st_mnemonic.specs.Table.{operation_of_word, other_operations, index_operations, index_operation, field_operations, field_operation, negated_operation, connective, connective_at, connective_kinds, truth_tables}
 use Rattle.st_mnemonic.specs.Describing.{description_of, in_pieces, in_mode, number_to, some_number, described_form, may_have, floating_number, plain_form, default_form, usual_byte, modes}
 use Rattle.st_mnemonic.specs.Forming.{description_in, behind_description, form_with_progress, form_with_number, may_have_form, form_number, progressive_forms, open_group, is_behind_groups}
-use Rattle.st_strap.specs.Reading.{field_front, index_part, index_field, index_fields, index_named, index_parts, spot, expression, plain_number, index_selector}
-use Rattle.st_strap.specs.Saying.{misnames, index_alone, spot_alone, expression_alone, number_alone, index_and_spot, index_and_list, operand_spot, two_addresses, spot_and_number, address_and_number, two_addresses_and_number, index_word_parts, without_fields, with_fields, is_misnamed, statement_in_form, reading_of_operation, clean_statement_of, statement_of}
-use Rattle.st_strap.specs.Statements.{Spot, Statement}
+use Rattle.st_strap.specs.Reading.{field_front, index_part, index_field, index_fields, index_named, index_parts, spot, expression, plain_number, signed_number, index_selector}
+use Rattle.st_strap.specs.Saying.{misnames, alone, two, followed, with_number, index_and_list, operand_spot, without_fields, with_fields, is_misnamed, statement_in_form, reading_of_operation, clean_statement_of, statement_of}
+use Rattle.st_strap.specs.Statements.{Statement}
 use Rattle.st_mnemonic.specs.declared.form.Form.{Form}
 use Rattle.st_strap.specs.declared.statement.Statement.TheVariants.{Half, Sum, Refill, Branch, Floating, Vfl, Connect, Move, BitBranch, IndBranch, StoreCounter, Transfer, Data, IndexWord, Synonym, SetLocation, Reserve, End}
 use Rattle.st_mnemonic.specs.declared.descriptions.Mode.{Mode}
@@ -35,7 +35,7 @@ use Rattle.st_mnemonic.specs.declared.descriptions.Description.{Description}
 use Rattle.st_mnemonic.specs.declared.descriptions.Description.TheVariants.{Absent, InForm, Floating as FloatingDescription}
 use Rattle.st_mnemonic.specs.declared.operations.Operation.{Operation}
 use Rattle.st_mnemonic.specs.declared.operations.Operation.TheVariants.{Half as HalfOperation, Sum as SumOperation, Refill as RefillOperation, Execute as ExecuteOperation, Branch as BranchOperation, Bare as BareOperation, Floating as FloatingOperation, Vfl as VflOperation, Connect as ConnectOperation, Move as MoveOperation, BitBranch as BitBranchOperation, IndBranch as IndBranchOperation, StoreCounter as StoreCounterOperation, Transfer as TransferOperation, Data as DataOperation, IndexWord as IndexWordOperation, Synonym as SynonymOperation, SetLocation as SetLocationOperation, Reserve as ReserveOperation, End as EndOperation}
-use Rattle.st_strap.specs.WellFormed.{IsForm, IsNumberForm, IsSpot, IsWellFormed}
+use Rattle.st_strap.specs.WellFormed.{IsForm, IsNumberForm, IsWellFormed}
 use Rattle.st_strap.proofs.ReadLemmas.{some-judged, ok-mapped, ok-both, ok-any, some-any, some-map, some-then, some-or, some-ok, row-passes}
 
 -- ---- operations
@@ -352,39 +352,35 @@ spot-is must field =
     (ok-any (expr_of (field_front field))) (part-is must (index_part field)))
     (λ p q. q.1)
 
-spot_alone-is : (fields : List (List ℕ)) → IfOk (spot_alone fields) IsSpot
-unfolding spot_alone
-spot_alone-is [] = tt
-spot_alone-is (place ∷ []) = only (spot false place) (spot-is false place)
-  where
-    only : (r : Result Spot Fault) → IfOk r (λ at. IsIndex false at.index) → IfOk r IsSpot
-    only (Ok at) h = h.0
-    only (Err e) h = tt
-spot_alone-is (place ∷ second ∷ more) = tt
+alone-is : {A : Type 0} (P : A → Type 0) (read : List ℕ → Result A Fault) → ((field : List ℕ) → IfOk (read field) P) → (fields : List (List ℕ)) →
+    IfOk (alone read fields) P
+unfolding alone
+alone-is P read is [] = tt
+alone-is P read is (field ∷ []) = is field
+alone-is P read is (field ∷ second ∷ more) = tt
 
--- the address in a pair of readings is within its bounds
-spot-with : {A : Type 0} (place : List ℕ) (other : Result A Fault) → IfOk (both_of (spot false place) other) (λ p. IsSpot p.0)
-spot-with place other = only (spot false place) other (spot-is false place)
-  where
-    only : {A : Type 0} (r : Result Spot Fault) (o : Result A Fault) → IfOk r (λ at. IsIndex false at.index) → IfOk (both_of r o) (λ p. IsSpot p.0)
-    only (Ok at) (Ok a) h = h.0
-    only (Ok at) (Err f) h = tt
-    only (Err e) (Ok a) h = tt
-    only (Err e) (Err f) h = tt
+two-is : {A B : Type 0} (P : A → Type 0) (Q : B → Type 0) (first : List ℕ → Result A Fault) (second : List ℕ → Result B Fault) →
+    ((field : List ℕ) → IfOk (first field) P) → ((field : List ℕ) → IfOk (second field) Q) → (fields : List (List ℕ)) →
+    IfOk (two first second fields) (λ p. P p.0 × Q p.1)
+unfolding two
+two-is P Q first second is js [] = tt
+two-is P Q first second is js (field ∷ []) = tt
+two-is P Q first second is js (field ∷ other ∷ []) = ok-both P Q (first field) (second other) (is field) (js other)
+two-is P Q first second is js (field ∷ other ∷ third ∷ more) = tt
 
-index_alone-is : (fields : List (List ℕ)) → IfOk (index_alone fields) (λ j. j < 16)
-unfolding index_alone
-index_alone-is [] = tt
-index_alone-is (j ∷ []) = index-is j
-index_alone-is (j ∷ second ∷ more) = tt
+spot_alone-is : (fields : List (List ℕ)) → IfOk (alone (spot false) fields) (λ at. IsIndex false at.index)
+spot_alone-is = alone-is (λ at. IsIndex false at.index) (spot false) (spot-is false)
 
-index_and_spot-is : (fields : List (List ℕ)) → IfOk (index_and_spot fields) (λ p. (p.0 < 16) × IsIndex false p.1.index)
-unfolding index_and_spot
-index_and_spot-is [] = tt
-index_and_spot-is (j ∷ []) = tt
-index_and_spot-is (j ∷ place ∷ []) =
-    ok-both (λ j. j < 16) (λ at. IsIndex false at.index) (index_field j) (spot false place) (index-is j) (spot-is false place)
-index_and_spot-is (j ∷ place ∷ third ∷ more) = tt
+-- an address and an expression: the index word of the address is within its bounds
+addresses-is : (fields : List (List ℕ)) → IfOk (two (spot false) expression fields) (λ p. IsIndex false p.0.index × Unit {0})
+addresses-is = two-is (λ at. IsIndex false at.index) (λ _. Unit {0}) (spot false) expression (spot-is false) (λ field. ok-any (expression field))
+
+followed-is : (fields : List (List ℕ)) → IfOk (followed (spot false) (two expression plain_number) fields) (λ p. IsIndex false p.0.index × Unit {0})
+unfolding followed
+followed-is [] = tt
+followed-is (field ∷ more) =
+    ok-both (λ at. IsIndex false at.index) (λ _. Unit {0}) (spot false field) (two expression plain_number more) (spot-is false field)
+    (ok-any (two expression plain_number more))
 
 index_and_list-is : (fields : List (List ℕ)) → IfOk (index_and_list fields) (λ p. (p.0 < 16) × Unit {0})
 unfolding index_and_list
@@ -397,7 +393,7 @@ index_and_list-is (j ∷ k ∷ ks) =
     ]
 
 operand-is : (form : Form) (fields : List (List ℕ)) → IfOk (operand_spot form fields) (λ p. IsIndex (nat_le 2 form.p) p.0.index × Unit {0})
-unfolding operand_spot
+unfolding operand_spot with_number
 operand-is form [] = tt
 operand-is form (place ∷ []) =
     ok-both (λ at. IsIndex (nat_le 2 form.p) at.index) (λ _. Unit {0}) (spot (nat_le 2 form.p) place) (Ok 0)
@@ -406,25 +402,6 @@ operand-is form (place ∷ offset ∷ []) =
     ok-both (λ at. IsIndex (nat_le 2 form.p) at.index) (λ _. Unit {0}) (spot (nat_le 2 form.p) place) (plain_number offset)
     (spot-is (nat_le 2 form.p) place) (ok-any (plain_number offset))
 operand-is form (place ∷ offset ∷ third ∷ more) = tt
-
-two_addresses-is : (fields : List (List ℕ)) → IfOk (two_addresses fields) (λ p. IsSpot p.0)
-unfolding two_addresses
-two_addresses-is [] = tt
-two_addresses-is (place ∷ []) = tt
-two_addresses-is (place ∷ second ∷ []) = spot-with place (expression second)
-two_addresses-is (place ∷ second ∷ third ∷ more) = tt
-
-spot_and_number-is : (fields : List (List ℕ)) → IfOk (spot_and_number fields) (λ p. IsSpot p.0)
-unfolding spot_and_number
-spot_and_number-is [] = tt
-spot_and_number-is (place ∷ []) = tt
-spot_and_number-is (place ∷ n ∷ []) = spot-with place (plain_number n)
-spot_and_number-is (place ∷ n ∷ third ∷ more) = tt
-
-two_and_number-is : (fields : List (List ℕ)) → IfOk (two_addresses_and_number fields) (λ p. IsSpot p.0)
-unfolding two_addresses_and_number
-two_and_number-is [] = tt
-two_and_number-is (place ∷ more) = spot-with place (address_and_number more)
 
 -- ---- statements
 
@@ -451,21 +428,21 @@ not_misused writing form i may is =
 with_fields-is : (op : Operation) (form : Form) (fields : List (List ℕ)) → Carries op form → IfOk (with_fields op form fields) IsWellFormed
 unfolding with_fields without_fields
 with_fields-is (HalfOperation op) form fields carries =
-    ok-mapped (λ p. (p.0 < 16) × IsIndex false p.1.index) IsWellFormed (λ p. Half op p.0 p.1) (index_and_spot fields)
-    (index_and_spot-is fields) (λ p q. (q.0, q.1.0))
+    ok-mapped (λ p. (p.0 < 16) × IsIndex false p.1.index) IsWellFormed (λ p. Half op p.0 p.1) (two index_field (spot false) fields)
+    (two-is (λ j. j < 16) (λ at. IsIndex false at.index) index_field (spot false) index-is (spot-is false) fields) (λ p q. (q.0, q.1.0))
 with_fields-is SumOperation form fields carries =
     ok-mapped (λ p. (p.0 < 16) × Unit {0}) IsWellFormed (λ p. Sum p.0 p.1) (index_and_list fields)
     (index_and_list-is fields) (λ p q. q.0)
 with_fields-is RefillOperation form fields carries =
-    ok-mapped (λ j. j < 16) IsWellFormed (λ j. Refill j) (index_alone fields) (index_alone-is fields) (λ j q. q)
+    ok-mapped (λ j. j < 16) IsWellFormed Refill (alone index_field fields) (alone-is (λ j. j < 16) index_field index-is fields) (λ j q. q)
 with_fields-is ExecuteOperation form fields carries =
-    ok-mapped IsSpot IsWellFormed (λ at. Half Ex 0 at) (spot_alone fields) (spot_alone-is fields) (λ at q. (lit< tt, q))
+    ok-mapped (λ at. IsIndex false at.index) IsWellFormed (Half Ex 0) (alone (spot false) fields) (spot_alone-is fields) (λ at q. (lit< tt, q.0))
 with_fields-is (BranchOperation op) form fields carries =
-    ok-mapped IsSpot IsWellFormed (λ at. Branch op (Some at)) (spot_alone fields) (spot_alone-is fields) (λ at q. q)
+    ok-mapped (λ at. IsIndex false at.index) IsWellFormed (λ at. Branch op (Some at)) (alone (spot false) fields) (spot_alone-is fields) (λ at q. q.0)
 with_fields-is (BareOperation op) form [] carries = tt
 with_fields-is (BareOperation op) form (field ∷ more) carries = tt
 with_fields-is (FloatingOperation number) form fields carries =
-    ok-mapped IsSpot IsWellFormed (λ at. Floating number at) (spot_alone fields) (spot_alone-is fields) (λ at q. (carries, q))
+    ok-mapped (λ at. IsIndex false at.index) IsWellFormed (Floating number) (alone (spot false) fields) (spot_alone-is fields) (λ at q. (carries, q.0))
 with_fields-is (VflOperation op negated) form fields carries =
     ok-mapped (λ p. IsIndex (nat_le 2 form.p) p.0.index × Unit {0}) IsWellFormed (λ p. Vfl op negated form p.0 p.1)
     (operand_spot form fields) (operand-is form fields)
@@ -475,34 +452,35 @@ with_fields-is (ConnectOperation kind truth) form fields carries =
     (operand_spot form fields) (operand-is form fields)
     (λ p q. (carries.0, q.0.0, carries.1, not_misused (writes_field (Connective kind)) form p.0.index carries.2 q.0))
 with_fields-is (MoveOperation swap) form fields carries =
-    ok-mapped (λ p. IsSpot p.0) IsWellFormed (λ p. Move swap p.0 p.1.address p.1.number) (two_addresses_and_number fields)
-    (two_and_number-is fields) (λ p q. q)
+    ok-mapped (λ p. IsIndex false p.0.index × Unit {0}) IsWellFormed (λ p. Move swap p.0 p.1.0 p.1.1)
+    (followed (spot false) (two expression plain_number) fields) (followed-is fields) (λ p q. q.0.0)
 with_fields-is (BitBranchOperation sense change) form fields carries =
-    ok-mapped (λ p. IsSpot p.0) IsWellFormed (λ p. BitBranch sense change p.0 p.1) (two_addresses fields)
-    (two_addresses-is fields) (λ p q. (q, carries))
+    ok-mapped (λ p. IsIndex false p.0.index × Unit {0}) IsWellFormed (λ p. BitBranch sense change p.0 p.1) (two (spot false) expression fields)
+    (addresses-is fields) (λ p q. (q.0.0, carries))
 with_fields-is (IndBranchOperation sense off) form fields carries =
-    ok-mapped (λ p. IsSpot p.0) IsWellFormed (λ p. IndBranch sense off p.0 p.1) (two_addresses fields)
-    (two_addresses-is fields) (λ p q. q)
+    ok-mapped (λ p. IsIndex false p.0.index × Unit {0}) IsWellFormed (λ p. IndBranch sense off p.0 p.1) (two (spot false) expression fields)
+    (addresses-is fields) (λ p q. q.0.0)
 with_fields-is StoreCounterOperation form fields carries =
-    ok-mapped (λ p. IsSpot p.0) IsWellFormed (λ p. StoreCounter p.0 p.1) (two_addresses fields)
-    (two_addresses-is fields) (λ p q. q)
+    ok-mapped (λ p. IsIndex false p.0.index × Unit {0}) IsWellFormed (λ p. StoreCounter p.0 p.1) (two (spot false) expression fields)
+    (addresses-is fields) (λ p q. q.0.0)
 with_fields-is (TransferOperation write) form fields carries =
-    ok-mapped (λ p. IsSpot p.0) IsWellFormed (λ p. Transfer write p.0 p.1) (spot_and_number fields)
-    (spot_and_number-is fields) (λ p q. q)
+    ok-mapped (λ p. IsIndex false p.0.index × Unit {0}) IsWellFormed (λ p. Transfer write p.0 p.1) (two (spot false) plain_number fields)
+    (two-is (λ at. IsIndex false at.index) (λ _. Unit {0}) (spot false) plain_number (spot-is false) (λ field. ok-any (plain_number field)) fields)
+    (λ p q. q.0.0)
 with_fields-is DataOperation form fields carries =
-    ok-mapped (λ _. Unit {0}) IsWellFormed (λ p. Data form p.0 p.1) (number_alone fields) (ok-any (number_alone fields))
+    ok-mapped (λ _. Unit {0}) IsWellFormed (λ p. Data form p.0 p.1) (alone signed_number fields) (ok-any (alone signed_number fields))
     (λ p q. carries)
 with_fields-is IndexWordOperation form fields carries =
-    ok-mapped (λ _. Unit {0}) IsWellFormed (λ p. IndexWord p.0 p.1.count p.1.refill p.1.flags) (index_word_parts fields)
-    (ok-any (index_word_parts fields)) (λ p q. tt)
+    let read = followed expression (followed plain_number (with_number expression)) fields in
+    ok-mapped (λ _. Unit {0}) IsWellFormed (λ p. IndexWord p.0 p.1.0 p.1.1.0 p.1.1.1) read (ok-any read) (λ p q. tt)
 with_fields-is SynonymOperation form fields carries =
-    ok-mapped (λ _. Unit {0}) IsWellFormed (λ at. Synonym at) (expression_alone fields) (ok-any (expression_alone fields)) (λ p q. tt)
+    ok-mapped (λ _. Unit {0}) IsWellFormed Synonym (alone expression fields) (ok-any (alone expression fields)) (λ p q. tt)
 with_fields-is SetLocationOperation form fields carries =
-    ok-mapped (λ _. Unit {0}) IsWellFormed (λ at. SetLocation at) (expression_alone fields) (ok-any (expression_alone fields)) (λ p q. tt)
+    ok-mapped (λ _. Unit {0}) IsWellFormed SetLocation (alone expression fields) (ok-any (alone expression fields)) (λ p q. tt)
 with_fields-is ReserveOperation form fields carries =
-    ok-mapped (λ _. Unit {0}) IsWellFormed (λ at. Reserve at) (expression_alone fields) (ok-any (expression_alone fields)) (λ p q. tt)
+    ok-mapped (λ _. Unit {0}) IsWellFormed Reserve (alone expression fields) (ok-any (alone expression fields)) (λ p q. tt)
 with_fields-is EndOperation form fields carries =
-    ok-mapped (λ _. Unit {0}) IsWellFormed (λ at. End at) (expression_alone fields) (ok-any (expression_alone fields)) (λ p q. tt)
+    ok-mapped (λ _. Unit {0}) IsWellFormed End (alone expression fields) (ok-any (alone expression fields)) (λ p q. tt)
 
 formed-is : (op : Operation) (form : Form) (text : List ℕ) → Suits op form → IfOk (statement_in_form op form text) IsWellFormed
 unfolding statement_in_form

@@ -1,4 +1,11 @@
 -- The faults that a statement card has, each defined by itself, and the order in which they count.
+--
+-- Proved: no `ensures` clause names a definition of this file.
+-- Read by: definitions in Stops of st_asm.
+-- Laws: TheFirstFaultOfTheListCounts (specs/Laws.antt).
+-- Change: no page fixes these definitions, since no contract of a program unfolds to them; they
+-- change together with the clauses, definitions and laws that name them. docs/strap.md describes
+-- the subject.
 use Rattle.std.specs.Prelude.{ℕ, ◌-◌, ◌^◌, ◌||◌, Bool, true, false, nat_le, nat_lt, List, [], ◌∷◌, ◌++◌, length, drop, replicate, Option, is_none, if◌then◌else◌}
 use Rattle.std.specs.List.{list_any, zip}
 use Rattle.std.specs.Option.{option_map, option_and_then, option_map_or}
@@ -19,8 +26,7 @@ use Rattle.st_mnemonic.specs.declared.form.Form.{Form}
 use Rattle.st_mnemonic.specs.declared.operations.Operation.{Operation}
 use Rattle.st_mnemonic.specs.declared.operations.Operation.TheVariants.{Half, Sum, Refill, Execute, Branch, Bare, Floating, Vfl, Connect, Move, BitBranch, IndBranch, StoreCounter, Transfer, Data, IndexWord, Synonym, SetLocation, Reserve, End}
 
--- the kind of a field: an index word, an address whose index part is optional or required, an
--- address without one, a number, or a number with an optional sign
+-- the kind of a field; the Boolean of an address says whether its index part is required
 pub data Wanted : Type 0 where
   an_index_word : Wanted
   an_address : Bool → Wanted

@@ -1,4 +1,8 @@
 -- Laws of all statement cards.
+--
+-- Proved: each law has its lemma in proofs/Laws.antt, with its name in small letters.
+-- Claimed: docs/CLAIMS.md names TheFirstFaultOfTheListCounts.
+-- Change: docs/promises.txt lists each law, and the gate compares the list with the laws.
 use Rattle.std.specs.Prelude.{◌≡◌, ◌≤◌, ◌<◌, ◌+◌, ◌*◌, ◌^◌, ◌++◌, ℕ, List, [], false, true, codes, decimal, None, Ok}
 use Rattle.st_card.specs.Cards.{first_fault}
 use Rattle.st_mnemonic.specs.Describing.{plain_form}

@@ -1,4 +1,14 @@
 -- The readings of single fields of a statement.
+--
+-- Proved: by their `ensures` clauses these calls do what definitions here say:
+-- `two_addresses_and_number` (shapes.rt), `split_index` (fields.rt), `address_and_number`
+-- (shapes.rt), `count_and_refill` (shapes.rt), and others.
+-- Read by: definitions in Saying, Faults, Spots.
+-- Laws: PlacesAreRead (specs/Laws.antt), PlacesComeBack (specs/Laws.antt of st_dis), SymbolsAgree
+-- (specs/Laws.antt of st_laws).
+-- Change: the meaning is fixed by docs/strap.md, since the contracts of `st_top::stretch` and
+-- `st_account::ledger` unfold to a definition here. The form is free, with the proofs that unfold
+-- it.
 use Rattle.std.specs.Prelude.{ℕ, ◌+◌, ◌-◌, ◌==◌, ◌^◌, ◌/◌, Bool, true, false, bit_or, List, [], ◌∷◌, length, take, drop, codes, Option, None, Some, unwrap_or, Result, Ok, Err, if◌then◌else◌}
 use Rattle.std.specs.Option.{option_map, option_or, ok_or}
 use Rattle.st_text.specs.Bytes.{open_parenthesis, close_parenthesis, plus_sign, minus_sign}
@@ -22,8 +32,7 @@ last_open [] = None
 last_open (c ∷ cs) = option_or (option_map (λ n. n + 1) (last_open cs))
     (if c == open_parenthesis then Some 0 else None)
 
--- the offset at which the index part of a field begins: at its last `(` if the field ends with `)`,
--- else the field's length
+-- the offset of a field's index part: of its last `(` if it ends with `)`, else the field's length
 unfoldable pub index_start : List ℕ → ℕ
 index_start field = if ends_with close_parenthesis field
     then unwrap_or (last_open field) (length field) else length field
@@ -38,16 +47,14 @@ index_part field = drop (index_start field) field
 
 -- the texts of index fields, each with its index word
 unfoldable pub index_fields : List (List ℕ × ℕ)
-index_fields =
-    (codes "$X0", 0) ∷ (codes "$X1", 1) ∷ (codes "$X2", 2) ∷ (codes "$X3", 3) ∷ (codes "$X4", 4)
-    ∷ (codes "$X5", 5) ∷ (codes "$X6", 6) ∷ (codes "$X7", 7) ∷ (codes "$X8", 8) ∷ (codes "$X9", 9)
-    ∷ (codes "$X10", 10) ∷ (codes "$X11", 11) ∷ (codes "$X12", 12) ∷ (codes "$X13", 13)
-    ∷ (codes "$X14", 14) ∷ (codes "$X15", 15) ∷ []
+index_fields = (codes "$X0", 0) ∷ (codes "$X1", 1) ∷ (codes "$X2", 2) ∷ (codes "$X3", 3)
+    ∷ (codes "$X4", 4) ∷ (codes "$X5", 5) ∷ (codes "$X6", 6) ∷ (codes "$X7", 7) ∷ (codes "$X8", 8)
+    ∷ (codes "$X9", 9) ∷ (codes "$X10", 10) ∷ (codes "$X11", 11) ∷ (codes "$X12", 12)
+    ∷ (codes "$X13", 13) ∷ (codes "$X14", 14) ∷ (codes "$X15", 15) ∷ []
 
 -- the texts of index parts, each with its index word
 unfoldable pub index_parts : List (List ℕ × ℕ)
-index_parts =
-    (codes "($X1)", 1) ∷ (codes "($X2)", 2) ∷ (codes "($X3)", 3) ∷ (codes "($X4)", 4)
+index_parts = (codes "($X1)", 1) ∷ (codes "($X2)", 2) ∷ (codes "($X3)", 3) ∷ (codes "($X4)", 4)
     ∷ (codes "($X5)", 5) ∷ (codes "($X6)", 6) ∷ (codes "($X7)", 7) ∷ (codes "($X8)", 8)
     ∷ (codes "($X9)", 9) ∷ (codes "($X10)", 10) ∷ (codes "($X11)", 11) ∷ (codes "($X12)", 12)
     ∷ (codes "($X13)", 13) ∷ (codes "($X14)", 14) ∷ (codes "($X15)", 15) ∷ []
@@ -61,8 +68,7 @@ unfoldable pub index_named : Bool → List ℕ → Result ℕ Fault
 index_named must [] = if must then Err BadIndex else Ok 0
 index_named must (c ∷ cs) = ok_or (row_of (c ∷ cs) index_parts) BadIndex
 
--- the reading of an address with an index part, which is required if `must` is true and optional
--- otherwise
+-- the reading of an address with an index part, which is required if `must` and else optional
 unfoldable pub spot : Bool → List ℕ → Result Spot Fault
 spot must field = reading_map (λ p. record { expr = p.0; index = p.1 })
     (both_of (expr_of (field_front field)) (index_named must (index_part field)))
@@ -110,8 +116,7 @@ selector j = 2 ^ 15 / 2 ^ j
 -- a list of index words with one added, or the first fault of both
 abbrev pub with_selected : Result ℕ Fault → Result ℕ Fault → Result ℕ Fault
 with_selected (Ok j) (Ok list) = Ok (bit_or (selector j) list)
-with_selected (Ok j) (Err e) = Err BadIndex
-with_selected (Err e) list = Err BadIndex
+with_selected _ _ = Err BadIndex
 
 -- the list of index words, as bits, that fields name
 abbrev pub index_selector : List (List ℕ) → Result ℕ Fault

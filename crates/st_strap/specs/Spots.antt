@@ -1,4 +1,10 @@
 -- Operands whose addresses are numbers: their texts and their readings.
+--
+-- Proved: no `ensures` clause names a definition of this file.
+-- Laws: FieldOperationsAreRead (specs/Laws.antt), IndexOperationsAreRead (specs/Laws.antt).
+-- Change: no page fixes these definitions, since no contract of a program unfolds to them; they
+-- change together with the clauses, definitions and laws that name them. docs/strap.md describes
+-- the subject.
 use Rattle.std.specs.Prelude.{ℕ, ◌≤◌, ◌<◌, ◌^◌, true, false, List, ◌++◌, codes, decimal}
 use Rattle.st_strap.specs.Reading.{number_expr}
 use Rattle.st_mnemonic.specs.Describing.{plain_form}

@@ -1,4 +1,11 @@
 -- Bounds of a statement's parts: they fit in their fields of an instruction.
+--
+-- Proved: no `ensures` clause names a definition of this file.
+-- Read by: definitions in Kept of st_asm, EmittedNumbers of st_laws.
+-- Laws: none names a definition of this file itself.
+-- Change: no page fixes these definitions, since no contract of a program unfolds to them; they
+-- change together with the clauses, definitions and laws that name them. docs/strap.md describes
+-- the subject.
 use Rattle.std.specs.Prelude.{◌<◌, ◌≤◌, IsFalse, Option, None, Some}
 use Rattle.st_format.specs.Operations.{writes_field}
 use Rattle.st_format.specs.Validity.{misfits, misuses_p}
@@ -36,11 +43,9 @@ IsWellFormed (Sum j listed) = j < 16
 IsWellFormed (Refill j) = j < 16
 IsWellFormed (Branch op at) = IsSpotOrNone at
 IsWellFormed (Floating number at) = (number < 16) × IsSpot at
-IsWellFormed (Vfl op negated form at offset) =
-    IsNumberForm form × IsSpot at
+IsWellFormed (Vfl op negated form at offset) = IsNumberForm form × IsSpot at
     × IsFalse (misuses_p (writes_field (Variable op)) form.p form.length at.index)
-IsWellFormed (Connect kind truth form at offset) =
-    IsForm form × IsSpot at × (truth < 16)
+IsWellFormed (Connect kind truth form at offset) = IsForm form × IsSpot at × (truth < 16)
     × IsFalse (misuses_p (writes_field (Connective kind)) form.p form.length at.index)
 IsWellFormed (Move swap at second count) = IsSpot at
 IsWellFormed (BitBranch sense change at second) = IsSpot at × (change < 4)

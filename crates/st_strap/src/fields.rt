@@ -1,12 +1,16 @@
 //! Parsers of single fields of a statement: index words, addresses with or without an index part,
-//! numbers.
+//! and numbers below 2^64. docs/strap.md has the rules. shapes.rt calls them for each list of
+//! fields; no other crate does.
 //!
-//! shapes.rt combines them for each operation. specs/Reading.antt defines the reading of each kind
-//! of field, and specs/Order.antt the order of faults; each clause says that the call returns
-//! exactly that, so the two tables are proved to be those there. Numbers are below 2^64 and are not
-//! checked further here. That `rank` is the number of the variant pins the order of `Fault` in
-//! `st_card`. The results are pinned by the definitions and docs/strap.md; the bodies are free, but
-//! proofs/fields follows some.
+//! Proved: each call returns exactly the value or the fault that the definition of its name in
+//! specs/Reading.antt gives (`spot`, `expression`, `plain_number`, `signed_number`, `index_field`),
+//! and of two faults the earlier one in the list (`both_of` in specs/Order.antt). That a fault of a
+//! field is the first of its card is the law `TheFirstFaultOfTheListCounts` in specs/Laws.antt. Not
+//! proved here: that a number fits its place, which `st_asm` checks.
+//!
+//! Pinned, by `index_fields` and `index_parts` of specs/Reading.antt: the texts and numbers of both
+//! tables. Pinned, by `rank` of specs/Order.antt, which numbers the variants of `Fault` of
+//! `st_card`: their order. Free: the bodies and the search in the tables, if proofs/fields follows.
 
 ghost use Rattle.std.specs.Prelude.{◌≡◌, ◌≤◌, ◌<◌, length, IfOk, IfSome};
 ghost use Rattle.st_text.specs.Tables.{row_of};

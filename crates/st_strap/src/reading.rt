@@ -1,11 +1,16 @@
-//! Parses a statement: name, operation, data description, progressive form and fields of a card.
+//! Parses a statement: the operation, data description, progressive form and fields of a card, and
+//! whether its name is allowed. docs/strap.md has the rules. `st_asm` calls `read_compact` for each
+//! statement card (form pass, and single statements for the disassembler); no program calls
+//! `read_statement`.
 //!
-//! The assembler (`st_asm`) makes the call `read_compact` for each statement card, in the form
-//! pass. `statement_of` in specs/Saying.antt defines the statement or the fault, and the clauses
-//! say that both calls return exactly that. Each private function is one step of that definition,
-//! in the order in which faults count. A new operation needs a case in `with_fields` there and
-//! here, and a function in saying.rt. The result is pinned by the definition, docs/strap.md and the
-//! vectors. The split is free; proofs/reading follows `with_text` and `with_fields`.
+//! Proved: both calls return exactly `statement_of` of specs/Saying.antt, the statement or its
+//! first fault. That faults count in the order of their list is the law
+//! `TheFirstFaultOfTheListCounts` in specs/Laws.antt.
+//!
+//! Pinned, by `statement_of` and vectors/faults.txt: the order of the steps, which decides which
+//! fault counts. Each private function is one step. A new operation needs a case of `with_fields`,
+//! here and in specs/Saying.antt, and a function in saying.rt. Free: the split into functions, if
+//! proofs/reading follows.
 
 ghost use Rattle.std.specs.Prelude.{◌≡◌, ◌≤◌, length};
 ghost use Rattle.st_mnemonic.specs.Fields.{texts};

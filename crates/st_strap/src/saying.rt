@@ -1,12 +1,15 @@
-//! The statement of each operation, parsed from its form and its fields. Each operation has a
-//! function of its own that is never inlined, so that the large values of the other operations need
-//! not be cleared.
+//! The statement of each operation, parsed from its form and its fields: one function for each.
+//! docs/strap.md has the fields of each operation. reading.rt calls these functions; no other
+//! module does.
 //!
-//! reading.rt calls them. The clause of each is the case of `with_fields` in specs/Saying.antt for
-//! its operation, and says that the call returns exactly that. Which fields an operation has is
-//! chosen here by a function of shapes.rt, and defined there. The attribute is free: it is for
-//! speed only, which is not proved. The fields of each operation are pinned by the definition,
-//! docs/strap.md and the vectors.
+//! Proved: each function returns exactly the case of `with_fields` in specs/Saying.antt for its
+//! operation: its statement or its first fault. Not proved: that `inline(never)` saves time; the
+//! attribute is there so that the values of the other operations need not be cleared.
+//!
+//! Pinned, by `with_fields`, docs/strap.md and vectors/mnemonics.txt: which fields an operation
+//! has, that is which function of shapes.rt is called. A new operation needs a function here and a
+//! case of `with_fields`, in reading.rt and in specs/Saying.antt. Free: the attribute and the
+//! bodies.
 
 ghost use Rattle.std.specs.Prelude.{◌≡◌};
 ghost use Rattle.st_mnemonic.specs.Fields.{texts};
@@ -143,12 +146,12 @@ pub(crate) fn parse_move(swap: bool, fields: &[FieldText]) -> Result<CompactStat
     ensures { (form : FormOf) → result ≡ spec.with_fields (Operation.Move swap) form
         (texts fields.now) }
 {
-    let (at, more) = two_addresses_and_number(fields)?;
+    let (at, (second, count)) = two_addresses_and_number(fields)?;
     Ok(Statement::Move {
         swap,
         at,
-        second: more.address,
-        count: more.number,
+        second,
+        count,
     })
 }
 
@@ -229,12 +232,12 @@ pub(crate) fn parse_index_word(fields: &[FieldText]) -> Result<CompactStatement,
     ensures { (form : FormOf) → result ≡ spec.with_fields Operation.IndexWord form
         (texts fields.now) }
 {
-    let (value, more) = index_word_parts(fields)?;
+    let (value, (count, (refill, flags))) = index_word_parts(fields)?;
     Ok(Statement::IndexWord {
         value,
-        count: more.count,
-        refill: more.refill,
-        flags: more.flags,
+        count,
+        refill,
+        flags,
     })
 }
 

@@ -1,11 +1,17 @@
-//! Statements and their addresses: the values that a card is parsed to, and that the assembler
-//! places and encodes.
+//! Statements and their addresses: the values that a card is parsed to. The parsers of this crate
+//! make them; the passes of `st_asm` take them. docs/strap.md describes the operations.
 //!
-//! Addresses are in two representations, `Expr` (terms) and `ExprText` (text), which contracts see
-//! as equal values. Nothing is proved here. The variants and fields are pinned: they are part of
-//! specs/Saying.antt and of most definitions of `st_asm`; a new kind of statement needs its cases
-//! there, in saying.rt and in terms.rt. `at` without an index part is an expression, with one a
-//! `Spot`. The representation `E` is free, as contracts do not see it.
+//! Addresses have two representations, `Expr` (terms) and `ExprText` (text), which contracts see as
+//! equal values. An address that can have an index part is a `Spot`, one that can have none is an
+//! expression.
+//!
+//! Proved: nothing here, there is no code. The numbers of index words and forms of every parsed
+//! statement are in range (`IsWellFormed` in specs/WellFormed.antt, proved in
+//! proofs/StatementLemmas.antt); `st_asm` requires this.
+//!
+//! Pinned, by specs/Saying.antt and the definitions of `st_asm`: variants and fields. A new kind of
+//! statement needs cases in these, in saying.rt and in terms.rt. Free: the representation of
+//! addresses, and the derived traits.
 
 use st_bits::{BranchOp, ConnKind, HalfOp, VflOp};
 use st_expr::{Expr, ExprText};

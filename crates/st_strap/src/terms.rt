@@ -1,8 +1,13 @@
-//! Conversion of statements to ones whose addresses are lists of terms, for `read_statement`.
+//! Converts a statement whose addresses are texts to one whose addresses are lists of terms. Only
+//! `read_statement` of reading.rt calls this module; docs/CLAIMS.md offers that call. The programs
+//! use `read_compact`, which keeps texts. docs/strap.md describes statements.
 //!
-//! Contracts see both representations as equal values, so the clause is that the result is the
-//! argument: no field is changed or confused. That clause pins the result; the body is free. A new
-//! kind of statement needs a case here. The programs use `read_compact`, without this conversion.
+//! Proved, by the clause of `statement_terms`: the result equals the argument, because contracts
+//! see both representations of an address as equal values. So no field is changed or confused.
+//!
+//! Pinned: the clause of `statement_terms`, by the contract of `read_statement`. Free: how the
+//! cases are written. A new variant of `Statement` (statement.rt) needs a case; the compiler names
+//! a missing one.
 
 ghost use Rattle.std.specs.Prelude.{◌≡◌};
 

@@ -1,4 +1,14 @@
 -- Names for the bytes at which texts are split and of which they consist.
+--
+-- Proved: by their `ensures` clauses these calls do what definitions here say: `filled_len`
+-- (blanks.rt), `is_printable_byte` (bytes.rt), `close_line` (lines.rt), `is_printable` (cards.rt of
+-- st_card), and others.
+-- Read by: definitions in Numerals, Blanks, Number, Pieces, and others.
+-- Laws: CardsAreLines (specs/Laws.antt of st_dis), LabelsStayInTheirLines (specs/Laws.antt of
+-- st_entries).
+-- Change: the meaning is fixed by docs/strap.md, since the contracts of `st_top::stretch` and
+-- `st_account::ledger` and `st_draw::draw` unfold to a definition here. The form is free, with the
+-- proofs that unfold it.
 use Rattle.std.specs.Prelude.{ℕ, ◌&&◌, Bool, nat_le, List, [], ◌∷◌}
 use Rattle.std.specs.List.{list_all}
 
@@ -47,17 +57,13 @@ letter_a = 65
 abbrev pub letter_n : ℕ
 letter_n = 78
 
--- the last printable byte of ASCII
-abbrev pub tilde : ℕ
-tilde = 126
-
 -- the line end as a text
 abbrev pub lf : List ℕ
 lf = line_end ∷ []
 
--- whether a byte is a blank or a printable character of ASCII
+-- whether a byte is a blank or a printable character of ASCII, which ends with the tilde, 126
 abbrev pub is_printable_byte : ℕ → Bool
-is_printable_byte c = nat_le blank c && nat_le c tilde
+is_printable_byte c = nat_le blank c && nat_le c 126
 
 -- whether a text consists of blanks and printable characters of ASCII
 abbrev pub is_printable : List ℕ → Bool

@@ -1,4 +1,13 @@
 -- Plain decimal numbers: one or more digits, without a sign.
+--
+-- Proved: by their `ensures` clauses these calls do what definitions here say: `read_number`
+-- (numbers.rt), `number_up_to` (numbers.rt), `read_digits` (numbers.rt).
+-- Read by: definitions in Pieces, Faults of st_strap, Command of st_top, Keywords of st_card, and
+-- others.
+-- Laws: none names a definition of this file itself.
+-- Change: the meaning is fixed by docs/strap.md, since the contracts of `st_top::stretch` and
+-- `st_account::ledger` and `st_draw::draw` unfold to a definition here. The form is free, with the
+-- proofs that unfold it.
 use Rattle.std.specs.Prelude.{ℕ, ◌+◌, ◌*◌, ◌-◌, ◌==◌, ◌&&◌, ◌≤◌, Bool, not, nat_le, List, [], ◌∷◌, length, Option, Some, None, if◌then◌else◌}
 use Rattle.std.specs.Char.{is_ascii_digit}
 use Rattle.std.specs.List.{list_all}

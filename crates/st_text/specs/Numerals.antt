@@ -1,4 +1,14 @@
 -- The formats of numbers, addresses and Boolean marks.
+--
+-- Proved: by their `ensures` clauses these calls do what definitions here say: `hex_char`
+-- (lines.rt), `push_bit_address` (lines.rt), `push_flag` (lines.rt), `push_half_address`
+-- (lines.rt), and others.
+-- Read by: definitions in Lines of st_lines, Line of st_report, Texts of st_dis, Listing of
+-- st_report, and others.
+-- Laws: none names a definition of this file itself.
+-- Change: the meaning is fixed by docs/strap.md, since the contracts of `st_top::stretch` and
+-- `st_account::ledger` unfold to a definition here. The form is free, with the proofs that unfold
+-- it.
 use Rattle.std.specs.Prelude.{ℕ, suc, zero, ◌+◌, ◌-◌, ◌*◌, ◌/◌, ◌%◌, Bool, true, false, if◌then◌else◌, nat_lt, List, [], ◌∷◌, ◌++◌, codes, decimal}
 use Rattle.st_text.specs.Bytes.{digit_zero, letter_a}
 

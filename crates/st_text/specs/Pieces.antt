@@ -1,4 +1,15 @@
 -- A text split at a byte.
+--
+-- Proved: by their `ensures` clauses these calls do what definitions here say: `cut` (pieces.rt),
+-- `first_word` (words.rt), `first_line` (cards.rt of st_card), `without_return` (cards.rt of
+-- st_card), and others.
+-- Read by: definitions in Cards of st_card, Controls of st_card, Keywords of st_card, Term of
+-- st_expr, and others.
+-- Laws: CardsAreLines (specs/Laws.antt of st_dis), OneExecutesAtATick (specs/Laws.antt of
+-- st_entries).
+-- Change: the meaning is fixed by docs/strap.md, since the contracts of `st_top::stretch` and
+-- `st_account::ledger` and `st_draw::draw` unfold to a definition here. The form is free, with the
+-- proofs that unfold it.
 use Rattle.std.specs.Prelude.{◌≡◌, ◌≤◌, ◌-◌, ℕ, ◌==◌, Bool, not, List, [], ◌∷◌, length, take, drop, filter, if◌then◌else◌}
 use Rattle.std.specs.List.{list_all}
 use Rattle.st_text.specs.Bytes.{blank}

@@ -1,4 +1,14 @@
 -- Tables whose rows are looked up by a word.
+--
+-- Proved: by their `ensures` clauses these calls do what definitions here say: `row_of`
+-- (tables.rt), `system_value` (system.rt of st_expr), `define` (values.rt of st_expr), `define_in`
+-- (values.rt of st_expr), and others.
+-- Read by: definitions in Symbols of st_asm, Meaning of st_object, Keywords of st_card, Term of
+-- st_expr, and others.
+-- Laws: SymbolsAgree (specs/Laws.antt of st_laws).
+-- Change: the meaning is fixed by docs/strap.md, since the contracts of `st_top::stretch` and
+-- `st_account::ledger` unfold to a definition here. The form is free, with the proofs that unfold
+-- it.
 use Rattle.std.specs.Prelude.{ℕ, Bool, nat_eq, List, map, Option}
 use Rattle.std.specs.Cmp.Lexicographic.{pointwise}
 use Rattle.std.specs.Map.{lookup}

@@ -1,10 +1,13 @@
-//! Leading and trailing blanks of a text; a blank is the byte 32, and no other byte counts as one.
+//! Texts without their leading or trailing blanks; a blank is the byte 32, and no other byte counts
+//! as one. Names of symbols (`st_asm`), texts of cards (`st_entries`), prints and the listing
+//! (`st_report`) lose their blanks by these calls.
 //!
-//! Names of symbols (`st_asm`), texts of cards (`st_entries`), prints and the listing (`st_report`)
-//! lose their blanks by these calls. specs/Blanks.antt defines both results; each clause says that
-//! the call returns exactly that. `blank_next`, that a blank follows the filled part, is a fact
-//! besides. The search is free; a change of `filled_len` and `without_front_blanks` needs one in
-//! proofs/blanks as well. Both results are pinned by the definitions.
+//! Proved: each result is the definition of its name in specs/Blanks.antt; `blank_next` adds that a
+//! blank follows the filled part.
+//!
+//! Pinned, by `blank` of specs/Bytes.antt: the byte 32. Pinned, by specs/Blanks.antt and the proofs
+//! of `st_asm`, `st_entries` and `st_report`: the results; docs/strap.md and docs/report.md say
+//! where blanks are dropped. Free: the bodies, if proofs/blanks follows.
 
 ghost use Rattle.std.specs.Prelude.{◌≡◌, ◌<◌, ◌≤◌, length, take, slice_index};
 ghost use Rattle.st_text.specs.Bytes.{blank};

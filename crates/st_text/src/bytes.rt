@@ -1,7 +1,10 @@
-//! A class of bytes: the printable ones, 32 to 126. Cards and prints may contain these only.
+//! A class of bytes: the printable ones, 32 to 126. Cards (`st_card`) and prints (`st_exch`) may
+//! contain these only; docs/strap.md and docs/machine.md have the rules.
 //!
-//! The clause says that the result is that of `is_printable_byte` in specs/Bytes.antt, where the
-//! names of all bytes are defined. The range is pinned by this definition; the body is free.
+//! Proved: the result is `is_printable_byte` of specs/Bytes.antt, which also names single bytes.
+//! Laws of `st_dis` and `st_entries` (specs/Laws.antt of each) are about texts of such bytes.
+//!
+//! Pinned, by `is_printable_byte` and the two pages: the range. Free: the body.
 
 ghost use Rattle.std.specs.Prelude.{◌≡◌};
 ghost use Rattle.st_text.specs.Bytes as spec;

@@ -1,7 +1,13 @@
 //! Texts: split into pieces and words, read as numbers, looked up in tables, and composed into
-//! lines. The parsers of cards and reports, and all writers of lines, use these calls.
+//! lines. The parsers of cards, reports and commands, and most writers of lines, use these calls;
+//! each module names its callers. Nothing here depends on the machine.
 //!
-//! Each call has a definition in specs/ of exactly its result. None knows of the machine.
+//! Proved: each call returns what a definition of specs/ says: specs/Blanks.antt, Bytes.antt,
+//! Number.antt, Pieces.antt (also words), Tables.antt, and Numerals.antt for lines. The crate has
+//! no laws of its own. Not proved: speed.
+//!
+//! Pinned, by docs/promises.txt and the proofs of the crates that call them: the calls listed below
+//! with their clauses. Free: the split into modules, and the bodies with their proofs.
 #![tactic(auto)]
 
 mod blanks;

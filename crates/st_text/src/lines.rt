@@ -1,12 +1,15 @@
 //! Lines of text in memory, of at most 128 bytes, and the pieces of which they are composed:
-//! numbers, addresses and flags.
+//! numbers, addresses and flags. `st_report` and `st_lines` begin a line with `open_line`, append
+//! pieces, and end it with `close_line`; `st_card`, `st_dis`, `st_gen` and `st_object` compose
+//! texts by the calls; `st_exch` calls `drop_end_blanks`.
 //!
-//! `st_report`, `st_lines` and the other writers of lines begin a line with `open_line`, append
-//! pieces, and end it with `close_line`. specs/Numerals.antt defines the text of each piece; the
-//! clause `bytes` says that exactly that is appended, and `room` bounds its length, which is how
-//! callers prove that a line never overflows: a `requires` has the room that the longest piece
-//! needs. The bodies are free; the texts are pinned by the definitions, and 128 by the clauses of
-//! all callers. proofs/lines follows the bodies of `push_hex` and `push_half_address`.
+//! Proved: exactly the text of the piece is appended (clause `bytes`), as specs/Numerals.antt and
+//! `decimal` of the standard library define it. The clause `room` bounds the length; a `requires`
+//! has the room of the longest piece, so no line overflows.
+//!
+//! Pinned, by specs/Numerals.antt and docs/report.md ("How things are written"): the texts. Pinned,
+//! by the clauses of these crates: 128. Free: the bodies, if proofs/lines follows `push_hex` and
+//! `push_half_address`.
 
 ghost use Rattle.std.specs.Prelude.{◌≡◌, ◌+◌, ◌<◌, ◌≤◌, ◌++◌, length, decimal};
 ghost use Rattle.arrayvec.specs.ArrayString.{array_string_len};

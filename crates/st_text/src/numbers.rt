@@ -1,12 +1,15 @@
-//! Plain decimal numbers: one or more digits, without a sign; leading zeros are allowed.
+//! Plain decimal numbers: one or more digits, without a sign; leading zeros are allowed. Parsers of
+//! cards, expressions, object texts, reports and command lines use these calls, each with its own
+//! maximum (`st_card`, `st_expr`, `st_mnemonic`, `st_strap`, `st_object`, `st_entries`, `st_draw`,
+//! `st_account`, `st_top`).
 //!
-//! Parsers of cards, expressions and command lines use these calls, each with its own maximum.
-//! specs/Number.antt defines `reading`, whose result is one of three: no number, above the maximum,
-//! or the value. The clause `value` says that a call returns exactly that, for texts of any length,
-//! and `within` that a value is at most the maximum. The helpers at the end are private: their form
-//! is free, as long as no sum overflows. Which texts are numbers is pinned by the definition,
-//! docs/strap.md and the vectors. The loop of `read_digits` has its proof in proofs/numbers, which
-//! follows it.
+//! Proved: `read_number` is `reading` of specs/Number.antt for texts of any length: no number,
+//! above the maximum, or the value. `number_up_to` is the definition of its name in this file; the
+//! clauses `within` say that a value is at most the maximum. The law `NumbersAgree` (`st_laws`) is
+//! about readers of control cards and object texts.
+//!
+//! Pinned, by `reading` of specs/Number.antt and docs/strap.md: which texts are numbers. Free: the
+//! private functions, as long as no sum overflows, if proofs/numbers follows `read_digits`.
 
 ghost use Rattle.std.specs.Prelude.{◌≡◌, ◌+◌, ◌*◌, ◌^◌, ◌≤◌, min, IfSome, Some, None, if◌then◌else◌};
 ghost use Rattle.std.specs.Char.{is_ascii_digit};

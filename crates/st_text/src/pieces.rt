@@ -1,11 +1,14 @@
-//! Splitting a text at a byte, and at a length, without copying it.
+//! Splitting a text at a byte, and at a length, without copying it. `cut` is the step of each
+//! splitting loop: fields of a card at commas, words at blanks, lines at line ends. Callers are
+//! words.rt, the parsers (`st_card`, `st_expr`, `st_mnemonic`, `st_object`, `st_entries`), `st_top`
+//! and others. docs/strap.md says where cards are split.
 //!
-//! `cut` is the step of each splitting loop: fields of a card at commas, words at blanks, lines at
-//! line ends. specs/Pieces.antt defines `pieces_of`, all pieces of a text; the clause `pieces` says
-//! that the parts are its first piece and the rest, so a loop of `cut` yields exactly these pieces.
-//! `front` and `behind` are the prefix and the suffix as `take` and `drop` define them. The search
-//! (here `memchr`) is free; a change of `cut` needs one in proofs/pieces as well. The results are
-//! pinned by the definition, on which most parsers rest.
+//! Proved: the parts of `cut` are the first piece and the rest of `pieces_of` in specs/Pieces.antt,
+//! so a loop of `cut` yields exactly these pieces; `front` and `behind` are `take` and `drop`. Laws
+//! of `st_dis` and `st_entries` use `pieces_of`. Not proved: speed.
+//!
+//! Pinned, by `pieces_of` and the proofs of these crates: the results. Free: the search (here
+//! `memchr`), if proofs/pieces follows `cut`.
 
 ghost use Rattle.std.specs.Prelude.{◌≡◌, ◌+◌, length, take, drop, [], ◌∷◌, ◌++◌, IsTrue, MatchOption, IfSome};
 ghost use Rattle.st_text.specs.Pieces.{pieces_of, lacks};

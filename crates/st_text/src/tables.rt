@@ -1,11 +1,13 @@
-//! The look-up of a word in a table, for tables of names with their values: mnemonics, keywords,
-//! system symbols.
+//! The look-up of a word in a table of names with their values. `st_card` (keywords), `st_expr`
+//! (system symbols), `st_mnemonic` (operations and data descriptions), `st_object` and `st_strap`
+//! call `row_of`. docs/strap.md and docs/object-text.md list the words.
 //!
-//! `row_of` in specs/Tables.antt defines the result, the value of the first row with this word; the
-//! clause says that the call returns exactly that. A table with each word once may be in any order.
-//! The form of the search is free: it is a scan, and its speed is not stated. The result is pinned
-//! by the definition, on which the tables of five crates rest. The loop of `row_of` has its proof
-//! in proofs/tables, which follows it.
+//! Proved: the result is `row_of` of specs/Tables.antt, the value of the first row with this word.
+//! So the order of a table that has each word once does not matter. Not proved: speed; the search
+//! is a scan.
+//!
+//! Pinned, by `row_of` of specs/Tables.antt, the proofs of these crates and the law `SymbolsAgree`
+//! (`st_laws`): the first row counts. Free: the search, if proofs/tables follows.
 
 ghost use Rattle.std.specs.Prelude.{◌≡◌};
 ghost use Rattle.st_text.specs.Tables as spec;

@@ -1,10 +1,11 @@
-//! The words of a text: its parts between blanks, none of them empty.
+//! The words of a text: its parts between blanks, none of them empty. The parser of control cards
+//! (`st_card`) splits its text by `first_word`; docs/strap.md has the rule.
 //!
-//! Control cards are split by this call. `words` in specs/Pieces.antt defines all words of a text;
-//! the clause `words` says that the result is the first of them with a rest that has the others.
-//! `shorter` is the measure by which the loops of callers terminate. The body is free; a change of
-//! the loop of `first_word` needs one in proofs/words as well. The result is pinned by the
-//! definition.
+//! Proved: the result is the first of the `words` of specs/Pieces.antt, with a rest that has the
+//! other words. The clause `shorter` is the measure by which the loops of callers terminate.
+//!
+//! Pinned, by `words` of specs/Pieces.antt and docs/strap.md: the byte 32 as separator. Free: the
+//! body, if proofs/words follows.
 
 ghost use Rattle.std.specs.Prelude.{◌≡◌, ◌-◌, ◌<◌, ◌≤◌, length, [], ◌∷◌, MatchOption, IfSome};
 ghost use Rattle.st_text.specs.Pieces.{words};
