@@ -1,8 +1,13 @@
-//! The initial state of the tests: an image of zeros, with the instruction counter at word 32.
+//! The initial state of the tests of this crate: an image of zeros, with the instruction counter at
+//! word 32. overlapped.rt, plain.rt and snapshots.rt store their programs in it.
 //!
-//! overlapped.rt, plain.rt and snapshots.rt store their programs in it. Proved: no instruction is
-//! complete, which their calls require; the only error is a failed allocation. Half-word address 64
-//! is the left half of word 32, the first that may be fetched.
+//! Proved, by the clause of `opened`: no instruction is complete, which the calls of the tests
+//! require. The clauses of `zeros` (all of WORDS zeros) are those that `State::new` requires of an
+//! image. Not proved: that the only error is a failed allocation.
+//!
+//! Pinned, by these three files, which store their instructions there: half-word address 64, the
+//! left half of word 32, the first that may be fetched (docs/machine.md), and that all words are
+//! zeros. Free: the bodies.
 ghost use Rattle.std.specs.Prelude.{◌≡◌, ℕ, length, slice_index, IfOk};
 
 use st_bits::WORDS;

@@ -1,10 +1,10 @@
-//! Tests of properties of the devices that no clause states: how often a reader or a writer is
-//! called, how many bytes each call requests or hands over, and that the readers and writers of the
-//! standard library can be used.
+//! Tests of properties of the devices of `st_io` that no clause states: how often a reader or a
+//! writer is called, how many bytes each call requests or hands over, and that the readers and
+//! writers of the standard library can be used. The gate runs them.
 //!
-//! The devices are those of `st_io`. The numbers are 4,096 bytes a read, and one byte past the
-//! limit. No proof pins these properties, only these tests; a change of the piece size in `st_io`
-//! changes the numbers here. Cases may be added.
+//! Proved: nothing of these properties, only that calls keep their preconditions. Pinned: the
+//! numbers, 4,096 bytes a read and one byte past the limit, by docs/edge.md and source.rt of
+//! `st_io`; a change of the piece size there changes them here. Free: further cases.
 ghost use Rattle.st_io.specs.Memory.{sure_input};
 
 use st_io::{Failed, ReadError, Sink, Source, StdSink, StdSource, SureSource, read_all, write_all};

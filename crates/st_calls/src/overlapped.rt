@@ -1,10 +1,11 @@
-//! A test that stops a machine between two entries, as no run does, and compares it with an
-//! independent model.
+//! A test that stops a machine of `st_ahead` while two entries are in flight, as no run does, and
+//! compares it with constants of an independent model. A multiplication of 12 ticks and an addition
+//! that runs ahead of it are in flight at tick 10; `stop` has to flush both and restore the index
+//! word.
 //!
-//! A multiplication of 12 ticks and an addition that runs ahead of it are in flight at tick 10;
-//! `stop` has to flush both and restore the index word. The expected numbers are those of the model
-//! in `model/`. The small contracts only carry the protocol of the calls from one helper to the
-//! next. Nothing is proved of the numbers; other programs may be tested in this way.
+//! Proved: nothing of the numbers; the small contracts only carry the protocol of the calls from
+//! one helper to the next (docs/inside.md has that protocol). Pinned: the expected numbers, which
+//! model/overlap.py gives. Free: the helpers; other programs may be tested in this way.
 ghost use Rattle.std.specs.Prelude.{◌≡◌, ◌+◌, ◌<◌, ◌≤◌, true, false, IfOk};
 
 use crate::blank;

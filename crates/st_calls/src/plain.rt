@@ -1,9 +1,10 @@
-//! Tests that no run covers: the decoding of the floating group, the budget of a generated deck,
-//! and a step of a plain state.
+//! Tests that no run covers: the decoding of the floating group (`st_format`), the budget of a
+//! generated deck (`st_gen`), and a step of a plain state (`st_exec`).
 //!
-//! Bits and counts are worked out by hand from `docs/instructions.md` and `docs/deck.md`. Each test
-//! is independent of the others, and may be moved or extended. Nothing is proved here, except that
-//! the calls may be made.
+//! Proved: nothing here, except that the calls keep their preconditions; the specs of these three
+//! crates state what the calls return. Pinned: bits and counts, by docs/instructions.md,
+//! docs/deck.md and docs/interrupts.md, from which they are worked out by hand. Free: the tests,
+//! which may be moved or extended, each without the others.
 
 use crate::blank;
 use st_exec::{Step, one};

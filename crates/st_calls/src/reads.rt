@@ -1,10 +1,11 @@
-//! Tests of banks, held words and levels, call by call; the machine itself plans its reads and its
-//! levels in place.
+//! Tests of banks (`st_banks`), held words (`st_fetch`) and levels (`st_ring`), call by call; the
+//! machine itself plans its reads and its levels in place.
 //!
-//! The expected ticks are worked out by hand from the rules of `docs/timetable.md`: for banks in
-//! the table `READS`, with delays of 3 and 5 ticks in turn. Contracts prove these calls; the tests
-//! check that the definitions mean what the page says. Values may be added; a changed rule changes
-//! the tables.
+//! Proved: nothing of the tests; the contracts of the calls stand in the three crates, over their
+//! specs. The tests check that these definitions mean what docs/timetable.md says. Pinned: the
+//! expected ticks, by docs/timetable.md, from which they are worked out by hand, for banks in the
+//! table `READS`, with delays of 3 and 5 ticks in turn; a changed rule changes these ticks. Free:
+//! further values.
 ghost use Rattle.std.specs.Prelude.{◌<◌};
 ghost use Rattle.st_ring.specs.OneLevel.{HasNumber};
 

@@ -1,10 +1,11 @@
-//! Tests that compare the snapshots of a run with single steps of a plain state.
+//! Tests that compare the snapshots of a run (`st_run`) with single steps of a plain state. A
+//! snapshot shows the committed state with the index words of the entries in flight; the test makes
+//! these from plain steps and, for the index words, predicted steps after them.
 //!
-//! A snapshot shows the committed state with the index words of the entries in flight. The test
-//! makes these from plain steps: the state after the completed instructions, and, for the index
-//! words, predicted steps after it. Ticks are 3 to 41, on four levels with delays of one tick. The
-//! clauses of `st_run` prove it for all runs; here it is seen on one job. Job and ticks may be
-//! others, if the assertions on counts hold.
+//! Proved: nothing of the test. The law `TheStateIsSplit` (specs/Laws.antt of `st_refine`) states
+//! for all machines what the test shows on one job. Pinned: ticks 3 to 41, four levels and delays
+//! of one tick, by the assertions on counts in this file. Free: another job and other ticks, if
+//! these assertions hold.
 ghost use Rattle.std.specs.Prelude.{◌≡◌, true};
 ghost use Rattle.std.specs.List.{AllPass};
 ghost use Rattle.std.specs.List.Sorted.{IsStrictlyIncreasing};

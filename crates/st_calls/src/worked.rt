@@ -1,10 +1,10 @@
-//! Tests of the whole program over sources and sinks in memory that fail. `vectors` compares the
-//! results and the output of runs without failures.
+//! Tests of the whole program over sources and sinks in memory that fail. The folder vectors has
+//! the tests of runs without failures. decks.rt has the jobs and their reports; failures.rt and
+//! delays.rt have the tests; the helpers here call `stretch` with one word, a job, and the numbers
+//! of the read and the write that fail.
 //!
-//! The helpers here call `stretch` with one word, a job, and the numbers of the read and the write
-//! that fail. decks.rt has the jobs and their reports; failures.rt and delays.rt have the tests.
-//! Nothing is proved of the tests, except that they keep the preconditions of the calls. The
-//! helpers are free.
+//! Proved: nothing of the tests, except that they keep the preconditions of the calls. Pinned:
+//! nothing, since only failures.rt and delays.rt call the helpers. Free: the helpers.
 use st_io::{MemSink, MemSource, Sink, Source};
 use st_top::{Answer, stretch};
 use std::alloc::Global;

@@ -1,4 +1,11 @@
 -- Sources and sinks over a reader or a writer of the standard library.
+--
+-- Proved: by their `ensures` clauses these calls do what definitions here say: `new` (standard.rt),
+-- `read` (standard.rt), `write` (standard.rt).
+-- Laws: none names a definition of this file itself.
+-- Change: no page fixes these definitions, since no contract of a program unfolds to them; they
+-- change together with the clauses, definitions and laws that name them. docs/report.md describes
+-- the subject.
 use Rattle.std.specs.Prelude.{None}
 use Rattle.st_io.specs.Input.{InputState}
 use Rattle.st_io.specs.Output.{OutputState}

@@ -1,5 +1,13 @@
 -- The lines of a report, each with the moment at which it is written.
-use Rattle.std.specs.Prelude.{◌≡◌, ◌≢◌, ℕ, List, [], ◌∷◌, ◌++◌}
+--
+-- Proved: by their `ensures` clauses these calls do what definitions here say: `write_output`
+-- (execution.rt of st_top).
+-- Read by: definitions in Running of st_telling, Report of st_telling, Answers of st_top, Output of
+-- st_top, and others.
+-- Laws: MarksAreTheReport (specs/DelayLaws.antt of st_top).
+-- Change: the meaning is fixed by docs/report.md, since the contract of `st_top::stretch` unfolds
+-- to a definition here. The form is free, with the proofs that unfold it.
+use Rattle.std.specs.Prelude.{◌≡◌, ◌≢◌, ℕ, List, [], ◌∷◌, ◌++◌, map}
 use Rattle.st_io.specs.Count.{HasRisen}
 use Rattle.st_io.specs.Output.{OutputState, Appends}
 use Rattle.st_io.specs.Lines.{text}
@@ -12,14 +20,11 @@ pub record Event : Type 0 where
 
 -- the lines of the events
 abbrev pub lines_of : List Event → List (List ℕ)
-lines_of [] = []
-lines_of (event ∷ events) = event.line ∷ lines_of events
+lines_of events = map (λ event. event.line) events
 
 -- a list of lines as events at one moment
 abbrev pub at_moment : ℕ → ℕ → List (List ℕ) → List Event
-at_moment done ticks [] = []
-at_moment done ticks (l ∷ ls) = record { line = l; done = done; ticks = ticks }
-    ∷ at_moment done ticks ls
+at_moment done ticks lines = map (λ l. record { line = l; done = done; ticks = ticks }) lines
 
 -- the writing stopped in the line of one of the events, which has this moment
 pub record StoppedAt (before after : OutputState) (events : List Event)

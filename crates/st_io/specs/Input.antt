@@ -1,12 +1,19 @@
 -- The state of a source, and the effect of a read on it.
+--
+-- Proved: by their `ensures` clauses these calls do what definitions here say: `read` (mem.rt),
+-- `read` (source.rt), `read_all` (source.rt), `read` (standard.rt), and others.
+-- Read by: definitions in Devices, Memory, Answers of st_top, Layers of st_top, and others.
+-- Laws: none names a definition of this file itself.
+-- Change: the meaning is fixed by docs/report.md, since the contracts of `st_top::stretch` and
+-- `st_account::ledger` and `st_draw::draw` unfold to a definition here. The form is free, with the
+-- proofs that unfold it.
 use Rattle.std.specs.Prelude.{◌≡◌, ℕ, ◌+◌, ◌<◌, ◌≤◌, List, length, take, Option}
 use Rattle.std.specs.Io.KnownBytes.{Consumes, IsAtEnd}
 use Rattle.st_io.specs.Count.{count_after, HasRisen}
 use Rattle.st_io.specs.declared.source.ReadError.{ReadError}
 use Rattle.st_io.specs.declared.source.ReadError.TheVariants.{TooLong, Failed as ReadFailed, NoMemory}
 
--- the state of a source: the remaining bytes, if they are known; the number of bytes read so far;
--- the number of failed reads
+-- a source: its remaining bytes, if known, the number of bytes read, and the number of failed reads
 pub record InputState : Type 0 where
   pub left : Option (List ℕ)
   pub taken : ℕ

@@ -1,13 +1,24 @@
 -- Lines that were written to a sink, all or some of them.
+--
+-- Proved: by their `ensures` clauses these calls do what definitions here say: `write_line`
+-- (lines.rt), `write_registers` (block.rt of st_telling), `write_words` (block.rt of st_telling),
+-- `write_ended` (objects.rt of st_top), and others.
+-- Read by: definitions in Event, Answers of st_account, Report of st_telling, Running of
+-- st_telling, and others.
+-- Laws: EachTextHasOneReading (specs/Laws.antt of st_top), LinesAreTheDeck (specs/Laws.antt of
+-- st_top), LinesAreTheObjectText (specs/Laws.antt of st_top).
+-- Change: the meaning is fixed by docs/report.md, since the contracts of `st_top::stretch` and
+-- `st_account::ledger` unfold to a definition here. The form is free, with the proofs that unfold
+-- it.
 use Rattle.std.specs.Prelude.{◌≡◌, ◌≢◌, ℕ, ◌+◌, zero, suc, List, [], ◌∷◌, ◌++◌, Result, OnOk, OnErr}
+use Rattle.std.specs.List.{concat}
 use Rattle.st_io.specs.Count.{HasRisen}
 use Rattle.st_io.specs.Output.{OutputState, Appends, Wrote}
 use Rattle.st_io.specs.declared.Failed.{Failed}
 
 -- the bytes of a list of lines
 abbrev pub text : List (List ℕ) → List ℕ
-text [] = []
-text (line ∷ lines) = line ++ text lines
+text lines = concat lines
 
 -- the lines that the function give returns for each of n numbers from first
 unfoldable pub lines_for : (ℕ → List (List ℕ)) → ℕ → ℕ → List (List ℕ)

@@ -1,4 +1,11 @@
 -- Sources and sinks in memory.
+--
+-- Proved: by their `ensures` clauses these calls do what definitions here say: `read` (mem.rt),
+-- `write` (mem.rt), `next_fails` (mem.rt), `new` (sure.rt), and others.
+-- Laws: none names a definition of this file itself.
+-- Change: no page fixes these definitions, since no contract of a program unfolds to them; they
+-- change together with the clauses, definitions and laws that name them. docs/report.md describes
+-- the subject.
 use Rattle.std.specs.Prelude.{◌≡◌, ℕ, ◌<◌, ◌⊎◌, List, length, Option, Some, Contains}
 use Rattle.st_io.specs.Count.{count_after}
 use Rattle.st_io.specs.Input.{InputState}

@@ -1,4 +1,12 @@
 -- The state of a sink, and the effect of a write on it.
+--
+-- Proved: by their `ensures` clauses these calls do what definitions here say: `write` (mem.rt),
+-- `write` (sink.rt), `write_all` (sink.rt), `write` (standard.rt), and others.
+-- Read by: definitions in Lines, Event, Devices, Memory, and others.
+-- Laws: none names a definition of this file itself.
+-- Change: the meaning is fixed by docs/report.md, since the contracts of `st_top::stretch` and
+-- `st_account::ledger` and `st_draw::draw` unfold to a definition here. The form is free, with the
+-- proofs that unfold it.
 use Rattle.std.specs.Prelude.{◌≡◌, ◌≢◌, ℕ, List, [], ◌++◌, Option, None, Some, ⊤}
 use Rattle.st_io.specs.Count.{HasRisen}
 
@@ -7,7 +15,7 @@ pub record OutputState : Type 0 where
   pub written : Option (List ℕ)
   pub faults : ℕ
 
--- the known bytes grow by these bytes; the bytes of a sink may become unknown, and then remain so
+-- known bytes grow by these; the bytes of a sink may become unknown, and then remain so
 abbrev pub Appends : Option (List ℕ) → Option (List ℕ) → List ℕ → Type 0
 Appends None None bytes = ⊤
 Appends None (Some new) bytes = ⊥

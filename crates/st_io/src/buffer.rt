@@ -1,11 +1,13 @@
-//! A buffer in memory that takes bytes without allocating, for the sinks in memory (`mem.rt` and
-//! `sure.rt`).
+//! A buffer in memory that takes bytes without allocating, for the sinks in memory. Only mem.rt and
+//! sure.rt use it, and depend on its clauses. docs/edge.md describes the sinks.
 //!
-//! Contracts see `Reserved` (specs/Memory.antt): the bytes, and the room, the number of further
-//! bytes. Proved: `append` adds exactly the piece and takes its length from the room, and the
-//! vector's capacity always covers bytes and room, so that no call allocates or fails.
-//! Crate-private, so only these two modules depend on its clauses. Free: the fields and all bodies.
-//! Pinned by specs/Memory.antt: what `Reserved` shows.
+//! Proved: contracts see a buffer as `Reserved` of specs/Memory.antt: its bytes, and its room, the
+//! number of further bytes. `append` adds exactly the piece (`bytes`) and takes its length from the
+//! room (`room`); it requires that the piece fits. The vector's capacity always covers bytes and
+//! room (the invariant of `Buffer`), so that no call allocates or fails.
+//!
+//! Pinned, by mem.rt, sure.rt and their proofs: `Reserved`, and the clauses. Free: the fields and
+//! all bodies.
 ghost use Rattle.std.specs.Prelude.{◌≡◌, ◌+◌, ◌-◌, ◌≤◌, ◌++◌, length, vec_len, vec_capacity};
 
 use std::marker::Model;

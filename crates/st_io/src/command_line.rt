@@ -1,9 +1,11 @@
-//! The arguments of the command line, read from the process by the `main` of each program
-//! (`stretch`, `ledger`, `chart`).
+//! The arguments of the command line, read from the process. The `main` of `stretch`, `ledger` and
+//! `chart` calls `words`; docs/running.md lists the exit statuses.
 //!
-//! No clause says which arguments are returned, so nothing is proved about their values, only that
-//! no call panics. The body is free. The two errors are pinned by the programs, which map each to
-//! an exit status in their `main`.
+//! Proved: no call panics. No clause says which arguments `words` returns; docs/TRUST.md lists this
+//! among what is trusted.
+//!
+//! Pinned, by each of these `main` and docs/running.md: the two errors, since `NotText` gives the
+//! status of a wrong command and `NoMemory` that of lacking memory. Free: the bodies.
 use std::env::{self, Env};
 use std::io::{self, ErrorKind};
 

@@ -1,8 +1,14 @@
-//! Input and output of bytes: a source and a sink that count their faults, and the calls that read
-//! a whole source and write a whole piece. `docs/edge.md` has the rules.
+//! Input and output of bytes: a source and a sink that count their faults, and calls that read a
+//! whole source, write a whole piece and write a line. docs/edge.md has the rules. The programs use
+//! the standard devices, and tests in `st_calls` those in memory too. The crates between are
+//! generic over `Source` and `Sink`, so their clauses hold for each implementation.
 //!
-//! Only the programs, and tests in `st_calls`, use the standard devices; the crates between are
-//! generic over `Source` and `Sink`, so that their clauses hold for each implementation.
+//! Proved: each call has the result that specs/ defines: Input.antt and Output.antt for the traits,
+//! Lines.antt for lines; a count of faults is `count_after` of specs/Count.antt, which stops at
+//! 2^64 - 1. Not proved: what a device does with the bytes.
+//!
+//! Pinned, by docs/promises.txt, docs/edge.md and the crates that are generic over the traits: the
+//! calls listed below, with their clauses, and `count_after`. Free: the split into modules.
 #![tactic(auto)]
 
 ghost use Rattle.std.specs.Prelude.{◌≡◌};

@@ -1,10 +1,14 @@
-//! The writing of a line, a list of bytes with its line end. All lines of reports and ledgers are
-//! written by it, most of those of a report through `put` of `st_report`.
+//! The writing of a line, a list of bytes with its line end. `st_report` (writing.rt),
+//! `st_telling`, `st_ledger`, `st_lines`, `st_tally` and `st_top` call `write_line`. docs/report.md
+//! and docs/edge.md have the rules.
 //!
-//! `WritesLines` in specs/Lines.antt defines which lines a sink has after a call, and in which one
-//! the writing stopped after an error; proved is exactly that, for a list of one line. Callers'
-//! clauses are about the list of all their lines and use this one at each step. The definition is
-//! pinned by all of them; the body is free, with its proof in proofs/lines.
+//! Proved: `WritesLines` of specs/Lines.antt for a list of one line: after Ok exactly the line is
+//! written; after an error a proper prefix of the line, and the count of faults rose. A caller that
+//! writes several lines has a clause about the list of all of them, and uses `WritesLines` of one
+//! line at each step.
+//!
+//! Pinned, by these callers and docs/promises.txt: the clause. Free: the body, if proofs/lines
+//! follows.
 ghost use Rattle.std.specs.Prelude.{[], ◌∷◌};
 ghost use Rattle.st_io.specs.Lines.{WritesLines};
 

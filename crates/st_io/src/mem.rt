@@ -1,11 +1,14 @@
-//! A source and a sink in memory with planned failures, for tests of programs (`st_calls`).
+//! A source and a sink in memory with planned failures, for tests of programs (worked.rt of
+//! `st_calls`). The plan is a list of numbers of calls, from 1: the call with such a number fails
+//! and moves no byte. docs/edge.md has the rules.
 //!
-//! The plan is a list of numbers of calls, from 1: the call with such a number fails and moves no
-//! byte. specs/Memory.antt defines the views that contracts see: the remaining or written bytes,
-//! the count of faults, the calls made, and the room of the sink in bytes. Proved: a call fails if
-//! and only if this is planned (or the sink is full), else it moves as many bytes as there are, or
-//! as there is room for. Free: the private fields and all bodies. Pinned: the clauses, by the tests
-//! and the traits `Source` and `Sink`, whose clauses these calls prove too.
+//! Proved: a call fails if and only if its failure is planned or the sink is full; otherwise the
+//! call moves as many bytes as there are, or as there is room for. specs/Memory.antt defines the
+//! views that contracts see (`MemoryInput`, `MemoryOutput`): the remaining or written bytes, the
+//! count of faults, the calls made, and the room of the sink in bytes.
+//!
+//! Pinned, by the traits `Source` and `Sink`, whose clauses are proved here, by docs/promises.txt
+//! and the tests: the clauses. Free: the private fields and all bodies.
 ghost use Rattle.std.specs.Prelude.{◌≡◌, ◌+◌, ◌-◌, ◌≤◌, ◌↔◌, min, length, take, vec_len, vec_capacity, MatchResult, IfOk, OnErr, IsErr, IsTrue};
 ghost use Rattle.st_io.specs.Count.{count_after};
 ghost use Rattle.st_io.specs.Input.{Gave, GaveNothing};

@@ -1,13 +1,15 @@
-//! The interface of sinks of bytes, and the call that writes a whole piece.
+//! The interface of sinks of bytes, and the call that writes a whole piece. docs/edge.md has the
+//! rules. Sinks are `StdSink` (a device), `SureSink` (memory, no failures) and `MemSink` (planned
+//! failures). `write_line` and `st_draw` call `write_all`.
 //!
-//! Sinks are `StdSink` (a device), `SureSink` (memory, no failures) and `MemSink` (planned
-//! failures). specs/Output.antt defines the state of a sink that contracts see: the written bytes,
-//! if they are known, and the number of failed writes. Each implementation proves the clauses of
-//! `write`; `write_all` is proved from these clauses only, so it holds for each sink: after an
-//! error a proper prefix of the piece is written, never other bytes. Its termination is proved by
-//! the clause `some`. A changed clause of `write` has to be proved in all three. The clauses of
-//! `write` are pinned by everything that is generic over a sink. The body of `write_all` is free,
-//! with the proof of its loop in proofs/sink.
+//! Proved: each implementation proves the clauses of `write`: `Wrote` or `WroteNothing` of
+//! specs/Output.antt. From these clauses only, `write_all` is proved to write the whole piece, or
+//! after an error a proper prefix (`WroteFront`), never other bytes. The clause `some` gives
+//! termination. Not proved: how many writes a device needs; that a device does what it says.
+//!
+//! Pinned: the clauses of `write` and `write_all`, by docs/edge.md and everything that is generic
+//! over a sink; a changed clause of `write` has to be proved in all three sinks. Free: the body of
+//! `write_all`, with the proof of its loop in proofs/sink.
 ghost use Rattle.std.specs.Prelude.{◌≡◌, ◌<◌, ◌≤◌, [], length, take, MatchResult, IfOk, IsOk};
 ghost use Rattle.st_io.specs.Output.{OutputState, Wrote, WroteNothing, WroteFront};
 

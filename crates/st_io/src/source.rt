@@ -1,13 +1,15 @@
-//! The interface of sources of bytes, and the call that reads a whole source.
+//! The interface of sources of bytes, and the call that reads a whole source. docs/edge.md has the
+//! rules. Sources are `StdSource` (a device), `SureSource` (memory, no failures) and `MemSource`
+//! (planned failures). `st_top`, `st_account` and `st_draw` read a job or a report by `read_all`,
+//! each with its own limit.
 //!
-//! Sources are `StdSource` (a device), `SureSource` (memory, no failures) and `MemSource` (planned
-//! failures). specs/Input.antt defines the state of a source that contracts see: the remaining
-//! bytes, if they are known, the number of bytes read, and the number of failed reads. Each
-//! implementation proves the clauses of `read`; `read_all` is proved from these only: it returns
-//! all remaining bytes, at most `limit`, or an error with its cause. The programs read a job or a
-//! report by it, each with its own limit. `PIECE` is free: no clause depends on it. The clauses of
-//! `read` are pinned by everything that is generic over a source. The loop of `read_all` has its
-//! proof in proofs/source, which follows it.
+//! Proved: each implementation proves the clauses of `read`: `Gave` or `GaveNothing` of
+//! specs/Input.antt. From these clauses only, `read_all` is proved (`outcome`): all remaining
+//! bytes, at most `limit` (`CameWhole`), or an error with its cause (`IsCause`).
+//!
+//! Pinned, by docs/edge.md, docs/promises.txt and everything that is generic over a source: the
+//! clauses of `read` and `read_all`; by docs/edge.md and tests of `st_calls`, by no clause: the
+//! size of a read, 4,096. Free: the body of `read_all`, if proofs/source follows its loop.
 ghost use Rattle.std.specs.Prelude.{◌≤◌, length, MatchResult, IfOk};
 ghost use Rattle.st_io.specs.Input.{InputState, Gave, GaveNothing, CameWhole, IsCause};
 

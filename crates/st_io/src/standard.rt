@@ -1,11 +1,14 @@
 //! Sources and sinks over the readers and writers of the standard library: the boundary to real
-//! devices. The `main` of a program creates them, and tests of `st_calls`.
+//! devices. The `main` of `stretch`, `ledger` and `chart` creates them, and tests of `st_calls`.
+//! docs/edge.md has the rules.
 //!
 //! Proved: each call passes on exactly the bytes of one call of the device (`passes_on`), and
-//! counts an error as a fault; counts saturate at 2^64 - 1. Not proved: what a device does with the
-//! bytes; for that there are the contracts of the standard library. The fields are private, and
-//! specs/Devices.antt has the views that contracts see. Free: the fields and bodies. Pinned: the
-//! clauses, by the traits `Source` and `Sink` and by the `main` of each program.
+//! counts an error as a fault; counts stop at 2^64 - 1. specs/Devices.antt has the views that
+//! contracts see (`device_input`, `device_output`). Not proved: what a device does with the bytes;
+//! the contracts of the standard library are about this.
+//!
+//! Pinned, by the traits `Source` and `Sink`, by docs/promises.txt and each of these `main`: the
+//! clauses. Free: the private fields and the bodies.
 ghost use Rattle.std.specs.Prelude.{◌≡◌, ◌<◌, ◌≤◌, length, take, MatchResult, IfOk, OnErr, None};
 ghost use Rattle.std.specs.Io.KnownBytes.{ReadConsumes, WriteAppends};
 ghost use Rattle.st_io.specs.Count.{count_after};

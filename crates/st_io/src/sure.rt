@@ -1,12 +1,13 @@
-//! A source and a sink in memory that never fail, for callers without devices, such as the tests of
-//! `st_calls`.
+//! A source and a sink in memory that never fail, for callers without devices. Tests in `st_calls`
+//! use `SureSource`; no program here uses `SureSink`. docs/edge.md has the rules.
 //!
-//! specs/Memory.antt defines the views that contracts see: the remaining or written bytes, and how
-//! many further bytes there is room for. Proved: `read` returns exactly the next bytes; `write`
-//! takes each piece whole, and contracts know the bytes as long as they fit the capacity of the
-//! given vector. After a piece beyond it the sink keeps nothing. No call allocates. No program here
-//! uses `SureSink`; its clauses are promises to other users (docs/promises.txt). The bodies are
-//! free; that of `read` has its proof in proofs/sure. The clauses are pinned by the traits too.
+//! Proved: `read` returns exactly the next bytes; `write` takes each piece whole, and contracts
+//! know the bytes as long as they fit the capacity of the given vector. After a piece that exceeds
+//! the capacity the sink keeps nothing. specs/Memory.antt defines the views that contracts see
+//! (`SureInput`, `SureOutput`). In the code no call allocates; no clause says so.
+//!
+//! Pinned, by the traits `Source` and `Sink` and by docs/promises.txt: the clauses. Free: the
+//! fields and bodies, if proofs/sure follows that of `read`.
 ghost use Rattle.std.specs.Prelude.{◌≡◌, ◌≤◌, ◌-◌, ◌↔◌, ◌++◌, min, length, take, drop, vec_len, vec_capacity, IfOk, IsSome, IfSome, Ok, Some, option_map, option_copied, vec_items};
 ghost use Rattle.st_io.specs.Input.{Gave};
 ghost use Rattle.st_io.specs.Output.{Wrote};

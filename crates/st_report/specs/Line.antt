@@ -1,4 +1,13 @@
 -- The bytes of each line of the report, including its line end.
+--
+-- Proved: by their `ensures` clauses these calls do what definitions here say: `line_fault`
+-- (job.rt), `line_soak` (job.rt), `two_digits` (kept.rt), `zeros_before` (kept.rt), and others.
+-- Read by: definitions in Report of st_telling, BorderLines of st_lines, LedgerSums of st_account,
+-- Text of st_account, and others.
+-- Laws: LedgersTellWhereTicksWent (specs/Laws.antt of st_causes).
+-- Change: the meaning is fixed by docs/report.md, since the contracts of `st_top::stretch` and
+-- `st_account::ledger` unfold to a definition here. The form is free, with the proofs that unfold
+-- it.
 use Rattle.std.specs.Prelude.{ℕ, ◌/◌, ◌%◌, Bool, true, false, List, ◌++◌, codes, decimal, Option, Some, None}
 use Rattle.st_text.specs.Bytes.{lf}
 use Rattle.st_text.specs.Numerals.{hex_word, half_address, flag}
@@ -68,11 +77,9 @@ ticks_line t = codes "TICKS " ++ decimal t ++ lf
 abbrev pub time_line : ℕ → List ℕ
 time_line t = codes "TIME " ++ decimal t ++ lf
 
--- the line of the row of the n-th completed instruction: prepared at tick p, its operand words
--- there by tick r, completed at tick c
+-- the row of the n-th completed instruction: prepared at p, operands there by r, completed at c
 abbrev pub row_line : ℕ → ℕ → ℕ → ℕ → ℕ → List ℕ
-row_line n address p r c =
-    codes "ROW " ++ decimal n ++ codes " " ++ half_address address
+row_line n address p r c = codes "ROW " ++ decimal n ++ codes " " ++ half_address address
     ++ codes " P " ++ decimal p ++ codes " R " ++ decimal r ++ codes " C " ++ decimal c ++ lf
 
 -- the line of a flushed entry that was prepared at tick p
@@ -84,18 +91,15 @@ abbrev pub snap_line : ℕ → ℕ → ℕ → List ℕ
 snap_line t q k =
     codes "SNAP " ++ decimal t ++ codes " DONE " ++ decimal q ++ codes " AHEAD " ++ decimal k ++ lf
 
--- the text of the index word that a level changed speculatively, with its previous contents; a dash
--- if there is none
+-- the text of a level's changed index word, with its contents before the change; a dash for none
 abbrev pub change_text : Option (ℕ × ℕ) → List ℕ
 change_text None = codes "-"
 change_text (Some change) = decimal change.0 ++ codes " OLD " ++ hex_word change.1
 
--- the line of a level: its instruction's address, its speculative change, and whether its operand
--- words have arrived
+-- the line of a level: its address, its speculative change, and whether its operands have arrived
 abbrev pub lev_line : ℕ → Option (ℕ × ℕ) → Bool → List ℕ
-lev_line address index ready =
-    codes "LEV " ++ half_address address ++ codes " X " ++ change_text index
-    ++ codes " READY " ++ flag ready ++ lf
+lev_line address index ready = codes "LEV " ++ half_address address
+    ++ codes " X " ++ change_text index ++ codes " READY " ++ flag ready ++ lf
 
 -- the line of a sweep for n levels: the tick of the last completion
 abbrev pub levels_line : ℕ → ℕ → List ℕ

@@ -1,4 +1,12 @@
 -- The bytes of the lines of the listing, including their line ends.
+--
+-- Proved: by their `ensures` clauses these calls do what definitions here say: `line_listed`
+-- (cards.rt), `line_symbol` (cards.rt), `push_blanks` (cards.rt), `push_filling` (cards.rt), and
+-- others.
+-- Read by: definitions in Listing of st_top.
+-- Laws: none names a definition of this file itself.
+-- Change: the meaning is fixed by docs/report.md, since the contract of `st_top::stretch` unfolds
+-- to a definition here. The form is free, with the proofs that unfold it.
 use Rattle.std.specs.Prelude.{ℕ, ◌-◌, ◌*◌, ◌^◌, ◌≤◌, if◌then◌else◌, nat_lt, List, [], ◌++◌, length, replicate, IsAscii, codes, decimal, Option, Some, None}
 use Rattle.std.specs.Int.{div_ceil}
 use Rattle.st_text.specs.Bytes.{blank, lf}
@@ -35,16 +43,11 @@ pub record IsCardText (text : List ℕ) : Type 0 where
   pub short : length text ≤ 80
   pub ascii : IsAscii text
 
--- the columns of a card: its number, its location, the n bits that it assembles to, and its text
-abbrev pub listing_columns : ℕ → Option ℕ → ℕ → ℕ → List ℕ → List ℕ
-listing_columns card location bits n text =
-    right_in 5 (decimal card) ++ codes " " ++ right_in 9 (location_text location)
-    ++ codes " " ++ left_in 16 (emitted_text bits n) ++ codes " " ++ text
-
--- the line of a card, without trailing blanks
+-- the line of a card: its number, its location, the n bits that it assembles to, and its text
 abbrev pub listed_line : ℕ → Option ℕ → ℕ → ℕ → List ℕ → List ℕ
 listed_line card location bits n text = without_end_blanks
-    (listing_columns card location bits n text) ++ lf
+    (right_in 5 (decimal card) ++ codes " " ++ right_in 9 (location_text location)
+    ++ codes " " ++ left_in 16 (emitted_text bits n) ++ codes " " ++ text) ++ lf
 
 -- the line of a symbol: its name, without trailing blanks, and its value
 abbrev pub symbol_line : List ℕ → ℕ → List ℕ

@@ -1,12 +1,16 @@
 //! The lines of the listing, with which a report begins if a card `/LIST` requests it: one for each
-//! card, then one for each symbol.
+//! card, then one for each symbol. `st_top` (listing.rt) writes them. Locations and values of
+//! symbols are bit addresses, and a card assembles to at most 64 bits. docs/report.md ("The
+//! listing") has the rules.
 //!
-//! `st_top` writes them. specs/Listing.antt defines the bytes of both lines, with their columns;
-//! proved is that each call returns exactly these bytes. Locations and values of symbols are bit
-//! addresses, and a card assembles to at most 64 bits. The columns are pinned by the definition,
-//! docs/report.md and the vectors; `st_entries` parses them. The private helpers are free. A card
-//! text is at most 80 bytes of ASCII, so that a line fits its 128 bytes. proofs/cards follows the
-//! bodies of `push_text`, `push_blanks` and `shown_bits`.
+//! Proved: each call returns exactly the bytes that specs/Listing.antt defines, `listed_line` and
+//! `symbol_line`, with their columns. A card text is at most 80 bytes of ASCII (`IsCardText`), so a
+//! line fits its 128 bytes. Not proved: that label.rt of `st_entries`, which parses the listing,
+//! reads what is written here.
+//!
+//! Pinned, by these two definitions, docs/report.md, vectors/worked.txt and label.rt of
+//! `st_entries`: the columns. Free: the private functions, if proofs/cards follows the bodies of
+//! `push_text`, `push_blanks` and `shown_bits`.
 
 ghost use Rattle.std.specs.Prelude.{◌≡◌, ◌+◌, ◌-◌, ◌^◌, ◌<◌, ◌≤◌, ◌++◌, length, IsAscii, max};
 ghost use Rattle.arrayvec.specs.ArrayString.{array_string_len};

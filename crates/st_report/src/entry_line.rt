@@ -1,9 +1,13 @@
 //! The line of a completed entry (an executed instruction): a buffer that `fill_trc` and `fill_row`
-//! fill again for each entry, so that no entry needs a new line.
+//! fill again for each entry, so that no entry needs a new line. `st_telling` keeps one for a whole
+//! run; `fill_chart` of `st_time` passes it on to `fill_row`. docs/report.md has the texts of the
+//! lines.
 //!
-//! `st_telling` keeps one for a whole run. The four `KeptDigits` only save work: no clause names
-//! them, and the bytes of a line do not depend on them. So their number and use are free. `bytes`
-//! is pinned by the clauses of `fill_trc` and `fill_row`. Proved is only that a new line is empty.
+//! Proved: a new line is empty. run.rt and levels.rt prove what a filled line contains (`trc_line`,
+//! `row_line` of specs/Line.antt). Not proved: speed.
+//!
+//! Pinned, by the clauses of `fill_trc` and `fill_row` and by `st_telling`: `bytes`. Free: the
+//! number and use of the four `KeptDigits`, since they only save work and no clause names them.
 
 ghost use Rattle.std.specs.Prelude.{◌≡◌, []};
 

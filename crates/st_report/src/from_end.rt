@@ -1,11 +1,15 @@
 //! A line that is composed from its end, for the lines of each executed instruction in reports and
-//! ledgers, where speed counts.
+//! ledgers, where speed counts. `EntryLine` contains one; `st_ledger`, `st_lines` and `st_tally`
+//! compose their lines by the calls. docs/report.md and docs/ledger.md have the texts.
 //!
-//! Contracts see a line as the list of its bytes so far. Each `put` is proved to put exactly its
-//! text in front of them; decimals and addresses are those of `decimal` and of specs/Numerals.antt
-//! in `st_text`. The clauses `room` bound the length, and callers prove by them that a line never
-//! exceeds ROOM, 192 bytes, which clauses and proofs name as a figure. The fast paths are free: the
-//! clauses are only about bytes. Not proved: speed. The texts are pinned by the clauses.
+//! Proved: contracts see a line as the list of its bytes so far, and each `put` puts exactly its
+//! text in front of them; decimals and addresses are `decimal` and `half_address` of
+//! specs/Numerals.antt in `st_text`. The clauses `room` bound the length, so no line exceeds ROOM.
+//! Not proved: speed.
+//!
+//! Pinned, by the clauses of these crates and their proofs: the clauses, and 192, the value of
+//! ROOM, which clauses and proofs of all writers name as a figure. Free: the bodies and fast paths,
+//! if proofs/from_end follows.
 
 ghost use Rattle.std.specs.Prelude.{◌≡◌, ◌+◌, ◌*◌, ◌<◌, ◌≤◌, ◌++◌, [], length, drop, codes, decimal};
 ghost use Rattle.st_text.specs.Numerals.{half_address};

@@ -1,9 +1,12 @@
 //! The lines about the job as it was submitted: `SOAK` for a generated deck, `CARD` for a refused
-//! one.
+//! one. `st_top` writes both (listing.rt, refusal.rt), and `st_account` (the ledger) writes `CARD`.
+//! docs/report.md and docs/running.md have the rules.
 //!
-//! specs/Line.antt defines their bytes (`soak_line`, `fault_line`), and proved is that each call
-//! returns exactly these. The texts are pinned there, in docs/report.md and by the vectors; the
-//! bodies are free. `st_top` and `st_account` write the lines.
+//! Proved: each call returns exactly the bytes of `soak_line` or `fault_line` in specs/Line.antt.
+//! Which card is refused and why is proved in `st_asm`.
+//!
+//! Pinned, by these definitions, docs/report.md, vectors/soak.txt and vectors/faults.txt: the
+//! texts. Free: the bodies.
 
 ghost use Rattle.std.specs.Prelude.{◌≡◌};
 ghost use Rattle.st_report.specs.Line.{fault_line, soak_line};

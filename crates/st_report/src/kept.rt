@@ -1,12 +1,15 @@
 //! The leading digits that a number shares with numbers close to it, so that a counter which grows
-//! by small steps is mostly written without a division.
+//! by small steps is mostly written without a division. `LineFromEnd`, `EntryLine`, `st_ledger` and
+//! `st_lines` use `KeptDigits` for the lines of docs/report.md and docs/ledger.md.
 //!
-//! Contracts see a `KeptDigits` as the number that its digits form, that is n / 100. Proved: `past`
-//! is below 100 if and only if n has these leading digits, and `digits` are the decimal digits of
-//! that number. Only `LineFromEnd` and its users need it. ROOM and MOST belong together: a number
-//! below 10^18 has at most 16 digits without its last two. They are also figures in the invariant
-//! and in proofs/kept. Free: the bodies and this way to save a division, with those proofs, since
-//! no line depends on it. Pinned by the clauses: the digits.
+//! Proved: contracts see a `KeptDigits` as the number that its digits form, that is n / 100. `past`
+//! is below 100 if and only if n has these leading digits (`has`), and `digits` are the decimal
+//! digits of that number. Not proved: speed.
+//!
+//! Pinned, by these callers, of which `st_lines` calls `past` and `keep`: the clauses. ROOM and
+//! MOST belong together, as a number below 10^18 has at most 16 digits without its last two, and
+//! are figures in the invariant and in proofs/kept. Free: the bodies and this way to save a
+//! division, if proofs/kept follows, since no line depends on them.
 
 ghost use Rattle.std.specs.Prelude.{◌≡◌, ◌↔◌, ◌+◌, ◌*◌, ◌/◌, ◌^◌, ◌<◌, ◌≤◌, drop, decimal};
 ghost use Rattle.st_report.specs.Line.{two_digits as two_digits_of};

@@ -1,12 +1,15 @@
 //! The lines of the chart (`ROW`, `DROP`) and of a snapshot (`SNAP`, `LEV`), all about the
-//! overlapped machine and its ticks.
+//! overlapped machine. Addresses are half-word addresses, times are ticks, a clock cycle each.
+//! `st_time` takes the numbers from the machine and calls this module; no crate of the machine is
+//! used here. docs/report.md has the rules.
 //!
-//! specs/Line.antt defines the bytes of each line; proved is that each call returns or writes
-//! exactly these, with the line end. This module knows nothing of the machine: `st_time` takes the
-//! numbers from it. Addresses are half-word addresses, times are ticks, a clock cycle each.
-//! `fill_row` is the fast form of `line_row`; its form is free. The texts are pinned by the
-//! definitions, docs/report.md and the vectors. The proof of `fill_row`, in proofs/levels, follows
-//! its body.
+//! Proved: each call returns or fills in exactly the bytes that specs/Line.antt defines
+//! (`row_line`, `drop_line`, `snap_line`, `lev_line`). `fill_row` is the fast form of `line_row`.
+//! Not proved: its speed, and that report.rt of `st_entries`, which parses `ROW`, `DROP` and
+//! `SNAP`, reads what is written here.
+//!
+//! Pinned, by these definitions, docs/report.md, vectors/timetable.txt and report.rt of
+//! `st_entries`: the texts. Free: the bodies, if proofs/levels follows that of `fill_row`.
 
 ghost use Rattle.std.specs.Prelude.{◌≡◌, ◌+◌, ◌≤◌, ◌++◌};
 ghost use Rattle.arrayvec.specs.ArrayString.{array_string_len};

@@ -1,9 +1,16 @@
-//! The lines of the report and of the listing, by the rules of `docs/report.md`: one call per line,
-//! each including its line end. The lines that may occur for each instruction are written to a line
-//! that is composed from its end.
+//! The lines of the report and of the listing, by the rules of docs/report.md: one call per line,
+//! each including its line end. `st_telling`, `st_time`, `st_top` and the crates of the ledger
+//! (`st_account`, `st_ledger`, `st_lines`, `st_tally`) decide which lines there are; here is only
+//! how each is written. The lines that may occur for each instruction are written to a line that is
+//! composed from its end.
 //!
-//! `st_telling`, `st_time`, `st_top` and the crates of the ledger decide which lines there are;
-//! here is only how each is written. specs/Line.antt and specs/Listing.antt define their bytes.
+//! Proved: each call gives exactly the bytes that specs/Line.antt or specs/Listing.antt defines.
+//! Which lines a report has, and in what order, is proved in the callers.
+//!
+//! Pinned, by these definitions, docs/report.md, the files of vectors that the heads of the modules
+//! name, and `st_entries`, which parses some of the lines: the texts. Free: the bodies, with their
+//! proofs in proofs/. A new line needs a definition in specs/Line.antt, a function here, and its
+//! call in one of these crates.
 #![tactic(auto)]
 
 mod cards;

@@ -1,8 +1,11 @@
-//! A piece of a line that only the report uses: a register's number in a line `REG`.
+//! A piece of a line that only the report uses: a register's number in a line `REG`. Only
+//! state_block.rt calls `push_two_digits`. docs/report.md has the rule.
 //!
-//! The clause says that exactly `two_digits` of specs/Line.antt is appended. It needs room for 20
-//! bytes, since each of the two digits is written by a call that needs room for ten. The text is
-//! pinned by that definition, docs/report.md and the vectors; the body is free.
+//! Proved: exactly `two_digits` of specs/Line.antt is appended (`bytes`). The call needs room for
+//! 20 bytes, since each of the two digits is written by a call that needs room for ten; the clause
+//! `room` says that the line grows by at most 20.
+//!
+//! Pinned, by `two_digits`, docs/report.md and vectors/timetable.txt: the text. Free: the body.
 
 ghost use Rattle.std.specs.Prelude.{◌≡◌, ◌+◌, ◌≤◌, ◌++◌};
 ghost use Rattle.arrayvec.specs.ArrayString.{array_string_len};

@@ -1,10 +1,15 @@
 //! The lines about the run: trace, prints, interrupts, their ticks, the end and the counts.
+//! `st_telling` writes most of them, `st_lines` some in the ledger, `st_top` the `BACK` line.
+//! Counts are of completed instructions, ticks are clock cycles. docs/report.md has the rules.
 //!
-//! specs/Line.antt defines the bytes of each line; proved is that each call returns exactly these,
-//! with the line end. `st_telling` writes most of them, `st_lines` some in the ledger, `st_top` the
-//! `BACK` line. Counts are of completed instructions, ticks are clock cycles. A new line needs a
-//! definition there and a function here. Texts are pinned by docs/report.md and the vectors; bodies
-//! are free; a change of `fill_trc_anew` and `fill_trc` needs one in proofs/run as well.
+//! Proved: each call returns or fills in exactly the bytes that specs/Line.antt defines
+//! (`trc_line`, `int_line` and so on), with the line end. `fill_trc` is the fast form of
+//! `line_trc`, which no program calls. Not proved: its speed, and that report.rt of `st_entries`,
+//! which parses `INT`, reads what is written here.
+//!
+//! Pinned, by these definitions, docs/report.md, vectors/interrupts.txt, vectors/orders.txt,
+//! vectors/timetable.txt and vectors/back.txt, and by report.rt of `st_entries`: the texts. Free:
+//! the bodies, if proofs/run follows those of `fill_trc` and `fill_trc_anew`.
 
 ghost use Rattle.std.specs.Prelude.{◌≡◌};
 ghost use Rattle.st_report.specs.Line.{trc_line, prt_line, int_line, time_line, end_line, done_line, ticks_line, back_line};

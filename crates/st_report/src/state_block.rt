@@ -1,10 +1,14 @@
 //! The lines of the state block, which a report has at the end of a run and at requested moments:
-//! program counter, interrupts, registers and dumped storage.
+//! program counter, interrupts, registers and dumped storage. Words are shown as 16 hexadecimal
+//! digits. `st_telling` (block.rt) writes them; `st_lines` writes `EN` in the ledger.
+//! docs/report.md ("The state block") has the rules.
 //!
-//! specs/Line.antt defines the bytes of each line; proved is that each call returns exactly these,
-//! with the line end. Which lines a block has, and in what order, is defined in `st_telling`. Words
-//! are shown as 16 hexadecimal digits. The bodies are free, the texts pinned by docs/report.md and
-//! the vectors.
+//! Proved: each call returns exactly the bytes that specs/Line.antt defines (`ic_line`, `en_line`,
+//! `reg_line`, `dump_line`, `mem_line`), with the line end. Which lines a block has, and in what
+//! order, is proved in `st_telling`, not here.
+//!
+//! Pinned, by these definitions, docs/report.md, vectors/timetable.txt and vectors/back.txt: the
+//! texts. Free: the bodies.
 
 ghost use Rattle.std.specs.Prelude.{◌≡◌};
 ghost use Rattle.st_report.specs.Line.{ic_line, en_line, reg_line, dump_line, mem_line};

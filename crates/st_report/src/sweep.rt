@@ -1,10 +1,13 @@
 //! The lines of the command `sweep`, which runs a job on machines of one to eight look-ahead levels
-//! (places for entries that are in flight).
+//! (places for entries that are in flight). `st_top` (sweeping.rt) writes both. docs/timetable.md
+//! ("One to eight levels") has the rules.
 //!
-//! specs/Line.antt defines their bytes (`levels_line`, `calm_line`), and proved is that each call
-//! returns exactly these. A run is calm if more levels cannot make it slower; `st_sweep` decides
-//! this. Written by `st_top`; `st_lines` has the first line in the ledger too. The texts are pinned
-//! by the definitions, docs/report.md and the vectors; the bodies are free.
+//! Proved: each call returns exactly the bytes of `levels_line` or `calm_line` in specs/Line.antt.
+//! A run is calm if more levels cannot make it slower; `st_sweep` decides and proves this, not this
+//! module.
+//!
+//! Pinned, by these two definitions, docs/timetable.md and vectors/sweep.txt: the texts. Free: the
+//! bodies.
 
 ghost use Rattle.std.specs.Prelude.{◌≡◌};
 ghost use Rattle.st_report.specs.Line.{levels_line, calm_line};

@@ -1,9 +1,11 @@
-//! The call that writes a line of a report to a sink, a generic output of bytes.
+//! The call that writes a line of a report to a sink, a generic output of bytes. docs/edge.md has
+//! the rules of sinks. `st_telling`, `st_top`, `st_lines` and `st_account` write each `Line` by
+//! `put`. A line that is composed from its end (from_end.rt) is no `Line`.
 //!
-//! It is `write_line` of `st_io` for a `Line`, and its clause is that one: by `WritesLines` the
-//! line is written whole, or after an error a proper prefix of it. `st_telling` and `st_top` write
-//! by it, apart from the lines of executed instructions, which are no `Line`. The body is free; the
-//! clause is pinned by the crates that write by it.
+//! Proved: `put` has the clause of `write_line` in `st_io`. By `WritesLines` (specs/Lines.antt of
+//! `st_io`) the line is written whole, or after an error a proper prefix of the line.
+//!
+//! Pinned, by the proofs of these four crates: the name and the clause of `put`. Free: the body.
 ghost use Rattle.std.specs.Prelude.{◌∷◌, []};
 ghost use Rattle.st_io.specs.Lines.{WritesLines};
 

@@ -1,4 +1,12 @@
 -- The decision between two entries: whether the run continues, and whether the segment ends.
+--
+-- Proved: by their `ensures` clauses these calls do what definitions here say: `choice`
+-- (leaving.rt), `decide` (leaving.rt), `is_quiet` (leaving.rt).
+-- Read by: definitions in Leaving.
+-- Laws: none names a definition of this file itself.
+-- Change: no page fixes these definitions, since no contract of a program unfolds to them; they
+-- change together with the clauses, definitions and laws that name them. docs/machine.md describes
+-- the subject.
 use Rattle.std.specs.Prelude.{ℕ, ◌≡◌, ◌≢◌, Bool, true, false, ◌||◌, is_some, Option, None, Some}
 use Rattle.st_state.specs.Machine.{Machine}
 use Rattle.st_state.specs.Orders.{is_due}

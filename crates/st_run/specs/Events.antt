@@ -1,4 +1,13 @@
 -- The events of a timed run, and the parts of the machine that snapshots show.
+--
+-- Proved: by their `ensures` clauses these calls do what definitions here say: `levels_ahead`
+-- (leaving.rt), `next` (output_queue.rt), `with_index` (seen.rt), `word_with` (seen.rt), and
+-- others.
+-- Read by: definitions in TimedRun, ReportedEvents, Telling, Order, and others.
+-- Laws: DelaysChangeNothingButTicks (specs/Laws.antt), NothingIsAheadBehindAnEnd (specs/Laws.antt),
+-- RunsAreInTime (specs/Laws.antt), TheTimedRunIsTheRun (specs/Laws.antt), and others.
+-- Change: the meaning is fixed by docs/machine.md, since the contract of `st_top::stretch` unfolds
+-- to a definition here. The form is free, with the proofs that unfold it.
 use Rattle.std.specs.Prelude.{ℕ, ◌+◌, Bool, nat_le, List, [], ◌∷◌, ◌++◌, map, length, take, drop, Option, option_map}
 use Rattle.std.specs.List.{flat_map}
 use Rattle.st_bits.specs.declared.register.TheConstants.{FIRST_INDEX_WORD, FIRST_STORAGE_WORD}
@@ -10,8 +19,7 @@ use Rattle.st_segment.specs.Predictions.{split_words}
 
 -- ---- the entries in flight as snapshots show them
 
--- an entry in flight: its address, the index word that it changed speculatively (its number, and
--- its contents before this change), and whether all its operands have arrived
+-- an entry in flight: its address, its changed index word (number, contents before), its readiness
 pub record Level : Type 0 where
   pub address : ℕ
   pub changed : Option (ℕ × ℕ)
@@ -19,18 +27,15 @@ pub record Level : Type 0 where
 
 -- ---- events
 
--- an event of a timed run: an entry completes, with the state after it, its address and its row; an
--- entry in flight is flushed, with its address and the tick at which it was prepared; a snapshot
--- shows a state and the entries in flight at a tick, oldest first; or an event of the plain run:
--- words are printed, an interrupt is taken, the run ends
+-- an event: an entry completes (state after it, address, row) or is flushed (address, tick of its
+-- preparation); a snapshot (tick, state, entries in flight, oldest first); or one of the plain run
 pub data TimetableEvent : Type 0 where
   Completes : Machine → ℕ → EntryTicks → TimetableEvent
   Drops : ℕ → ℕ → TimetableEvent
   Shows : ℕ → Machine → List Level → TimetableEvent
   Happens : PlainEvent → TimetableEvent
 
--- an event, with the number of instructions that have completed and the tick of the last
--- completion, 0 before the first
+-- an event, the count of completed instructions, and the tick of the last completion; 0 at first
 pub record Timed : Type 0 where
   pub done : ℕ
   pub tick : ℕ
@@ -60,11 +65,9 @@ unfoldable pub with_index_words : List ℕ → Machine → Machine
 with_index_words xs s =
     record s { words = take FIRST_INDEX_WORD s.words ++ xs ++ drop FIRST_STORAGE_WORD s.words }
 
--- a snapshot at the tick of the state with these entries in flight; if an interrupt was taken, the
--- first of them is its table instruction
+-- a snapshot at a tick: the entries in flight begin with the table instruction of a taken interrupt
 unfoldable pub snapshot : ℕ → Option ℕ → Machine → List Ahead → TimetableEvent
-snapshot tick taken s levels =
-    Shows tick (with_index_words (split_words (length levels) taken s) s)
+snapshot tick taken s levels = Shows tick (with_index_words (split_words (length levels) taken s) s)
     (map (level_at tick) levels)
 
 -- ---- the events without their timing

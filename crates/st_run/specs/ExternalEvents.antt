@@ -1,4 +1,13 @@
 -- External events of a machine between two steps, for any machine that has a plain state.
+--
+-- Proved: by their `ensures` clauses these calls do what definitions here say: `between`
+-- (between.rt), `end_wait` (between.rt), `print_line` (between.rt), `read_card` (between.rt), and
+-- others.
+-- Read by: definitions in Standing of st_account.
+-- Laws: none names a definition of this file itself.
+-- Change: no page fixes these definitions, since no contract of a program unfolds to them; they
+-- change together with the clauses, definitions and laws that name them. docs/machine.md describes
+-- the subject.
 use Rattle.std.specs.Prelude.{ℕ, ◌≡◌, ◌≤◌, ◌||◌, Bool, false, nat_lt, nat_le, List, [], ◌∷◌, length, Option, None, Some}
 use Rattle.std.specs.Option.{option_or}
 use Rattle.st_card.specs.declared.control_cards.Signal.{Signal}

@@ -1,4 +1,11 @@
 -- The decision between two entries in terms of the moment.
+--
+-- Proved: by their `ensures` clauses these calls do what definitions here say: `pass_on`
+-- (leaving.rt), `leave` (leaving.rt).
+-- Laws: none names a definition of this file itself.
+-- Change: no page fixes these definitions, since no contract of a program unfolds to them; they
+-- change together with the clauses, definitions and laws that name them. docs/machine.md describes
+-- the subject.
 use Rattle.std.specs.Prelude.{ℕ, ◌≡◌, ◌+◌, false, [], None, option_map}
 use Rattle.st_exec.specs.Step.{interrupt}
 use Rattle.st_ahead.specs.Overlap.{levels_of}

@@ -1,5 +1,16 @@
 -- The points of a timed run: right after an entry completes, and right before the next one. The
 -- machine has the delays ds and n levels.
+--
+-- Proved: by their `ensures` clauses these calls do what definitions here say: `skip_to_next`
+-- (account.rt of st_account), `step` (account.rt of st_account), `write_to_next` (account.rt of
+-- st_account), `pass_to_next` (passing.rt of st_account), and others.
+-- Read by: definitions in TimedRun, Leaving, Together, Text of st_account, and others.
+-- Laws: NothingIsAheadBehindAnEnd (specs/Laws.antt), ScenesAreKept (specs/Laws.antt),
+-- DroppedEntriesFollowThePrediction (specs/Laws.antt), TheLastMomentEndsTheRun (specs/Laws.antt),
+-- and others.
+-- Change: the meaning is fixed by docs/timetable.md, since the contracts of `st_top::stretch` and
+-- `st_account::ledger` unfold to a definition here. The form is free, with the proofs that unfold
+-- it.
 use Rattle.std.specs.Prelude.{ℕ, Bool, false, ◌||◌, nat_lt, if◌then◌else◌, is_some, List, [], length, None}
 use Rattle.st_state.specs.Machine.{Machine}
 use Rattle.st_prep.specs.Plan.{plan}
@@ -16,10 +27,8 @@ use Rattle.st_rows.specs.declared.issue.EntryTicks.{EntryTicks}
 use Rattle.st_segment.specs.Entries.{entry}
 use Rattle.st_segment.specs.Ahead.{Ahead, ahead, prepared_before, reads_to_end, banks_at_end, issue_behind_end}
 
--- the point at which an entry has completed at this tick, before any external event: the scene with
--- the state after it; the issue state after it; whether its branch was mispredicted; and, in case
--- the segment ends here, the entries in flight after the prediction, oldest first, and the last
--- answers of the banks
+-- the point at which an entry has completed, before any external event: scene and issue state after
+-- it, and, if the segment ends here, the entries to flush, oldest first, and last answers of banks
 pub record Moment : Type 0 where
   pub scene : Scene
   pub tick : ℕ
@@ -28,8 +37,7 @@ pub record Moment : Type 0 where
   pub dropped : List Ahead
   pub banks : LastAnswers
 
--- the point right before the next entry, after all external events: the scene, the tick of the last
--- completion, and the issue state from which the row of the next entry is computed
+-- the point before the next entry, after all external events, with the tick of the last completion
 pub record Standing : Type 0 where
   pub scene : Scene
   pub tick : ℕ
@@ -61,19 +69,15 @@ module _ (m : Moment) where
   abbrev pub has_card : Bool
   has_card = nat_lt (length next_scene.cards) (length m.scene.cards)
 
-  -- whether the machine is at rest after the signals and orders that are due: it waits for the next
-  -- event
+  -- whether the machine is at rest after the due signals and orders, so that it waits for an event
   abbrev pub has_waited : Bool
-  has_waited =
-      rests (with_due_orders (with_due_signals m.scene)).scene.machine
+  has_waited = rests (with_due_orders (with_due_signals m.scene)).scene.machine
 
-  -- whether the segment ends here if the run continues: a branch was mispredicted, a card came, the
-  -- machine waited, or an interrupt is taken
+  -- whether the segment ends here, if the run continues
   unfoldable pub ends_segment : Bool
   ends_segment = m.mispredicted || has_card || has_waited || is_some (interrupt next_state)
 
-  -- the issue state of the next segment, which starts one tick later and one more for each flushed
-  -- entry
+  -- the issue state at the start of the next segment
   abbrev pub next_segment : IssueState
   next_segment = issue_behind_end m.banks m.tick (length m.dropped)
 
@@ -123,5 +127,4 @@ module _ (ds : List ℕ) (n : ℕ) (p : Standing) where
 
 -- the moments of a run from a given one, with the given budget of instructions
 abbrev pub moments : List ℕ → ℕ → ℕ → Moment → Course Moment
-moments ds n left m = course (λ m. rests (next_state m)) (λ m. next_moment ds n (standing_at m))
-    left m
+moments ds n = course (λ m. rests (next_state m)) (λ m. next_moment ds n (standing_at m))

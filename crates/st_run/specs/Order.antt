@@ -1,4 +1,12 @@
 -- The order of events.
+--
+-- Proved: no `ensures` clause names a definition of this file.
+-- Read by: definitions in Telling.
+-- Laws: EventsComeInOrder (specs/Laws.antt), SnapshotsAreShownUpToTheEnd (specs/Laws.antt),
+-- RunsAreInTime (specs/Laws.antt), TheLastMomentEndsTheRun (specs/Laws.antt), and others.
+-- Change: no page fixes these definitions, since no contract of a program unfolds to them; they
+-- change together with the clauses, definitions and laws that name them. docs/machine.md describes
+-- the subject.
 use Rattle.std.specs.Prelude.{ℕ, ◌+◌, ◌≤◌, List, [], ◌∷◌}
 use Rattle.std.specs.List.{flat_map}
 use Rattle.st_run.specs.Events.{TimetableEvent, Timed, Shows}

@@ -1,4 +1,11 @@
 -- The changes of an overlapped machine by external events between two entries.
+--
+-- Proved: invariants and ghost fields of types name these definitions; no `ensures` clause does.
+-- Read by: definitions in OverlappedLaws.
+-- Laws: none names a definition of this file itself.
+-- Change: no page fixes these definitions, since no contract of a program unfolds to them; they
+-- change together with the clauses, definitions and laws that name them. docs/timetable.md
+-- describes the subject.
 use Rattle.std.specs.Prelude.{Bool, ◌||◌}
 use Rattle.st_ahead.specs.Overlap.{Overlap}
 use Rattle.st_ahead.specs.Calls.{MayServe}

@@ -1,4 +1,10 @@
 -- Properties of successive external events of an overlapped machine.
+--
+-- Proved: invariants and ghost fields of types name these definitions; no `ensures` clause does.
+-- Laws: none names a definition of this file itself.
+-- Change: no page fixes these definitions, since no contract of a program unfolds to them; they
+-- change together with the clauses, definitions and laws that name them. docs/timetable.md
+-- describes the subject.
 use Rattle.std.proofs.Common.{◌≡◌, ◌||◌, Bool, true, false, refl, sym, subst}
 use Rattle.st_ahead.specs.Overlap.{Overlap}
 use Rattle.st_run.specs.Together.{IsSince}

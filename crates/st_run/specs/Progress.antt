@@ -1,4 +1,11 @@
 -- The progress of a run between two events, and the events that remain.
+--
+-- Proved: by their `ensures` clauses these calls do what definitions here say: `go` (progress.rt),
+-- `show` (progress.rt), `finish` (progress.rt), `go_far` (progress.rt), and others.
+-- Laws: none names a definition of this file itself.
+-- Change: no page fixes these definitions, since no contract of a program unfolds to them; they
+-- change together with the clauses, definitions and laws that name them. docs/timetable.md
+-- describes the subject.
 use Rattle.std.specs.Prelude.{ℕ, ◌≡◌, List, []}
 use Rattle.st_state.specs.Machine.{Machine}
 use Rattle.st_run.specs.TimedRun.{timed_from}

@@ -1,14 +1,20 @@
 -- The events of a run as a report shows them.
+--
+-- Proved: by their `ensures` clauses these calls do what definitions here say: `new` (run.rt),
+-- `answer_loaded` (execution.rt of st_top), `answer_run` (execution.rt of st_top), `prepare`
+-- (execution.rt of st_top), and others.
+-- Read by: definitions in Telling, Progress, Together, Report of st_telling, and others.
+-- Laws: none names a definition of this file itself.
+-- Change: the meaning is fixed by docs/timetable.md, since the contract of `st_top::stretch`
+-- unfolds to a definition here. The form is free, with the proofs that unfold it.
 use Rattle.std.specs.Prelude.{ℕ, Bool, List, map}
 use Rattle.st_state.specs.Machine.{Machine}
 use Rattle.st_exch.specs.Printer.{line_of_words}
 use Rattle.st_run.specs.Run.{PlainEvent, Prints, Interrupts, Executes, Ends}
 use Rattle.st_run.specs.Events.{TimetableEvent, Level, Timed, Completes, Drops, Shows, Happens}
 
--- an entry completes, with its address and the ticks at which it was prepared, ready and completed;
--- an entry in flight is flushed, with its address and the tick at which it was prepared; a text is
--- printed; an interrupt is taken in a state; a snapshot shows a state and the entries in flight at
--- a tick; the run ends in a state, at rest or not
+-- an entry completes (address; ticks P, R and C) or is flushed (address, P), a text is printed, an
+-- interrupt is taken in a state, a snapshot at a tick, or the run ends in a state, at rest or not
 pub data ReportedEvent : Type 0 where
   Done : ℕ → ℕ → ℕ → ℕ → ReportedEvent
   Dropped : ℕ → ℕ → ReportedEvent
@@ -23,8 +29,7 @@ pub record TimedReportedEvent : Type 0 where
   pub tick : ℕ
   pub event : ReportedEvent
 
--- the reported form of an event of the plain run; completions are reported with their row by
--- `reported_event`
+-- the reported form of an event of the plain run; `reported_event` tells completions by their rows
 abbrev pub reported_plain_event : PlainEvent → ReportedEvent
 reported_plain_event (Prints s words) = Printed (line_of_words words)
 reported_plain_event (Interrupts s i) = Interrupted i s

@@ -1,5 +1,15 @@
 -- A whole run without timing: instructions are executed sequentially, and signals and orders take
 -- effect between them.
+--
+-- Proved: by their `ensures` clauses these calls do what definitions here say: `between`
+-- (between.rt), `serve` (between.rt), `end_wait` (between.rt), `print_line` (between.rt), and
+-- others.
+-- Read by: definitions in Moments, TimedRun, ExternalEvents, Together, and others.
+-- Laws: PrintsComeOneAtATime (specs/Laws.antt), RunsAreInTime (specs/Laws.antt),
+-- TheLastMomentEndsTheRun (specs/Laws.antt), TheTimedRunIsTheRun (specs/Laws.antt), and others.
+-- Change: the meaning is fixed by docs/machine.md, since the contracts of `st_top::stretch` and
+-- `st_account::ledger` unfold to a definition here. The form is free, with the proofs that unfold
+-- it.
 use Rattle.std.specs.Prelude.{ℕ, Bool, nat_le, if◌then◌else◌, slice_get, drop, List, [], ◌∷◌, ◌++◌, map, Option, None, Some}
 use Rattle.std.specs.List.{flat_map}
 use Rattle.std.specs.Option.{option_to_list}
@@ -20,8 +30,7 @@ pub record Scene : Type 0 where
   pub signals : List Signal
   pub cards : List (List ℕ)
 
--- an event that a report shows: eight words are printed, an interrupt is taken, the instruction at
--- an address completes with this state after it, or the run ends
+-- a print, an interrupt by an indicator, a completion of an address, or the end, true if at rest
 pub data PlainEvent : Type 0 where
   Prints : Machine → List ℕ → PlainEvent
   Interrupts : Machine → ℕ → PlainEvent
@@ -36,8 +45,7 @@ pub record Transition : Type 0 where
 -- the scene after signals are taken, one at a time, while the test holds of the next one
 abbrev pub with_signals_while : (Machine → Signal → Bool) → List Signal → Scene → Scene
 with_signals_while holds [] c = c
-with_signals_while holds (x ∷ xs) c =
-    if holds c.machine x then with_signals_while holds xs
+with_signals_while holds (x ∷ xs) c = if holds c.machine x then with_signals_while holds xs
     (record c { machine = state_with_signal c.machine x.indicator; signals = xs })
     else c
 
@@ -66,17 +74,11 @@ abbrev pub order_of : Device → Machine → Option Order
 order_of Reader s = s.reader
 order_of Printer s = s.printer
 
--- the transition by an order of a device: the reader's order reads its next card, if there is one;
--- the printer's order prints eight words and turns on EOP
+-- the transition by an order: the reader reads its next card, if any; the printer prints 8 words
 abbrev pub with_order : Device → Option Order → Scene → Transition
 with_order _ None c = uneventful c
-with_order Reader (Some order) c = record {
-  scene = record c {
-    machine = read_in c.machine order.word (slice_get c.cards 0);
-    cards = drop 1 c.cards;
-  };
-  happened = [];
-}
+with_order Reader (Some o) c = uneventful
+    (record c { machine = read_in c.machine o.word (slice_get c.cards 0); cards = drop 1 c.cards })
 with_order Printer (Some order) c = record {
   scene = record c { machine = printed_out c.machine };
   happened = Prints c.machine (words_from c.machine order.word 8) ∷ [];
@@ -95,20 +97,17 @@ abbrev pub with_device : Option Device → Scene → Transition
 with_device None c = uneventful c
 with_device (Some device) c = with_order device (order_of device c.machine) c
 
--- the transition by the earliest order if the machine is at rest; the reader has priority if both
--- are due at the same count
+-- the transition at rest by the earliest order; the reader has priority if both have one count
 unfoldable pub with_order_at_rest : Scene → Transition
 with_order_at_rest c = if rests c.machine then with_device (next_device c.machine) c
     else uneventful c
 
 -- the transition that may end a wait: orders, then signals
 unfoldable pub with_wait : Scene → Transition
-with_wait c =
-    and_then (and_then (with_order_at_rest c) with_order_at_rest)
+with_wait c = and_then (and_then (with_order_at_rest c) with_order_at_rest)
     (λ d. uneventful (with_signals_at_rest d))
 
--- the transition between two instructions: the due signals, the due orders, and the events that may
--- end a wait
+-- the transition between two instructions: due signals, due orders, and events that may end a wait
 unfoldable pub interlude : Scene → Transition
 interlude c = and_then (with_due_orders (with_due_signals c)) with_wait
 
@@ -130,11 +129,9 @@ happens s = interrupts_by (interrupt s) s ++ Executes (step s) (address s) ∷ [
 abbrev pub state_next : Scene → Machine
 state_next c = (interlude c).scene.machine
 
--- the scenes of a run from a given one with the given budget, each before the transition between
--- two instructions
+-- the scenes of a run with the given budget, each before the transition between two instructions
 abbrev pub scenes : ℕ → Scene → Course Scene
-scenes left c = course (λ d. rests (state_next d)) (λ d. scene_after_step (interlude d).scene)
-    left c
+scenes = course (λ d. rests (state_next d)) (λ d. scene_after_step (interlude d).scene)
 
 -- the events from a scene to the next one
 abbrev pub happens_from : Scene → List PlainEvent

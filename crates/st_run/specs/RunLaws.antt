@@ -1,4 +1,8 @@
 -- Laws of the number of instructions of a run, and of the distance between completions.
+--
+-- Proved: each law has its lemma in proofs/RunLaws.antt, with its name in small letters.
+-- Claimed: docs/CLAIMS.md names CompletionsAreNear, RunsKeepTheirBudget.
+-- Change: docs/promises.txt lists each law, and the gate compares the list with the laws.
 use Rattle.std.specs.Prelude.{ℕ, ◌+◌, ◌*◌, ◌≤◌, List, [], ◌∷◌, All, ⊤}
 use Rattle.st_rows.specs.Ranges.{AreDelaysUpTo}
 use Rattle.st_run.specs.Run.{Scene, run}

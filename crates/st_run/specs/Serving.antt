@@ -1,4 +1,11 @@
 -- The effect of serving a device on an overlapped machine and on the reader's cards.
+--
+-- Proved: by their `ensures` clauses these calls do what definitions here say: `serve`
+-- (serving.rt).
+-- Laws: none names a definition of this file itself.
+-- Change: no page fixes these definitions, since no contract of a program unfolds to them; they
+-- change together with the clauses, definitions and laws that name them. docs/machine.md describes
+-- the subject.
 use Rattle.std.specs.Prelude.{ℕ, ◌≡◌, List, [], ◌∷◌, Some, None, IfSome}
 use Rattle.st_state.specs.declared.devices.Device.{Device}
 use Rattle.st_state.specs.declared.devices.Device.TheVariants as devices

@@ -1,4 +1,13 @@
 -- The remaining events of a run, and the state that it shows.
+--
+-- Proved: by their `ensures` clauses these calls do what definitions here say: `next`
+-- (output_queue.rt), `is_empty` (output_queue.rt), `finish` (progress.rt), `go_far` (progress.rt),
+-- and others.
+-- Read by: definitions in Progress.
+-- Laws: none names a definition of this file itself.
+-- Change: no page fixes these definitions, since no contract of a program unfolds to them; they
+-- change together with the clauses, definitions and laws that name them. docs/timetable.md
+-- describes the subject.
 use Rattle.std.specs.Prelude.{ℕ, ◌≡◌, ◌+◌, ◌-◌, ◌<◌, ◌^◌, Bool, List, [], ◌∷◌, ◌++◌, map, reverse, replicate, length, All, Option, None, Some, option_map, IsSome, ◌≤◌}
 use Rattle.std.specs.Option.{option_to_list}
 use Rattle.st_state.specs.Machine.{Machine}

@@ -1,4 +1,11 @@
 -- The effect of ticks on a machine, up to the next completion or snapshot.
+--
+-- Proved: by their `ensures` clauses these calls do what definitions here say: `run_many`
+-- (ticking.rt), `run_until` (ticking.rt), `last_of` (ticking.rt).
+-- Laws: none names a definition of this file itself.
+-- Change: no page fixes these definitions, since no contract of a program unfolds to them; they
+-- change together with the clauses, definitions and laws that name them. docs/timetable.md
+-- describes the subject.
 use Rattle.std.specs.Prelude.{ℕ, ◌≡◌, ◌+◌, ◌-◌, ◌<◌, ◌≤◌, ◌^◌, min, Option, None, Some, IfSome}
 use Rattle.st_ahead.specs.Overlap.{Overlap, oldest_row}
 use Rattle.st_ahead.specs.Calls.{machine_after_completion, row_done}

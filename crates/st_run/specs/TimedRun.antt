@@ -1,4 +1,12 @@
 -- A whole timed run: the events and their ticks. The machine has the delays ds and n levels.
+--
+-- Proved: by their `ensures` clauses these calls do what definitions here say: `new` (run.rt).
+-- Read by: definitions in Telling, Progress, StepsBack of st_top.
+-- Laws: SnapshotsAreShownUpToTheEnd (specs/Laws.antt), TheTimedRunIsTheRun (specs/Laws.antt),
+-- RunsKeepTheirBudget (specs/RunLaws.antt), DelaysChangeNothingButTicks (specs/Laws.antt), and
+-- others.
+-- Change: the meaning is fixed by docs/timetable.md, since the contract of `st_top::stretch`
+-- unfolds to a definition here. The form is free, with the proofs that unfold it.
 use Rattle.std.specs.Prelude.{ℕ, ◌+◌, nat_lt, if◌then◌else◌, List, [], ◌∷◌, ◌++◌, map, reverse}
 use Rattle.std.specs.List.{flat_map}
 use Rattle.st_state.specs.Machine.{Machine}
@@ -39,12 +47,9 @@ module _ (m : Moment) where
   abbrev pub happening_at : PlainEvent → Timed
   happening_at happening = event_at m.tick m.scene.machine (Happens happening)
 
-  -- the events between two entries if the run continues: flushed entries, printed words, and the
-  -- interrupt that is taken
+  -- the events between two entries, if the run continues: flushes, prints and the interrupt
   unfoldable pub events_between : List Timed
-  events_between =
-      drops_if_ends
-      ++ map happening_at
+  events_between = drops_if_ends ++ map happening_at
       ((interlude m.scene).happened ++ interrupts_by (interrupt (next_state m)) (next_state m))
 
   -- ---- the end
@@ -53,12 +58,10 @@ module _ (m : Moment) where
   abbrev pub last_snapshot_at : ℕ → Timed
   last_snapshot_at tick = event_at m.tick m.scene.machine (Shows tick (next_state m) [])
 
-  -- the events at the end of the run, which ends its last segment: flushed entries, printed words,
-  -- the snapshots up to this tick, and the end
+  -- the events at the end of the run: flushes, prints, the snapshots up to this tick, and the end
   unfoldable pub last_events : List ℕ → List Timed
   last_events snaps =
-      drops
-      ++ map happening_at (interlude m.scene).happened
+      drops ++ map happening_at (interlude m.scene).happened
       ++ map last_snapshot_at (ticks_before (m.tick + 1) snaps)
       ++ happening_at (Ends (next_state m) (rests (next_state m))) ∷ []
 
@@ -67,15 +70,13 @@ module _ (ds : List ℕ) (n : ℕ) where
 
   -- a snapshot of the state and of the entries in flight at a tick
   abbrev pub snapshot_at : Standing → ℕ → Timed
-  snapshot_at p tick =
-      event_at p.tick p.scene.machine
+  snapshot_at p tick = event_at p.tick p.scene.machine
       (snapshot tick (interrupt p.scene.machine) p.scene.machine
       (prepared_before (tick + 1) (entries_at_moment ds n p)))
 
   -- the completion of the next entry
   abbrev pub completion : Standing → Timed
-  completion p =
-      let m = next_moment ds n p in
+  completion p = let m = next_moment ds n p in
       event_at m.tick m.scene.machine (Completes m.scene.machine (address p.scene.machine)
       (next_row ds n p))
 
@@ -92,8 +93,7 @@ module _ (ds : List ℕ) (n : ℕ) where
 
   -- the events of the run from a moment, with the given budget of instructions
   unfoldable pub timed_from : ℕ → Moment → List ℕ → List Timed
-  timed_from left m snaps =
-      let r = moments ds n left m in
+  timed_from left m snaps = let r = moments ds n left m in
       flat_map (told_from snaps) r.before ++ last_events r.last (snapshots_from r.last.tick snaps)
 
   -- the events of the run from the point before an entry, with the given budget after it

@@ -1,4 +1,12 @@
 -- An overlapped machine with the signals and the reader's cards that are still to come.
+--
+-- Proved: by their `ensures` clauses these calls do what definitions here say: `leave`
+-- (leaving.rt), `pass_on` (leaving.rt).
+-- Read by: definitions in Leaving, Telling, Overlapped, OverlappedLaws, and others.
+-- Laws: none names a definition of this file itself.
+-- Change: no page fixes these definitions, since no contract of a program unfolds to them; they
+-- change together with the clauses, definitions and laws that name them. docs/timetable.md
+-- describes the subject.
 use Rattle.std.specs.Prelude.{ℕ, ◌≡◌, ◌≤◌, Bool, true, false, if◌then◌else◌, is_some, List, map, Option, None, IsSome, IfSome, ◌<◌, ◌^◌}
 use Rattle.std.specs.Option.{option_to_list}
 use Rattle.st_bits.specs.declared.limits.TheConstants.{MOST_DELAY}

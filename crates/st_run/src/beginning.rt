@@ -1,12 +1,14 @@
 //! The initial data of a run other than its state: the requested delays in ticks, and the reader of
-//! a job with its cards.
+//! a job with its cards. docs/strap.md has the control cards, docs/machine.md the reader.
 //!
-//! `st_top` and `st_account` call both when they prepare a run; these are the calls of this crate
-//! that allocate, and want of memory is their only error.
+//! `st_top` and `st_account` call both functions when they prepare a run. In this crate only these
+//! two allocate, and want of memory is their only error.
 //!
 //! Proved: the delays are those of the control cards, and the reader has `reader_cards` of the job
-//! (`st_exch`), each of eight words. Free: the bodies. Pinned by the clause `some`: at least one
-//! delay; `st_asm` puts one in if a job asks for none.
+//! (`st_exch`; clause `value`), each card of eight words (clause `shape`).
+//!
+//! Pinned, by the `requires` clause `some` and the proofs of `st_top` and `st_account`: at least
+//! one delay; `st_asm` puts one in if a job asks for none. Free: the bodies.
 ghost use Rattle.std.specs.Prelude.{◌≡◌, ◌≤◌, All, IfOk, length};
 ghost use Rattle.st_card.specs.Cards.{cards_of};
 ghost use Rattle.st_card.specs.Limits.{IsWithinLimits};

@@ -1,15 +1,17 @@
 //! External events of a machine between two steps (two instructions): signals, which turn
 //! indicators on; orders of the reader and the printer, which move eight words; and the end of a
-//! wait.
+//! wait. docs/machine.md has the rules.
 //!
 //! `between` works for each machine with `ExternalEvents`: the plain state (`st_sweep`,
 //! `st_account`), the overlapped machine (leaving.rt), and the machine of `/BACK` (`st_top`).
 //! Counts are completed instructions.
 //!
 //! Proved: the machine and the pending events are those after `interlude` of specs/Run.antt, and
-//! the summary says if a card came, if it waited, and what was printed (`HasHappened` in
-//! specs/ExternalEvents.antt). Pinned by `interlude`: due signals first, then the reader, then the
-//! printer, and then, at rest, orders before signals. Free: the bodies.
+//! the summary `Interlude` says if a card came, if the machine waited, and what was printed
+//! (`HasHappened` in specs/ExternalEvents.antt, the clause of `between`).
+//!
+//! Pinned, by `interlude` and docs/machine.md: due signals first, then the reader, then the
+//! printer, and then, at rest, orders before signals. Free: the bodies of the private functions.
 ghost use Rattle.std.specs.Prelude.{◌≡◌, false, IsSome};
 ghost use Rattle.std.specs.Option.{option_or};
 ghost use Rattle.st_state.specs.declared.devices.Device.TheVariants.{Reader, Printer};

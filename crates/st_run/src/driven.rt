@@ -1,12 +1,14 @@
 //! An overlapped machine with external events: the implementation of `ExternalEvents` for it, and
-//! the signals that are due before the first instruction.
-//!
-//! run.rt, leaving.rt and ticking.rt use `Driven`. Each method is a call of `Machine`; `rest`
-//! settles the tick, which ends the segment (flushes the entries in flight).
+//! the signals that are due before the first instruction. docs/machine.md has the rules of signals
+//! and devices. run.rt, progress.rt, leaving.rt and ticking.rt use `Driven`; no other crate does.
+//! Each method is a call of `Machine` of `st_ahead`; `rest` settles the tick, which ends the
+//! segment (flushes the entries in flight).
 //!
 //! Proved: after an event only the state has changed, and the segment has ended if a card came or
-//! the machine waited (`IsChanged` in specs/Overlapped.antt). Free: the bodies. The laws of the
-//! trait are proved in specs/OverlappedLaws.antt.
+//! the machine waited (`IsChanged` in specs/Overlapped.antt). The laws of the trait are proved in
+//! specs/OverlappedLaws.antt.
+//!
+//! Pinned, by `IsChanged` and docs/timetable.md: which event ends the segment. Free: the bodies.
 ghost use Rattle.std.specs.Prelude.{◌≡◌, ℕ, List, IfSome};
 ghost use Rattle.std.specs.List.{AllPass};
 ghost use Rattle.st_card.specs.Limits.{is_signal};

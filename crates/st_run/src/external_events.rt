@@ -1,13 +1,16 @@
 //! The interface of a machine that takes external events, so that one driver (between.rt) serves
-//! several machines: the plain state, the overlapped machine, and a machine that notes its events
-//! (`st_top`).
+//! several machines: the plain state (plain.rt, which `st_account` and `st_sweep` use), the
+//! overlapped machine (driven.rt), and the machine of `st_top` that follows a run (beside.rt).
+//! docs/machine.md has the rules of signals and devices.
 //!
-//! A new machine implements the five methods and gives `state`, `is_open` and `leaves`, with the
-//! three laws at the end of the trait; then every clause of `between` holds for it.
+//! Proved, for each implementation: the clauses of the methods, which change the plain state as
+//! `st_exec` and `st_state` define, and the three laws at the end of the trait. With these every
+//! clause of `between` holds for the machine.
 //!
-//! Proved: for each implementation, the clauses of the methods, which change the plain state as
-//! `st_exec` and `st_state` define. Pinned by between.rt and specs/Run.antt: the four events
-//! (signal, card, print, rest); a new kind of event is a new method here, and a case in those two.
+//! Pinned, by `interlude` of specs/Run.antt: the four events (signal, card, print, rest). A new
+//! kind of event is a new method here, and a case in between.rt, in specs/Run.antt and in each
+//! implementation. Free: a new machine, which implements the five methods and gives `state`,
+//! `is_open` and `leaves`.
 ghost use Rattle.std.specs.Prelude.{◌≡◌, ◌≤◌, ◌||◌, Bool, true, false, is_some, IfSome, IsSome};
 ghost use Rattle.st_state.specs.Machine.{Machine as MachineOf};
 ghost use Rattle.st_state.specs.Interrupts.{state_with_signal};

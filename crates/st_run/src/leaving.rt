@@ -1,13 +1,17 @@
 //! External events (signals, cards, prints) between two entries (instructions), and the decision
-//! whether the run continues: at rest or with the budget used up it stops, otherwise the machine
-//! settles its tick: it takes an interrupt, flushes after a wrong prediction, or continues.
+//! whether the run continues: at rest or with the budget used up the run stops; otherwise the
+//! machine settles its tick: it takes an interrupt, flushes after a wrong prediction, or continues.
+//! docs/timetable.md has the rules.
 //!
-//! progress.rt calls `pass_on` first, which handles the usual case that nothing happens, and
-//! `leave` otherwise. `left` is the number of instructions that may still complete.
+//! Only progress.rt uses this module: it calls `pass_on` first, which handles the usual case that
+//! nothing happens, and `leave` otherwise. `left` is the number of instructions that may still
+//! complete.
 //!
 //! Proved: the decision is that of the timed run (`IsDecided` in specs/Leaving.antt, `IsChoice` in
-//! specs/Between.antt). Pinned: rest comes before the budget. Free: the fast path, which may refuse
-//! at any time (clause `stays`).
+//! specs/Between.antt; clauses `decided` and `choice`).
+//!
+//! Pinned, by `IsChoice`: rest comes before the budget. Free: the fast path `pass_on`, which may
+//! refuse at any time (clause `stays`).
 ghost use Rattle.std.specs.Prelude.{◌≡◌, ◌≤◌, true, false, length, map, option_map};
 ghost use Rattle.st_exch.specs.Printer.{line_of_words};
 ghost use Rattle.st_ahead.specs.Overlap.{levels_of};

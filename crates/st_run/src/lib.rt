@@ -1,12 +1,15 @@
-//! A whole timed run: definitions and laws of its events and their ticks, and the run as an
-//! iterator over events. `docs/timetable.md` has the rules.
+//! A whole timed run: its events with their ticks, as definitions with laws, and as an iterator
+//! (`Run`). docs/timetable.md has the rules. `st_telling` writes the events of a `Run` as a report,
+//! `st_sweep` counts ticks with it. `between` serves signals and devices between two steps;
+//! `st_top`, `st_sweep` and `st_account` use it for machines of their own. `plain` is a run by
+//! steps without ticks.
 //!
-//! `st_telling` writes the events of a `Run` as a report, and `st_sweep` counts ticks with it;
-//! `st_top` and `st_account` use `between`, which serves signals and devices, with machines of
-//! their own. The run without ticks is `run` in specs/Run.antt, the timed run is
-//! specs/TimedRun.antt, and specs/Laws.antt has the laws that are proved, such as that both have
-//! equal events. No call but those of beginning.rt allocates. Free is all that is not exported; the
-//! definitions are pinned by `st_telling`, `st_sweep`, `st_top` and the ledger.
+//! Proved: the events are `timed_run` of specs/TimedRun.antt; without ticks they are those of `run`
+//! in specs/Run.antt (law `TheTimedRunIsTheRun`). All laws are in specs/Laws.antt,
+//! specs/RunLaws.antt and specs/OverlappedLaws.antt. Only calls of beginning.rt take an allocator.
+//!
+//! Pinned: what is exported, by the four crates named; the definitions, by docs/THEOREM.md. Free:
+//! all that is not exported.
 #![tactic(auto, using(st_bits::specs::Storage::words_of_storage_is))]
 
 mod beginning;

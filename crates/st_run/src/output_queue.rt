@@ -1,12 +1,14 @@
 //! The pending events between two entries (instructions): entries that were prepared ahead and are
-//! flushed, a printed text, and an interrupt, in the order of a report.
+//! flushed, a printed text, and an interrupt, in the order of a report. docs/report.md has the
+//! lines. progress.rt fills the queue after a completion and takes one event for each call of
+//! `Run::next`; no other crate uses it. Addresses are half-word addresses; there are at most eight
+//! flushed entries.
 //!
-//! progress.rt fills it after a completion and takes one event for each call of `Run::next`.
-//! Addresses are half-word addresses; there are at most eight flushed entries.
+//! Proved: `next` returns the events in the order of `queued_events` in specs/Telling.antt (clause
+//! `told`).
 //!
-//! Proved: the events come in the order of `queued_events` in specs/Telling.antt: the youngest
-//! flushed entry first, then the text, then the interrupt. That definition pins the order,
-//! which is visible in reports. Free: the fields.
+//! Pinned, by `queued_events` and docs/report.md: the youngest flushed entry first, then the text,
+//! then the interrupt. Free: the fields, with the view of `OutputQueue`.
 ghost use Rattle.std.specs.Prelude.{◌≡◌, ℕ, [], ◌∷◌, None, MatchOption, IfSome, IsSome, List, true};
 ghost use Rattle.std.specs.Option.{IfNone};
 ghost use Rattle.st_state.specs.Machine.{Machine};

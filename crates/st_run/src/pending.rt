@@ -1,13 +1,17 @@
 //! The external events that are still to come: the signals of control cards, in order, and the
-//! cards of the reader.
+//! cards of the reader. docs/machine.md has the rules.
 //!
-//! between.rt takes them when they are due; `st_account`, `st_sweep` and `st_top` make their own. A
-//! signal is due once `count` instructions are complete, and turns on an indicator, 0 to 13. A card
-//! has eight words.
+//! between.rt takes events when they are due; `st_account`, `st_sweep` and `st_top` make
+//! `PendingEvents` of their own. A signal is due once `count` instructions are complete, and turns
+//! on an indicator, 0 to 13. A card has eight words.
 //!
 //! Proved: each call takes from the two lists what its clause says (`PendingEvents` in
-//! specs/ExternalEvents.antt). Pinned by the clauses `left`: signals and cards are taken from the
-//! front; that signals are sorted is checked where control cards are read. Free: the bodies.
+//! specs/ExternalEvents.antt). Not proved here: that signals are sorted; this is checked where
+//! control cards are read (`st_card`).
+//!
+//! Pinned, by the clauses `left` and `interlude` of specs/Run.antt: signals and cards are taken
+//! from the front. Pinned, by the proofs of these three crates: the public calls with their
+//! clauses. Free: the bodies.
 ghost use Rattle.std.specs.Prelude.{◌≡◌};
 
 use crate::plain::is_signal_due;

@@ -1,11 +1,13 @@
 //! A machine that executes instructions sequentially, with external events: the implementation of
-//! `ExternalEvents` for the plain state, and tests of the orders of its devices.
-//!
-//! `st_sweep` and `st_account` make plain runs with it; leaving.rt and between.rt use the tests for
-//! all machines. Counts are completed instructions.
+//! `ExternalEvents` for the plain state, and tests of the orders of its devices. docs/machine.md
+//! has the rules. `st_sweep` and `st_account` make plain runs with it; leaving.rt, pending.rt and
+//! between.rt use the tests for all machines. Counts are completed instructions.
 //!
 //! Proved: the tests are `is_due` of `st_state` and `signal_due` of specs/ExternalEvents.antt, and
-//! the methods change the state as the trait says, which pins them. Free: the bodies.
+//! the methods change the state as the clauses of the trait (external_events.rt) say.
+//!
+//! Pinned, by these two definitions and docs/machine.md: an order or signal is due when its count
+//! is reached, not after it. Free: the bodies.
 ghost use Rattle.std.specs.Prelude.{◌≡◌, is_none};
 ghost use Rattle.st_state.specs.Orders.{is_due as is_due_of};
 ghost use Rattle.st_run.specs.Run.{order_of};

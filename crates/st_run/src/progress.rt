@@ -1,14 +1,17 @@
 //! The progress of a run, and its next event: an entry (instruction) is completed, then its events
 //! are queued and returned one at a time; snapshots (the machine as it is at a requested tick) come
-//! at their ticks.
+//! at their ticks. docs/timetable.md has the rules.
 //!
-//! run.rt and teller.rt call it. `left` is the remaining budget, `tick` the tick of the last
-//! completion; counts and ticks are below 2^63. If no snapshot remains, many entries complete at
-//! once, and their rows are queued.
+//! Only run.rt and teller.rt use this module. `left` is the remaining budget, `tick` the tick of
+//! the last completion; counts and ticks are below 2^63. If no snapshot remains, `go_far` completes
+//! many entries in one call of the machine and queues their rows.
 //!
-//! Proved: the returned event and the remaining ones are the remaining ones before (`rest_behind`
-//! in specs/Progress.antt, which are `reported_events` of the timed run). Pinned: the order of
-//! events. Free: how many entries go at once, within the 64 rows of the queue.
+//! Proved, by the clauses `told`: the returned event, followed by the events that remain after the
+//! call, are those that remained before it (`rest_behind` in specs/Progress.antt, part of
+//! `reported_events` of the timed run).
+//!
+//! Pinned, by `reported_events` (specs/ReportedEvents.antt) and docs/report.md: the order of
+//! events. Free: how many entries one call completes, within the 64 rows of the queue.
 ghost use Rattle.std.specs.Prelude.{◌≡◌, ◌+◌, ◌-◌, ◌<◌, ◌≤◌, ◌^◌, ℕ, true, false, if◌then◌else◌, [], ◌∷◌, MatchOption, IfSome, slice_get};
 ghost use Rattle.st_ahead.specs.Overlap.{levels_of};
 ghost use Rattle.st_refine.specs.Reached.{IsLedOn};

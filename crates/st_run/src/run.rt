@@ -1,14 +1,17 @@
 //! A whole run of a job on the overlapped machine, event by event: the interface of this crate for
-//! reports and sweeps.
+//! reports and sweeps. docs/timetable.md has the rules of ticks, docs/report.md the lines.
 //!
-//! `st_telling` calls `next` or `next_row` for lines, and `pass_entries` where completions have
-//! none; `st_sweep` needs only ticks. The run shows its state, its levels and the last printed text
-//! until the next call. Budgets are 1 to 10,000,000 instructions.
+//! `st_top`, `st_sweep` and tests make a `Run`. `st_telling` calls `next` or `next_row` for lines,
+//! and `pass_entries` where completions have none; `st_sweep` needs only ticks. The run shows its
+//! state, its levels and the last printed text until the next call. Budgets are 1 to 10,000,000
+//! instructions.
 //!
-//! Proved: the events are `reported_events` of `timed_run` (specs/TimedRun.antt), for all delays
-//! and 1 to 8 levels, and the machine is used within its protocol (`led`). So the ways to ask give
-//! equal events. Pinned by the clauses `rest` and `told`: the events and their order. Free:
-//! everything that `IsUnderWay` of specs/Progress.antt allows.
+//! Proved, by the clauses `rest` and `told`: the events are `reported_events` of `timed_run`
+//! (specs/TimedRun.antt), for all delays and 1 to 8 levels; by the clauses `led`: the machine is
+//! used within its protocol. So the three ways to ask give equal events.
+//!
+//! Pinned, by these clauses and the theorem of `st_top` (docs/THEOREM.md): the events and their
+//! order. Free: everything that `IsUnderWay` of specs/Progress.antt allows.
 ghost use Rattle.std.specs.Prelude.{◌≡◌, ◌≤◌, false, None, [], ◌∷◌, MatchOption, All};
 ghost use Rattle.std.specs.List.{AllPass};
 ghost use Rattle.std.specs.List.Sorted.{IsStrictlyIncreasing};

@@ -1,12 +1,13 @@
-//! The events of a run, as `Run::next` returns them: small values, with what an event shows (state,
-//! levels, text) left in the run.
+//! The events of a run, as `Run::next` returns them: small values; what an event shows (state,
+//! levels, text) is left in the run. docs/report.md has the lines that the events become.
+//! progress.rt and output_queue.rt make them; `st_telling` writes a line or a block for each kind.
 //!
-//! Addresses are half-word addresses, ticks and counts those of the run. `st_telling` writes a line
-//! or a block for each kind. `told_as` in specs/Telling.antt joins an event with what the run shows
-//! to a `ReportedEvent`, of which the report is defined.
+//! Proved: nothing here, there is no code. `told_as` in specs/Telling.antt joins an event with what
+//! the run shows to a `ReportedEvent`, of which the report is defined.
 //!
-//! There is no code here. A new kind of event needs its case there, in progress.rt or
-//! output_queue.rt, and in `Report` of `st_telling`.
+//! Pinned, by `told_as` and `parts_at` of `st_telling` (specs/Report.antt there): variants and
+//! fields; addresses are half-word addresses, ticks and counts those of the run. A new kind of
+//! event needs its case in both, and in progress.rt or output_queue.rt. Free: the derived traits.
 /// An event of a run.
 #[derive(Clone, Copy, Debug)]
 pub enum RunEvent {

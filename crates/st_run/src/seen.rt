@@ -1,13 +1,15 @@
-//! The state of a machine with the index words (index registers) that its entries in flight,
-//! prepared and not complete, have already changed: the state that a snapshot shows, without a copy
-//! of storage.
+//! A view of the state of a machine, with the index words (index registers) that its entries in
+//! flight, prepared and not complete, have already changed, or without. A snapshot shows this
+//! state; storage is not copied. docs/report.md describes snapshots. `st_telling` writes the state
+//! block from a view. Word addresses are below 98,304; words 16 to 31 are the index words.
 //!
-//! `st_telling` writes the state block from it. Word addresses are below 98,304; words 16 to 31 are
-//! the index words, and come from the look-ahead.
+//! Proved, by the `ensures` clauses: a view by `new` reads the state; one by `with_index` reads
+//! `with_index_words` of specs/Events.antt, the state with these index words. The counter is below
+//! 2^19.
 //!
-//! Proved: each read is that of `with_index_words` of specs/Events.antt. Free: how the two parts
-//! are joined. Pinned by that definition: only index words are shown early; indicators and storage
-//! are those of the committed state.
+//! Pinned, by that definition and docs/report.md: only index words are shown early; the counter and
+//! all other words are those of the committed state. The public functions are used by `st_telling`
+//! and `st_account`. Free: how the two parts are joined.
 ghost use Rattle.std.specs.Prelude.{◌≡◌, ◌<◌, ◌^◌};
 ghost use Rattle.st_bits.specs.declared.limits.TheConstants.{WORDS};
 ghost use Rattle.st_state.specs.Machine.{word as word_of};

@@ -1,10 +1,14 @@
 //! The service of a device (card reader or printer), for a caller that drives the overlapped
-//! machine itself between two instructions. No program does: runs use between.rt.
+//! machine itself between two instructions. docs/machine.md has the rules. No program calls
+//! `serve`: runs use between.rt. docs/CLAIMS.md offers `serve`, so the call stays. The caller finds
+//! that the device has an order, after a completion whose decision is owed (`MayServe` of
+//! `st_ahead`).
 //!
-//! The caller finds that the device has an order, after a completion whose decision is owed
-//! (`MayServe` of `st_ahead`). Proved: the machine, the remaining cards and the result are those of
-//! `IsServed` in specs/Serving.antt. Free: the body. Texts are those of `st_exch`. `docs/CLAIMS.md`
-//! offers `serve`, so it stays.
+//! Proved: the machine, the remaining cards and the result are those of `IsServed` in
+//! specs/Serving.antt, the clause of `serve`. Texts are those of `st_exch`.
+//!
+//! Pinned, by docs/CLAIMS.md and `IsServed`: the call, its clause and the variants of `Served`.
+//! Free: the body.
 ghost use Rattle.std.specs.Prelude.{IsSome};
 ghost use Rattle.st_ahead.specs.Calls.{MayServe};
 ghost use Rattle.st_run.specs.Run.{order_of};

@@ -1,11 +1,14 @@
 //! A run with a queue of rows, the ticks of completed instructions: rows are computed in batches
-//! and returned one at a time.
+//! and returned one at a time. docs/timetable.md has the rules of rows. Only run.rt uses this
+//! module: `next_of`, `next_row_of` and `pass_over` are `Run::next`, `next_row` and `pass_entries`.
+//! progress.rt does the work.
 //!
-//! run.rt calls the functions; progress.rt does the work. Proved: the rows in the queue, followed
-//! by the remaining events of the run, are the events that remain (`rest_with_rows` in
-//! specs/Progress.antt), so that each way to ask for the next event sees all events in order. Free:
-//! when rows are computed; the queue has no room between two calls (clause `shut`), so that nothing
-//! is dropped.
+//! Proved, by the clauses `told`: the rows in the queue, followed by the remaining events of the
+//! run, are the events that remain (`rest_with_rows` in specs/Progress.antt), so each way to ask
+//! for the next event sees all events in order. Not proved: that batches save time.
+//!
+//! Pinned, by the clauses `shut`: the queue has no room between two calls, so that nothing is
+//! dropped. Free: when rows are computed, and how many in one batch.
 ghost use Rattle.std.specs.Prelude.{◌≡◌, [], ◌∷◌, MatchOption};
 ghost use Rattle.st_refine.specs.Reached.{IsLedOn};
 ghost use Rattle.st_run.specs.Telling.{row_told, AreLeftOut};

@@ -1,11 +1,15 @@
 //! Ticks (clock cycles) up to the next completion of an instruction or the next snapshot: the two
-//! ways in which a run calls `Machine::run_to`.
+//! ways in which a run calls `Machine::run_to` of `st_ahead`. docs/timetable.md has the rules. Only
+//! progress.rt uses this module: it calls `run_until` for one entry, and `run_many` for as many as
+//! no external event can follow; counts and ticks are below 2^63.
 //!
-//! progress.rt calls `run_until` for one entry and `run_many` for as many as no external event can
-//! follow; counts and ticks are below 2^63. Proved: the ticks made are those of `AreTicked` or
-//! `RunsTo` (specs/Ticking.antt, `st_ahead`), and rows are queued in order. That the entry
-//! completes by the last tick is the clause `in_time` of the caller, from the laws of `st_refine`.
-//! Free: the bodies.
+//! Proved, by the clauses `made` and `rows`: the ticks that are made are those of `AreTicked`
+//! (specs/Ticking.antt) or `RunsTo` (`st_ahead`), and rows are queued in order. Not proved here:
+//! that the oldest entry completes before tick 2^63 (`in_time`, a `requires`); progress.rt has this
+//! from its invariant `IsUnderWay` (specs/Progress.antt).
+//!
+//! Pinned, by `AreTicked`: a snapshot stops the ticks before a later completion. Pinned, by
+//! `last_for` of specs/Ticking.antt: LAST. Free: the bodies.
 ghost use Rattle.std.specs.Prelude.{◌≡◌, ◌-◌, ◌<◌, ◌≤◌, ◌^◌, None, IfSome, option_map};
 ghost use Rattle.st_ahead.specs.Overlap.{oldest_row};
 ghost use Rattle.st_refine.specs.Reached.{IsLedOn};

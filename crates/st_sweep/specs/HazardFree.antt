@@ -1,5 +1,12 @@
 -- Hazard-free runs: all reads have the same delay, the entries in flight are never flushed, and no
 -- entry uses a word that an earlier one writes.
+--
+-- Proved: by their `ensures` clauses these calls do what definitions here say: `step` (hazards.rt),
+-- `are_equal` (hazards.rt), `run_plain` (hazards.rt), `pass_interlude` (interlude.rt), and others.
+-- Read by: definitions in Marks, SideBySide.
+-- Laws: MoreLevelsAreNoSlower (specs/Laws.antt).
+-- Change: the meaning is fixed by docs/timetable.md, since the contract of `st_top::stretch`
+-- unfolds to a definition here. The form is free, with the proofs that unfold it.
 use Rattle.std.specs.Prelude.{ℕ, zero, suc, ◌+◌, map, Bool, true, false, not, ◌==◌, ◌&&◌, ◌||◌, nat_lt, is_none, List, [], ◌∷◌, length, Option, None, Some}
 use Rattle.std.specs.List.{list_all, list_any}
 use Rattle.st_state.specs.Machine.{Machine}
@@ -50,11 +57,9 @@ next_writes s = words_to_write (plan s (interrupt s)).writes
 abbrev pub next_side : Machine → Option ℕ
 next_side s = (needs (decode_context s (place_of s (interrupt s)))).index_read
 
--- whether the next entry of a state takes no interrupt, is not mispredicted, and has no index-side
--- word or operand word that an earlier entry writes
+-- whether the next entry is predicted, takes no interrupt, and reads no word that earlier ones write
 unfoldable pub is_hazard_free_entry : List WordRuns → Machine → Bool
-is_hazard_free_entry earlier s =
-    is_none (interrupt s)
+is_hazard_free_entry earlier s = is_none (interrupt s)
     && not (is_mispredicted (plan s (interrupt s)) s)
     && not (side_is_written earlier (next_side s))
     && not (one_is_written earlier (plan s (interrupt s)).reads)
@@ -63,26 +68,21 @@ is_hazard_free_entry earlier s =
 
 -- whether the transition between two entries reads no card into storage and does not end a wait
 unfoldable pub is_hazard_free_interlude : Scene → Bool
-is_hazard_free_interlude c =
-    let after = (interlude c).scene in
+is_hazard_free_interlude c = let after = (interlude c).scene in
     not (nat_lt (length after.cards) (length c.cards))
-    && (rests after.machine
-    || not (rests (with_due_orders (with_due_signals c)).scene.machine))
+    && (rests after.machine || not (rests (with_due_orders (with_due_signals c)).scene.machine))
 
 -- ---- the run
 
--- whether the next entries of these states are hazard-free, after earlier entries that write the
--- given words
+-- whether the next entries of these states are hazard-free, behind entries that write these words
 unfoldable pub are_hazard_free_entries : List WordRuns → List Machine → Bool
 are_hazard_free_entries earlier [] = true
 are_hazard_free_entries earlier (s ∷ ss) =
     is_hazard_free_entry earlier s && are_hazard_free_entries (next_writes s ∷ earlier) ss
 
--- whether the run from a scene, with the given budget, is hazard-free except for the delays, after
--- earlier entries that write the given words
+-- whether a run is hazard-free, its delays aside, after earlier entries that write these words
 unfoldable pub is_hazard_free_behind : List WordRuns → ℕ → Scene → Bool
-is_hazard_free_behind earlier left c =
-    let r = scenes left c in
+is_hazard_free_behind earlier left c = let r = scenes left c in
     list_all is_hazard_free_interlude r.before && is_hazard_free_interlude r.last
     && are_hazard_free_entries earlier (map state_next r.before)
 

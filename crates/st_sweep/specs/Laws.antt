@@ -1,4 +1,8 @@
 -- The law of hazard-free runs.
+--
+-- Proved: each law has its lemma in proofs/Laws.antt, with its name in small letters.
+-- Claimed: docs/CLAIMS.md names MoreLevelsAreNoSlower.
+-- Change: docs/promises.txt lists each law, and the gate compares the list with the laws.
 use Rattle.std.specs.Prelude.{◌≡◌, ℕ, ◌≤◌, true, List, length}
 use Rattle.st_run.specs.Run.{Scene}
 use Rattle.st_sweep.specs.HazardFree.{is_hazard_free}

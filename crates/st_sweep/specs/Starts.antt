@@ -1,4 +1,13 @@
--- Machines before their first entry.
+-- The starts of the runs of a sweep: a machine before its first entry, the ticks of a run from it,
+-- and the tick of the last event.
+--
+-- Proved: by their `ensures` clauses these calls do what definitions here say: `new` (start.rt),
+-- `next_tick` (start.rt), `ticks` (start.rt), `ticks_on_few` (start.rt), and others.
+-- Read by: definitions in SideBySide.
+-- Laws: none names a definition of this file itself.
+-- Change: no page fixes these definitions, since no contract of a program unfolds to them; they
+-- change together with the clauses, definitions and laws that name them. docs/timetable.md
+-- describes the subject.
 use Rattle.st_card.specs.declared.control_cards.Signal.{Signal}
 use Rattle.std.specs.Prelude.{ℕ, ◌≡◌, false, List, [], ◌∷◌, None}
 use Rattle.st_state.specs.Machine.{Machine, opening_state}

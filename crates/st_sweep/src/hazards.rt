@@ -1,12 +1,16 @@
-//! The test whether a run is hazard-free (`CALM` in a report), made on the plain run.
+//! The test whether a run is hazard-free (`CALM` in the output of `sweep`), made on the plain run.
+//! docs/timetable.md has the conditions.
 //!
-//! sweeping.rt calls `run_plain` and `are_equal`. The run takes signals but no cards; the budget is
-//! at most 10,000,000 instructions. It is hazard-free if all delays are equal, no interrupt is
-//! taken, a wait only ends the run, no branch is mispredicted, and no entry reads data that an
-//! earlier one writes.
+//! sweeping.rt calls `run_plain`, `are_equal` and `both`; no other module does. The run takes
+//! signals but no cards; the budget is at most 10,000,000 instructions. A run is hazard-free if all
+//! delays are equal, no interrupt is taken, a wait only ends the run, no branch is mispredicted,
+//! and no entry reads data that an earlier one writes.
 //!
-//! Proved: the result is `is_hazard_free` of specs/HazardFree.antt, by these conditions one by one,
-//! so they are pinned by it. Free: how written words are marked (written.rt).
+//! Proved: the result of `run_plain` is `is_hazard_free_behind` of specs/HazardFree.antt (clause
+//! `hazard_free`), and `is_hazard_free` of that file joins the result with equal delays.
+//!
+//! Pinned, by specs/HazardFree.antt and docs/timetable.md: these conditions, one by one. Free: how
+//! written words are marked (written.rt).
 ghost use Rattle.std.specs.Prelude.{◌≡◌, ◌==◌, ◌+◌, ◌≤◌, ◌<◌, ◌^◌, ◌&&◌, not, List, [], ◌∷◌, false, is_none};
 ghost use Rattle.std.specs.List.{AllPass, list_all};
 ghost use Rattle.st_bits.specs.declared.limits.TheConstants.{MOST_INSTRUCTIONS};

@@ -1,10 +1,14 @@
 //! The transition between two entries (instructions) of a run without cards, by signals and
-//! devices, and whether it ends a wait, which makes a run not hazard-free.
+//! devices, and whether the transition ends a wait, which makes a run not hazard-free.
+//! docs/timetable.md has the rules of hazard-free ("calm") runs, docs/machine.md those of signals.
+//! hazards.rt calls `pass_interlude` before each entry. Signals are due by the count of completed
+//! instructions.
 //!
-//! hazards.rt calls it before each entry. Signals are due by the count of completed instructions.
-//! Proved: the state and the signals are those after `interlude` of `st_run`, and `quiet` is
-//! `is_hazard_free_interlude` of specs/HazardFree.antt. Free: the bodies; the work is that of
-//! `st_run::between`.
+//! Proved: the state and the signals are those after `interlude` of `st_run` (clause `came`), and
+//! `quiet` is `is_hazard_free_interlude` of specs/HazardFree.antt.
+//!
+//! Pinned, by `without_cards` in these clauses: no card comes, as `sweep` runs with an empty
+//! reader. Free: the bodies; the work is that of `st_run::between`.
 ghost use Rattle.std.specs.Prelude.{◌≡◌, ◌||◌, not};
 ghost use Rattle.std.specs.List.{AllPass};
 ghost use Rattle.st_card.specs.Limits.{is_signal};

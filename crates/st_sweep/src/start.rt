@@ -1,11 +1,13 @@
-//! Machines before their first instruction, and the ticks of their runs, without reports.
-//!
-//! sweeping.rt makes two groups of four machines, and so allocates all memory before the first run;
-//! then each run is made in turn. Ticks are those of the last completion, 0 if there is none.
+//! Machines before their first instruction, and the ticks of their runs, without reports, for the
+//! command `sweep`. docs/timetable.md has the rules ("One to eight levels"). sweeping.rt makes two
+//! groups of four machines, and so allocates all memory before the first run; then each run is made
+//! in turn. Ticks are those of the last completion, 0 if there is none.
 //!
 //! Proved: the ticks are `ticks_from` of specs/Starts.antt, for the delays and signals of the job
-//! and each number of levels. `pass_entries` only saves time: it skips completions. Free: the
-//! grouping in fours. A number of levels is a parameter of a type, so each has its call.
+//! and each number of levels. Not proved: that `pass_entries`, which skips completions, saves time.
+//!
+//! Pinned, by `ticks_from`: the reader is empty, and there are no snapshots. Free: the grouping in
+//! fours; a number of levels is a parameter of a type, so each number has its own call.
 ghost use Rattle.std.specs.Prelude.{◌≡◌, ◌≤◌, ◌<◌, ◌^◌, ℕ, [], ◌∷◌, length, IfOk, IfSome, MatchOption};
 ghost use Rattle.std.specs.List.{AllPass};
 ghost use Rattle.st_bits.specs.Storage.{IsImage};

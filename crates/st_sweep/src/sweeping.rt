@@ -1,12 +1,16 @@
 //! One job on eight machines, run in sequence, and once more as a plain run to find hazards.
+//! docs/timetable.md has the rules.
 //!
-//! `st_top` passes the image (98,304 words), the start (a half-word address), delays (ticks),
-//! signals and the budget (instructions). The only error is a failed allocation, which comes before
-//! any run.
+//! Only `st_top` calls `sweep`, besides tests. It passes the image (98,304 words), the start (a
+//! half-word address), delays (ticks), signals and the budget (instructions). The only error is a
+//! failed allocation, which comes before any run.
 //!
-//! Proved: the result is `side_by_side` of specs/SideBySide.antt, and if the run is hazard-free the
-//! ticks do not rise from one to eight levels (clause `levels`). Pinned by `side_by_side`: eight
-//! numbers in this order, and an empty reader. Free: the order of the runs.
+//! Proved: the result is `side_by_side` of specs/SideBySide.antt (clause `value`), and if the run
+//! is hazard-free the ticks do not rise from one to eight levels (clause `levels`).
+//!
+//! Pinned, by `side_by_side`: eight numbers in this order, and an empty reader. Pinned, by the
+//! proofs of `st_top`: both clauses and the fields of `SweptJob` and `Swept`. Free: the order of
+//! the runs.
 ghost use Rattle.std.specs.Prelude.{◌≡◌, ◌<◌, ◌≤◌, ◌^◌, true, length, All, IfOk};
 ghost use Rattle.std.specs.List.{AllPass};
 ghost use Rattle.st_bits.specs.Storage.{IsImage};

@@ -1,12 +1,14 @@
 //! The words that the entries (executed instructions) of a run have written so far, as one mark for
-//! each word of storage (98,304).
-//!
-//! hazards.rt asks whether an entry reads one of them, then adds the words that it writes. `new`
-//! allocates the marks; its only error is a failed allocation.
+//! each word of storage (98,304), for the test whether a run is hazard-free ("calm" in
+//! docs/timetable.md). Only hazards.rt uses the marks (sweeping.rt allocates them): it asks whether
+//! an entry reads a marked word, then adds the words that the entry writes. The only error of `new`
+//! is a failed allocation.
 //!
 //! Proved: the answers are those of specs/HazardFree.antt for the list of all earlier entries, by
-//! `AreMarks` of specs/Marks.antt: a word is marked if and only if an entry writes it. Free: how
-//! marks are kept, bits for example. Registers are marked too.
+//! `AreMarks` of specs/Marks.antt: a word is marked if and only if an entry writes it.
+//!
+//! Pinned, by `AreMarks` and specs/HazardFree.antt: registers are marked like other words, and
+//! `put` adds one entry to the list. Free: how marks are kept, bits for example.
 ghost use Rattle.std.specs.Prelude.{◌≡◌, ◌+◌, ◌≤◌, List, [], ◌∷◌, IfOk, length, get_or, false};
 ghost use Rattle.st_prep.specs.Ranges.{IsRuns, AreInside};
 ghost use Rattle.st_rows.specs.declared.entry.WordRuns.{WordRuns};

@@ -1,4 +1,12 @@
 -- The written report of a run, and the moment up to which it is written.
+--
+-- Proved: by their `ensures` clauses these calls do what definitions here say: `write_rest`
+-- (telling.rt), `write_run` (telling.rt), `first_level` (telling.rt), `next_told` (telling.rt), and
+-- others.
+-- Laws: none names a definition of this file itself.
+-- Change: no page fixes these definitions, since no contract of a program unfolds to them; they
+-- change together with the clauses, definitions and laws that name them. docs/report.md describes
+-- the subject.
 use Rattle.std.specs.Prelude.{◌≡◌, ℕ, ◌≤◌, length, List, [], ◌∷◌, Option, None, Some, Result, OnOk, OnErr}
 use Rattle.st_card.specs.Controls.{Asked}
 use Rattle.st_io.specs.Output.{OutputState, Wrote}

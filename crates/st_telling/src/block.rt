@@ -1,12 +1,13 @@
 //! The lines of the state block: program counter, interrupt flag, the registers from 2 to 31 that
-//! are not zero, and the requested dumps.
+//! are not zero, and the requested dumps. docs/report.md has the block. telling.rt writes it at
+//! interrupts, snapshots, the end, and for `/BACK`. A dump is a pair of word addresses, first and
+//! last, in order and below 98,304 (`is_part`). Each line is one write.
 //!
-//! telling.rt writes it at interrupts, snapshots and the end. A dump is a pair of word addresses,
-//! first and last, in order and below 98,304 (`is_part`). Each line is written by itself; the only
-//! error is a failed write, after which nothing more is written.
+//! Proved: the lines are `block` of specs/Report.antt, all of them on Ok; if a write fails, only
+//! lines before it (`WritesLines` of `st_io`).
 //!
-//! Proved: the lines are `block` of specs/Report.antt, all of them on Ok, the first ones otherwise
-//! (`WritesLines` of `st_io`). `block` pins the order. Free: the loops.
+//! Pinned, by `block` and docs/report.md: the order of the lines, and that words which are zero
+//! have none; `write_block`, by telling.rt. Free: the private functions and their loops.
 ghost use Rattle.std.specs.Prelude.{◌+◌, ◌-◌, ◌<◌, ◌≤◌, [], ◌∷◌};
 ghost use Rattle.std.specs.List.{AllPass};
 ghost use Rattle.st_bits.specs.declared.limits.TheConstants.{WORDS};

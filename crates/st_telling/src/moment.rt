@@ -1,10 +1,13 @@
 //! The moment of a line of a report: the count of completed instructions and the tick of the last
-//! completion when it is written.
+//! completion when the line is written. If a write fails, the moment of that line is part of the
+//! answer of `stretch` (`done` and `ticks` of `Answer`, docs/THEOREM.md), so `st_top` passes a
+//! `Moment` through `write_run`.
 //!
-//! If a write fails, the moment of that line is part of the answer of `stretch` (`done` and `ticks`
-//! of `Answer`), so `st_top` passes a `Moment` through `write_run`. Proved: `start` is 0 and 0. A
-//! third fact about a line would be a field here, in `Event` of `st_io`, and in `moment_told` of
-//! specs/Running.antt.
+//! Proved: `start` is 0 and 0. telling.rt is proved to set the moment of the line that failed
+//! (`WritesEvents` in specs/Running.antt).
+//!
+//! Pinned, by `Event` of `st_io` and `moment_told` of specs/Running.antt: the two fields. A third
+//! fact about a line would be a field in all three places. Free: the derived traits.
 ghost use Rattle.std.specs.Prelude.{◌≡◌};
 
 /// The moment at which a line of a report is written.

@@ -1,13 +1,17 @@
 //! The events of a run as lines of its report: which lines an event has, by the requests of the job
-//! (`/TRACE`, `/CHART`, `/TIME`, `/DUMP`).
-//!
-//! reporting.rt of `st_top` calls `write_run`. Completions are frequent, so their lines share one
-//! buffer, and they are skipped in the run where they have no line.
+//! (`/TRACE`, `/CHART`, `/TIME`, `/DUMP`). docs/report.md has the rules. reporting.rt of `st_top`
+//! calls `write_run` and `write_state`. Completions are frequent, so their lines share one buffer,
+//! and they are skipped in the run where they have no line.
 //!
 //! Proved: the lines are those of `report` in specs/Report.antt for the remaining events; after a
 //! failed write they are the first ones, and `moment` is that of the line that failed
-//! (`WritesEvents` in specs/Running.antt). A new kind of event or line changes `parts_at` there.
-//! Free: buffers, inlining, the skipping. Not proved: speed.
+//! (`WritesEvents` in specs/Running.antt). `write_state` writes `block` of a state. Not proved:
+//! speed.
+//!
+//! Pinned, by `parts_at` of specs/Report.antt and docs/report.md: the order of the lines of an
+//! event. A new kind of event or line needs its case in `parts_at` first, then in the matches here,
+//! which the compiler names; the proofs of this file show that each event has the lines listed
+//! there. Free: buffers, inlining, the skipping.
 ghost use Rattle.std.specs.Prelude.{◌≡◌, ◌<◌, ◌||◌, [], ◌∷◌, List, length, MatchOption, IfSome};
 ghost use Rattle.std.specs.List.{AllPass};
 ghost use Rattle.st_card.specs.Limits.{is_part};

@@ -3,12 +3,13 @@ use Rattle.std.proofs.Common.{◌≡◌, ℕ, ◌+◌, ◌&&◌, Bool, true, fal
 use Rattle.std.specs.Prelude.{nat_le}
 use Rattle.std.specs.List.{list_all}
 use Rattle.st_text.specs.Pieces.{words}
-use Rattle.st_text.specs.Tables.{row_of}
 use Rattle.st_bits.specs.declared.limits.TheConstants.{LONGEST_LIST, MOST_DELAY}
 use Rattle.st_card.specs.Cards.{columns, kind_of}
-use Rattle.st_card.specs.Controls.{Asked, keywords, card_numbers, is_in_range, with_delays, with_keyword, with_card, with_words, asked_with_card}
+use Rattle.st_card.specs.Keywords.{keyword_order, keyword_in, card_numbers}
+use Rattle.st_card.specs.Controls.{Asked, is_in_range, with_delays, with_keyword, with_card, with_words, asked_with_card}
 use Rattle.st_card.specs.declared.cards.CardKind.{CardKind}
 use Rattle.st_card.specs.declared.cards.CardKind.TheVariants.{Comment, Control, Statement}
+use Rattle.st_card.specs.declared.keywords.ControlForm.TheVariants.{Card}
 use Rattle.st_card.specs.declared.keywords.Keyword.{Keyword}
 use Rattle.st_top.specs.Delays.{is_delays, begins_delays, is_control, is_delays_card, asked_in}
 use Rattle.st_top.proofs.DelayCards.{asked_on, still, stills, keyword-is, others, asked_by, asked_with, other-still, delays-still, others-kept, others-left, asks-none}
@@ -50,7 +51,7 @@ card-like (Some k) a d e (Some ns) h same is = keyword-like k a d e ns h same is
 words-like : (a d e : Asked) (ws : List (List ℕ)) → begins_delays ws ≡ true → a.delays ≡ d.delays → with_words d ws ≡ Some e
     → Likewise (λ z. with_words z ws) a e
 words-like a d e [] h same is = let no : ⊥ = cc in absurd no
-words-like a d e (word ∷ more) h same is = card-like (row_of word keywords) a d e (card_numbers more) h same is
+words-like a d e (word ∷ more) h same is = card-like (keyword_in Card word keyword_order) a d e (card_numbers more) h same is
 
 -- a card of another kind does not change the delays
 keyword-leaves : (k : Keyword) (a b : Asked) (ns : List ℕ) → is_delays (Some k) ≡ false → with_keyword k a ns ≡ Some b → b.delays ≡ a.delays
@@ -63,7 +64,7 @@ card-leaves (Some k) a b (Some ns) h is = keyword-leaves k a b ns h is
 
 words-leave : (a b : Asked) (ws : List (List ℕ)) → begins_delays ws ≡ false → with_words a ws ≡ Some b → b.delays ≡ a.delays
 words-leave a b [] h is = let no : ⊥ = cc in absurd no
-words-leave a b (word ∷ more) h is = card-leaves (row_of word keywords) a b (card_numbers more) h is
+words-leave a b (word ∷ more) h is = card-leaves (keyword_in Card word keyword_order) a b (card_numbers more) h is
 
 -- ---- all cards after END are good if the delay cards and the others are
 

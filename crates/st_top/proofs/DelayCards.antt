@@ -4,14 +4,16 @@ use Rattle.std.specs.Prelude.{nat_le}
 use Rattle.std.specs.List.{list_all}
 use Rattle.std.specs.Option.{option_map, option_and_then}
 use Rattle.st_text.specs.Pieces.{words}
-use Rattle.st_text.specs.Tables.{row_of}
 use Rattle.st_bits.specs.declared.limits.TheConstants.{LONGEST_LIST, MOST_DELAY}
 use Rattle.st_card.specs.Cards.{kind_of, columns}
-use Rattle.st_card.specs.Controls.{Asked, keywords, card_numbers, is_in_range, with_delays, with_keyword, with_card, with_words, asked_with_card}
+use Rattle.st_card.specs.Keywords.{keyword_order, keyword_in, card_numbers}
+use Rattle.st_card.specs.Controls.{Asked, is_in_range, with_delays, with_keyword, with_card, with_words, asked_with_card}
 use Rattle.st_card.specs.declared.cards.CardKind.{CardKind}
 use Rattle.st_card.specs.declared.cards.CardKind.TheVariants.{Comment, Control, Statement}
+use Rattle.st_card.specs.declared.keywords.ControlForm.TheVariants.{Card}
 use Rattle.st_card.specs.declared.keywords.Keyword.{Keyword}
-use Rattle.st_card.specs.declared.keywords.Keyword.TheVariants.{Delays}
+use Rattle.st_card.specs.declared.keywords.Keyword.TheVariants.{Number}
+use Rattle.st_card.specs.declared.keywords.Number.TheVariants.{Delays}
 use Rattle.st_top.specs.Delays.{is_delays, begins_delays, is_control, is_delays_card}
 
 -- the requests after a further card, if the previous cards are good
@@ -27,7 +29,7 @@ abbrev pub stills : Option Asked → Option Asked
 stills o = option_map still o
 
 -- only one keyword is that of delay cards
-pub keyword-is : (k : Keyword) → is_delays (Some k) ≡ true → k ≡ Delays
+pub keyword-is : (k : Keyword) → is_delays (Some k) ≡ true → k ≡ Number Delays
 keyword-is k h = grind (arith, h)
 
 -- the requests of a card with another keyword do not depend on the delays
@@ -41,7 +43,7 @@ card-still (Some k) a (Some ns) h = keyword-still k a ns h
 
 words-still : (a : Asked) (ws : List (List ℕ)) → begins_delays ws ≡ false → with_words (still a) ws ≡ stills (with_words a ws)
 words-still a [] h = refl
-words-still a (word ∷ more) h = card-still (row_of word keywords) a (card_numbers more) h
+words-still a (word ∷ more) h = card-still (keyword_in Card word keyword_order) a (card_numbers more) h
 
 pub other-still : (a : Asked) (text : List ℕ) → begins_delays (words (columns text)) ≡ false → asked_with_card (still a) text ≡ stills (asked_with_card a text)
 other-still a text h = words-still a (words (columns text)) h
@@ -67,7 +69,7 @@ card-keeps (Some k) a b (Some ns) h is = keyword-keeps k a b ns h is
 
 words-keep : (a b : Asked) (ws : List (List ℕ)) → begins_delays ws ≡ true → with_words a ws ≡ Some b → still b ≡ still a
 words-keep a b [] h is = let no : ⊥ = cc in absurd no
-words-keep a b (word ∷ more) h is = card-keeps (row_of word keywords) a b (card_numbers more) h is
+words-keep a b (word ∷ more) h is = card-keeps (keyword_in Card word keyword_order) a b (card_numbers more) h is
 
 pub delays-still : (a b : Asked) (text : List ℕ) → begins_delays (words (columns text)) ≡ true → asked_with_card a text ≡ Some b → still b ≡ still a
 delays-still a b text h is = words-keep a b (words (columns text)) h is

@@ -6,10 +6,15 @@ use Rattle.st_bits.specs.declared.limits.TheConstants.{MOST_CARDS}
 use Rattle.st_text.specs.Bytes.{lf}
 use Rattle.st_card.specs.Cards.{cards_of, text_in}
 use Rattle.st_card.specs.Controls.{Asked}
-use Rattle.st_card.specs.Written.{control_line, unless_zero, shows}
-use Rattle.st_card.specs.declared.written.Control.{Control}
-use Rattle.st_card.specs.declared.written.Control.TheVariants.{Budget, Delay, Signal, Dump}
-use Rattle.st_card.specs.declared.written.ControlForm.TheVariants as forms
+use Rattle.std.specs.List.{flat_map}
+use Rattle.std.proofs.lemmas.List.Elements.{filter-append}
+use Rattle.st_card.specs.Keywords.{keyword_order}
+use Rattle.st_card.specs.Written.{control_line, asked_by, requests}
+use Rattle.st_card.specs.declared.keywords.Number.TheVariants.{Budget, Delays}
+use Rattle.st_card.specs.declared.keywords.Keyword.TheVariants as keywords
+use Rattle.st_card.specs.declared.keywords.Control.{Control}
+use Rattle.st_card.specs.declared.keywords.Control.TheVariants.{Number}
+use Rattle.st_card.specs.declared.keywords.ControlForm.TheVariants as forms
 use Rattle.st_card.specs.declared.cards.Card.{Card}
 use Rattle.st_asm.specs.Assembly.{Assembly, assembly}
 use Rattle.st_asm.specs.declared.naming.Symbol.{Symbol}
@@ -27,7 +32,7 @@ use Rattle.st_report.specs.Listing.{listed_line}
 use Rattle.st_state.specs.Machine.{opening_state}
 use Rattle.st_top.specs.Listing.{rows_lines, symbols_lines}
 use Rattle.st_top.specs.DelayLaws.{AreAlikeBesideDelays}
-use Rattle.st_top.specs.Marks.{lines_unmarked, marked_run, up_to_end, texts_up_to_end, end_card, listed_lines, marked_listing, marked_by, marked_cards, marked_object, marked_deck, marked_assembled, marked_disassembled}
+use Rattle.st_top.specs.Marks.{lines_unmarked, marked_run, up_to_end, texts_up_to_end, end_card, listed_lines, marked_listing, marked_by, is_delay, marked_cards, marked_object, marked_deck, marked_assembled, marked_disassembled}
 use Rattle.st_telling.specs.Report.{Part as Marked, varying as with_marks, fixed as without_marks, joined}
 use Rattle.st_top.specs.Output.{scene_of_assembly, loaded_start, deck_by}
 use Rattle.st_top.proofs.MarkLemmas.{joined-cons}
@@ -126,17 +131,21 @@ loads-same p q h =
 
 -- ---- an object text, and a deck
 
--- a line without its line end is kept unless it is a delay line
-text-if : (b : Bool) (x : List ℕ) (parts : List Marked) (rest : List (List ℕ)) → joined parts ≡ map (λ t. t ++ lf) rest
-    → joined (if not b then record { lines = (x ++ lf) ∷ []; varies = b } ∷ parts else parts) ≡ map (λ t. t ++ lf) (if not b then x ∷ rest else rest)
-text-if true x parts rest same = same
-text-if false x parts rest same = joined-cons (record { lines = (x ++ lf) ∷ []; varies = false }) parts ∙ ap (λ l. (x ++ lf) ∷ l) same
+-- the line of an item is kept unless it is marked
+kept-if : {X : Type 0} (line : X → List ℕ) (b : Bool) (x : X) (parts : List Marked) (rest : List X) → joined parts ≡ map line rest
+    → joined (if not b then record { lines = line x ∷ []; varies = b } ∷ parts else parts) ≡ map line (if not b then x ∷ rest else rest)
+kept-if line true x parts rest same = same
+kept-if line false x parts rest same = joined-cons (record { lines = line x ∷ []; varies = false }) parts ∙ ap (λ l. line x ∷ l) same
+
+each-unmarked : {X : Type 0} (line : X → List ℕ) (marked : X → Bool) (xs : List X)
+    → lines_unmarked (map (λ x. record { lines = line x ∷ []; varies = marked x }) xs) ≡ map line (filter (λ x. not (marked x)) xs)
+unfolding lines_unmarked
+each-unmarked line marked [] = refl
+each-unmarked line marked (x ∷ xs) = kept-if line (marked x) x _ (filter (λ y. not (marked y)) xs) (each-unmarked line marked xs)
 
 texts-unmarked : (xs : List (List ℕ)) → lines_unmarked (map (λ text. record { lines = (text ++ lf) ∷ []; varies = is_delay_line text }) xs)
     ≡ map (λ t. t ++ lf) (filter (λ line. not (is_delay_line line)) xs)
-unfolding lines_unmarked
-texts-unmarked [] = refl
-texts-unmarked (x ∷ xs) = text-if (is_delay_line x) x _ (filter (λ line. not (is_delay_line line)) xs) (texts-unmarked xs)
+texts-unmarked xs = each-unmarked (λ t. t ++ lf) is_delay_line xs
 
 objects-same : (p q : Program) → record p { controls = record p.controls { delays = q.controls.delays } } ≡ q
     → lines_unmarked (marked_object p) ≡ lines_unmarked (marked_object q)
@@ -146,17 +155,33 @@ objects-same p q h =
     ∙ sym (texts-unmarked (map line_text (object_lines (record p { controls = record p.controls { delays = q.controls.delays } }))))
     ∙ ap (λ (r : Program). lines_unmarked (marked_object r)) h
 
--- the requests of control cards other than delays
+-- the control cards of a deck without the delay cards
 abbrev others_asked : Asked → List (List ℕ)
-others_asked a =
-    let made : Control → List ℕ = λ c. control_line forms.Card c ++ lf in
-    unless_zero a.budget (made (Budget a.budget))
-    ++ (map (λ s. made (Signal s.count s.indicator)) a.signals ++ map (λ p. made (Dump p.0 p.1)) a.dumps ++ shows made a)
+others_asked a = map (λ c. control_line forms.Card c ++ lf) (filter (λ c. not (is_delay c)) (requests a))
 
 cards-unmarked : (a : Asked) → lines_unmarked (marked_cards a) ≡ others_asked a
-cards-unmarked a =
-    let made : Control → List ℕ = λ c. control_line forms.Card c ++ lf in
-    unmarked-between (unless_zero a.budget (made (Budget a.budget))) (map (λ d. made (Delay d)) a.delays) _
+cards-unmarked a = each-unmarked (λ c. control_line forms.Card c ++ lf) is_delay (requests a)
+
+none-left : (ds : List ℕ) → filter (λ c. not (is_delay c)) (map (λ n. Number Delays n) ds) ≡ []
+none-left [] = refl
+none-left (d ∷ ds) = none-left ds
+
+without-middle : (xs ds ys : List Control) → filter (λ c. not (is_delay c)) ds ≡ []
+    → filter (λ c. not (is_delay c)) (xs ++ (ds ++ ys)) ≡ filter (λ c. not (is_delay c)) (xs ++ ys)
+without-middle xs ds ys none =
+    let keep : Control → Bool = λ c. not (is_delay c) in
+    filter-append keep xs (ds ++ ys)
+    ∙ ap (λ l. filter keep xs ++ l) (filter-append keep ds ys ∙ ap (λ l. l ++ filter keep ys) none)
+    ∙ sym (filter-append keep xs ys)
+
+-- the requests other than delays do not depend on the delays
+beside-delays : (a : Asked) (ds : List ℕ)
+    → filter (λ c. not (is_delay c)) (requests (record a { delays = ds })) ≡ filter (λ c. not (is_delay c)) (requests a)
+beside-delays a ds =
+    let front = asked_by (keywords.Number Budget) a in
+    let back = flat_map (λ k. asked_by k a) (drop 2 keyword_order) in
+    without-middle front (map (λ n. Number Delays n) ds) back (none-left ds)
+    ∙ sym (without-middle front (map (λ n. Number Delays n) a.delays) back (none-left a.delays))
 
 -- a deck without its delay cards
 abbrev deck_beside : Program → List (List ℕ)
@@ -172,7 +197,11 @@ deck-unmarked p =
 
 decks-same : (p q : Program) → record p { controls = record p.controls { delays = q.controls.delays } } ≡ q
     → lines_unmarked (marked_deck p) ≡ lines_unmarked (marked_deck q)
-decks-same p q h = deck-unmarked p ∙ ap (λ (r : Program). deck_beside r) h ∙ sym (deck-unmarked q)
+decks-same p q h =
+    let issue = map (λ card. card ++ lf) (word_cards 0 0 p.words ++ statement_card (end_text p.start) ∷ []) in
+    deck-unmarked p
+    ∙ ap (λ (cs : List Control). issue ++ map (λ c. control_line forms.Card c ++ lf) cs) (sym (beside-delays p.controls q.controls.delays))
+    ∙ ap (λ (r : Program). deck_beside r) h ∙ sym (deck-unmarked q)
 
 programs-differ : (job other : List ℕ) (a b : Assembly) → AreAlikeBesideDelays job other a b
     → record (program_in a) { controls = record (program_in a).controls { delays = b.asked.delays } } ≡ program_in b

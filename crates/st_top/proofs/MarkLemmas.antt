@@ -1,5 +1,5 @@
 -- Lines with marks: all lines, and the unmarked ones.
-use Rattle.std.proofs.Common.{◌≡◌, ◌==◌, ℕ, Bool, true, false, if◌then◌else◌, List, [], ◌∷◌, ◌++◌, length, map, drop, refl, sym, ◌∙◌, ap, append_assoc}
+use Rattle.std.proofs.Common.{◌≡◌, ℕ, Bool, true, false, if◌then◌else◌, List, [], ◌∷◌, ◌++◌, length, map, drop, refl, sym, ◌∙◌, ap, append_assoc}
 use Rattle.std.proofs.lemmas.List.{map-append, append-nil}
 use Rattle.std.proofs.lemmas.Simd.{map-map}
 use Rattle.std.specs.Prelude.{Result, Ok, Err, nat_le}
@@ -7,11 +7,8 @@ use Rattle.st_bits.specs.declared.limits.TheConstants.{MOST_CARDS}
 use Rattle.st_text.specs.Bytes.{lf}
 use Rattle.st_card.specs.Cards.{cards_of}
 use Rattle.st_card.specs.Controls.{Asked}
-use Rattle.st_card.specs.Written.{control_line, unless_zero, orders, shows, controls_made}
-use Rattle.st_card.specs.declared.control_cards.Signal.{Signal as CardSignal}
-use Rattle.st_card.specs.declared.written.Control.{Control}
-use Rattle.st_card.specs.declared.written.Control.TheVariants.{Budget, Delay, Signal, Dump, Trace, Time, Chart, Snap, Back}
-use Rattle.st_card.specs.declared.written.ControlForm.TheVariants as forms
+use Rattle.st_card.specs.Written.{control_line, requests}
+use Rattle.st_card.specs.declared.keywords.ControlForm.TheVariants as forms
 use Rattle.st_card.specs.declared.cards.Card.{Card}
 use Rattle.st_asm.specs.Assembly.{Assembly, assembly}
 use Rattle.st_asm.specs.Pass.{Refusal}
@@ -28,7 +25,7 @@ use Rattle.st_top.specs.ObjectText.{program_in, object_text_lines, deck_lines}
 use Rattle.st_top.specs.declared.answer.Status.TheVariants.{Done as Finished}
 use Rattle.st_run.specs.ReportedEvents.{TimedReportedEvent, reported_events}
 use Rattle.st_top.specs.Listing.{rows_lines, listing_row_line as card_line, symbols_lines, listing}
-use Rattle.st_top.specs.Marks.{marked_report, marked_run, up_to_end, end_card, listed_lines, marked_listing, marked_by, marked_load, marked_cards, marked_object, marked_deck, marked_assembled, marked_disassembled, marked_output}
+use Rattle.st_top.specs.Marks.{marked_report, marked_run, up_to_end, end_card, listed_lines, marked_listing, marked_by, marked_load, is_delay, marked_cards, marked_object, marked_deck, marked_assembled, marked_disassembled, marked_output}
 use Rattle.st_top.specs.Output.{Output, lines_alone, output_of, ran_by, loaded_by, assembled_by, disassembled_by, scene_of_assembly, loaded_start}
 use Rattle.st_telling.specs.Report.{Part as Marked, varying as with_marks, fixed as without_marks, joined, parts_at, lines_told, report}
 use Rattle.st_top.specs.StepsBack.{states_of_run, events_of_run, moment_at_end, last_state, lines_of_steps_back, run_report}
@@ -146,47 +143,11 @@ lines-load : (r : Result Program ℕ) → joined (marked_load r) ≡ lines_of (l
 lines-load (Ok p) = lines-run p.controls (loaded_start p)
 lines-load (Err n) = lines-plain _
 
--- an optional control card, as a line
-mapped-if : {X : Type 0} (f : X → List ℕ) (b : Bool) (x : X) → map f (if b then x ∷ [] else []) ≡ (if b then f x ∷ [] else [])
-mapped-if f true x = refl
-mapped-if f false x = refl
-
-mapped-unless : {X : Type 0} (f : X → List ℕ) (b : Bool) (x : X) → map f (if b then [] else x ∷ []) ≡ (if b then [] else f x ∷ [])
-mapped-unless f true x = refl
-mapped-unless f false x = refl
-
-mapped-parts : {X : Type 0} (f : X → List ℕ) (xs ys : List X) (us vs : List (List ℕ)) → map f xs ≡ us → map f ys ≡ vs → map f (xs ++ ys) ≡ us ++ vs
-mapped-parts f xs ys us vs first next =
-    map-append f xs ys ∙ ap (λ issue. issue ++ map f ys) first ∙ ap (λ rest. us ++ rest) next
-
-mapped-controls : {X : Type 0} (f : X → List ℕ) (made : Control → X) (a : Asked)
-    → map f (controls_made made a) ≡ controls_made (λ c. f (made c)) a
-mapped-controls f made a =
-    mapped-parts f (orders made a) (shows made a) _ _
-    (mapped-parts f _ _ _ _
-    (mapped-parts f _ _ _ _
-    (mapped-parts f _ _ _ _ (mapped-unless f (a.budget == 0) (made (Budget a.budget))) (map-map f (λ d. made (Delay d)) a.delays))
-    (map-map f (λ (s : CardSignal). made (Signal s.count s.indicator)) a.signals))
-    (map-map f (λ (p : ℕ × ℕ). made (Dump p.0 p.1)) a.dumps))
-    (mapped-parts f _ _ _ _
-    (mapped-parts f _ _ _ _
-    (mapped-parts f _ _ _ _
-    (mapped-parts f _ _ _ _ (mapped-if f a.trace (made Trace)) (mapped-if f a.time (made Time)))
-    (mapped-if f a.chart (made Chart)))
-    (map-map f (λ t. made (Snap t)) a.snaps))
-    (mapped-unless f (a.back == 0) (made (Back a.back))))
-
 -- the control cards of a deck have the lines of all requests
-lines-cards : (a : Asked) → joined (marked_cards a) ≡ controls_made (λ c. control_line forms.Card c ++ lf) a
+lines-cards : (a : Asked) → joined (marked_cards a) ≡ map (λ card. card ++ lf) (control_cards a)
 lines-cards a =
-    let made : Control → List ℕ = λ c. control_line forms.Card c ++ lf in
-    let budget = unless_zero a.budget (made (Budget a.budget)) in
-    let delays = map (λ d. made (Delay d)) a.delays in
-    let signals = map (λ (s : CardSignal). made (Signal s.count s.indicator)) a.signals in
-    let dumps = map (λ (p : ℕ × ℕ). made (Dump p.0 p.1)) a.dumps in
-    lines-between budget delays (signals ++ dumps ++ shows made a)
-    ∙ sym (append_assoc (budget ++ delays) (signals ++ dumps) (shows made a))
-    ∙ ap (λ issue. issue ++ shows made a) (sym (append_assoc (budget ++ delays) signals dumps))
+    lines-each (λ c. control_line forms.Card c ++ lf) is_delay (requests a)
+    ∙ sym (map-map (λ card. card ++ lf) (control_line forms.Card) (requests a))
 
 lines-object : (p : Program) → joined (marked_object p) ≡ object_text_lines p
 unfolding object_text_lines
@@ -202,8 +163,7 @@ lines-deck p =
     let controls = marked_cards p.controls in
     lines-append (without_marks (map line issue)) controls
     ∙ ap (λ xs. xs ++ joined controls) (lines-plain (map line issue))
-    ∙ ap (λ xs. map line issue ++ xs) (lines-cards p.controls
-    ∙ sym (mapped-controls line (control_line forms.Card) p.controls))
+    ∙ ap (λ xs. map line issue ++ xs) (lines-cards p.controls)
     ∙ sym (map-append line issue (control_cards p.controls))
 
 lines-assembled : (r : Result Assembly Refusal) → joined (marked_assembled r) ≡ lines_of (assembled_by r).events

@@ -459,9 +459,9 @@ from-parts job all named emitted read parts = record {
 from-issue : (job : List ℕ) (a : Assembly) → assembly job ≡ Ok a → FromFront job a
 unfolding assembly
 from-issue job a is =
-    let laying = λ (all : Found) (named : Named). pass_then (value_pass (table named.symbols) all.lines named.places) (λ emitted. Ok (together all named emitted)) in
-    let f = and_then-ok (λ all. pass_then (name_pass all.lines) (laying all)) (form_pass job (cards_of job)) a is in
-    let n = and_then-ok (laying f.first) (name_pass f.first.lines) a f.last in
+    let emitting = λ (all : Found) (named : Named). pass_then (value_pass (table named.symbols) all.lines named.places) (λ emitted. Ok (together all named emitted)) in
+    let f = and_then-ok (λ all. pass_then (name_pass all.lines) (emitting all)) (form_pass job (cards_of job)) a is in
+    let n = and_then-ok (emitting f.first) (name_pass f.first.lines) a f.last in
     let v = and_then-ok (λ emitted. Ok (together f.first n.first emitted)) (value_pass (table n.first.symbols) f.first.lines n.first.places) a n.last in
     let same : together f.first n.first v.first ≡ a = cc in
     let read = job-read job f.first f.is in
@@ -545,14 +545,14 @@ again : (job : List ℕ) (all found : Found) (named : Named) (emitted : Emitted)
     → assembly job ≡ Ok (together all (with_places named (no_places ns)) (with_rows emitted (quiet_rows ns)))
 unfolding assembly
 again job all found named emitted ns formed lines names values =
-    let laying = λ (whole : Found) (n : Named). pass_then (value_pass (table n.symbols) whole.lines n.places) (λ l. Ok (together whole n l)) in
+    let emitting = λ (whole : Found) (n : Named). pass_then (value_pass (table n.symbols) whole.lines n.places) (λ l. Ok (together whole n l)) in
     let more = with_places named (no_places ns) in
     let has_names = ap name_pass lines ∙ names-parted found.lines ns ∙ ap (λ r. pass_then r (λ n. Ok (with_places n (no_places ns)))) names in
     let has_values = ap (λ ls. value_pass (table named.symbols) ls (named.places ++ no_places ns)) lines
     ∙ values-parted (table named.symbols) found.lines named.places ns (name_pass-counts found.lines named names)
     ∙ ap (λ r. pass_then r (λ l. Ok (with_rows l (quiet_rows ns)))) values in
-    ap (λ r. pass_then r (λ whole. pass_then (name_pass whole.lines) (laying whole))) formed
-    ∙ ap (λ r. pass_then r (laying all)) has_names
+    ap (λ r. pass_then r (λ whole. pass_then (name_pass whole.lines) (emitting whole))) formed
+    ∙ ap (λ r. pass_then r (emitting all)) has_names
     ∙ ap (λ r. pass_then r (λ l. Ok (together all more l))) has_values
 
 -- a job with other delay cards is not refused, if these are good

@@ -8,7 +8,7 @@ use Rattle.st_asm.specs.Pass.{Refusal, onward, pass, pass_then}
 use Rattle.st_asm.specs.Lines.{silent_line}
 use Rattle.st_asm.specs.Symbols.{table, has_name, names_of}
 use Rattle.st_asm.specs.Naming.{Named, naming_at_start, name_fault, name_step, name_card, name_pass}
-use Rattle.st_asm.specs.Valuing.{Emitted, laying_at_start, value_card, value_pass}
+use Rattle.st_asm.specs.Valuing.{Emitted, emitting_at_start, value_card, value_pass}
 use Rattle.st_asm.specs.declared.naming.Symbol.{Symbol}
 use Rattle.st_asm.specs.declared.valuing.Listed.{Listed}
 use Rattle.st_asm.proofs.KeptLemmas.{name_pass-counts, value_pass-numbers}
@@ -153,9 +153,9 @@ pub values-parted : (symbols : List (List ℕ × ℕ)) (lines : List ReadCard) (
     ≡ pass_then (value_pass symbols lines places) (λ emitted. Ok (with_rows emitted (quiet_rows ns)))
 unfolding value_pass
 values-parted symbols lines places ns same =
-    ap (λ ps. pass (value_card symbols) (λ p. p.0.card) laying_at_start ps) (zipped-apart lines places ns same)
-    ∙ pass-append (value_card symbols) (λ p. p.0.card) laying_at_start (zip lines places) (quiet_pairs ns)
-    ∙ then-same (pass (value_card symbols) (λ p. p.0.card) laying_at_start (zip lines places)) where
+    ap (λ ps. pass (value_card symbols) (λ p. p.0.card) emitting_at_start ps) (zipped-apart lines places ns same)
+    ∙ pass-append (value_card symbols) (λ p. p.0.card) emitting_at_start (zip lines places) (quiet_pairs ns)
+    ∙ then-same (pass (value_card symbols) (λ p. p.0.card) emitting_at_start (zip lines places)) where
       then-same : (r : Result Emitted Refusal) → pass_then r (λ s. pass (value_card symbols) (λ p. p.0.card) s (quiet_pairs ns))
           ≡ pass_then r (λ emitted. Ok (with_rows emitted (quiet_rows ns)))
       then-same (Ok emitted) = value-quiet symbols emitted ns

@@ -1,4 +1,12 @@
 -- The answers of the program: when each is returned, and what was read and written.
+--
+-- Proved: by their `ensures` clauses these calls do what definitions here say: `execute`
+-- (execution.rt), `execute_loaded` (execution.rt), `answer_made` (program.rt), `execute_sweep`
+-- (sweeping.rt), and others.
+-- Read by: definitions in Layers.
+-- Laws: none names a definition of this file itself.
+-- Change: the meaning is fixed by docs/running.md, since the contract of `st_top::stretch` unfolds
+-- to a definition here. The form is free, with the proofs that unfold it.
 use Rattle.std.specs.Prelude.{◌≡◌, ℕ, ◌+◌, ◌*◌, ◌≤◌, List, All, Option, None, Some, Result}
 use Rattle.st_bits.specs.declared.limits.TheConstants.{LONGEST_JOB}
 use Rattle.st_io.specs.Count.{HasRisen}
@@ -26,28 +34,22 @@ pub record WroteAll (before after : OutputState) (output : Output) (answer : Ans
   pub done : answer.done ≡ output.done
   pub ticks : answer.ticks ≡ output.ticks
 
--- the effect of writing an output, by the status: the whole output; the first part up to a failed
--- write; or nothing, because memory ran out
+-- what is written of an output, by the status: all, the part up to a failed write, or nothing
 abbrev pub Writes : Status → OutputState → OutputState → Output → Answer → Type 0
 Writes Done before after output answer = WroteAll before after output answer
 Writes Refused before after output answer = WroteAll before after output answer
-Writes WriteFault before after output answer =
-    StoppedAt before after output.events answer.done answer.ticks
+Writes WriteFault before after o answer = StoppedAt before after o.events answer.done answer.ticks
 Writes NoMemory before after output answer = (after ≡ before) × NothingRan answer
 Writes _ before after output answer = ⊥
 
--- if no delay exceeds a number, the ticks are at most 64 times (that number plus four) for each
--- completed instruction and for one more
+-- if no delay exceeds most, at most 64 · (most + 4) ticks for each completion and for one more
 abbrev pub KeepsTime : List ℕ → Answer → Type 0
-KeepsTime delays answer =
-    (most : ℕ) → All (λ delay. delay ≤ most) delays → answer.ticks
-    ≤ 64 * (most + 4) * (answer.done + 1)
+KeepsTime delays answer = (most : ℕ) → All (λ delay. delay ≤ most) delays
+    → answer.ticks ≤ 64 * (most + 4) * (answer.done + 1)
 
--- a job was read whole, and its output was written, with bounded ticks; `read` is the reading of
--- the job as an object text, used only by `load` and `disassemble`
+-- a job was read whole, and its output, by its reading as an object text, written in bounded ticks
 pub record WroteOutput (command : Command) (status : Status) (input input' : InputState)
-    (before after : OutputState)
-    (answer : Answer) : Type 0 where
+    (before after : OutputState) (answer : Answer) : Type 0 where
   pub job : List ℕ
   pub came : CameWhole input input' LONGEST_JOB job
   pub read : Result Program ℕ
@@ -55,21 +57,17 @@ pub record WroteOutput (command : Command) (status : Status) (input input' : Inp
   pub written : Writes status before after (output_of command job read) answer
   pub in_time : KeepsTime (output_of command job read).delays answer
 
--- the effect of a command that reads a job on its source and sink, by the status
+-- the effect of a command that reads a job on its source i and its sink o, by the status
 abbrev pub Did : Command → Status → InputState → InputState → OutputState → OutputState → Answer →
     Type 0
-Did command JobTooLong input input' before after answer =
-    CamePast input input' LONGEST_JOB × (input'.faults ≡ input.faults) × (after ≡ before)
-    × NothingRan answer
-Did command ReadFault input input' before after answer =
-    CameWithin input input' LONGEST_JOB × HasRisen input.faults input'.faults × (after ≡ before)
-    × NothingRan answer
-Did command NoMemory input input' before after answer =
-    CameWithin input input' LONGEST_JOB × (input'.faults ≡ input.faults) × (after ≡ before)
-    × NothingRan answer
-Did command Usage input input' before after answer = ⊥
-Did command status input input' before after answer =
-    WroteOutput command status input input' before after answer
+Did command JobTooLong i i' o o' answer =
+    CamePast i i' LONGEST_JOB × (i'.faults ≡ i.faults) × (o' ≡ o) × NothingRan answer
+Did command ReadFault i i' o o' answer =
+    CameWithin i i' LONGEST_JOB × HasRisen i.faults i'.faults × (o' ≡ o) × NothingRan answer
+Did command NoMemory i i' o o' answer =
+    CameWithin i i' LONGEST_JOB × (i'.faults ≡ i.faults) × (o' ≡ o) × NothingRan answer
+Did command Usage i i' o o' answer = ⊥
+Did command status i i' o o' answer = WroteOutput command status i i' o o' answer
 
 -- the statuses of a call whose words are no valid command: a bad command line, or out of memory
 abbrev pub IsWordRefusal : Status → Type 0
@@ -80,17 +78,13 @@ IsWordRefusal _ = ⊥
 -- the effect of a command, by the status: `soak` reads no job, and every other command reads one
 abbrev pub Acted : Command → Status → InputState → InputState → OutputState → OutputState → Answer →
     Type 0
-Acted (Soak number cards) status input input' before after answer =
-    (input' ≡ input) × Writes status before after (soak_output number cards) answer
-    × KeepsTime (soak_output number cards).delays answer
-Acted command status input input' before after answer =
-    Did command status input input' before after answer
+Acted (Soak number cards) status i i' o o' answer = let output = soak_output number cards in
+    (i' ≡ i) × Writes status o o' output answer × KeepsTime output.delays answer
+Acted command status i i' o o' answer = Did command status i i' o o' answer
 
--- the effect of a call, by its command: words that are no valid command affect neither source nor
--- sink
+-- the effect of a call on its source i and its sink o: without a valid command, none
 abbrev pub IsAnswer : Option Command → InputState → InputState → OutputState → OutputState →
     Answer → Type 0
-IsAnswer None input input' before after answer =
-    IsWordRefusal answer.status × (input' ≡ input) × (after ≡ before) × NothingRan answer
-IsAnswer (Some command) input input' before after answer =
-    Acted command answer.status input input' before after answer
+IsAnswer None i i' o o' answer =
+    IsWordRefusal answer.status × (i' ≡ i) × (o' ≡ o) × NothingRan answer
+IsAnswer (Some command) i i' o o' answer = Acted command answer.status i i' o o' answer

@@ -1,4 +1,13 @@
 -- A second machine that repeats the run of the first by itself, and records its last steps.
+--
+-- Proved: by their `ensures` clauses these calls do what definitions here say: `run_beside`
+-- (beside.rt), `run_to_end` (beside.rt), `beside` (execution.rt), `prepare` (execution.rt), and
+-- others.
+-- Read by: definitions in BesideLaws.
+-- Laws: none names a definition of this file itself.
+-- Change: no page fixes these definitions, since no contract of a program unfolds to them; they
+-- change together with the clauses, definitions and laws that name them. docs/running.md describes
+-- the subject.
 use Rattle.std.specs.Prelude.{◌≡◌, ◌≤◌, ℕ, Bool, List, [], ◌∷◌, ◌++◌, length, Option, None, Some, MatchOption}
 use Rattle.circular_buffer.specs.Buffer.{keep_last}
 use Rattle.st_state.specs.Machine.{Machine}

@@ -1,4 +1,10 @@
 -- Two successive external events do not change the states that steps back restore, if neither does.
+--
+-- Proved: invariants and ghost fields of types name these definitions; no `ensures` clause does.
+-- Laws: none names a definition of this file itself.
+-- Change: no page fixes these definitions, since no contract of a program unfolds to them; they
+-- change together with the clauses, definitions and laws that name them. docs/running.md describes
+-- the subject.
 use Rattle.std.proofs.Common.{◌≡◌, ◌||◌, ◌∙◌, Bool}
 use Rattle.st_top.specs.declared.beside.Noted.{Noted}
 use Rattle.st_top.specs.Beside.{IsKept}

@@ -1,4 +1,11 @@
 -- The words of a command line as the arguments of a program.
+--
+-- Proved: by their `ensures` clauses these calls do what definitions here say: `are_plain`
+-- (command.rt), `command_by` (command.rt), `is_plain` (command.rt), `read_words` (command.rt), and
+-- others.
+-- Laws: none names a definition of this file itself.
+-- Change: the meaning is fixed by docs/running.md, since the contract of `st_top::stretch` unfolds
+-- to a definition here. The form is free, with the proofs that unfold it.
 use Rattle.std.specs.Prelude.{ℕ, ◌==◌, Bool, true, false, not, codes, List, [], ◌∷◌, Option, None, Some, option_and_then}
 use Rattle.st_text.specs.Bytes.{minus_sign}
 use Rattle.clap.specs.Words.{App, new_app, new_rule, with_rule}

@@ -1,5 +1,9 @@
 -- Laws of marked lines, and of jobs and object texts that differ only in their
 -- delays.
+--
+-- Proved: each law has its lemma in proofs/DelayLaws.antt, with its name in small letters.
+-- Claimed: docs/CLAIMS.md names ObjectTextsThatDifferInDelaysAlone.
+-- Change: docs/promises.txt lists each law, and the gate compares the list with the laws.
 use Rattle.std.specs.Prelude.{◌≡◌, ℕ, ◌≤◌, Bool, List, take, Result, Ok}
 use Rattle.st_bits.specs.declared.limits.TheConstants.{MOST_CARDS}
 use Rattle.st_card.specs.Controls.{Asked}

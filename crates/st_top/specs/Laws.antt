@@ -1,5 +1,10 @@
 -- Laws of the reading of object texts, and of the lines of object texts and decks. The numbers that
 -- definitions take from the code of this crate.
+--
+-- Proved: each law has its lemma in proofs/Laws.antt, with its name in small letters.
+-- Claimed: docs/CLAIMS.md names EachTextHasOneReading, LevelsInFigures, LinesAreTheDeck,
+-- LinesAreTheObjectText, and others.
+-- Change: docs/promises.txt lists each law, and the gate compares the list with the laws.
 use Rattle.std.specs.Prelude.{◌≡◌, ℕ, List, Result}
 use Rattle.st_io.specs.Lines.{text}
 use Rattle.st_dis.specs.Deck.{deck_text}

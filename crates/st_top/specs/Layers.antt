@@ -1,4 +1,12 @@
 -- The errors of the layers below, for a command that reads a job.
+--
+-- Proved: by their `ensures` clauses these calls do what definitions here say: `answer_deck`
+-- (objects.rt), `assemble_job` (program.rt), `disassemble_text` (program.rt), `load_job`
+-- (program.rt), and others.
+-- Laws: none names a definition of this file itself.
+-- Change: no page fixes these definitions, since no contract of a program unfolds to them; they
+-- change together with the clauses, definitions and laws that name them. docs/running.md describes
+-- the subject.
 use Rattle.std.specs.Prelude.{◌≡◌, ℕ, ◌+◌, List, Result, Ok, Err}
 use Rattle.st_bits.specs.declared.limits.TheConstants.{LONGEST_JOB, MOST_CARDS}
 use Rattle.st_asm.specs.declared.stop.AsmError.{AsmError}

@@ -1,5 +1,13 @@
 -- The listing of a job: a line for each card, then one for each symbol.
-use Rattle.std.specs.Prelude.{◌≡◌, ℕ, if◌then◌else◌, List, [], ◌∷◌, ◌++◌, length, All, Option, None, Some}
+--
+-- Proved: by their `ensures` clauses these calls do what definitions here say: `write_both`
+-- (listing.rt), `answer_run` (execution.rt), `execute` (execution.rt), `write_output`
+-- (execution.rt), and others.
+-- Read by: definitions in Marks, Output.
+-- Laws: none names a definition of this file itself.
+-- Change: the meaning is fixed by docs/running.md, since the contract of `st_top::stretch` unfolds
+-- to a definition here. The form is free, with the proofs that unfold it.
+use Rattle.std.specs.Prelude.{◌≡◌, ℕ, if◌then◌else◌, List, [], ◌∷◌, ◌++◌, length, map, All, Option, None, Some}
 use Rattle.st_card.specs.Cards.{cards_of, text_in, IsCardOf}
 use Rattle.st_card.specs.declared.cards.Card.{Card}
 use Rattle.st_asm.specs.Assembly.{Assembly}
@@ -25,15 +33,13 @@ listing_row_line job row card = listed_line row.card row.location row.bits row.l
 
 -- the lines of cards, given the row of each
 abbrev pub rows_lines : List ℕ → List Listed → List Card → List (List ℕ)
-rows_lines job [] cards = []
-rows_lines job (row ∷ rows) [] = []
 rows_lines job (row ∷ rows) (card ∷ cards) = listing_row_line job row card
     ∷ rows_lines job rows cards
+rows_lines job _ _ = []
 
 -- the lines of symbols
 abbrev pub symbols_lines : List Symbol → List (List ℕ)
-symbols_lines [] = []
-symbols_lines (s ∷ ss) = symbol_line s.name s.value ∷ symbols_lines ss
+symbols_lines symbols = map (λ s. symbol_line s.name s.value) symbols
 
 -- the listing of an assembled job, if it is requested
 unfoldable pub listing : List ℕ → Assembly → List (List ℕ)

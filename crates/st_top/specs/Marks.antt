@@ -1,16 +1,24 @@
 -- The lines that the delays of storage can change: in a report those of the timetable, in a listing
 -- those of the cards after END, in an object text and a deck those of the delays. No other line
 -- depends on the delays.
-use Rattle.std.specs.Prelude.{ℕ, if◌then◌else◌, nat_le, List, [], ◌∷◌, ◌++◌, length, map, filter, not, drop, Result, Ok, Err}
+--
+-- Proved: no `ensures` clause names a definition of this file.
+-- Read by: definitions in Delays.
+-- Laws: DelaysChangeNothingButTheTimetable (specs/DelayLaws.antt), JobsThatDifferInDelaysAlone
+-- (specs/DelayLaws.antt), MarksAreTheReport (specs/DelayLaws.antt).
+-- Change: the meaning is fixed by docs/running.md, since the contract of `st_top::stretch` unfolds
+-- to a definition here. The form is free, with the proofs that unfold it.
+use Rattle.std.specs.Prelude.{ℕ, Bool, true, false, if◌then◌else◌, nat_le, List, [], ◌∷◌, ◌++◌, length, map, filter, not, drop, Result, Ok, Err}
 use Rattle.std.specs.List.{flat_map}
 use Rattle.st_bits.specs.declared.limits.TheConstants.{MOST_CARDS}
 use Rattle.st_text.specs.Bytes.{lf}
 use Rattle.st_card.specs.Cards.{cards_of, text_in}
 use Rattle.st_card.specs.Controls.{Asked}
-use Rattle.st_card.specs.Written.{control_line, unless_zero, shows}
-use Rattle.st_card.specs.declared.written.Control.{Control}
-use Rattle.st_card.specs.declared.written.Control.TheVariants.{Budget, Delay, Signal, Dump}
-use Rattle.st_card.specs.declared.written.ControlForm.TheVariants as forms
+use Rattle.st_card.specs.Written.{control_line, requests}
+use Rattle.st_card.specs.declared.keywords.Number.TheVariants.{Delays}
+use Rattle.st_card.specs.declared.keywords.Control.{Control}
+use Rattle.st_card.specs.declared.keywords.Control.TheVariants.{Number}
+use Rattle.st_card.specs.declared.keywords.ControlForm.TheVariants as forms
 use Rattle.st_card.specs.declared.cards.Card.{Card}
 use Rattle.st_asm.specs.Pass.{Refusal}
 use Rattle.st_asm.specs.Assembly.{Assembly, assembly}
@@ -42,8 +50,7 @@ marked_report asked ts = flat_map (λ t. parts_at asked t.done t.tick t.event) t
 
 -- the report of a run, with the requested state before its end
 unfoldable pub marked_run : Asked → Scene → List Part
-marked_run asked start =
-    marked_report asked (reported_events (events_of_run asked start))
+marked_run asked start = marked_report asked (reported_events (events_of_run asked start))
     ++ fixed (lines_of_steps_back asked (states_of_run asked start) (last_state asked start))
 
 -- ---- a listing
@@ -63,8 +70,7 @@ end_card job = length (up_to_end (cards_of job))
 
 -- the lines of a listing: those of the cards after END can change, since delay cards are among them
 abbrev pub listed_lines : List ℕ → Assembly → List Part
-listed_lines job a =
-    fixed (rows_lines job a.rows (up_to_end (cards_of job)))
+listed_lines job a = fixed (rows_lines job a.rows (up_to_end (cards_of job)))
     ++ varying (rows_lines job (drop (end_card job) a.rows) (behind_statements (cards_of job)))
     ++ fixed (symbols_lines a.symbols)
 
@@ -76,25 +82,24 @@ marked_listing job a = if a.asked.list then listed_lines job a else []
 
 -- the object text of a program: its delay lines can change
 abbrev pub marked_object : Program → List Part
-marked_object p =
-    map (λ text. record { lines = (text ++ lf) ∷ []; varies = is_delay_line text })
+marked_object p = map (λ text. record { lines = (text ++ lf) ∷ []; varies = is_delay_line text })
     (map line_text (object_lines p))
+
+-- whether a request is a delay
+abbrev pub is_delay : Control → Bool
+is_delay (Number Delays n) = true
+is_delay _ = false
 
 -- the control cards of a deck: the delay cards can change
 abbrev pub marked_cards : Asked → List Part
 marked_cards a =
-    let made : Control → List ℕ = λ c. control_line forms.Card c ++ lf in
-    fixed (unless_zero a.budget (made (Budget a.budget)))
-    ++ varying (map (λ d. made (Delay d)) a.delays)
-    ++ fixed (map (λ s. made (Signal s.count s.indicator)) a.signals
-    ++ map (λ p. made (Dump p.0 p.1)) a.dumps ++ shows made a)
+    map (λ c. record { lines = (control_line forms.Card c ++ lf) ∷ []; varies = is_delay c })
+    (requests a)
 
 -- the deck of a program
 abbrev pub marked_deck : Program → List Part
-marked_deck p =
-    fixed (map (λ card. card ++ lf)
-    (word_cards 0 0 p.words ++ statement_card (end_text p.start) ∷ []))
-    ++ marked_cards p.controls
+marked_deck p = fixed (map (λ card. card ++ lf)
+    (word_cards 0 0 p.words ++ statement_card (end_text p.start) ∷ [])) ++ marked_cards p.controls
 
 -- ---- a job
 
@@ -113,15 +118,13 @@ abbrev pub marked_assembled : Result Assembly Refusal → List Part
 marked_assembled (Ok a) = marked_object (program_in a)
 marked_assembled (Err r) = fixed (lines_of (refusal_output r).events)
 
--- the output of `disassemble`, given the reading of an object text; a deck that has too many cards
--- with these delays may have fewer with others
+-- the output of `disassemble`; a deck of too many cards may have fewer with other delays
 abbrev pub marked_disassembled : Result Program ℕ → List Part
 marked_disassembled (Ok p) = if nat_le (card_count p) MOST_CARDS then marked_deck p
     else varying (lines_of (deck_by p).events)
 marked_disassembled (Err n) = fixed (lines_of (loaded_by (Err n)).events)
 
--- the output of a command for a job, given its reading as an object text; all lines of `sweep`
--- depend on the delays, and `soak` draws its own delays
+-- the output of a command for a job and its reading; all lines of `sweep` and `soak` can change
 unfoldable pub marked_output : Command → List ℕ → Result Program ℕ → List Part
 marked_output Run job read = marked_by job (assembly job)
 marked_output Load text read = marked_load read

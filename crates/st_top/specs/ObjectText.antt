@@ -1,4 +1,11 @@
 -- The object text of a job and the deck of a program, line by line.
+--
+-- Proved: by their `ensures` clauses these calls do what definitions here say: `answer_object`
+-- (objects.rt), `answer_text` (objects.rt), `image_of` (objects.rt), `write_ended` (objects.rt).
+-- Read by: definitions in Output, Marks.
+-- Laws: LinesAreTheDeck (specs/Laws.antt), LinesAreTheObjectText (specs/Laws.antt).
+-- Change: the meaning is fixed by docs/running.md, since the contract of `st_top::stretch` unfolds
+-- to a definition here. The form is free, with the proofs that unfold it.
 use Rattle.std.specs.Prelude.{ℕ, false, List, [], ◌∷◌, ◌++◌, map}
 use Rattle.st_asm.specs.Assembly.{Assembly}
 use Rattle.st_object.specs.Lines.{line_text}
@@ -8,11 +15,8 @@ use Rattle.st_text.specs.Bytes.{lf}
 
 -- the part of an assembled job that its object text keeps: all but whether it is listed
 abbrev pub program_in : Assembly → Program
-program_in a = record {
-  words = a.image;
-  start = a.start;
-  controls = record a.asked { list = false };
-}
+program_in a =
+    record { words = a.image; start = a.start; controls = record a.asked { list = false } }
 
 -- the lines of the object text of a program, each with its line end
 unfoldable pub object_text_lines : Program → List (List ℕ)

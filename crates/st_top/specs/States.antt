@@ -1,4 +1,11 @@
 -- The sequence of states of a run.
+--
+-- Proved: no `ensures` clause names a definition of this file.
+-- Read by: definitions in Beside.
+-- Laws: none names a definition of this file itself.
+-- Change: no page fixes these definitions, since no contract of a program unfolds to them; they
+-- change together with the clauses, definitions and laws that name them. docs/running.md describes
+-- the subject.
 use Rattle.std.specs.Prelude.{ℕ, List, [], ◌∷◌, ◌++◌, map}
 use Rattle.st_state.specs.Machine.{Machine}
 use Rattle.st_run.specs.Run.{Scene, state_next, scenes}

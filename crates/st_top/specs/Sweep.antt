@@ -1,5 +1,12 @@
 -- The output of a sweep for a job: its ticks on machines of one to eight levels, and whether its
 -- run is hazard-free.
+--
+-- Proved: by their `ensures` clauses these calls do what definitions here say: `sweep_image`
+-- (sweeping.rt), `write_levels` (sweeping.rt), `write_sweep` (sweeping.rt).
+-- Read by: definitions in Output.
+-- Laws: none names a definition of this file itself.
+-- Change: the meaning is fixed by docs/running.md, since the contract of `st_top::stretch` unfolds
+-- to a definition here. The form is free, with the proofs that unfold it.
 use Rattle.std.specs.Prelude.{ℕ, ◌+◌, List, [], ◌∷◌, ◌++◌}
 use Rattle.st_card.specs.Controls.{Asked}
 use Rattle.st_state.specs.Machine.{opening_state}

@@ -1,14 +1,15 @@
 //! The result of a call of the program: the status, which is the exit status of the process, and
-//! the extent of the run in instructions and ticks.
+//! the extent of the run in instructions and ticks. docs/running.md lists the statuses. program.rt,
+//! execution.rt, objects.rt, refusal.rt and sweeping.rt make an `Answer`; the `main` of `stretch`
+//! turns the status into the exit code.
 //!
-//! program.rt and its helpers make it; `crates/stretch` turns the status into the exit code, by the
-//! numbers here, which `docs/running.md` lists. specs/Answers.antt defines what was read and
-//! written for each status (`Did`, `Writes`).
+//! Proved, by the clauses of `stretch` (program.rt): for each status what was read and written is
+//! `Did` and `Writes` of specs/Answers.antt; every status but `NoMemory` is returned only with its
+//! cause. Not proved: that memory ran out for `NoMemory`.
 //!
-//! Pinned by `number_of` (specs/Exit.antt of `stretch`): the numbers 0 to 6. A new status needs its
-//! case in these definitions. `NoMemory` is
-//! returned without a proof that memory ran out; every other status only with its cause. There is
-//! no code but `without_run`.
+//! Pinned, by docs/running.md, users' scripts and `number_of` of `stretch` (specs/Exit.antt there):
+//! the numbers 0 to 6. A new status needs its case in `Did`, `Writes` and `number_of`, and in
+//! `exit` of `stretch`. Free: the body of `without_run`, the only code.
 ghost use Rattle.std.specs.Prelude.{◌≡◌};
 
 /// The result of a call of `stretch`. The number is the program's exit status.

@@ -1,15 +1,18 @@
 //! A second machine that repeats the run of the first by itself, and whose last steps can be
 //! undone: the machine of `/BACK k`, the request for the state k instructions (1 to 64) before the
-//! end.
+//! end. docs/report.md describes `/BACK` ("Stepping back").
 //!
-//! execution.rt creates it with room for k steps (the depth of `Back`), and reporting.rt runs it
-//! after the report and shows the state. Its steps are plain: one instruction after the other,
-//! without the levels and ticks of the first machine. It takes the signals and cards of the job;
-//! prints are discarded.
+//! execution.rt creates it with room for k steps (the depth of `Back` of `st_back`), and
+//! reporting.rt runs it after the report and shows the state. Its steps are plain: one instruction
+//! after the other, without the levels and ticks of the first machine. It takes the signals and
+//! cards of the job; prints are discarded.
 //!
-//! Proved: at the end it is where the run ended, and after `rewind` in the state that many steps
-//! before (specs/Beside.antt, specs/StepsBack.antt; proofs/beside has the three loops). Pinned by
-//! `IsKept`: a card is undone with the step before it. Free: that the run is made twice.
+//! Proved: after `run_beside` the machine is where the run ended, and after `rewind` in the state
+//! that many steps before (specs/Beside.antt, specs/StepsBack.antt).
+//!
+//! Pinned, by `IsKept` of specs/Beside.antt: a card is undone with the step before it. Pinned, by
+//! docs/report.md: 1 to 64 steps. Free: that the run is made twice; the three loops, if
+//! proofs/beside follows.
 ghost use Rattle.std.specs.Prelude.{
   ◌≡◌,
   ◌+◌,

@@ -1,13 +1,16 @@
 //! Parses the words of a command line: one command, and for `soak` a seed and a number of cards.
+//! docs/running.md has the commands. Only program.rt calls `read_words`. `clap`, a library with
+//! contracts, assigns the words to arguments.
 //!
-//! program.rt calls `read_words`. A word is plain if it is not empty and does not begin with `-`;
-//! numbers have at most 20 digits. `clap`, a library with contracts, assigns the words to
-//! arguments.
+//! Proved: the command is `command_of` in specs/Command.antt, or None if there is none (clause
+//! `ok`; `plain`, `some` and `few` give cases of None). `NoMemory` is the only error. Not proved:
+//! that `NoMemory` comes only if memory ran out.
 //!
-//! Proved: the command is `command_of` in specs/Command.antt, or None if there is none. `NoMemory`
-//! is the only error, and no clause says that it comes only for that cause. A new command is a word
-//! in `command_named_by`, a case of `Command` and of `command_named`, and its function in
-//! program.rt. Free: the parser.
+//! Pinned, by `command_of` and docs/running.md: the words; a word is plain if it is not empty and
+//! does not begin with `-`; numbers have at most 20 digits. Pinned, by the law `MadeCardsInFigures`
+//! (specs/Laws.antt) and docs/deck.md: MOST_MADE_CARDS. A new command needs a case of `Command`, of
+//! `command_named` and of `output_of` (specs/Output.antt), a word in `command_named_by`, and its
+//! function in program.rt. Free: the parser.
 ghost use Rattle.std.specs.Prelude.{◌≡◌, ◌<◌, ◌≤◌, IfOk, MatchOption, None, Ok, false, true, length, map, option_map};
 ghost use Rattle.std.specs.List.{list_all};
 ghost use Rattle.std.specs.String.{string_bytes};

@@ -1,12 +1,17 @@
-//! Runs of jobs: the listing, if it is requested, followed by the report of the run.
+//! Runs of jobs: the listing, if it is requested, followed by the report of the run. docs/report.md
+//! has the lines.
 //!
 //! program.rt calls `execute` for an assembled job, and `execute_loaded` for an object text, whose
 //! reader is empty. All memory is allocated before the first line, so a job writes nothing if
 //! memory runs out.
 //!
-//! Proved: the lines are `ran_by` and `loaded_by` of specs/Output.antt, the answer has the moment
-//! of the end or of the line that failed, and the ticks keep the bound of `KeepsTime`. Pinned by
-//! these: the order of listing and report, and four levels (`LEVELS`). Free: the allocations.
+//! Proved: the lines are `ran_by` and `loaded_by` of specs/Output.antt (clauses `writes`), the
+//! answer has the moment of the end or of the line that failed, and the ticks keep the bound of
+//! `KeepsTime` in specs/Answers.antt (clauses `in_time`).
+//!
+//! Pinned, by `ran_by` and docs/report.md: the order of listing and report. Pinned, by the law
+//! `LevelsInFigures` (specs/Laws.antt): four levels (`LEVELS` of reporting.rt). Free: the
+//! allocations.
 ghost use Rattle.std.specs.Prelude.{◌≡◌, ◌≤◌, ◌<◌, ◌^◌, None, Ok, All, IfOk, IfSome, OnOk, OnErr, [], ◌++◌, length};
 ghost use Rattle.st_bits.specs.Storage.{IsImage};
 ghost use Rattle.st_asm.specs.Assembly.{assembly_parts};

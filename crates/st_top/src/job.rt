@@ -1,10 +1,13 @@
 //! A job with its cards: the bytes of its text, split once, for the assembler, the listing and the
-//! reader.
+//! reader. program.rt and execution.rt make a `Job`; execution.rt and listing.rt read it; no other
+//! crate uses it. `made` is the seed and the number of cards of a generated deck (`soak`,
+//! docs/deck.md).
 //!
-//! program.rt splits the job; execution.rt and listing.rt read it. `made` is the seed and the
-//! number of cards of a generated deck (`soak`). The ghost field carries the proof that the cards
-//! are those of the text, so that no caller proves it again; a change of either needs that proof. A
-//! further field is free.
+//! Proved: nothing is computed here. The ghost field `cards_are` carries the proof that the cards
+//! are those of the text, so that no caller proves it again.
+//!
+//! Pinned, by the proofs of execution.rt and listing.rt: `cards_are`, and with it `text` and
+//! `cards`. Free: further fields.
 ghost use Rattle.std.specs.Prelude.{◌≡◌};
 ghost use Rattle.st_card.specs.Cards.{cards_of};
 

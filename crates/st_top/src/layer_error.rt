@@ -1,14 +1,15 @@
 //! Errors before the first line of output: those of the layers below as one type, so that `?` joins
-//! them.
+//! them. program.rt turns them into statuses: a refusal into its line and status 1, the others into
+//! a status without output. docs/running.md has the statuses. objects.rt passes errors on. Cards
+//! and lines are numbered from 1.
 //!
-//! program.rt turns them into statuses: a refusal into its line and status 1, the others into a
-//! status without output. Cards and lines are numbered from 1.
+//! Proved: each conversion gives the error of specs/Layers.antt (clause `from_gives`).
 //!
-//! Proved: each conversion gives the error of specs/Layers.antt (clause `from_gives`). Pinned by
-//! `of_disassembly` there: a deck of the disassembler with too many cards is refused at the first
-//! card over the limit. A new error of a layer needs its case in the conversion here and in its
-//! definition in that file; a new variant also one in `Halts` and `Tries` of that file and in the
-//! matches of program.rt. The texts of `error` are free: no program prints them.
+//! Pinned, by `of_disassembly` of specs/Layers.antt: a deck of the disassembler with too many cards
+//! is refused at the first card over the limit. A new error of a layer needs its case in the
+//! conversion here and in its definition in specs/Layers.antt; a new variant also one in `Halts`
+//! and `Tries` of that file and in the matches of program.rt. Free: the texts of `error`, which no
+//! program prints.
 ghost use Rattle.std.specs.Prelude.{◌≡◌};
 ghost use Rattle.st_top.specs.Layers.{of_reading, of_assembly, of_object, of_disassembly};
 

@@ -1,12 +1,16 @@
 //! The lines before the report of a job: for a generated deck its seed and number of cards, then,
-//! if `/LIST` requests it, a line for each card and each symbol.
+//! if `/LIST` requests it, a line for each card and each symbol. docs/report.md has the columns
+//! ("The listing"), docs/deck.md generated decks.
 //!
-//! execution.rt calls `write_front`. Cards are numbered from 1, locations are bit addresses;
+//! Only execution.rt calls `write_front`. Cards are numbered from 1, locations are bit addresses;
 //! `st_report` formats the lines. The only error is a failed write.
 //!
-//! Proved: the lines are `front_lines` of specs/Listing.antt, all on Ok, the first ones otherwise.
-//! Pinned by `front_lines`: the order. `HasCards` asks for one row of the listing for each card of
-//! the job, each card with its text in the job and without a fault. Free: the loops.
+//! Proved: the lines are `front_lines` of specs/Listing.antt, all on Ok, the first ones otherwise
+//! (`WritesLines` of `st_io`). `HasCards`, a `requires`, asks for one row of the listing for each
+//! card of the job, each card with its text in the job and without a fault.
+//!
+//! Pinned, by `front_lines` and docs/report.md: the order. Free: the loops, if proofs/listing
+//! follows.
 ghost use Rattle.std.specs.Prelude.{◌≡◌, [], ◌∷◌, ◌++◌, All, None, length};
 ghost use Rattle.st_asm.specs.Assembly.{assembly_parts};
 ghost use Rattle.st_asm.specs.Sound.{IsRow, IsSymbol};

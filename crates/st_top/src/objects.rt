@@ -1,12 +1,17 @@
 //! Writes the object text of a job and the deck of a program, line by line, for the commands
-//! `assemble` and `disassemble`.
+//! `assemble` and `disassemble`. docs/object-text.md and docs/disassembly.md have the formats.
 //!
-//! program.rt calls these. `st_object` and `st_dis` build the whole text first, which is all the
-//! memory that is needed; then each line is a write of its own. A line end is byte 10.
+//! Only program.rt calls these functions. `st_object` and `st_dis` build the whole text first,
+//! which is all the memory that is needed; then each line is a write of its own. A line end is byte
+//! 10.
 //!
 //! Proved: the lines are `object_text_lines` of specs/ObjectText.antt or those of `disassembled_by`
-//! in specs/Output.antt; together with the answer, `Writes`. An object text has no request for a
-//! listing (`image_of`); that is pinned by `program_in`. Free: the loops.
+//! in specs/Output.antt; together with the answer, `Writes` of specs/Answers.antt.
+//!
+//! Pinned, by `program_in`, the clause of `image_of`: an object text has no request for a listing.
+//! Pinned, by docs/object-text.md and vectors/mnemonics.txt: the lines of object texts; by
+//! docs/disassembly.md and vectors/decks.txt: the lines of decks. Free: the loops, if
+//! proofs/objects follows.
 ghost use Rattle.std.specs.Prelude.{◌≡◌, ◌+◌, ◌≤◌, Ok, length, take};
 ghost use Rattle.st_asm.specs.Assembly.{assembly_parts};
 ghost use Rattle.st_text.specs.Pieces.{pieces_of};

@@ -1,13 +1,17 @@
-//! The call of the whole program, and one function for each of its commands.
+//! The call of the whole program, `stretch`, and one function for each of its commands.
+//! docs/running.md has the commands. The `main` of the crate `stretch` makes the call. Commands are
+//! parsed by command.rt, the job is read as a whole (at most 2,000,000 bytes; `soak` reads none),
+//! and each function assembles, loads, runs or writes. A private function returns the first error
+//! of a layer as `LayerError`; `stretch` gives a status.
 //!
-//! `crates/stretch` calls `stretch`. Commands are parsed by command.rt, the job is read at once (at
-//! most 2,000,000 bytes), and each function assembles, loads, runs or writes. The first error of a
-//! layer is returned as `LayerError`.
+//! Proved, by the clauses of `stretch`, as the theorem of the program: for each status, the bytes
+//! that were read, the lines that were written and the bound of ticks (`IsAnswer` in
+//! specs/Answers.antt), when `Usage` comes, and which lines delays can change (specs/Delays.antt).
+//! docs/THEOREM.md explains them.
 //!
-//! Proved, as the theorem of the program: for each status, the bytes that were read and the lines
-//! that were written (`IsAnswer` in specs/Answers.antt), when `Usage` comes, and which lines delays
-//! can change. `docs/THEOREM.md` reads it in words. Free: the bodies. A new command is a case of
-//! `output_of`, of `Command`, and of `try_job`.
+//! Pinned: these clauses, by docs/THEOREM.md and docs/running.md. Free: the bodies, and the
+//! contracts of private functions. A new command is a case of `output_of` and of `Command`, and
+//! then of the functions here that the compiler names.
 ghost use Rattle.std.specs.Prelude.{◌≡◌, ◌<◌, ◌≤◌, ◌^◌, None, false, map, length};
 ghost use Rattle.std.specs.List.{list_all};
 ghost use Rattle.std.specs.String.{string_bytes};

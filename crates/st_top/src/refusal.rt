@@ -1,9 +1,12 @@
 //! The line that a refused job prints: the number of the card, from 1, and the name of its fault.
+//! docs/report.md has the line, docs/strap.md the faults. Only program.rt calls `refuse`, for a
+//! refused job, object text or generated deck; the line is the whole output.
 //!
-//! program.rt calls `refuse` for a refused job, object text or generated deck; it is the whole
-//! output. Proved: the line is `refusal_output` of specs/Output.antt, and the status is `Refused`,
-//! or `WriteFault` if the write fails. The names of faults are those of `st_card`, the form of the
-//! line that of `st_report`. Free: the body.
+//! Proved: the line is `refusal_output` of specs/Output.antt, and the status is `Refused`, or
+//! `WriteFault` if the write fails (clause `writes`).
+//!
+//! Pinned, by `st_card` and docs/strap.md: the names of faults. Pinned, by `st_report` and
+//! docs/report.md: the form of the line. Free: the body.
 ghost use Rattle.std.specs.Prelude.{◌≡◌, [], ◌∷◌};
 ghost use Rattle.st_card.specs.Faults.{name_of};
 ghost use Rattle.st_io.specs.Lines.{WritesLines};

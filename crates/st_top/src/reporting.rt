@@ -1,12 +1,14 @@
 //! The whole report of a run: its events, then, if `/BACK` requests it, the state some steps before
-//! the end.
+//! the end. docs/report.md has the rules. execution.rt calls `write_report` with a prepared run and
+//! its second machine (beside.rt). `st_telling` writes the lines. The only error is a failed write;
+//! the moment is then that of the line that failed.
 //!
-//! execution.rt calls `write_report` with a prepared run and its second machine. `st_telling`
-//! writes the lines. The only error is a failed write; the moment then is that of the line.
+//! Proved: the lines are `run_report` of specs/StepsBack.antt. That `LEVELS` is 4 is the law
+//! `LevelsInFigures` (specs/Laws.antt).
 //!
-//! Proved: the lines are `run_report` of specs/StepsBack.antt, which pins their order. `LEVELS` is
-//! 4, by the type of `Run` and by `events_of_run`; another number changes every timetable. Free:
-//! the bodies, and when the second machine runs.
+//! Pinned, by `run_report` and docs/report.md: the order of the lines. Pinned, by
+//! `LevelsInFigures`, the type of `Run` and `events_of_run`: `LEVELS`; another number changes every
+//! timetable. Free: the bodies, and when the second machine runs.
 ghost use Rattle.std.specs.Prelude.{◌≡◌, [], ◌∷◌, IfSome};
 ghost use Rattle.std.specs.List.{AllPass};
 ghost use Rattle.st_card.specs.Limits.{IsWithinLimits, is_part};

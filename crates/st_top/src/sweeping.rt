@@ -1,12 +1,15 @@
 //! Runs of a job on machines of one to eight levels, and their lines, for the command `sweep`.
+//! docs/timetable.md has the lines ("One to eight levels").
 //!
-//! program.rt calls `execute_sweep`; `st_sweep` makes the runs, with an empty reader. The lines are
-//! `LEVELS n TICKS t` for n from 1 to 8, and `CALM 1` or `CALM 0`. The answer has the extent of the
-//! run on eight levels.
+//! Only program.rt calls `execute_sweep`; `st_sweep` makes the runs, with an empty reader. The
+//! lines are `LEVELS n TICKS t` for n from 1 to 8, and `CALM 1` or `CALM 0`. The answer has the
+//! extent of the run on eight levels. Nothing is written if memory runs out.
 //!
-//! Proved: the lines are `swept_by` of specs/Output.antt, and the ticks keep the bound of
-//! `KeepsTime`. Pinned by `sweep_lines`: the order of the lines. Nothing is written if memory runs
-//! out. Free: the bodies.
+//! Proved: the lines are `swept_by` of specs/Output.antt (clause `writes`), and the ticks keep the
+//! bound of `KeepsTime` in specs/Answers.antt (clause `in_time`).
+//!
+//! Pinned, by `sweep_lines` of specs/Sweep.antt, docs/timetable.md and vectors/sweep.txt: the lines
+//! and their order. Free: the bodies.
 ghost use Rattle.std.specs.Prelude.{◌≡◌, ℕ, List, ◌+◌, ◌≤◌, ◌<◌, ◌^◌, Ok, [], ◌∷◌, IfOk, length};
 ghost use Rattle.st_bits.specs.Storage.{IsImage};
 ghost use Rattle.st_asm.specs.Assembly.{assembly_parts};

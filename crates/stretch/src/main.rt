@@ -1,11 +1,14 @@
-//! The program: it passes standard input, standard output and the words of the command line to
-//! `stretch` of `st_top`, and exits with its status.
+//! The program: `main` passes standard input, standard output and the words of the command line to
+//! `stretch` of `st_top`, and exits with its status. docs/running.md has the commands and statuses.
+//! The words are those after the program's name; words that are no text give status 2, want of
+//! memory gives 6.
 //!
-//! The words are those after the program's name. Words that are no text give status 2, want of
-//! memory gives 6. Proved: the exit code is the number of the status (`number_of` in
-//! specs/Exit.antt); all else is the contract of `stretch`. `main` itself has no contract, since
-//! the devices of the process are only known as far as `st_io` describes them. Pinned by
-//! `number_of`: the numbers of `Status`.
+//! Proved: the exit code is the number of the status (`number_of` in specs/Exit.antt); all else is
+//! the contract of `stretch`, which docs/THEOREM.md explains. Not proved: `main` itself, which has
+//! no contract, since the devices of the process are only known as far as `st_io` describes them.
+//!
+//! Pinned, by `number_of` and docs/running.md: the numbers of `Status`. A new status needs a case
+//! in `exit` and in `number_of`. Free: the body of `exit`.
 #![tactic(auto)]
 
 ghost use Rattle.std.specs.Prelude.{◌≡◌};

@@ -1,9 +1,10 @@
-//! Jobs and their reports, worked out by hand or by an independent model of the machine.
+//! Jobs and their reports, worked out by hand or by an independent model of the machine, by the
+//! rules of docs/machine.md, docs/strap.md and docs/report.md. The tests of failures.rt and
+//! delays.rt use them; each report is the constant after its job.
 //!
-//! The tests of failures.rt and delays.rt use them; each report is the constant after its job.
-//! `docs/machine.md`, `docs/strap.md` and `docs/report.md` have the rules by which they were worked
-//! out. A job can be changed only with its report, which must not be taken from the output of the
-//! program. Nothing is proved of these constants.
+//! Proved: nothing of these constants. Pinned: each report, by its job and these pages; a job can
+//! be changed only with its report, which must not be taken from the output of the program. Free:
+//! further jobs.
 
 /// A job of a load and a wait.
 pub const LOAD: &str = "         LVI,$X1,100.0

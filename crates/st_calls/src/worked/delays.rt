@@ -1,9 +1,10 @@
-//! Tests that compare runs with different lists of delays: a loop that changes its own next
-//! instruction has one report with each of them.
+//! A test that compares runs with different lists of delays: a loop that changes its own next
+//! instruction has one report with each of them. The job and the report are `CHANGING` and
+//! `CHANGED` of decks.rt.
 //!
-//! The job and the report are `CHANGING` and `CHANGED` of decks.rt. That delays never change such
-//! lines is proved in `st_top` (clause `delays` of `stretch`); the test shows it for the hardest
-//! kind of program. Lists may be added.
+//! Proved: nothing of the test. That delays never change such lines is the clause `delays` of
+//! `stretch` (program.rt of `st_top`); the test shows it for the hardest kind of program. Pinned:
+//! the report, by decks.rt. Free: further lists.
 
 use super::answer_failing;
 use super::decks::{CHANGED, CHANGING};

@@ -1,14 +1,15 @@
 //! Tests with sources and sinks that fail: each read, each write, a full sink, and a write that
-//! fails within a line; and a test of the numbers that a sweep returns.
+//! fails within a line; and a test of the numbers that a sweep returns. They check the status, the
+//! bytes written, and the count and tick of the answer of `stretch` (`st_top`), with jobs and
+//! reports of decks.rt. Reads are counted: one takes at most 4,096 bytes (`st_io`, tested in
+//! devices.rt).
 //!
-//! They check the status, the bytes written, and the count and tick of the answer of `stretch`
-//! (`st_top`), with jobs and reports of decks.rt. The contract of `stretch` states these for all
-//! failures; the tests check that the sources and sinks in memory (`st_io`) fail as its definitions
-//! say. Reads are counted: one takes at most 4,096 bytes (`st_io`, tested in devices.rt).
+//! Proved: nothing of the results here, only that calls keep their preconditions, and of `Slow` the
+//! clauses of `Sink`. The contract of `stretch` states the results for all failures; the tests
+//! check that the sources and sinks in memory (`st_io`) fail as its definitions say.
 //!
-//! Nothing is proved of the results, only that calls keep their preconditions, and of `Slow` the
-//! clauses of `Sink`. Free: the helpers, and more cases. Pinned by the jobs: all counts and ticks;
-//! those of a changed job are worked out by hand or by the model in `model/`.
+//! Pinned: all counts and ticks, by the jobs of decks.rt and docs/edge.md; those of a changed job
+//! are worked out by hand or by the folder model. Free: the helpers, and more cases.
 ghost use Rattle.std.specs.Prelude.{◌<◌};
 ghost use Rattle.st_io.specs.Memory.{memory_output};
 
