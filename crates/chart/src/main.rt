@@ -1,9 +1,13 @@
 //! The program `chart`: it passes standard input, standard output and the words of the command line
-//! to `draw` of `st_draw`, which does all the work.
+//! to `draw` of `st_draw`, which does all the work. docs/chart.md has the words and statuses.
+//! Nothing else uses this crate.
 //!
-//! Proved here: the exit code of a status is the number that specs/Exit.antt gives it. Not proved:
-//! that `main` connects the right streams; that is what these lines say. Nothing else uses this
-//! crate. The numbers are pinned by specs/Exit.antt and docs/chart.md; the body of `exit` is free.
+//! Proved: the exit code of a status is `number_of` of specs/Exit.antt, by the clause of `exit`.
+//! The lines are promised by the contract of `draw`. Not proved: `main`, which has no contract; so
+//! nothing says that the right streams are connected.
+//!
+//! Pinned: the numbers of `Status`, by specs/Exit.antt and docs/chart.md. Free: the body of `exit`.
+//! A new status needs a case in `exit` and in `number_of`.
 #![tactic(auto)]
 
 ghost use Rattle.std.specs.Prelude.{◌≡◌};

@@ -1,10 +1,15 @@
-//! The program: it passes standard input, standard output and the words of the command line to
-//! `ledger` of `st_account`, and exits with its status.
+//! The program `ledger`: it passes standard input, standard output and the words of the command
+//! line to `ledger` of `st_account`, and exits with its status. docs/ledger.md has the words,
+//! docs/running.md the statuses. The words are those after the program's name; words that are no
+//! text give status 2, want of memory gives 6.
 //!
-//! The words are those after the program's name. Words that are no text give status 2, want of
-//! memory gives 6. Proved: the exit code is the number of the status (`number_of` in
-//! specs/Exit.antt); all else is the contract of `ledger`. `main` itself has no contract. Pinned:
-//! the numbers of `Status`.
+//! Proved: the exit code is the number of the status (`number_of` in specs/Exit.antt), by the
+//! clause of `exit`. The lines are promised by the contract of `ledger` (program.rt of
+//! `st_account`). Not proved: `main` itself, which has no contract.
+//!
+//! Pinned: the numbers of `Status`, by `number_of` and docs/running.md; the words, by
+//! docs/ledger.md and vectors/ledger. Free: the body of `exit`. A new status needs a case in `exit`
+//! and in `number_of`.
 #![tactic(auto)]
 
 ghost use Rattle.std.specs.Prelude.{◌≡◌};

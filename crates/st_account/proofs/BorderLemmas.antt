@@ -59,7 +59,7 @@ state-words ws k was xs ys s taken done same = ap (λ (ls : List (List ℕ)). ls
 pub record IsBorder (ds : List ℕ) (levels : ℕ) (m : Moment) (s : Machine) (l : Last) (found : List Ahead) (held : LastAnswers) (came rested : Bool) : Type 0 where
   pub tick : m.tick ≡ l.tick
   pub issue : m.issue ≡ l.issue
-  pub mispredicted : m.mispredicted ≡ l.mispredicted
+  pub mispredicted : m.mispredicted ≡ l.done.mispredicted
   pub dropped : ends_segment m ≡ true → found ≡ map (seen_ahead ds levels) m.dropped
   pub banks : ends_segment m ≡ true → held ≡ m.banks
   pub state : next_state m ≡ s
@@ -88,7 +88,7 @@ border-of ds n left b m a xs cards h = record {
 
 module _ (ds : List ℕ) (levels : ℕ) (m : Moment) (s : Machine) (l : Last) (found : List Ahead) (banks : LastAnswers) (card waited : Bool)
     (is : IsBorder ds levels m s l found banks card waited) where
-  pub ends-is : (taken : Option ℕ) (ends : Bool) → taken ≡ interrupt s → ends ≡ (l.mispredicted || card || waited || is_some taken) → ends ≡ ends_segment m
+  pub ends-is : (taken : Option ℕ) (ends : Bool) → taken ≡ interrupt s → ends ≡ (l.done.mispredicted || card || waited || is_some taken) → ends ≡ ends_segment m
   unfolding ends_segment
   ends-is taken ends is_taken is_ends =
       is_ends
@@ -97,7 +97,7 @@ module _ (ds : List ℕ) (levels : ℕ) (m : Moment) (s : Machine) (l : Last) (f
       ∙ ap (λ b. m.mispredicted || has_card m || b || is_some taken) is.waited
       ∙ ap (λ o. m.mispredicted || has_card m || has_waited m || is_some o) (is_taken ∙ ap interrupt (sym is.state))
 
-  module _ (taken : Option ℕ) (ends : Bool) (is_taken : taken ≡ interrupt s) (is_ends : ends ≡ (l.mispredicted || card || waited || is_some taken)) where
+  module _ (taken : Option ℕ) (ends : Bool) (is_taken : taken ≡ interrupt s) (is_ends : ends ≡ (l.done.mispredicted || card || waited || is_some taken)) where
     e : ends ≡ ends_segment m
     e = ends-is taken ends is_taken is_ends
 
@@ -121,7 +121,7 @@ module _ (ds : List ℕ) (levels : ℕ) (m : Moment) (s : Machine) (l : Last) (f
 
     pub border-lines : (o : Machine → ℕ → Option Origin) (b : Machine) (was : Bool) (old : List ℕ) (ws : List (List ℕ)) (begun : List Ahead) → b.enabled ≡ was → ws ≡ words_behind m
         → (k n start : ℕ) (begins : Bool) (y : Why) → (k ≢ 0 → old ≡ b.words) → (ends_segment m ≡ true → k ≢ 0 → begun ≡ begun_at ds levels b m) → begins ≡ (nat_eq k 0 || ends) → n ≡ s.done + 1 → start ≡ (next_issue m).c
-        → y ≡ (if nat_eq k 0 then Run else why_by taken l.mispredicted)
+        → y ≡ (if nat_eq k 0 then Run else why_by taken l.done.mispredicted)
         → (((if ends then segment_end_lines (o s) k l.tick n found begun else []) ++ state_lines ws k was old s taken s.done)
         ++ (if begins then start_line (k + 1) start waited y ∷ [] else [])) ≡ segment_lines o ds levels k b m
     unfolding segment_lines why
@@ -130,7 +130,7 @@ module _ (ds : List ℕ) (levels : ℕ) (m : Moment) (s : Machine) (l : Last) (f
         let number : n ≡ m.scene.machine.done + 1 = is_n ∙ ap (λ d. d + 1) (same-done m s is.state) in
         let name : y ≡ (if nat_eq k 0 then Run else why_by (interrupt (next_state m)) m.mispredicted) =
         is_why
-        ∙ ap (λ i. if nat_eq k 0 then Run else why_by i l.mispredicted) (is_taken ∙ ap interrupt (sym is.state))
+        ∙ ap (λ i. if nat_eq k 0 then Run else why_by i l.done.mispredicted) (is_taken ∙ ap interrupt (sym is.state))
         ∙ ap (λ b. if nat_eq k 0 then Run else why_by (interrupt (next_state m)) b) (sym is.mispredicted) in
         let state : state_lines ws k was old s taken s.done ≡ state_lines_at (words_behind m) k b (next_state m) =
         ap (λ xs. state_lines xs k was old s taken s.done) is_printed
@@ -173,11 +173,11 @@ module _ (ds : List ℕ) (n left : ℕ) (b : Machine) (m : Moment) (a : Account)
       begins = x.begins;
       start = o.last.issue.c;
       waited = a.behind.waited;
-      why = if nat_eq a.k 0 then Run else why_by (interrupt a.state) a.last.mispredicted;
+      why = if nat_eq a.k 0 then Run else why_by (interrupt a.state) a.last.done.mispredicted;
       taken = interrupt a.state;
       done = a.state.done;
     })
-    (ends : x.ends ≡ (a.last.mispredicted || a.behind.card || a.behind.waited || is_some (interrupt a.state)))
+    (ends : x.ends ≡ (a.last.done.mispredicted || a.behind.card || a.behind.waited || is_some (interrupt a.state)))
     (begins : x.begins ≡ (nat_eq a.k 0 || x.ends)) where
   at : IsBorder ds n m a.state a.last a.behind.ahead.found.items a.behind.banks a.behind.card a.behind.waited
   at = border-of ds n left b m a xs cards is
@@ -196,9 +196,9 @@ module _ (ds : List ℕ) (n left : ℕ) (b : Machine) (m : Moment) (a : Account)
   why-is w y is_why =
       is_why
       ∙ ap (λ (z : Border). if x.begins then z.why else w) border
-      ∙ ap (λ q. if q then (if nat_eq a.k 0 then Run else why_by (interrupt a.state) a.last.mispredicted) else w)
+      ∙ ap (λ q. if q then (if nat_eq a.k 0 then Run else why_by (interrupt a.state) a.last.done.mispredicted) else w)
       (begins ∙ ap (λ q. nat_eq a.k 0 || q) here)
-      ∙ ap (λ s. if begins_segment a.k m then (if nat_eq a.k 0 then Run else why_by (interrupt s) a.last.mispredicted) else w) (sym at.state)
+      ∙ ap (λ s. if begins_segment a.k m then (if nat_eq a.k 0 then Run else why_by (interrupt s) a.last.done.mispredicted) else w) (sym at.state)
       ∙ ap (λ q. if begins_segment a.k m then (if nat_eq a.k 0 then Run else why_by (interrupt (next_state m)) q) else w) (sym at.mispredicted)
 
   -- the number of entries that are dropped, if a segment ends
@@ -243,7 +243,7 @@ module _ (ds : List ℕ) (n left : ℕ) (b : Machine) (m : Moment) (a : Account)
           begins = x.begins;
           start = o.last.issue.c;
           waited = a.behind.waited;
-          why = if nat_eq a.k 0 then Run else why_by (interrupt a.state) a.last.mispredicted;
+          why = if nat_eq a.k 0 then Run else why_by (interrupt a.state) a.last.done.mispredicted;
           taken = interrupt a.state;
           done = a.state.done;
         } in
@@ -253,7 +253,7 @@ module _ (ds : List ℕ) (n left : ℕ) (b : Machine) (m : Moment) (a : Account)
         ∙ ap (λ (y : Account). border_text y.origins opening a.k a.last.tick i printed a.last.enabled y.words.items y.state y.behind.ahead.found.items (y.behind.ahead.late ∷ [])) opened
         ∙ border-lines ds n m a.state a.last a.behind.ahead.found.items a.behind.banks a.behind.card a.behind.waited at (interrupt a.state) x.ends refl ends (origin_at a.origins) b a.last.enabled
         a.words.items printed (a.behind.ahead.late ∷ []) is.was (is_printed ∙ ap (λ (y : Account). y.behind.printed.items) opened ∙ is.printed) a.k i o.last.issue.c x.begins
-        (if nat_eq a.k 0 then Run else why_by (interrupt a.state) a.last.mispredicted) (λ some. is.words some size) (λ on some. is.begun (ends-by left m on) some) begins
+        (if nat_eq a.k 0 then Run else why_by (interrupt a.state) a.last.done.mispredicted) (λ some. is.words some size) (λ on some. is.begun (ends-by left m on) some) begins
         (is_i ∙ ap (λ (y : Account). y.state.done + 1) opened) (ap (λ (f : IssueState). f.c) issue) refl
 
 -- ---- the end of the run
@@ -308,7 +308,7 @@ module _ (ds : List ℕ) (n left : ℕ) (b : Machine) (m : Moment) (a : Account)
 
 -- the words of the last entry; none if a segment ends
 pub words-left : (ds : List ℕ) (n left : ℕ) (b : Machine) (m : Moment) (a : Account) (xs : List Signal) (cards : List (List ℕ)) → IsBehindMoment ds n left b m a xs cards
-    → (ends : Bool) (old us new : List Use) → ends ≡ (a.last.mispredicted || a.behind.card || a.behind.waited || is_some (interrupt a.state)) → us ≡ old
+    → (ends : Bool) (old us new : List Use) → ends ≡ (a.last.done.mispredicted || a.behind.card || a.behind.waited || is_some (interrupt a.state)) → us ≡ old
     → new ≡ (if ends then [] else us) → new ≡ words_before m old
 words-left ds n left b m a xs cards is ends old us new is_ends same is_new =
     is_new

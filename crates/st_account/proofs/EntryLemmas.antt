@@ -56,7 +56,7 @@ told_lines i a origin ticks wait mispredicted q known before start end why uses 
 
 pub kept-some : (k : ℕ) (l : Last) (end : Option ℕ) → k ≢ 0
     → kept_lines k l end
-    ≡ told_lines l.done.n l.done.address l.done.origin l.done.row.ticks l.done.row.level_wait l.mispredicted l.unit.prepared l.done.known l.done.before l.done.start end l.because l.uses.items l.before.items
+    ≡ told_lines l.done.n l.done.address l.done.origin l.done.row.ticks l.done.row.level_wait l.done.mispredicted l.unit.prepared l.known l.done.before l.done.start end l.done.because l.uses.items l.before.items
 unfolding kept_lines done_entry_lines
 kept-some zero l end some = absurd (some refl)
 kept-some (suc k) l end some = rw (not-zero k) refl
@@ -66,18 +66,7 @@ kept-some (suc k) l end some = rw (not-zero k) refl
 
 -- the lines of the last entry, by its row
 pub kept-row : (k : ℕ) (l : Last) (end : Option ℕ) (us bs : List Use) → k ≢ 0 → us ≡ l.uses.items → bs ≡ l.before.items
-    → done_entry_lines (record {
-      n = l.done.n;
-      address = l.done.address;
-      origin = l.done.origin;
-      row = l.done.row;
-      mispredicted = l.mispredicted;
-      before = l.done.before;
-      start = l.done.start;
-      end = end;
-      because = l.because;
-    })
-    l.unit.prepared l.done.known us bs
+    → done_entry_lines (record l.done { end = end }) l.unit.prepared l.known us bs
     ≡ kept_lines k l end
 unfolding done_entry_lines
 kept-row k l end us bs some used earlier = rw (used, earlier) (sym (kept-some k l end some))
@@ -234,13 +223,13 @@ pub entry-last : (ds : List ℕ) → AreDelaysUpTo 255 ds → (n : ℕ) (p : Sta
     → taken ≡ interrupt s → IsEntryInTime (entry taken s) → u ≡ state_after_execution taken s → predicting j.ic u ≡ prediction taken s → j.ic < 2 ^ 19
     → r ≡ row_of_entry ds n l.issue (entry taken s) → k.tick ≡ r.c → k.issue ≡ issue_after_entry ds n l.issue (entry taken s)
     → log ≡ log_after_reads ds (reads_of_entry ds n l.issue (entry taken s)) l.issue.bus [] → k.past ≡ k.issue.past
-    → j ≡ record k { mispredicted = is_mispredicted (plan s taken) s; ic = j.ic; enabled = s.enabled } → IsLast ds n (next_moment ds n p) j log
+    → j ≡ record k { done = record k.done { mispredicted = is_mispredicted (plan s taken) s }; ic = j.ic; enabled = s.enabled } → IsLast ds n (next_moment ds n p) j log
 entry-last ds are n p s u l k j log taken r is tight is_taken fits made prediction_is counter is_row tick issue reads past rest =
     let t = interrupt s in
     next-last ds are n p s u l j log is tight (subst (λ o. IsEntryInTime (entry o s)) is_taken fits) (entry-step s u taken is_taken made)
     (prediction_is ∙ ap (λ o. prediction o s) is_taken) counter
     (ap (λ (x : Last). x.tick) rest ∙ tick ∙ ap (λ (x : EntryTicks). x.c) is_row ∙ ap (λ o. (row_of_entry ds n l.issue (entry o s)).c) is_taken)
     (ap (λ (x : Last). x.issue) rest ∙ issue ∙ ap (λ o. issue_after_entry ds n l.issue (entry o s)) is_taken)
-    (ap (λ (x : Last). x.mispredicted) rest ∙ ap (λ o. is_mispredicted (plan s o) s) is_taken)
+    (ap (λ (x : Last). x.done.mispredicted) rest ∙ ap (λ o. is_mispredicted (plan s o) s) is_taken)
     (reads ∙ ap (λ o. log_after_reads ds (reads_of_entry ds n l.issue (entry o s)) l.issue.bus []) is_taken)
     (ap (λ (x : Last). x.past) rest ∙ past ∙ ap (λ (x : Last). x.issue.past) (sym rest))

@@ -28,6 +28,7 @@ use Rattle.st_run.specs.Run.{Scene}
 use Rattle.st_banks.specs.Bank.{idle_banks}
 use Rattle.st_run.specs.Moments.{Standing, moment_at_start, next_row, next_moment}
 use Rattle.std.proofs.lemmas.List.{length-append, length-map}
+use Rattle.std.proofs.Math.Seq.{take-append_seam}
 use Rattle.st_prep.proofs.Choices.{of_choice}
 use Rattle.st_plain.specs.Looking.{seen_ahead}
 use Rattle.st_plain.specs.Uses.{formed_uses}
@@ -73,7 +74,7 @@ no-reads : (ds : List ℕ) (b : Bus) → bus_after_reads ds [] b ≡ b
 unfolding bus_after_reads
 no-reads ds b = refl
 
-pub start-last : (ds : List ℕ) (n : ℕ) (c : Scene) (l : Last) (log : List Made) → l.tick ≡ 0 → l.issue ≡ opening_issue idle_banks 0 → l.past ≡ l.issue.past → l.mispredicted ≡ false
+pub start-last : (ds : List ℕ) (n : ℕ) (c : Scene) (l : Last) (log : List Made) → l.tick ≡ 0 → l.issue ≡ opening_issue idle_banks 0 → l.past ≡ l.issue.past → l.done.mispredicted ≡ false
     → l.ic ≡ c.machine.ic → l.ic < 2 ^ 19 → log ≡ [] → IsTight 255 l.issue → IsLast ds n (moment_at_start c) l log
 start-last ds n c l log tick issue past mispredicted ic counter none tight = record {
   tick = sym tick;
@@ -140,7 +141,7 @@ pub next-last : (ds : List ℕ) (are : AreDelaysUpTo 255 ds) (n : ℕ) (p : Stan
     → IsEntryInTime (entry (interrupt s) s)
     → u ≡ step s → predicting k.ic u ≡ prediction (interrupt s) s → k.ic < 2 ^ 19
     → k.tick ≡ (row_of_entry ds n l.issue (entry (interrupt s) s)).c → k.issue ≡ issue_after_entry ds n l.issue (entry (interrupt s) s)
-    → k.mispredicted ≡ is_mispredicted (plan s (interrupt s)) s → log ≡ log_after_reads ds (reads_of_entry ds n l.issue (entry (interrupt s) s)) l.issue.bus []
+    → k.done.mispredicted ≡ is_mispredicted (plan s (interrupt s)) s → log ≡ log_after_reads ds (reads_of_entry ds n l.issue (entry (interrupt s) s)) l.issue.bus []
     → k.past ≡ k.issue.past → IsLast ds n (next_moment ds n p) k log
 unfolding next_moment next_row
 next-last ds are n p s u l k log is tight fits made prediction_is counter tick issue mispredicted reads past =
@@ -186,6 +187,13 @@ pub past-kept : (ds : List ℕ) (n : ℕ) (f : IssueState) (e : Entry) (r : Entr
     → new ≡ record { c = r.c; writes = e.writes } ∷ take 7 old → g ≡ issue_after_entry ds n f e → new ≡ g.past
 unfolding row_of_entry issue_after_entry
 past-kept ds n f e r old new g same is kept behind = rw (behind, kept, is, same) refl
+
+-- the words before more words come
+pub first-few : (n : ℕ) (us ws more words begun : List Use) → us ≡ begun → ws ≡ begun ++ more → n ≡ length us → words ≡ ws → n ≤ length words
+first-few n us ws more words begun is more_is size same = rw (size, is, same, more_is, length-append begun more) (omega arith)
+
+pub first-words : (n : ℕ) (us ws more words begun : List Use) → us ≡ begun → ws ≡ begun ++ more → n ≡ length us → words ≡ ws → take n words ≡ begun
+first-words n us ws more words begun is more_is size same = rw (size, is, same, more_is) (take-append_seam begun more)
 
 -- the cause that delayed the entry, by its row
 pub because-made : (ds : List ℕ) (n : ℕ) (f : IssueState) (e x : Entry) (side s : Option ℕ) (row : EntryTicks) (a p wait : ℕ) (none begun us bs cs : List Use)

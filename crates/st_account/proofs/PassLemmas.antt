@@ -72,10 +72,10 @@ module _ (ds : List ℕ) (n : ℕ) (b : Machine) (m : Moment) (a : Account) (xs 
         ∙ ap (λ (c : Scene). word c.machine v) after
 
   -- if a segment ends, the entries that ran ahead were determined
-  module _ (left : ℕ) (still looks : Bool) (is_still : still ≡ still_by a.state a.last.mispredicted xs) (is_looks : looks ≡ (nat_eq left 0 || not still))
+  module _ (left : ℕ) (still looks : Bool) (is_still : still ≡ still_by a.state a.last.done.mispredicted xs) (is_looks : looks ≡ (nat_eq left 0 || not still))
       (ends : segment_ends left m ≡ true) where
     asked : looks ≡ true
-    asked = end-looks left a.state xs cards m a.last.mispredicted still looks h.scene h.hand.mispredicted is_still is_looks ends
+    asked = end-looks left a.state xs cards m a.last.done.mispredicted still looks h.scene h.hand.mispredicted is_still is_looks ends
 
     pub dropped-is : (found : List SeenAhead)
         → (looks ≡ true → found ≡ map (seen_ahead ds n) (prepared_before a.last.tick (ahead ds n n None (predicting a.last.ic a.state) a.last.issue)))

@@ -79,11 +79,11 @@ pub start-is : (ds : List ℕ) (n left : ℕ) (b : Machine) (m : Moment) (a : Ac
       begins = x.begins;
       start = f.c;
       waited = a.behind.waited;
-      why = if nat_eq a.k 0 then Run else why_by (interrupt a.state) a.last.mispredicted;
+      why = if nat_eq a.k 0 then Run else why_by (interrupt a.state) a.last.done.mispredicted;
       taken = interrupt a.state;
       done = a.state.done;
     }
-    → x.ends ≡ (a.last.mispredicted || a.behind.card || a.behind.waited || is_some (interrupt a.state)) → x.begins ≡ (nat_eq a.k 0 || x.ends)
+    → x.ends ≡ (a.last.done.mispredicted || a.behind.card || a.behind.waited || is_some (interrupt a.state)) → x.begins ≡ (nat_eq a.k 0 || x.ends)
     → k ≡ segment_after a.k m → f ≡ next_issue m → new ≡ (if x.begins then x else old)
     → line_of_start k new ≡ start_after a.k (line_of_start a.k old) m
 unfolding why
@@ -100,7 +100,7 @@ start-is ds n left b m a xs cards is f k x old new border ends begins number iss
     cause : x.why ≡ why a.k m
     cause =
         ap (λ (y : Border). y.why) border
-        ∙ ap (λ i. if nat_eq a.k 0 then Run else why_by i a.last.mispredicted) (ap (λ (c : Scene). interrupt c.machine) (sym is.scene))
+        ∙ ap (λ i. if nat_eq a.k 0 then Run else why_by i a.last.done.mispredicted) (ap (λ (c : Scene). interrupt c.machine) (sym is.scene))
         ∙ ap (λ y. if nat_eq a.k 0 then Run else why_by (interrupt (next_state m)) y) (sym is.mispredicted)
 
     by : (y : Bool) → x.begins ≡ y → k ≡ (if y then a.k + 1 else a.k)

@@ -1,5 +1,5 @@
 -- Lemmas on the last completed entry as a row of the tables.
-use Rattle.std.specs.Prelude.{nat_eq, length, Option}
+use Rattle.std.specs.Prelude.{nat_eq, length, Option, option_map}
 use Rattle.std.proofs.lemmas.Bool.Decides.{nat_tests}
 use Rattle.std.proofs.lemmas.List.{append-nil}
 use Rattle.std.proofs.Common.{◌≡◌, ◌≢◌, ℕ, zero, suc, ◌+◌, ◌≤◌, ◌<◌, ◌^◌, false, List, [], ◌∷◌, ◌++◌, refl, sym, ◌∙◌, ap, subst, arith}
@@ -17,13 +17,16 @@ use Rattle.st_lines.specs.EntryLines.{charges_of_entry}
 use Rattle.st_lines.specs.Waited.{AddsWaits}
 use Rattle.st_lines.specs.declared.facts.EntryDone.{EntryDone}
 use Rattle.st_lines.specs.declared.lines.Why.{Why}
+use Rattle.st_lines.specs.declared.origins.Origin.{Origin}
+use Rattle.st_reasons.specs.declared.because.StallCause.{StallCause}
 use Rattle.st_reasons.specs.declared.sums.WaitTotals.{WaitTotals}
 use Rattle.st_tally.specs.Slots.{AreTablesWithin, IsInOrder}
 use Rattle.st_tally.specs.Tally.{TalliedRow, IsTally}
 use Rattle.st_tally.specs.declared.tables.Tables.{Tables}
+use Rattle.st_tally.proofs.Alike.{tally-alike, entries-alike}
 use Rattle.st_account.specs.declared.last.Last.{Last}
-use Rattle.st_account.specs.Standing.{charges_kept}
-use Rattle.st_account.specs.Tallying.{done_kept, kept_rows, IsOrdered, IsTallyReady, AddsKeptRow}
+use Rattle.st_account.specs.Standing.{charges_kept, kept_stalled, IsWaiting, AddsKeptWaits}
+use Rattle.st_account.specs.Tallying.{CountAs, done_kept, kept_rows, IsOrdered, IsTallyReady, AddsKeptRow}
 use Rattle.st_account.proofs.StallLemmas.{row-reach}
 
 pub kept-rows-none : (k : ℕ) (l : Last) (end : Option ℕ) (w : Why) → k ≡ 0 → kept_rows k l end w ≡ []
@@ -43,6 +46,16 @@ kept-rows-some (suc k) l end w some = rw (not-zero k) refl
 kept-rows-same : (k : ℕ) (l j : Last) (end : Option ℕ) (w : Why) → j ≡ record l { issue = j.issue; past = j.past } → kept_rows k j end w ≡ kept_rows k l end w
 unfolding kept_rows
 kept-rows-same k l j end w same = ap (λ x. kept_rows k x end w) same
+
+-- the row counts as one with another cause and another origin, if the card is the same, and the cause where the entry lost ticks
+pub row-counts : (k : ℕ) (l : Last) (end : Option ℕ) (w : Why) (origin : Option Origin) (why : StallCause) (rows : List TalliedRow) → k ≢ 0
+    → option_map (λ (o : Origin). o.card) l.done.origin ≡ option_map (λ (o : Origin). o.card) origin → (l.done.before < l.done.row.ticks.r → l.done.because ≡ why)
+    → (record { done = record (done_kept l end) { origin = origin; because = why }; why = w; uses = l.uses.items; before = l.before.items } ∷ []) ≡ rows
+    → CountAs (kept_rows k l end w) rows
+row-counts k l end w origin why rows some card same is zs t tally =
+    subst (λ ys. IsTally (zs ++ ys) t) is
+    (tally-alike zs _ _ (entries-alike (done_kept l end) w l.uses.items l.before.items origin why card same) t
+    (subst (λ ys. IsTally (zs ++ ys) t) (kept-rows-some k l end w some) tally))
 
 -- ---- before a row is added
 
@@ -115,6 +128,33 @@ row-same k l j end until w old new same is h = record {
   ticks = subst (λ (x : Last). new.level_ticks ≤ old.level_ticks + x.tick) same h.ticks;
   within = subst (λ (x : Last). AreTablesWithin x.tick new) same h.within;
 }
+
+-- ---- the end of the entry's segment does not matter
+
+abbrev pub ended : Option ℕ → Last → Last
+ended e l = record l { done = record l.done { end = e } }
+
+pub waiting-ended : (e : Option ℕ) (l : Last) (sums : WaitTotals) → IsWaiting l sums → IsWaiting (ended e l) sums
+waiting-ended e l sums h = record { uses = h.uses; before = h.before; reach = h.reach; within = h.within }
+
+pub ready-ended : (e : Option ℕ) (k : ℕ) (l : Last) (t : Tables) → IsTallyReady k l t → IsTallyReady k (ended e l) t
+ready-ended e k l t h = record {
+  ordered = λ some.
+      let o = h.ordered some in
+      record { order = record { later = o.order.later; ready = o.order.ready; early = o.order.early; reach = o.order.reach }; at = o.at; wait = o.wait };
+  first = h.first;
+  within = h.within;
+  ticks = h.ticks;
+}
+
+pub adds-ended : (e : Option ℕ) (k : ℕ) (l : Last) (old new : WaitTotals) → AddsKeptWaits k (ended e l) old new → AddsKeptWaits k l old new
+unfolding kept_stalled
+adds-ended e k l old new h = record { within = h.within; sums = λ r s parted. h.sums r s parted }
+
+pub row-ended : (e : Option ℕ) (k : ℕ) (l : Last) (end : Option ℕ) (w : Why) (old new : Tables) → AddsKeptRow k (ended e l) end w old new
+    → AddsKeptRow k l end w old new
+unfolding kept_rows
+row-ended e k l end w old new h = record { tally = λ xs told. h.tally xs told; size = h.size; ticks = h.ticks; within = h.within }
 
 -- ---- the next entry
 

@@ -23,7 +23,7 @@ use Rattle.st_account.specs.declared.tallying.Tally.{Tally}
 use Rattle.st_account.specs.LedgerTables.{why_after, row_at, tallied_from, dropped_at_end, dropped_from}
 use Rattle.st_account.specs.LedgerSums.{end_from}
 use Rattle.st_account.specs.Standing.{IsStanding}
-use Rattle.st_account.specs.Tallying.{kept_rows, IsOrdered, IsTallyReady, AddsKeptRow, IsEmptyTally}
+use Rattle.st_account.specs.Tallying.{CountAs, kept_rows, IsOrdered, IsTallyReady, AddsKeptRow, IsEmptyTally}
 use Rattle.st_account.specs.Text.{run_ends, segment_end_at, segment_after, uses_at, words_before}
 use Rattle.st_account.proofs.LoopLemmas.{number-some, ends-one}
 use Rattle.st_account.proofs.RunLemmas.{end-on}
@@ -68,13 +68,16 @@ module _ (ds : List ℕ) (n : ℕ) where
 
 -- ---- the tables at the head of the loop
 
--- The tables have rows, to which the last entry and the rows of the remaining run are still to be added. The number of entries that are still dropped and
+-- The tables have rows, to which the last entry and the rows of the remaining run are still to be added. `own` is the row of the last entry, as which the
+-- kept one counts. The number of entries that are still dropped and
 -- of those that were dropped are together the total.
 pub record AreTallied (o : Machine → ℕ → Option Origin) (ds : List ℕ) (n : ℕ) (rows : List TalliedRow) (dropped size : ℕ) (a : Account) (y : Tally) (left : ℕ)
     (m : Moment) : Type 0 where
   pub front : List TalliedRow
   pub tally : IsTally front y.tables
-  pub all : front ++ (kept_rows a.k a.last (segment_end_at left m) y.why ++ tallied_from o ds n left a.k y.why a.last.uses.items m) ≡ rows
+  pub own : List TalliedRow
+  pub counts : CountAs (kept_rows a.k a.last (segment_end_at left m) y.why) own
+  pub all : front ++ (own ++ tallied_from o ds n left a.k y.why a.last.uses.items m) ≡ rows
   pub table : origin_at a.origins ≡ o
   pub places : length y.tables.cards.items ≡ size
   pub ordered : a.k ≢ 0 → IsOrdered a.last
@@ -124,6 +127,8 @@ pub tally-starts : (o : Machine → ℕ → Option Origin) (ds : List ℕ) (n bu
 tally-starts o ds n budget a y m empty table number tick unused before = record {
   front = [];
   tally = empty.tables.tally;
+  own = kept_rows a.k a.last (segment_end_at budget m) y.why;
+  counts = λ zs t is. is;
   all =
       ap (λ ls. ls ++ tallied_from o ds n budget a.k y.why a.last.uses.items m) (kept-rows-none a.k a.last (segment_end_at budget m) y.why number)
       ∙ ap (λ k. tallied_from o ds n budget k y.why a.last.uses.items m) number
@@ -158,11 +163,9 @@ module _ (o : Machine → ℕ → Option Origin) (ds : List ℕ) (n : ℕ) (rows
 
   -- the last entry is added
   module _ (new : Tables) (added : AddsKeptRow a'.k a'.last (segment_end_at left m) y.why y.tables new) where
-    abbrev kept : List TalliedRow
-    kept = kept_rows a.k a.last (segment_end_at left m) y.why
-
-    now : IsTally (z.front ++ kept) new
-    now = subst (λ (x : Account). IsTally (z.front ++ kept_rows x.k x.last (segment_end_at left m) y.why) new) same (added.tally z.front z.tally)
+    now : IsTally (z.front ++ z.own) new
+    now =
+        z.counts z.front new (subst (λ (x : Account). IsTally (z.front ++ kept_rows x.k x.last (segment_end_at left m) y.why) new) same (added.tally z.front z.tally))
 
     pub places-kept : length new.cards.items ≡ places
     places-kept = added.size ∙ z.places
@@ -171,7 +174,7 @@ module _ (o : Machine → ℕ → Option Origin) (ds : List ℕ) (n : ℕ) (rows
     pub tally-ends : run_ends left m ≡ true → IsTally rows new
     tally-ends end =
         subst (λ ls. IsTally ls new)
-        (ap (λ ls. z.front ++ ls) (sym (append-nil kept) ∙ ap (λ ls. kept ++ ls) (sym (tallied-end ds n o left a.k y.why a.last.uses.items m (ends-one left (rests (next_state m)) end)))) ∙ z.all)
+        (ap (λ ls. z.front ++ ls) (sym (append-nil z.own) ∙ ap (λ ls. z.own ++ ls) (sym (tallied-end ds n o left a.k y.why a.last.uses.items m (ends-one left (rests (next_state m)) end)))) ∙ z.all)
         now
 
     -- the run continues
@@ -188,7 +191,7 @@ module _ (o : Machine → ℕ → Option Origin) (ds : List ℕ) (n : ℕ) (rows
 
       pub tally-on : (d : Account) (x : Tally) → x.tables ≡ new → x.why ≡ why_after a'.k y.why m → x.dropped ≡ y.dropped + dropped_at_end m → x.dropped ≤ y.dropped + 8
           → ((p : Standing) (end : Option ℕ) (w : Why) → c.k ≢ 0 → IsStanding p c.state c.last
-          → kept_rows d.k d.last end w ≡ row_at (origin_at c.origins) ds n end w c.last.uses.items p ∷ [])
+          → CountAs (kept_rows d.k d.last end w) (row_at (origin_at c.origins) ds n end w c.last.uses.items p ∷ []))
           → ((p : Standing) → IsStanding p c.state c.last → d.last.uses.items ≡ uses_at ds n p)
           → IsOrdered d.last → d.last.done.before ≡ c.last.tick → d.k ≡ c.k → d.origins ≡ c.origins
           → AreTallied o ds n rows dropped places d x (left - 1) m'
@@ -203,15 +206,19 @@ module _ (o : Machine → ℕ → Option Origin) (ds : List ℕ) (n : ℕ) (rows
           let more_done = next-done ds n m in
           let some_more = dropped-on ds n left m some on in
           record {
-            front = z.front ++ kept;
-            tally = subst (IsTally (z.front ++ kept)) (sym is_new) now;
+            front = z.front ++ z.own;
+            tally = subst (IsTally (z.front ++ z.own)) (sym is_new) now;
+            own = row_at o ds n end w us p ∷ [];
+            counts =
+                subst (CountAs (kept_rows d.k d.last end x.why))
+                (ap (λ g. row_at g ds n end x.why c.last.uses.items p ∷ []) origin
+                ∙ ap (λ v. row_at o ds n end v c.last.uses.items p ∷ []) why_is
+                ∙ ap (λ v. row_at o ds n end w v p ∷ []) earlier)
+                (row p end x.why later stands);
             all =
-                append_assoc z.front kept (kept_rows d.k d.last end x.why ++ tallied_from o ds n (left - 1) d.k x.why d.last.uses.items m')
-                ∙ ap (λ ls. z.front ++ (kept ++ ls))
-                (ap (λ ls. ls ++ tallied_from o ds n (left - 1) d.k x.why d.last.uses.items m') (row p end x.why later stands)
-                ∙ ap (λ g. row_at g ds n end x.why c.last.uses.items p ∷ tallied_from o ds n (left - 1) d.k x.why d.last.uses.items m') origin
-                ∙ ap (λ v. row_at o ds n end v c.last.uses.items p ∷ tallied_from o ds n (left - 1) d.k v d.last.uses.items m') why_is
-                ∙ ap (λ v. row_at o ds n end w v p ∷ tallied_from o ds n (left - 1) d.k w d.last.uses.items m') earlier
+                append_assoc z.front z.own (row_at o ds n end w us p ∷ tallied_from o ds n (left - 1) d.k x.why d.last.uses.items m')
+                ∙ ap (λ ls. z.front ++ (z.own ++ ls))
+                (ap (λ v. row_at o ds n end w us p ∷ tallied_from o ds n (left - 1) d.k v d.last.uses.items m') why_is
                 ∙ ap (λ k. row_at o ds n end w us p ∷ tallied_from o ds n (left - 1) k w d.last.uses.items m') (segment ∙ number)
                 ∙ ap (λ v. row_at o ds n end w us p ∷ tallied_from o ds n (left - 1) (segment_after a.k m) w v m') (used p stands)
                 ∙ sym (tallied-on ds n o left a.k y.why a.last.uses.items m some on))

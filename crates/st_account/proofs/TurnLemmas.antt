@@ -72,7 +72,7 @@ next-done ds n m = step-done (next_state m) ∙ ap (λ d. d + 1) (settled-done m
 module _ (ds : List ℕ) (n budget : ℕ) (state : Machine) (signals : List Signal) (cards : List (List ℕ)) (a : Account)
     (are : AreDelaysUpTo 255 ds) (few : n ≤ 8) (machine : IsMachine state) (each : All IsCard cards)
     (fresh : state.done ≡ 0) (limit : budget ≤ MOST_INSTRUCTIONS) (none : AreWithin 0 a.sums) (is : a.state ≡ state) (number : a.k ≡ 0) (tick : a.last.tick ≡ 0)
-    (issue : a.last.issue ≡ opening_issue idle_banks 0) (past : a.last.past ≡ a.last.issue.past) (mispredicted : a.last.mispredicted ≡ false)
+    (issue : a.last.issue ≡ opening_issue idle_banks 0) (past : a.last.past ≡ a.last.issue.past) (mispredicted : a.last.done.mispredicted ≡ false)
     (ic : a.last.ic ≡ state.ic) (enabled : a.last.enabled ≡ state.enabled) (counter : a.last.ic < 2 ^ 19) (empty : a.log ≡ []) (tight : IsTight 255 a.last.issue)
     (unused : a.last.uses.items ≡ []) (waiting : IsWaiting a.last a.waiting.totals) (unwaited : AreWaitsWithin 0 a.waiting.totals) where
   abbrev first : Moment

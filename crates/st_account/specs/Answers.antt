@@ -1,4 +1,11 @@
 -- The output of the program for a job, and the meaning of each status.
+--
+-- Proved: by their `ensures` clauses these calls do what definitions here say: `run_job`
+-- (program.rt), `ledger` (program.rt), `part_of_rows` (program.rt), `run_program` (program.rt), and
+-- others.
+-- Laws: none names a definition of this file itself.
+-- Change: the meaning is fixed by docs/ledger.md, since the contract of `st_account::ledger`
+-- unfolds to a definition here. The form is free, with the proofs that unfold it.
 use Rattle.std.specs.Prelude.{◌≡◌, ℕ, ◌+◌, ◌-◌, ◌&&◌, Bool, nat_eq, nat_le, min, if◌then◌else◌, List, [], ◌∷◌, length, Option, None, Some, Result, Ok, Err, codes}
 use Rattle.st_text.specs.Number.{number_up_to}
 use Rattle.st_text.specs.Tables.{is_same}

@@ -1,4 +1,12 @@
 -- The cards that the half-words of a job's program come from.
+--
+-- Proved: by their `ensures` clauses these calls do what definitions here say: `beginning`
+-- (origins.rt), `enter_row` (origins.rt), `extent` (origins.rt), `first_cards` (origins.rt), and
+-- others.
+-- Read by: definitions in Answers.
+-- Laws: RowsComeFromTheCards (specs/CardLaws.antt of st_causes).
+-- Change: the meaning is fixed by docs/ledger.md, since the contract of `st_account::ledger`
+-- unfolds to a definition here. The form is free, with the proofs that unfold it.
 use Rattle.std.specs.Prelude.{ℕ, ◌/◌, Bool, false, nat_eq, if◌then◌else◌, List, [], ◌∷◌, Option, None, Some, option_map}
 use Rattle.st_asm.specs.Assembly.{Assembly}
 use Rattle.st_asm.specs.declared.valuing.Listed.{Listed}

@@ -2,6 +2,13 @@
 -- n levels. As in the whole ledger, k is the number of the segment of the last completed entry, 0
 -- before the first entry, and us are the words that this entry uses. The function `o` gives the
 -- card that a half-word of a state comes from.
+--
+-- Proved: by their `ensures` clauses these calls do what definitions here say: `pass_to_next`
+-- (passing.rt), `write_ledger_rows` (running.rt).
+-- Read by: definitions in Passing, Answers.
+-- Laws: RowsAreAPartOfTheLedger (specs/Laws.antt of st_causes).
+-- Change: the meaning is fixed by docs/ledger.md, since the contract of `st_account::ledger`
+-- unfolds to a definition here. The form is free, with the proofs that unfold it.
 use Rattle.std.specs.Prelude.{ℕ, zero, suc, ◌+◌, if◌then◌else◌, List, [], ◌∷◌, ◌++◌, Option}
 use Rattle.st_exec.specs.Step.{rests}
 use Rattle.st_state.specs.Machine.{Machine}

@@ -1,5 +1,14 @@
 -- The totals of a run: of its ledger the lines of the machine, of the end of the run, and of the
 -- sums, and after them the tables. The machine has the delays ds and n levels.
+--
+-- Proved: by their `ensures` clauses these calls do what definitions here say: `write_tallied`
+-- (program.rt), `add_run` (running.rt), `write_ledger_sums` (running.rt), `write_ledger_totals`
+-- (running.rt).
+-- Read by: definitions in Answers, LedgerRows, Passing.
+-- Laws: TotalsAreTheLedgerWithoutRows (specs/Laws.antt of st_causes), RowsAreAPartOfTheLedger
+-- (specs/Laws.antt of st_causes).
+-- Change: the meaning is fixed by docs/ledger.md, since the contract of `st_account::ledger`
+-- unfolds to a definition here. The form is free, with the proofs that unfold it.
 use Rattle.std.specs.Prelude.{ℕ, zero, suc, if◌then◌else◌, List, [], ◌∷◌, ◌++◌, Option}
 use Rattle.st_exec.specs.Step.{rests}
 use Rattle.st_state.specs.Machine.{Machine}

@@ -2,6 +2,15 @@
 -- the delays ds and n levels. As in the whole ledger, k is the number of the segment of the last
 -- completed entry, 0 before the first entry, and us are the words that this entry uses; `w` is why
 -- that segment begins.
+--
+-- Proved: by their `ensures` clauses these calls do what definitions here say: `add_run`
+-- (running.rt), `write_ledger_totals` (running.rt), `tally_to_next` (tallying.rt), `step`
+-- (account.rt).
+-- Read by: definitions in LedgerSums.
+-- Laws: TotalsAreTheLedgerWithoutRows (specs/Laws.antt of st_causes), RowsComeFromTheCards
+-- (specs/CardLaws.antt of st_causes), TablesHaveTheRowsOfTheRun (specs/Laws.antt of st_causes).
+-- Change: the meaning is fixed by docs/ledger.md, since the contract of `st_account::ledger`
+-- unfolds to a definition here. The form is free, with the proofs that unfold it.
 use Rattle.std.specs.Prelude.{ℕ, zero, suc, ◌+◌, if◌then◌else◌, List, [], ◌∷◌, length, Option}
 use Rattle.st_exec.specs.Step.{rests}
 use Rattle.st_state.specs.Machine.{Machine}

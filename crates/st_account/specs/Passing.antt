@@ -1,6 +1,13 @@
--- The lines that are written in a run of which some rows may be skipped. `until` counts the rows up
--- to the first one that is written; it is 0 once all lines are written. As in LedgerRows, `start`
--- is the line of the start of the last entry's segment.
+-- The lines of the ledger that are written in a run of which the first rows may be skipped. The
+-- first argument of each definition counts the rows up to the first one that is written, 0 from
+-- that row on. As in LedgerRows, `start` is the line of the start of the last entry's segment.
+--
+-- Proved: by their `ensures` clauses these calls do what definitions here say: `pass_to_next`
+-- (passing.rt), `finish_run` (passing.rt), `write_first` (passing.rt), `write_run` (running.rt).
+-- Laws: none names a definition of this file itself.
+-- Change: no page fixes these definitions, since no contract of a program unfolds to them; they
+-- change together with the clauses, definitions and laws that name them. docs/ledger.md describes
+-- the subject.
 use Rattle.std.specs.Prelude.{ℕ, zero, suc, if◌then◌else◌, List, [], ◌∷◌, ◌++◌, Option}
 use Rattle.st_state.specs.Machine.{Machine}
 use Rattle.st_run.specs.Moments.{Moment, next_state}

@@ -1,4 +1,12 @@
 -- A scene from its parts, and the printed words among events.
+--
+-- Proved: by their `ensures` clauses these calls do what definitions here say: `write_part`
+-- (program.rt), `write_tallied` (program.rt), `add_run` (running.rt), `write_ledger` (running.rt),
+-- and others.
+-- Read by: definitions in Answers, Standing, Text.
+-- Laws: none names a definition of this file itself.
+-- Change: the meaning is fixed by docs/ledger.md, since the contract of `st_account::ledger`
+-- unfolds to a definition here. The form is free, with the proofs that unfold it.
 use Rattle.std.specs.Prelude.{ℕ, List, [], ◌∷◌}
 use Rattle.st_state.specs.Machine.{Machine}
 use Rattle.st_card.specs.declared.control_cards.Signal.{Signal}

@@ -1,5 +1,13 @@
 -- The facts that the code has of a moment of a run, except its scene. The machine has the delays ds
 -- and n levels.
+--
+-- Proved: by their `ensures` clauses these calls do what definitions here say: `step` (account.rt),
+-- `finish` (account.rt), `write_to_next` (account.rt), `look_if` (account.rt), and others.
+-- Read by: definitions in Passing.
+-- Laws: none names a definition of this file itself.
+-- Change: no page fixes these definitions, since no contract of a program unfolds to them; they
+-- change together with the clauses, definitions and laws that name them. docs/ledger.md describes
+-- the subject.
 use Rattle.std.specs.Prelude.{ℕ, suc, ◌+◌, ◌≡◌, ◌≢◌, ◌<◌, ◌≤◌, ◌^◌, length, true, not, ◌&&◌, nat_eq, if◌then◌else◌, is_none, Bool, List, [], ◌∷◌, ◌++◌, map, All, Option, None}
 use Rattle.st_bits.specs.Storage.{words_of_storage}
 use Rattle.st_bits.specs.declared.limits.TheConstants.{MOST_DELAY}
@@ -57,7 +65,7 @@ pub record HasReads (ds : List ℕ) (t : ℕ) (reads : List Read) (start bus : B
 pub record IsLast (ds : List ℕ) (n : ℕ) (m : Moment) (l : Last) (log : List Made) : Type 0 where
   pub tick : m.tick ≡ l.tick
   pub issue : m.issue ≡ l.issue
-  pub mispredicted : m.mispredicted ≡ l.mispredicted
+  pub mispredicted : m.mispredicted ≡ l.done.mispredicted
   pub dropped : m.dropped ≡ prepared_before l.tick (ahead ds n n None
       (predicting l.ic m.scene.machine) l.issue)
   pub reads : List Read
@@ -81,17 +89,8 @@ pub record IsStanding (p : Standing) (s : Machine) (l : Last) : Type 0 where
 unfoldable pub kept_lines : ℕ → Last → Option ℕ → List (List ℕ)
 kept_lines k l end =
     if nat_eq k 0 then []
-    else done_entry_lines (record {
-      n = l.done.n;
-      address = l.done.address;
-      origin = l.done.origin;
-      row = l.done.row;
-      mispredicted = l.mispredicted;
-      before = l.done.before;
-      start = l.done.start;
-      end = end;
-      because = l.because;
-    }) l.unit.prepared l.done.known l.uses.items l.before.items
+    else done_entry_lines (record l.done { end = end }) l.unit.prepared l.known l.uses.items
+    l.before.items
 
 -- the charges of the last completed entry
 abbrev pub charges_kept : Last → List Charge
@@ -139,7 +138,7 @@ pub record IsBehindMoment (ds : List ℕ) (n left : ℕ) (b : Machine) (m : Mome
   pub scene : next_scene m ≡ at_hand a.state xs cards
   pub tick : m.tick ≡ a.last.tick
   pub issue : m.issue ≡ a.last.issue
-  pub mispredicted : m.mispredicted ≡ a.last.mispredicted
+  pub mispredicted : m.mispredicted ≡ a.last.done.mispredicted
   pub was : b.enabled ≡ a.last.enabled
   pub dropped : segment_ends left m ≡ true →
       a.behind.ahead.found.items ≡ map (seen_ahead ds n) m.dropped

@@ -1,5 +1,12 @@
 -- The facts that the code has of the tables of a run, to which the last completed entry is still to
 -- be added.
+--
+-- Proved: by their `ensures` clauses these calls do what definitions here say: `step` (account.rt),
+-- `finish_tally` (tallying.rt), `tally_row` (tallying.rt), `tally_to_next` (tallying.rt).
+-- Laws: none names a definition of this file itself.
+-- Change: no page fixes these definitions, since no contract of a program unfolds to them; they
+-- change together with the clauses, definitions and laws that name them. docs/ledger.md describes
+-- the subject.
 use Rattle.std.specs.Prelude.{ℕ, ◌≡◌, ◌≢◌, ◌+◌, ◌≤◌, ◌<◌, ◌^◌, nat_eq, if◌then◌else◌, List, [], ◌∷◌, ◌++◌, length, Option, None}
 use Rattle.st_lines.specs.declared.facts.EntryDone.{EntryDone}
 use Rattle.st_lines.specs.declared.lines.Why.{Why}
@@ -12,17 +19,7 @@ use Rattle.st_account.specs.declared.tallying.Tally.{Tally}
 
 -- the last completed entry, whose segment ends at tick `end` or continues
 abbrev pub done_kept : Last → Option ℕ → EntryDone
-done_kept l end = record {
-  n = l.done.n;
-  address = l.done.address;
-  origin = l.done.origin;
-  row = l.done.row;
-  mispredicted = l.mispredicted;
-  before = l.done.before;
-  start = l.done.start;
-  end = end;
-  because = l.because;
-}
+done_kept l end = record l.done { end = end }
 
 -- the row of the last completed entry, whose segment begins for the reason w, and ends at tick
 -- `end` or continues; none before the first entry
@@ -35,6 +32,10 @@ kept_rows k l end w =
       uses = l.uses.items;
       before = l.before.items;
     } ∷ []
+
+-- some rows count in tables as others do: each table has the same sums over both
+abbrev pub CountAs : List TalliedRow → List TalliedRow → Type 0
+CountAs xs ys = (zs : List TalliedRow) (t : Tables) → IsTally (zs ++ xs) t → IsTally (zs ++ ys) t
 
 -- the ticks of the last completed entry are in order, and it waited for a level for no longer than
 -- until its completion

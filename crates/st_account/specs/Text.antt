@@ -2,6 +2,16 @@
 -- levels. Segments are numbered from 1 on; k is the number of the segment of the last completed
 -- entry, 0 before the first entry, and us are the words that this entry uses. The function `o`
 -- gives the card that a half-word of a state comes from.
+--
+-- Proved: by their `ensures` clauses these calls do what definitions here say: `write_to_next`
+-- (account.rt), `skip_to_next` (account.rt), `tally_to_next` (tallying.rt), `finish` (account.rt),
+-- and others.
+-- Read by: definitions in LedgerRows, LedgerTables, Passing, Standing, and others.
+-- Laws: LedgersTellWhereTicksWent (specs/Laws.antt of st_causes), ReasonsOfARunAreTrue
+-- (specs/Laws.antt of st_causes), TablesHaveTheRowsOfTheRun (specs/Laws.antt of st_causes),
+-- TotalsAreTheLedgerWithoutRows (specs/Laws.antt of st_causes), and others.
+-- Change: the meaning is fixed by docs/ledger.md, since the contract of `st_account::ledger`
+-- unfolds to a definition here. The form is free, with the proofs that unfold it.
 use Rattle.std.specs.Prelude.{ℕ, zero, suc, ◌+◌, Bool, true, false, ◌||◌, nat_eq, if◌then◌else◌, List, [], ◌∷◌, ◌++◌, Option, None, Some, map}
 use Rattle.st_state.specs.Machine.{Machine}
 use Rattle.st_prep.specs.Plan.{plan}

@@ -1,15 +1,16 @@
 //! The ledger of a run so far, and how it proceeds from one entry to the next. The lines of an
 //! entry are written late: after the events that follow it, since these say whether its segment
-//! ends.
+//! ends. docs/ledger.md has the rules.
 //!
-//! running.rt calls, for each entry: `take_events`, `write_to_next` (or `skip_to_next`), `step`,
-//! and at the end `finish` (or `finish_sums`). Ticks, counts and numbers are those of the run;
-//! segments are numbered from 1.
+//! For each entry running.rt calls `take_events` and `step`; between them passing.rt calls
+//! `write_to_next` or `skip_to_next`, tallying.rt `enter_next`; at the end come `finish` or
+//! `finish_sums`. Ticks, counts and numbers are those of the run; segments are numbered from 1.
 //!
 //! Proved: with `IsAt` and `IsBehindMoment` of specs/Standing.antt kept, the lines are those of
-//! specs/Text.antt, and totals grow by the charges and waits of each entry. Pinned: the order of
-//! the calls, by these premises. Free: the fields that only save time, such as `may` and the
-//! buffers.
+//! specs/Text.antt, and totals grow by the charges and waits of each entry. Pinned: the lines, by
+//! specs/Text.antt, docs/ledger.md and vectors/ledger; the order of the calls, by their clauses
+//! `requires`. Free: the fields that only save time, such as `behind.may`, and the buffers, if
+//! proofs/account follows.
 ghost use Rattle.std.specs.Prelude.{◌≡◌, ◌≢◌, List, true, false, ℕ, ◌+◌, ◌<◌, ◌≤◌, ◌^◌, ◌∷◌, ◌++◌, ◌||◌, nat_eq, suc, [], if◌then◌else◌, length, map, replicate, All, IsOk, is_some, None, Option};
 ghost use Rattle.st_bits.specs.declared.limits.TheConstants.{MOST_DELAY, MOST_INSTRUCTIONS};
 ghost use Rattle.st_bits.specs.Storage.{words_of_storage};
@@ -41,7 +42,7 @@ ghost use Rattle.st_run.specs.Moments.{Moment, Standing, next_issue, next_moment
 ghost use Rattle.st_segment.specs.Ahead.{ahead, prepared_before, reads_before};
 ghost use Rattle.st_state.specs.Machine.{Machine, IsMachine, word};
 ghost use Rattle.st_account.specs.LedgerTables.{row_at};
-ghost use Rattle.st_account.specs.Tallying.{kept_rows, IsOrdered};
+ghost use Rattle.st_account.specs.Tallying.{CountAs, kept_rows, IsOrdered};
 ghost use Rattle.st_account.specs.Text.{why_by, run_ends, segment_end_at, segment_after, segment_lines, uses_at, words_before, lines_of_entry, last_lines};
 ghost use Rattle.st_account.specs.Standing.{predicting, kept_lines, kept_stalled, IsWaiting, AddsKeptWaits, HasReads, IsLast, IsStanding, IsAt, IsBehindMoment};
 
@@ -107,21 +108,11 @@ fn write_row<K: Sink>(
     if k == 0 {
         return Ok(());
     }
-    let done = EntryDone {
-        n: last.done.n,
-        address: last.done.address,
-        origin: last.done.origin,
-        row: last.done.row,
-        mispredicted: last.mispredicted,
-        before: last.done.before,
-        start: last.done.start,
-        end,
-        because: last.because,
-    };
+    let done = EntryDone { end, ..last.done };
     let entry = EntryRecord {
         done: &done,
         plan: &last.unit.prepared,
-        known: &last.done.known,
+        known: &last.known,
         uses: last.uses.as_slice(),
         before: last.before.as_slice(),
     };
@@ -162,7 +153,7 @@ impl Account {
         ensures issue { result.last.issue
             ≡ opening_issue (record { ticks = replicate BANKS 0 }) 0 }
         ensures past { result.last.past ≡ result.last.issue.past }
-        ensures mispredicted { result.last.mispredicted ≡ false }
+        ensures mispredicted { result.last.done.mispredicted ≡ false }
         ensures counter { result.last.ic ≡ state.ic }
         ensures below { result.last.ic < 2 ^ 19 }
         ensures enabled { result.last.enabled ≡ state.enabled }
@@ -273,7 +264,7 @@ impl Account {
           behind = self.new.behind;
         } }
     {
-        let still = is_still(&self.state, self.last.mispredicted, pending.signals());
+        let still = is_still(&self.state, self.last.done.mispredicted, pending.signals());
         self.look_if(timing, is_end_near(left, still));
         self.behind.may = changeable(&self.last.unit.prepared, &self.state);
         let came = settle(still, &mut self.state, pending, &mut self.behind.printed);
@@ -306,11 +297,11 @@ impl Account {
           start = self.new.last.issue.c;
           waited = self.old.behind.waited;
           why = if nat_eq self.old.k 0 then RunBegins
-              else why_by (interrupt_of self.old.state) self.old.last.mispredicted;
+              else why_by (interrupt_of self.old.state) self.old.last.done.mispredicted;
           taken = interrupt_of self.old.state;
           done = self.old.state.done;
         } }
-        ensures ends { result.ends ≡ (self.old.last.mispredicted || self.old.behind.card
+        ensures ends { result.ends ≡ (self.old.last.done.mispredicted || self.old.behind.card
             || self.old.behind.waited || is_some (interrupt_of self.old.state)) }
         ensures begins { result.begins ≡ (nat_eq self.old.k 0 || result.ends) }
 
@@ -330,7 +321,7 @@ impl Account {
         ensures rest { self.new ≡ record self.old { last = self.new.last; k = self.new.k } }
     {
         let taken = interrupt(&self.state);
-        let mispredicted = self.last.mispredicted;
+        let mispredicted = self.last.done.mispredicted;
         let k = self.k;
         let ends = is_end(mispredicted, self.behind.card, self.behind.waited, taken);
         let begins = either(k == 0, ends);
@@ -444,11 +435,11 @@ impl Account {
           start = self.new.last.issue.c;
           waited = self.old.behind.waited;
           why = if nat_eq self.old.k 0 then RunBegins
-              else why_by (interrupt_of self.old.state) self.old.last.mispredicted;
+              else why_by (interrupt_of self.old.state) self.old.last.done.mispredicted;
           taken = interrupt_of self.old.state;
           done = self.old.state.done;
         } }
-        ensures ends { result.ends ≡ (self.old.last.mispredicted || self.old.behind.card
+        ensures ends { result.ends ≡ (self.old.last.done.mispredicted || self.old.behind.card
             || self.old.behind.waited || is_some (interrupt_of self.old.state)) }
         ensures begins { result.begins ≡ (nat_eq self.old.k 0 || result.ends) }
         ensures number { (ds : List ℕ) (n left : ℕ) (b : Machine) (m : Moment)
@@ -589,9 +580,10 @@ impl Account {
         ensures uses { (p : Standing) → IsStanding p self.old.state self.old.last →
             self.new.last.uses.items ≡ uses_at timing.now.delays.now.list timing.now.levels p }
         ensures row { (p : Standing) (end : Option ℕ) (w : WhyOf) → self.old.k ≢ 0 →
-            IsStanding p self.old.state self.old.last → kept_rows self.new.k self.new.last end w
-            ≡ row_at (origin_at self.old.origins) timing.now.delays.now.list timing.now.levels end w
-            self.old.last.uses.items p ∷ [] }
+            IsStanding p self.old.state self.old.last →
+            CountAs (kept_rows self.new.k self.new.last end w)
+            (row_at (origin_at self.old.origins) timing.now.delays.now.list timing.now.levels end w
+            self.old.last.uses.items p ∷ []) }
         ensures ordered { IsOrdered self.new.last }
         ensures before { self.new.last.done.before ≡ self.old.last.tick }
         ensures waiting { IsWaiting self.new.last self.new.waiting.totals }
@@ -625,7 +617,7 @@ impl Account {
         let address = next_address(&self.state);
         self.last.done.n = row_number(&self.state);
         self.last.done.address = address;
-        self.last.done.origin = self.origins.at(&self.state, address);
+        self.last.done.origin = self.origins.at_if(facts, &self.state, address);
         self.last.done.before = before;
         self.last.done.start = start;
         count_on(

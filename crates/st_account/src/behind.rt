@@ -1,13 +1,16 @@
 //! The events after a completed entry (instruction), and the entries that ran ahead of it: the
-//! facts that the end of a segment needs.
-//!
+//! facts that the end of a segment needs. docs/ledger.md has the lines of a segment's end.
 //! account.rt calls `look_behind` when a segment or the run may end; `st_plain` finds the entries,
-//! by predicted steps on the state, which is unchanged afterwards. Ticks are those of the run; at
-//! most eight entries ran ahead.
+//! by predicted steps on the state, which is unchanged afterwards. Ticks are those of the run.
 //!
-//! Proved: the entries are those prepared before the completion and the next one
-//! (`prepared_before`, `first_late`), and the banks are those of the reads that were made by then.
-//! Free: the body; the log is used up.
+//! Proved: the entries are those prepared before the completion and the next one (`prepared_before`
+//! in specs/Ahead.antt of `st_segment`, `first_late` in specs/Looking.antt of `st_plain`), and the
+//! banks are those of the reads that were made by then.
+//!
+//! Pinned: these entries and banks, by docs/ledger.md and vectors/ledger; that at most eight
+//! entries ran ahead, by the clauses `dropped` of account.rt, which need that bound. Free: the body
+//! of `look_behind`, if proofs/behind follows; it may use up the log, which nobody reads
+//! afterwards.
 ghost use Rattle.std.specs.Prelude.{◌≡◌, List, suc, ◌+◌, ◌≤◌, ◌<◌, ◌^◌, ◌++◌, ◌∷◌, [], map, length, None, All};
 ghost use Rattle.st_bits.specs.declared.limits.TheConstants.{MOST_DELAY};
 ghost use Rattle.st_rows.specs.Asked.{made_before};

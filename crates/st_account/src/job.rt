@@ -1,9 +1,13 @@
 //! A job with its cards: the bytes of its text, split once, for the assembler, the listing and the
-//! reader.
+//! reader. Only program.rt of this crate makes and reads a `Job`; the type is not public.
+//! docs/strap.md has the rules of cards.
 //!
-//! program.rt makes it. The ghost field carries the proof that the cards are those of the text, so
-//! that no caller proves it again; a change of either field needs that proof. There is nothing else
-//! to prove. A further field is free.
+//! Proved: nothing, since there is no function. The ghost field `cards_are` carries the proof that
+//! the cards are those of the text (`cards_of` in specs/Cards.antt of `st_card`), so that no
+//! function of program.rt proves this again.
+//!
+//! Pinned: `cards_are`, by the proofs of program.rt, with the fields `text` and `cards`, which it
+//! names. Free: further fields.
 ghost use Rattle.std.specs.Prelude.{◌≡◌};
 ghost use Rattle.st_card.specs.Cards.{cards_of};
 

@@ -1,13 +1,15 @@
-//! The facts about the last completed entry (instruction), and the timetable after it, until its
-//! lines are written.
+//! The facts about the last completed entry (instruction), which are kept until its lines are
+//! written, and the input to the timetable of the next one. docs/timetable.md has the rules of
+//! segments. account.rt keeps one `Last`; stepping.rt computes the next, behind.rt and tallying.rt
+//! read it. Ticks are those of the run, addresses half-word addresses.
 //!
-//! account.rt keeps one `Last`; stepping.rt computes the next, and behind.rt reads it. Ticks are
-//! those of the run, addresses half-word addresses. A segment starts one tick after the end of the
-//! last one, and one more for each of at most 8 dropped entries.
+//! Proved, by the clauses below: the issue state after a start of a segment is `opening_issue` of
+//! `st_rows`, at most 9 ticks later; an issue state stays `IsTight`; copies equal their originals.
+//! The issue state cannot be copied, so `past` keeps its last entries again (clauses `past`).
 //!
-//! Proved: the issue state after such a start is `opening_issue` of `st_rows`; copies equal their
-//! originals. `past` repeats the entries of `issue`, since that cannot be copied (clauses `past`).
-//! A new fact for a line is a field of `DoneEntry`. Free: the bodies.
+//! Pinned, by docs/timetable.md: a segment starts one tick after the end of the last one, and one
+//! tick later for each of at most 8 dropped entries. Free: the bodies. A new fact for a line is a
+//! field of `EntryDone` of `st_lines`.
 ghost use Rattle.std.specs.Prelude.{◌≡◌, ◌+◌, ◌≤◌, ◌^◌, if◌then◌else◌, replicate, All, false, []};
 ghost use Rattle.st_bits.specs.declared.limits.TheConstants.{MOST_DELAY};
 ghost use Rattle.st_banks.specs.declared.answers.TheConstants.{BANKS};
@@ -15,31 +17,12 @@ ghost use Rattle.st_rows.specs.Ranges.{IsTight};
 ghost use Rattle.st_rows.specs.Rows.{opening_issue};
 
 use st_banks::LastAnswers;
-use st_lines::Origin;
+use st_lines::EntryDone;
 use st_next::FetchUnit;
 use st_plain::{Known, WaitedRow};
 use st_prep::Place;
 use st_reasons::StallCause;
 use st_rows::{Bus, IssueState, LastEntries, Past, Uses};
-
-/// The facts about a completed entry, except its preparation.
-#[derive(Clone, Copy, Debug, Default, PartialEq, Eq)]
-pub(crate) struct DoneEntry {
-    /// The number of the entry's row.
-    pub n: u32,
-    /// The entry's half-word address.
-    pub address: u32,
-    /// The card that the entry's half-words come from.
-    pub origin: Option<Origin>,
-    /// The ticks of the entry, and its wait for a level.
-    pub row: WaitedRow,
-    /// Facts about the entry that do not concern its ticks.
-    pub known: Known,
-    /// The tick at which the previous entry completed.
-    pub before: u64,
-    /// The tick at which the entry's segment starts, if the entry is the first in it.
-    pub start: u64,
-}
 
 /// The facts about the last completed entry, and the timetable after it.
 #[derive(Drop)]
@@ -50,22 +33,22 @@ pub(crate) struct Last {
     pub issue: IssueState,
     /// The last eight entries of the issue state, newest first.
     pub past: [Past; 8],
-    /// Whether the entry was mispredicted, so that the entries that ran ahead of it were wrong.
-    pub mispredicted: bool,
     /// The instruction counter by the prediction.
     pub ic: u32,
     /// Whether interrupts were enabled before the entry.
     pub enabled: bool,
     /// The entry as it was planned and prepared.
     pub unit: FetchUnit,
-    /// Further facts about the entry.
-    pub done: DoneEntry,
+    /// The entry with its row. If it was mispredicted, the entries that ran ahead of it were wrong.
+    /// The end of its segment is not known yet. If the lines of the entry are not wanted, its cause
+    /// is valid only if it lost ticks, and whether its card's bits are unchanged is not valid.
+    pub done: EntryDone,
+    /// Facts about the entry that do not concern its ticks.
+    pub known: Known,
     /// The words that the entry uses.
     pub uses: Uses,
     /// The words that the previous entry in the segment uses.
     pub before: Uses,
-    /// The cause that delayed the entry.
-    pub because: StallCause,
 }
 
 // A list of eight entries in the form that an issue state has, newest first.
@@ -106,7 +89,7 @@ pub(crate) fn at_start(ic: u32, enabled: bool) -> Last
     ensures issue { result.issue ≡ opening_issue (record { ticks = replicate BANKS 0 }) 0 }
     ensures past { result.past ≡ result.issue.past }
 
-    ensures mispredicted { result.mispredicted ≡ false }
+    ensures mispredicted { result.done.mispredicted ≡ false }
     ensures counter { result.ic ≡ ic }
     ensures enabled { result.enabled ≡ enabled }
     ensures tight { IsTight MOST_DELAY result.issue }
@@ -121,14 +104,23 @@ pub(crate) fn at_start(ic: u32, enabled: bool) -> Last
         tick: 0,
         issue: IssueState::new(banks, 0),
         past: [Past::default(); 8],
-        mispredicted: false,
         ic,
         enabled,
         unit: FetchUnit::new(Place::default(), Bus::new(banks, 0)),
-        done: DoneEntry::default(),
+        done: EntryDone {
+            n: 0,
+            address: 0,
+            origin: None,
+            row: WaitedRow::default(),
+            mispredicted: false,
+            before: 0,
+            start: 0,
+            end: None,
+            because: StallCause::Start(0),
+        },
+        known: Known::default(),
         uses: Uses::new(),
         before: Uses::new(),
-        because: StallCause::Start(0),
     }
 }
 

@@ -1,12 +1,15 @@
 //! The cards that the half-words of a program come from: a table with the number of the first card
-//! whose bits begin in each half-word, made from the listing.
+//! whose bits begin in each half-word, made from the listing. docs/ledger.md has the line `LAID`.
 //!
-//! program.rt calls `first_cards` before the run; `st_lines` reads the table. Locations in a
-//! listing are bit addresses, indexes half-word addresses; 0 means no card. The only error is a
-//! failed allocation.
+//! program.rt calls `first_cards`, the only call from outside, before the run; `st_lines` reads the
+//! table. Locations in a listing are bit addresses, indexes half-word addresses; 0 means no card.
+//! The only error is a failed allocation.
 //!
-//! Proved: entry h is `first_card` of specs/FirstCards.antt. Pinned: the first of several cards
-//! counts. Free: the length of the table, if it covers the last such half-word.
+//! Proved: entry h is `first_card` of specs/FirstCards.antt (clause of `first_cards`). The law
+//! `RowsComeFromTheCards` (specs/CardLaws.antt of `st_causes`) says that each row comes from a card
+//! of the job or from none. Pinned: that the first of several cards counts, by this definition,
+//! docs/ledger.md and vectors/ledger/lines.txt. Free: the length of the table, if it covers the
+//! last half-word of a card; the bodies, if proofs/origins follows.
 ghost use Rattle.std.specs.Prelude.{◌≡◌, ◌≢◌, ℕ, ◌<◌, ◌≤◌, ◌^◌, ◌∷◌, List, length, slice_index, slice_set, All, IfOk, IfSome};
 ghost use Rattle.std.specs.Option.{option_or};
 ghost use Rattle.st_asm.specs.declared.valuing.Listed.{Listed as ListedOf};

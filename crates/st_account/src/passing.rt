@@ -1,4 +1,16 @@
-//! Passes from each entry of a run to the next one, where some rows are skipped.
+//! Passes from each entry of a run to the next one, and ends the run, for the whole ledger and for
+//! `ledger rows`: with `until` above 0 nothing is written up to the first row that is asked for,
+//! then the state before that row and its line SEGMENT, then each line. docs/ledger.md has the
+//! rules ("Rows of a long run"). running.rt calls it for each entry; account.rt writes lines or
+//! skips.
+//!
+//! Proved: with `IsBehindMoment` of specs/Standing.antt kept, the lines are `passed_lines` and
+//! `ended_lines` of specs/Passing.antt, all of them on Ok, the first ones after a failed write. The
+//! law about rows is `RowsAreAPartOfTheLedger` (specs/Laws.antt of `st_causes`).
+//!
+//! Pinned: the order of these lines, and the line SEGMENT as the last one before the row, by these
+//! definitions, docs/ledger.md and vectors/ledger/rows.txt. Free: how the border is kept
+//! (`keep_start`); the bodies, if proofs/passing follows.
 ghost use Rattle.std.specs.Prelude.{◌≡◌, ◌≢◌, List, true, false, ℕ, ◌+◌, ◌≤◌, ◌^◌, ◌++◌, if◌then◌else◌, length, All, IsOk};
 ghost use Rattle.st_bits.specs.declared.limits.TheConstants.{MOST_DELAY, MOST_INSTRUCTIONS};
 ghost use Rattle.st_bits.specs.Storage.{words_of_storage};

@@ -1,13 +1,16 @@
-//! The program: it reads a job and writes its ledger, or, with the words `sums` or `rows`, a part of
-//! it.
+//! The program: it reads a job and writes its ledger, or, with the words `sums` or `rows`, a part
+//! of it. docs/ledger.md has the words and the answers.
 //!
 //! `crates/ledger` calls `ledger`. The words are the number of levels (1 to 8; 4 if it is missing),
 //! and `sums`, or `rows` with the numbers of two rows; the job is read whole, split, assembled and
 //! run. Refusals are one line, as in `stretch`.
 //!
 //! Proved: for each status the bytes that were read and the lines that were written (`IsAnswer` in
-//! specs/Answers.antt), and when `Usage` comes. All memory is allocated before the first line.
-//! Pinned: the words and statuses, by that definition. Free: the bodies.
+//! specs/Answers.antt), and when `Usage` comes, by the clauses of `ledger`. All memory is allocated
+//! before the first line. Pinned: the words and statuses, by `IsAnswer`, docs/ledger.md and
+//! vectors/ledger. Free: the bodies, if proofs/program follows. A new word is a case of `Part`; the
+//! compiler names the function here that then needs one, and specs/Answers.antt says what the word
+//! means (`asked_by`, `lines_of_part`).
 ghost use Rattle.std.specs.Prelude.{◌≡◌, ◌↔◌, ◌+◌, ◌≤◌, ◌<◌, ◌^◌, ◌∷◌, [], List, ℕ, IfOk, IfSome, None, Ok, All, map, length};
 ghost use Rattle.std.specs.List.{AllPass};
 ghost use Rattle.std.specs.String.{string_bytes};

@@ -1,13 +1,15 @@
 //! Writes the run line by line: the whole ledger, the rows from one on, or only its first and last
-//! lines with the sums and the tables.
+//! lines with the sums and the tables. docs/ledger.md has the rules.
 //!
-//! program.rt makes the calls with a run that is ready, whose memory is allocated; account.rt does
-//! each step. Budgets are at most 10,000,000 instructions.
+//! program.rt calls the three public functions with a run that is ready, whose memory is allocated;
+//! account.rt does each step. Budgets are at most 10,000,000 instructions.
 //!
 //! Proved: the lines are `ledger` of specs/Text.antt, `ledger_rows` of specs/LedgerRows.antt, or
 //! `ledger_sums` of specs/LedgerSums.antt, all on Ok, the first ones after a failed write. Pinned:
-//! the run ends at rest before its budget is looked at. Free: the bodies. That sums add up to the
-//! ticks of the run is proved in `st_causes`.
+//! the lines, by these definitions, docs/ledger.md and vectors/ledger; that a run ends at rest
+//! before its budget is looked at, by `ledger`. Free: the bodies, if proofs/running follows. Laws
+//! that sums add up to the ticks of the run: `WaitSumsAddUp` and `StageSumsAddUp` (specs/Laws.antt
+//! of `st_causes`).
 ghost use Rattle.std.specs.Prelude.{◌≡◌, ◌≤◌, true, suc, [], IsOk, All, length, min};
 ghost use Rattle.std.specs.List.{AllPass};
 ghost use Rattle.st_bits.specs.declared.limits.TheConstants.{MOST_INSTRUCTIONS};

@@ -1,10 +1,14 @@
 //! Applies the events between two entries (instructions): signals and orders that are due, and the
-//! end of a wait; with the printed lines for the ledger.
+//! end of a wait; with the printed lines for the ledger. docs/machine.md has the rules. account.rt
+//! calls `settle`, and says `still` if it knows that nothing happens, which is the usual case.
 //!
-//! account.rt calls `settle`, and says `still` if it knows that nothing happens, which is the usual
-//! case and saves time. Proved: the state and the pending events are those after `interlude` of
-//! `st_run`, also if `still` holds. At most one line is printed between two entries, so `printed`
-//! has room. Free: the shortcut.
+//! Proved: the state and the pending events are those after `interlude` (specs/Run.antt of
+//! `st_run`), also if `still` holds. At most one line is printed between two entries, so `printed`
+//! has room. Not proved: that the shortcut saves time.
+//!
+//! Pinned: the events and their order, by docs/machine.md and that definition, which the overlapped
+//! run of `st_run` has in common with the ledger. Free: the shortcut, and the body of `settle`, if
+//! proofs/settling follows.
 ghost use Rattle.std.specs.Prelude.{◌≡◌, Bool, true, nat_lt, length};
 ghost use Rattle.st_exec.specs.Step.{rests};
 ghost use Rattle.st_run.specs.ExternalEvents.{scene_at};

@@ -1,9 +1,13 @@
-//! The exit statuses of the program `ledger`; the numbers are those of `stretch` (`st_top`).
+//! The exit statuses of the program `ledger`; the numbers are those of `stretch` (`st_top`,
+//! docs/running.md). program.rt returns them, and the `main` of `ledger` exits with the number.
 //!
-//! program.rt returns them, and `crates/ledger` turns them into exit codes. specs/Answers.antt
-//! defines what was read and written for each (`Did`, `Writes`); every status but `NoMemory` is
-//! returned only with its cause. Pinned: the numbers. A new status needs its case there. There is
-//! no code here to prove.
+//! Proved: specs/Answers.antt defines what was read and written for each (`Did`, `Writes`); every
+//! status but `NoMemory` is returned only with its cause. `main` of `ledger` is proved to exit with
+//! the numbers of its specs/Exit.antt.
+//!
+//! Pinned: the variants, by specs/Answers.antt and docs/ledger.md; their numbers, by
+//! specs/Exit.antt of `ledger` and docs/running.md. A new status needs its case in these
+//! definitions and in the `main` of `ledger`. Free: the derived traits.
 
 /// The status of a call of `ledger`. The number is the program's exit status.
 #[derive(Clone, Copy, Debug, PartialEq, Eq)]

@@ -1,14 +1,17 @@
-//! Properties of a state and of an entry that are needed between two entries, and the two halves of
-//! a step of the ledger: `count_on` computes the row of the next entry, `execute` executes it.
+//! The two halves of a step of the ledger: `count_on` computes the row of the next entry
+//! (instruction), `execute` executes it. docs/timetable.md has the rules of rows, docs/ledger.md
+//! the lines. account.rt calls these functions. C, the tick of completion, is at most 2^63 for the
+//! last entry; segments and rows are numbered from 1.
 //!
-//! account.rt calls all of these. C, the tick of its completion, is at most 2^63 for the last
-//! entry; segments and rows are numbered from 1.
+//! Proved: the row, the words and the wait are `row_of_entry` (specs/Rows.antt of `st_rows`),
+//! `uses_of_entry` and `level_wait` (specs of `st_plain`) for the next entry of the state, and the
+//! state after it is that of a step. The cause is `because` (specs/Reasons.antt of `st_reasons`) if
+//! the lines are wanted or the entry lost ticks; nothing else shows it.
 //!
-//! Proved: the row, the words, the wait and the cause are the definitions of `st_rows`, `st_plain`
-//! and `st_reasons` for the next entry of the state, and the state after it is that of a step.
-//! Pinned: the row is computed before the entry is executed, since it reads the state before. Free:
-//! the bodies.
-ghost use Rattle.std.specs.Prelude.{◌≡◌, ◌+◌, ◌<◌, ◌≤◌, ◌^◌, ◌||◌, [], not, nat_eq, if◌then◌else◌, is_some, option_map, Some, None, true};
+//! Pinned: that the row is computed before the entry is executed, by the clauses of `execute`,
+//! since a row is about the state before; the rows, by docs/timetable.md and vectors/ledger. Free:
+//! the bodies, if proofs/stepping follows.
+ghost use Rattle.std.specs.Prelude.{◌≡◌, ◌+◌, ◌<◌, ◌≤◌, ◌^◌, ◌||◌, [], length, take, not, nat_eq, if◌then◌else◌, is_some, option_map, Some, None, true};
 ghost use Rattle.st_bits.specs.Indicators.{IsIndicatorIfAny};
 ghost use Rattle.st_bits.specs.declared.limits.TheConstants.{MOST_DELAY, MOST_INSTRUCTIONS};
 ghost use Rattle.st_prep.specs.Plan.{plan as plan_of};
@@ -30,10 +33,10 @@ use crate::last::Last;
 use st_card::Signal;
 use st_exec::{complete_in, interrupt, is_mispredicted};
 use st_lines::{Changeable, Why};
-use st_plain::{Before, WaitedRow, begin, finish, put_past};
+use st_plain::{Before, Begun, WaitedRow, begin, fill, pass, put_past};
 use st_prep::Prepared;
-use st_reasons::find_reason;
-use st_rows::{Log, Past, Timing};
+use st_reasons::{StallCause, find_reason};
+use st_rows::{Entry, IssueState, Log, Past, Timing, Use};
 use st_run::plain::{is_signal_due, printer_is_free, reader_is_free};
 use st_state::{State, is_enabled};
 
@@ -92,8 +95,40 @@ pub(crate) fn is_end_near(left: u64, still: bool) -> bool
     left == 0 || !still
 }
 
+// Whether the cause that delayed an entry is wanted: for its lines, or since the entry lost ticks,
+// which a table has.
+fn is_wanted(facts: bool, before: u64, r: u64) -> bool
+    ensures facts { facts ≡ true → result ≡ true }
+    ensures lost { before < r → result ≡ true }
+{
+    facts || before < r
+}
+
+// Finds the cause that delayed an entry, if it is wanted; the first `formed` of its words come
+// until its address is formed.
+#[inline(always)]
+fn find_if(
+    wanted: bool,
+    issue: &IssueState,
+    entry: &Entry,
+    begun: &Begun,
+    words: &[Use],
+    formed: usize,
+    before: &[Use],
+    because: &mut StallCause,
+)
+    requires { formed ≤ length words.now }
+    ensures { wanted ≡ true → because.new ≡ because_of issue.now entry.now
+        begun.now.formed.a begun.now.formed.p begun.now.level_wait (take formed words.now)
+        before.now }
+{
+    if wanted {
+        *because = find_reason(issue, entry, begun, &words[..formed], before);
+    }
+}
+
 /// Computes the row of the next entry and the facts after it; those that only its lines have, if
-/// `facts` is set.
+/// `facts` is set. Without them the cause of delay is valid only if the entry lost ticks.
 #[tactic(auto, unfolding(st_plain::specs::Uses::uses_of_entry), using(st_bits::specs::Storage::words_of_storage_is))]
 pub(crate) fn count_on(
     state: &State,
@@ -115,12 +150,18 @@ pub(crate) fn count_on(
     ensures wait { last.new.done.row.level_wait
         ≡ level_wait timing.now.delays.now.list timing.now.levels last.old.issue
         (entry_of taken state.now) }
-    ensures known { facts ≡ true → last.new.done.known ≡ known_at taken state.now }
+    ensures known { facts ≡ true → last.new.known ≡ known_at taken state.now }
     ensures uses { last.new.uses.items ≡ uses_of_entry timing.now.delays.now.list timing.now.levels
         last.old.issue (entry_of taken state.now) (side_at taken state.now)
         (plan_of state.now taken).reads }
     ensures earlier { last.new.before.items ≡ last.old.uses.items }
-    ensures because { last.new.because ≡ because_of last.old.issue (entry_of taken state.now)
+    ensures because { facts ≡ true →
+        last.new.done.because ≡ because_of last.old.issue (entry_of taken state.now)
+        last.new.done.row.ticks.a last.new.done.row.ticks.p last.new.done.row.level_wait
+        (formed_uses timing.now.delays.now.list last.old.issue (entry_of taken state.now)
+        (side_at taken state.now)) last.old.uses.items }
+    ensures lost { last.new.done.before < last.new.done.row.ticks.r →
+        last.new.done.because ≡ because_of last.old.issue (entry_of taken state.now)
         last.new.done.row.ticks.a last.new.done.row.ticks.p last.new.done.row.level_wait
         (formed_uses timing.now.delays.now.list last.old.issue (entry_of taken state.now)
         (side_at taken state.now)) last.old.uses.items }
@@ -147,15 +188,20 @@ pub(crate) fn count_on(
         facts,
     };
     let begun = begin(&mut last.unit, taken, &before, log, &mut last.uses);
-    last.because = find_reason(
+    let formed = last.uses.as_slice().len();
+    let level_wait = begun.level_wait;
+    let ticks = fill(&last.issue, &mut last.unit, timing, log, &mut last.uses);
+    find_if(
+        is_wanted(facts, last.done.before, ticks.r),
         &last.issue,
         &last.unit.entry,
         &begun,
         last.uses.as_slice(),
+        formed,
         last.before.as_slice(),
+        &mut last.done.because,
     );
-    let level_wait = begun.level_wait;
-    let ticks = finish(&mut last.issue, &mut last.unit, timing, log, &mut last.uses);
+    pass(&mut last.issue, &last.unit, &ticks);
     put_past(
         &mut last.past,
         Past {
@@ -165,7 +211,7 @@ pub(crate) fn count_on(
     );
     last.tick = ticks.c;
     last.done.row = WaitedRow { ticks, level_wait };
-    last.done.known = begun.known;
+    last.known = begun.known;
 }
 
 // The instruction counter by the prediction of a completed entry with the preparation `p`.
@@ -187,13 +233,15 @@ pub(crate) fn execute(state: &mut State, taken: Option<u8>, last: &mut Last)
     ensures prediction { predicting last.new.ic state.new ≡ prediction_of taken state.old }
     ensures counter { last.new.ic < 2 ^ 19 }
     ensures rest { last.new ≡ record last.old {
-      mispredicted = is_mispredicted_of (plan_of state.old taken) state.old;
+      done = record last.old.done {
+        mispredicted = is_mispredicted_of (plan_of state.old taken) state.old;
+      };
       ic = last.new.ic;
       enabled = state.old.enabled;
     } }
 {
     last.enabled = is_enabled(state);
-    last.mispredicted = is_mispredicted(&last.unit.prepared, state);
+    last.done.mispredicted = is_mispredicted(&last.unit.prepared, state);
     complete_in(&last.unit.prepared, state);
     last.ic = predicted_counter(&last.unit.prepared, state);
 }

@@ -1,4 +1,16 @@
-//! The tables of a run, to which each completed entry is added.
+//! The tables of a run, to which each completed entry is added one entry late, when it is known
+//! whether its segment ends. docs/ledger.md has the tables ("Totals and tables"). running.rt calls
+//! `tally_to_next` and `finish_tally` for `ledger sums`; `st_tally` has the sums.
+//!
+//! Proved: each call adds the row of the last entry (`AddsKeptRow` in specs/Tallying.antt) and its
+//! waits, and counts dropped entries (`dropped_at_end` in specs/LedgerTables.antt). The rows of a
+//! whole run are `tallied_of` of specs/LedgerTables.antt (clauses of running.rt). The law
+//! `TablesHaveTheRowsOfTheRun` (specs/Laws.antt of `st_causes`) says that these are the rows of the
+//! run.
+//!
+//! Pinned: that nothing is added before the first entry (segment 0), by `AddsKeptRow`; the tables,
+//! by docs/ledger.md and vectors/ledger/sums.txt. Free: the bodies, if proofs/tallying follows; the
+//! copy of the words of storage may stay as it is, which saves time.
 ghost use Rattle.std.specs.Prelude.{◌≡◌, ◌≢◌, List, true, false, ℕ, ◌+◌, ◌*◌, ◌<◌, ◌≤◌, ◌^◌, ◌∷◌, ◌++◌, ◌||◌, nat_eq, [], if◌then◌else◌, length, All, is_some, Option};
 ghost use Rattle.st_bits.specs.declared.limits.TheConstants.{MOST_DELAY, MOST_INSTRUCTIONS};
 ghost use Rattle.st_card.specs.declared.control_cards.Signal.{Signal as SignalOf};
@@ -11,7 +23,7 @@ ghost use Rattle.st_run.specs.Moments.{Moment, next_issue};
 ghost use Rattle.st_state.specs.Machine.{Machine};
 ghost use Rattle.st_account.specs.LedgerTables.{why_after, dropped_at_end};
 ghost use Rattle.st_account.specs.Standing.{IsWaiting, AddsKeptWaits, IsBehindMoment};
-ghost use Rattle.st_account.specs.Tallying.{done_kept, IsTallyReady, AddsKeptRow};
+ghost use Rattle.st_account.specs.Tallying.{IsTallyReady, AddsKeptRow};
 ghost use Rattle.st_account.specs.Text.{run_ends, segment_end_at, segment_after, words_before};
 
 use crate::account::Account;
@@ -19,7 +31,7 @@ use crate::last::{Last, clear_if};
 use crate::stepping::end_of;
 use st_exec::is_at_rest;
 use st_io::{Failed, Sink};
-use st_lines::{Border, EntryDone, RowTelling, Why, write_totals};
+use st_lines::{Border, RowTelling, Why, write_totals};
 use st_state::done_in;
 use st_tally::Tables;
 
@@ -34,45 +46,19 @@ pub(crate) struct Tally {
     pub dropped: u64,
 }
 
-// The last entry, whose segment ends at a tick or continues.
-fn done_of(last: &Last, end: Option<u64>) -> EntryDone
-    ensures { result ≡ done_kept last.now end }
-{
-    EntryDone {
-        n: last.done.n,
-        address: last.done.address,
-        origin: last.done.origin,
-        row: last.done.row,
-        mispredicted: last.mispredicted,
-        before: last.done.before,
-        start: last.done.start,
-        end,
-        because: last.because,
-    }
-}
-
 // Adds the last entry, in segment `k`, to the tables, and its waits to the totals. Its segment
-// begins for the reason `why`, and ends at a tick or continues. Before the first entry there is
-// nothing to add.
-fn tally_row(
-    last: &Last,
-    k: u32,
-    end: Option<u64>,
-    why: Why,
-    tables: &mut Tables,
-    waiting: &mut RowTelling,
-)
+// begins for the reason `why`. Before the first entry there is nothing to add.
+fn tally_row(last: &Last, k: u32, why: Why, tables: &mut Tables, waiting: &mut RowTelling)
     requires waiting { IsWaiting last.now waiting.old.totals }
     requires ready { IsTallyReady k last.now tables.old }
     ensures waits { AddsKeptWaits k last.now waiting.old.totals waiting.new.totals }
-    ensures row { AddsKeptRow k last.now end why tables.old tables.new }
+    ensures row { AddsKeptRow k last.now last.now.done.end why tables.old tables.new }
 {
     if k == 0 {
         return;
     }
-    let done = done_of(last, end);
     tables.add(
-        &done,
+        &last.done,
         why,
         last.uses.as_slice(),
         last.before.as_slice(),
@@ -155,11 +141,10 @@ pub(crate) fn tally_to_next(account: &mut Account, tally: &mut Tally)
     let dropped = account.behind.ahead.found.len() as u64;
     let border = account.enter_next();
     let ends = border.ends;
-    let end = end_of(ends, account.last.tick);
+    account.last.done.end = end_of(ends, account.last.tick);
     tally_row(
         &account.last,
         k,
-        end,
         tally.why,
         &mut tally.tables,
         &mut account.waiting,
@@ -195,11 +180,10 @@ pub(crate) fn finish_tally<K: Sink>(
         IsBehindMoment ds n left b m account.old xs cards → run_ends left m ≡ true →
         tally.new.dropped ≡ tally.old.dropped + length m.dropped }
 {
-    let end = end_of(true, account.last.tick);
+    account.last.done.end = end_of(true, account.last.tick);
     tally_row(
         &account.last,
         account.k,
-        end,
         tally.why,
         &mut tally.tables,
         &mut account.waiting,

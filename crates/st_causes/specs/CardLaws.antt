@@ -1,4 +1,8 @@
 -- The law that the tables of a run have a place for the card of each row.
+--
+-- Proved: each law has its lemma in proofs/CardLaws.antt, with its name in small letters.
+-- Claimed: docs/CLAIMS.md names RowsComeFromTheCards.
+-- Change: docs/promises.txt lists each law, and the gate compares the list with the laws.
 use Rattle.std.specs.Prelude.{ℕ, ◌+◌, ◌<◌, List, All}
 use Rattle.st_run.specs.Run.{Scene}
 use Rattle.st_asm.specs.Assembly.{Assembly}

@@ -1,4 +1,10 @@
 -- The first word of a line, and the lines that account for ticks.
+--
+-- Proved: no `ensures` clause names a definition of this file.
+-- Laws: LedgersTellWhereTicksWent (specs/Laws.antt).
+-- Change: no page fixes these definitions, since no contract of a program unfolds to them; they
+-- change together with the clauses, definitions and laws that name them. docs/ledger.md describes
+-- the subject.
 use Rattle.std.specs.Prelude.{ℕ, Bool, true, false, ◌&&◌, ◌||◌, nat_eq, if◌then◌else◌, List, [], ◌∷◌, codes}
 use Rattle.std.specs.List.{list_any}
 

@@ -1,5 +1,10 @@
 -- Laws of the ledger of each run: its lines account for the ticks of its rows, and the facts in
 -- them are true. The machine has the delays ds and n levels, and the run has a budget.
+--
+-- Proved: each law has its lemma in proofs/Laws.antt, with its name in small letters.
+-- Claimed: docs/CLAIMS.md names LedgersTellWhereTicksWent, NamedReadsAreMade, OneEntryIsBegun,
+-- ReasonsOfARunAreTrue, and others.
+-- Change: docs/promises.txt lists each law, and the gate compares the list with the laws.
 use Rattle.std.specs.Prelude.{ℕ, ◌≡◌, ◌+◌, ◌≤◌, ◌<◌, true, nat_lt, suc, length, List, [], ◌∷◌, ◌++◌, map, All, Option}
 use Rattle.std.specs.List.{filter}
 use Rattle.st_state.specs.Machine.{Machine}

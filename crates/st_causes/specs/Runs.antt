@@ -1,5 +1,12 @@
 -- The rows of a run as the ledger accounts for their ticks. The machine has the delays ds and n
 -- levels.
+--
+-- Proved: no `ensures` clause names a definition of this file.
+-- Laws: ReasonsOfARunAreTrue (specs/Laws.antt), TablesHaveTheRowsOfTheRun (specs/Laws.antt),
+-- LedgersTellWhereTicksWent (specs/Laws.antt), NamedReadsAreMade (specs/Laws.antt), and others.
+-- Change: no page fixes these definitions, since no contract of a program unfolds to them; they
+-- change together with the clauses, definitions and laws that name them. docs/ledger.md describes
+-- the subject.
 use Rattle.std.specs.Prelude.{ℕ, zero, suc, ◌+◌, if◌then◌else◌, List, [], ◌∷◌, ◌++◌, reverse, Option, None}
 use Rattle.st_state.specs.Machine.{Machine}
 use Rattle.st_exec.specs.Step.{rests, address}

@@ -1,4 +1,11 @@
 -- The statuses of the program: when each is returned, and the input and output in that case.
+--
+-- Proved: by their `ensures` clauses these calls do what definitions here say: `picture`
+-- (program.rt), `draw` (program.rt), `draw_choice` (program.rt), `draw_report` (program.rt), and
+-- others.
+-- Laws: none names a definition of this file itself.
+-- Change: the meaning is fixed by docs/chart.md, since the contract of `st_draw::draw` unfolds to a
+-- definition here. The form is free, with the proofs that unfold it.
 use Rattle.std.specs.Prelude.{◌≡◌, ℕ, ◌+◌, nat_eq, if◌then◌else◌, List, [], ◌∷◌, Option, None, Some}
 use Rattle.st_io.specs.Count.{HasRisen}
 use Rattle.st_io.specs.Input.{InputState, CameWhole, CameWithin, CamePast}

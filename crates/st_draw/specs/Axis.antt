@@ -1,4 +1,11 @@
 -- The axis of a chart: the ticks that it shows, and the position of a tick on it.
+--
+-- Proved: by their `ensures` clauses these calls do what definitions here say: `at` (axis.rt),
+-- `axis_of` (axis.rt), `highest` (axis.rt), `last_tick` (axis.rt), and others.
+-- Read by: definitions in Drawing, Terminal.
+-- Laws: none names a definition of this file itself.
+-- Change: the meaning is fixed by docs/chart.md, since the contract of `st_draw::draw` unfolds to a
+-- definition here. The form is free, with the proofs that unfold it.
 use Rattle.std.specs.Prelude.{ℕ, suc, zero, ◌+◌, ◌-◌, ◌*◌, ◌/◌, ◌^◌, nat_le, min, max, if◌then◌else◌, List, [], ◌∷◌}
 use Rattle.st_draw.specs.declared.axis.Axis.{Axis}
 use Rattle.st_draw.specs.declared.axis.Room.{Room}

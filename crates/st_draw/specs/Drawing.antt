@@ -1,4 +1,12 @@
 -- The chart of a timetable as SVG: its elements in order, and its bytes.
+--
+-- Proved: by their `ensures` clauses these calls do what definitions here say: `sheet_of`
+-- (sheet.rt), `draw_svg` (drawing.rt), `push_bars` (drawing.rt), `push_caption` (drawing.rt), and
+-- others.
+-- Read by: definitions in Answers, Terminal.
+-- Laws: none names a definition of this file itself.
+-- Change: the meaning is fixed by docs/chart.md, since the contract of `st_draw::draw` unfolds to a
+-- definition here. The form is free, with the proofs that unfold it.
 use Rattle.std.specs.Prelude.{ℕ, ◌+◌, ◌-◌, ◌*◌, ◌^◌, ◌≤◌, ◌<◌, max, List, [], ◌∷◌, ◌++◌, length, map, codes, decimal}
 use Rattle.st_draw.specs.Axis.{axis, x_of_tick, marks}
 use Rattle.st_entries.specs.Caption.{first_text, second_text, third_text, title, widest}

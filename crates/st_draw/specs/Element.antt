@@ -1,4 +1,12 @@
 -- The elements of a chart, and the bytes of each.
+--
+-- Proved: by their `ensures` clauses these calls do what definitions here say: `push_attribute`
+-- (attributes.rt), `push_corner` (attributes.rt), `push_ends` (attributes.rt), `push_front`
+-- (attributes.rt), and others.
+-- Read by: definitions in Drawing, WellFormed.
+-- Laws: ElementsAreClosed (specs/Laws.antt).
+-- Change: the meaning is fixed by docs/chart.md, since the contract of `st_draw::draw` unfolds to a
+-- definition here. The form is free, with the proofs that unfold it.
 use Rattle.std.specs.Prelude.{ℕ, nat_le, if◌then◌else◌, List, [], ◌∷◌, ◌++◌, length, take, codes, decimal}
 use Rattle.st_entries.specs.Caption.{card_limit}
 use Rattle.st_draw.specs.Escape.{escaped_text}

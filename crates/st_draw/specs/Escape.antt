@@ -1,4 +1,11 @@
 -- Text that is escaped for use between the elements of a chart.
+--
+-- Proved: by their `ensures` clauses these calls do what definitions here say: `push_escaped`
+-- (escape.rt), `push_escaped_byte` (escape.rt).
+-- Read by: definitions in Element.
+-- Laws: TextsStayInTheirElements (specs/Laws.antt).
+-- Change: the meaning is fixed by docs/chart.md, since the contract of `st_draw::draw` unfolds to a
+-- definition here. The form is free, with the proofs that unfold it.
 use Rattle.std.specs.Prelude.{ℕ, ◌==◌, if◌then◌else◌, List, [], ◌∷◌, ◌++◌, codes}
 use Rattle.st_entries.specs.Plain.{plain_byte}
 

@@ -1,4 +1,8 @@
 -- Laws of every chart, regardless of the report.
+--
+-- Proved: each law has its lemma in proofs/Laws.antt, with its name in small letters.
+-- Claimed: docs/CLAIMS.md names ElementsAreClosed, TextsStayInTheirElements.
+-- Change: docs/promises.txt lists each law, and the gate compares the list with the laws.
 use Rattle.std.specs.Prelude.{◌≡◌, ℕ, List, true}
 use Rattle.st_draw.specs.Element.{Element, element_text}
 use Rattle.st_draw.specs.Escape.{escaped_text}

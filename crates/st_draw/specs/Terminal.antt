@@ -1,4 +1,12 @@
 -- The chart of a timetable as lines of text.
+--
+-- Proved: by their `ensures` clauses these calls do what definitions here say: `column`
+-- (terminal.rt), `draw_text` (terminal.rt), `head` (terminal.rt), `push_columns` (terminal.rt), and
+-- others.
+-- Read by: definitions in Answers.
+-- Laws: none names a definition of this file itself.
+-- Change: the meaning is fixed by docs/chart.md, since the contract of `st_draw::draw` unfolds to a
+-- definition here. The form is free, with the proofs that unfold it.
 use Rattle.std.specs.Prelude.{ℕ, ◌+◌, ◌-◌, nat_lt, max, if◌then◌else◌, List, [], ◌∷◌, ◌++◌, length, replicate, codes, decimal}
 use Rattle.st_draw.specs.Axis.{axis, x_of_tick, marks}
 use Rattle.st_entries.specs.Caption.{first_text, second_text, third_text, widest, with_dots}

@@ -1,5 +1,11 @@
 -- Definitions for the laws of charts: their elements are known ones, each is closed, and no text
 -- contains markup.
+--
+-- Proved: no `ensures` clause names a definition of this file.
+-- Laws: ElementsAreClosed (specs/Laws.antt), TextsStayInTheirElements (specs/Laws.antt).
+-- Change: no page fixes these definitions, since no contract of a program unfolds to them; they
+-- change together with the clauses, definitions and laws that name them. docs/chart.md describes
+-- the subject.
 use Rattle.std.specs.Prelude.{◌≡◌, ◌⊎◌, ℕ, ◌==◌, ◌&&◌, not, Bool, true, List, [], ◌++◌, codes}
 use Rattle.std.specs.List.{list_all}
 use Rattle.st_text.specs.Bytes.{is_printable_byte}

@@ -1,8 +1,12 @@
-//! The attributes of an SVG element: its class, its position, and its size.
+//! The attributes of an SVG element: its class, its position and its size, in units of the drawing,
+//! which is 640 wide. docs/chart.md describes the chart. element.rt composes elements of these
+//! attributes; drawing.rt and frame.rt pass positions as an `Area`.
 //!
-//! element.rt composes elements of them. specs/Element.antt defines each text; the clause says that
-//! exactly it is appended, or that memory ran out. Numbers are in units of the drawing, which is
-//! 640 wide. Names and order are pinned by the definition and by SVG; the bodies are free.
+//! Proved: each call appends exactly the text of a definition in specs/Element.antt (`attribute`,
+//! `element_front`, `corner`, `size`, `ends`), or memory runs out.
+//!
+//! Pinned, by these definitions, the standard SVG and the files .svg of vectors/pictures: names and
+//! order of the attributes. Free: the bodies. The calls and `Area` are private to this crate.
 ghost use Rattle.std.specs.Prelude.{◌≡◌, ◌++◌, IfOk};
 ghost use Rattle.st_draw.specs.Element.{attribute, element_front, corner, size, ends};
 

@@ -1,10 +1,14 @@
 //! The axis of a chart: the ticks (clock cycles) that it shows, and the position of a tick on it.
+//! docs/chart.md describes the axis. sheet.rt and drawing.rt use the axis for SVG, and terminal.rt
+//! for text, with other widths.
 //!
-//! sheet.rt uses it for SVG, terminal.rt for text, with other widths. specs/Axis.antt defines the
-//! axis, its marks and positions; each clause says that the call returns exactly that, and `inside`
-//! that a position is within its room. A step is 1, 2 or 5 times a power of ten, and a tick before
-//! the axis is at its left end. The scale is pinned by the definition and by the vectors of charts;
-//! the bodies are free, with proofs in proofs/axis that follow the loops.
+//! Proved: axis, marks and positions are `axis`, `marks` and `x_of_tick` of specs/Axis.antt;
+//! `inside` says that a position is within its room, `some` that no span is 0.
+//!
+//! Pinned, by these definitions, docs/chart.md and vectors/pictures: a step is the first of 1, 2,
+//! 5, 10, .. that divides the span into at most five steps; an axis has at most eight marks; a tick
+//! before the axis is at the left end of the axis. Free: the bodies, if proofs/axis follows the
+//! loops.
 ghost use Rattle.std.specs.Prelude.{◌≡◌, ◌+◌, ◌^◌, ◌≤◌, ◌<◌, ◌++◌, IfOk};
 ghost use Rattle.st_draw.specs.Axis as spec;
 

@@ -1,13 +1,15 @@
 //! The chart of a timetable as SVG, a picture of 640 units in width with a row of 16 units for each
-//! entry.
+//! entry. docs/chart.md describes the chart. program.rt calls `draw_svg`; terminal.rt calls
+//! `remark`.
 //!
-//! program.rt makes the call `draw_svg`. `svg` in specs/Drawing.antt defines the elements in order
-//! and their bytes; the clauses say that the call returns exactly these, or that memory ran out.
-//! Laws in specs/Laws.antt say that each element is closed and that no text of a report becomes
-//! markup. Figures and texts are pinned by the definition and by the vectors of charts. A new
-//! element needs its place in `svg` there and in `draw_svg` here; the split into functions is free;
-//! a change of `push_rows`, `push_grid` and `push_waiting_keys` needs one in proofs/drawing as
-//! well.
+//! Proved: the bytes are `svg` of specs/Drawing.antt, unless memory runs out. The laws
+//! `ElementsAreClosed` and `TextsStayInTheirElements` (specs/Laws.antt) say that each element is
+//! closed, and that no text of a report becomes markup. Not proved: how a browser shows the chart.
+//!
+//! Pinned, by this definition, docs/chart.md and the files .svg of vectors/pictures: figures,
+//! classes and texts. A new element needs its place in `drawing` of specs/Drawing.antt and in
+//! `draw_svg`. Free: the split into functions, if proofs/drawing follows `push_rows`, `push_grid`
+//! and `push_waiting_keys`.
 #![tactic(auto, unfolding(crate::specs::Drawing::bars, crate::specs::Drawing::caption, crate::specs::Drawing::chart, crate::specs::Drawing::drawing, crate::specs::Drawing::ending_keys, crate::specs::Drawing::foot, crate::specs::Drawing::legend, crate::specs::Drawing::line_keys, crate::specs::Drawing::mark, crate::specs::Drawing::picture_front, crate::specs::Drawing::remark, crate::specs::Drawing::row_elements, crate::specs::Drawing::svg, crate::specs::Drawing::waiting_keys), using(crate::proofs::Elements::elements_joined, crate::proofs::Elements::elements_one))]
 
 ghost use Rattle.std.specs.Prelude.{◌≡◌, ◌+◌, ◌^◌, ◌≤◌, ◌<◌, ◌++◌, IfOk, codes, decimal, max, ◌-◌};

@@ -1,10 +1,14 @@
-//! The elements of an SVG chart: box, bar, line, text, and the text of a card.
+//! The elements of an SVG chart: box, bar (a box with a title), line, text, and the text of a card.
+//! docs/chart.md describes the chart. drawing.rt and frame.rt draw by these calls only. Each text
+//! is escaped here, by escape.rt, so no caller has to escape.
 //!
-//! drawing.rt and frame.rt draw by these calls only. `element_text` in specs/Element.antt defines
-//! the bytes of each element; the clauses say that exactly these are appended, or that memory ran
-//! out. Texts are escaped here, so no caller can forget it. A law in specs/Laws.antt says that each
-//! element is closed. The bytes are pinned by the definition; a new kind of element is a case of
-//! `element_text`, one in specs/WellFormed.antt, and a function here. The bodies are free.
+//! Proved: the bytes of each element are `element_text` of specs/Element.antt, unless memory runs
+//! out. That each element is closed is the law `ElementsAreClosed` (specs/Laws.antt).
+//!
+//! Pinned, by this definition, docs/chart.md and the files .svg of vectors/pictures: the bytes; a
+//! card of more than CARD_LIMIT characters is cut to 39 and an ellipsis. A new kind of element
+//! needs a case of `element_text`, one of `IsClosed` in specs/WellFormed.antt, and a function here.
+//! Free: the bodies.
 #![tactic(auto, unfolding(crate::specs::Element::box_title, crate::specs::Element::card_content, crate::specs::Element::content, crate::specs::Element::element_text, crate::specs::Element::shown_card, crate::specs::Element::title_end))]
 
 ghost use Rattle.std.specs.Prelude.{◌≡◌, ◌++◌, IfOk};

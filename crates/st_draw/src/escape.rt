@@ -1,10 +1,14 @@
-//! Text that is escaped for use between the elements of an SVG chart.
+//! Text that is escaped for a place between the elements of an SVG chart. Only element.rt calls
+//! `push_escaped`, for each text of a report. docs/chart.md describes the chart.
 //!
-//! element.rt makes the call. specs/Escape.antt defines the escaped text; the clauses say that
-//! exactly it is appended, or that memory ran out. A law in specs/Laws.antt says that it is
-//! printable and has no `<` or `>`. It is not enough for a place between quotation marks, and none
-//! is used there. The text is pinned by the definition. The body is free, with the proof of its
-//! loop in proofs/escape.
+//! Proved: `escaped_text` of specs/Escape.antt is appended, or memory runs out. The law
+//! `TextsStayInTheirElements` (specs/Laws.antt) says that an escaped text is printable and has no
+//! `<` or `>`. Not promised: that an escaped text is safe between quotation marks; no text is put
+//! there.
+//!
+//! Pinned, by this definition, docs/chart.md and vectors/pictures/cards.svg: the three entities,
+//! and a question mark for unprintable bytes (`plain_byte` of `st_entries`). Free: the bodies, if
+//! proofs/escape follows the loop.
 ghost use Rattle.std.specs.Prelude.{◌≡◌, ◌++◌, IfOk};
 ghost use Rattle.st_draw.specs.Escape as spec;
 

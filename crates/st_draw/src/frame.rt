@@ -1,14 +1,14 @@
-//! The parts around the rows of an SVG chart: its background, the note beside the axis, and the
-//! keys of the legend.
+//! The parts around the rows of an SVG chart: its background, the note at the axis, and the keys of
+//! the legend. docs/chart.md describes the chart. Only drawing.rt calls these functions. Positions
+//! are in units of the drawing, downwards; the `requires` bound them, so that sums do not overflow.
 //!
-//! drawing.rt makes the calls. specs/Drawing.antt defines the elements; each clause says that
-//! exactly these are appended, or that memory ran out. Positions are in units of the drawing,
-//! downwards; `requires` bounds them, so that sums do not overflow. A `Sheet` (sheet.rt) has what
-//! all rows share: the left end of the axis and the y of the last row's lower end; `IsSheet` bounds
-//! both. The `across` and `down` of an `Area` are the size of a box, and the end point of a line.
-//! The letters are classes of the chart's style: `p` its ground, `c` and `m` texts that begin, or
-//! have their middle, at x. Figures and texts are pinned by the definition and by vectors/pictures;
-//! the split into functions is free.
+//! Proved: each call appends exactly elements of specs/Drawing.antt (`ground`, `box_key`,
+//! `line_key`), or memory runs out.
+//!
+//! Pinned, by these definitions, docs/chart.md and the files .svg of vectors/pictures: figures and
+//! texts; the letters are classes of the styles in opening.rt: `p` the background, `c` and `m`
+//! texts that begin, or have their middle, at x. The `across` and `down` of an `Area` are the size
+//! of a box, or the end point of a line. Free: the split into functions.
 ghost use Rattle.std.specs.Prelude.{◌≡◌, ◌+◌, ◌^◌, ◌<◌, ◌++◌, IfOk, codes};
 ghost use Rattle.st_draw.specs.Element.{elements_text, element_text, Text};
 ghost use Rattle.st_draw.specs.Drawing as spec;

@@ -1,11 +1,14 @@
-//! The fixed texts with which each SVG chart begins.
+//! The fixed texts with which each SVG chart begins: the opening tag up to the height, and the
+//! styles. docs/chart.md describes the chart. Only drawing.rt writes these texts, with the height
+//! between.
 //!
-//! drawing.rt writes them, with the height of the chart between. `preamble` and `styles` in
-//! specs/Drawing.antt are these texts, and the clauses say that they agree byte by byte. So a
-//! change of a colour is a change of the definition, of the text here and of vectors/pictures, and
-//! the length in the type is that of the text; nothing else is free. The classes: w and t wait for
-//! operands and for the turn, e executes, d is dropped, i an interrupt, s a snapshot, g a mark, p
-//! the background, n and m texts.
+//! Proved: the texts are `preamble` and `styles` of specs/Drawing.antt, byte by byte.
+//!
+//! Pinned, by these definitions and the files .svg of vectors/pictures: each byte. Another colour
+//! needs a change of the definition, of the text here, of the length in its type, and of
+//! vectors/pictures. The classes are named in drawing.rt and frame.rt: w and t wait for operands
+//! and for the turn, e executes, d is dropped, i an interrupt, s a snapshot, g a mark, p the
+//! background, n and m texts. Free: nothing.
 ghost use Rattle.std.specs.Prelude.{◌≡◌};
 ghost use Rattle.st_draw.specs.Drawing as spec;
 

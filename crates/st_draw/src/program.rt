@@ -1,11 +1,15 @@
-//! The program `chart`, apart from standard input and output: it reads a report and writes a chart.
+//! The program `chart`, apart from standard input and output: it reads a report, and writes its
+//! chart. docs/chart.md has the rules. The `main` of `chart` calls `draw`.
 //!
-//! The `main` of `chart` makes the call `draw`. specs/Answers.antt defines the effect by the
-//! meaning of the words and the status; the clauses say which bytes were read, and that exactly the
-//! chart's bytes were written, a proper prefix of them, or none. REPORT_LIMIT is a figure of that
-//! definition. A new kind of picture needs its word in words.rt and a case of `picture_of` in both.
-//! Not proved: speed and memory used. The effect is pinned by the definition, docs/chart.md and
-//! vectors/pictures. The split is free; proofs/program follows `draw_report` and `rows_in`.
+//! Proved, by the clause `answer` of `draw`, is `IsAnswer` of specs/Answers.antt: which bytes were
+//! read, and that exactly the chart's bytes were written, a proper prefix of them, or none, by the
+//! meaning of the words and the status; by the clause `usage`, the status `Usage` comes if and only
+//! if the words are invalid. Not proved: speed, and the memory that is used.
+//!
+//! Pinned, by docs/chart.md, docs/CLAIMS.md and specs/Answers.antt: both clauses; all memory is
+//! allocated before the first write; REPORT_LIMIT, the figure of `report_limit`. A new kind of
+//! picture needs its word in words.rt, and a case of `picture_of` here and in specs/Answers.antt.
+//! Free: the split, if proofs/program follows `draw_report` and `rows_in`.
 ghost use Rattle.std.specs.Prelude.{◌≡◌, ◌↔◌, IfOk, None, map, nat_eq, if◌then◌else◌};
 ghost use Rattle.std.specs.String.{string_bytes};
 ghost use Rattle.st_draw.specs.Answers as spec;

@@ -1,10 +1,13 @@
 //! The sheet on which the rows of an SVG chart are drawn: its axis, its horizontal extent and its
-//! height.
+//! height, in units of the drawing, 640 across. docs/chart.md describes the chart. drawing.rt makes
+//! the sheet and takes positions on it; frame.rt draws on it; no other module uses the sheet.
 //!
-//! drawing.rt and frame.rt use it. `sheet` and `x_of` in specs/Drawing.antt define it; each clause
-//! says that the call returns exactly that, and `good` that positions are bounded. Units are those
-//! of the drawing, 640 across; a character takes 7, a row 16. The figures are pinned by the
-//! definition and by vectors/pictures; the bodies are free.
+//! Proved: the sheet is `sheet` of specs/Drawing.antt, positions are `x_of` there; the clause
+//! `good` bounds positions (`IsSheet`).
+//!
+//! Pinned, by these definitions, docs/chart.md and the files .svg of vectors/pictures: a character
+//! takes 7 units, a row 16, the first row begins at 36, as drawing.rt has it; at most 40 characters
+//! of a card, by CARD_LIMIT of `st_entries`. Free: the bodies.
 ghost use Rattle.std.specs.Prelude.{◌≡◌, ◌≤◌};
 ghost use Rattle.st_draw.specs.Drawing as spec;
 ghost use Rattle.st_draw.specs.Drawing.{IsSheet};

@@ -1,8 +1,11 @@
-//! The exit statuses of the program `chart`.
+//! The exit statuses of the program `chart`. docs/chart.md lists them. program.rt returns them, and
+//! the `main` of `chart` exits with the number.
 //!
-//! specs/Answers.antt defines the effect of a call for each status, and specs/Exit.antt of `chart`
-//! has the numbers, with which the exit code is proved to agree. The numbers are pinned by this
-//! proof and by docs/chart.md, as users' scripts rely on them; nothing here is free.
+//! Proved: `Did` and `IsAnswer` of specs/Answers.antt define the effect of a call for each status;
+//! `main` of `chart` is proved to exit with the numbers of specs/Exit.antt of `chart`.
+//!
+//! Pinned, by specs/Answers.antt, specs/Exit.antt of `chart` and docs/chart.md: the variants and
+//! numbers, as scripts of users rely on the numbers. Free: the derived traits.
 
 /// The status of a call of `draw`. The number is the program's exit status.
 #[derive(Clone, Copy, Debug, PartialEq, Eq)]

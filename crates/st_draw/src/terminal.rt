@@ -1,11 +1,13 @@
-//! The chart of a timetable as lines of text for a terminal.
+//! The chart of a timetable as lines of text for a terminal: three columns of texts, and 60
+//! characters for the axis. docs/chart.md describes the chart. Only program.rt calls `draw_text`.
 //!
-//! program.rt makes the call `draw_text`. `page_text` in specs/Terminal.antt defines the bytes; the
-//! clauses say that the call returns exactly these, or that memory ran out. A line has three
-//! columns and 60 characters for the axis. Texts of a report are made printable. Characters and
-//! columns are pinned by the definition, docs/chart.md and the vectors of charts; the split into
-//! functions is free; a change of `push_many`, `push_entries` and `push_scale` needs one in
-//! proofs/terminal as well.
+//! Proved: the bytes are `page_text` of specs/Terminal.antt, unless memory runs out. Texts of a
+//! report are made printable by `push_plain` of `st_entries`.
+//!
+//! Pinned, by this definition, docs/chart.md and the files .txt of vectors/pictures: characters and
+//! columns: `.` waits for operands, `-` for its turn, `#` executes, `x` is dropped, `!` an
+//! interrupt, `|` a snapshot. Free: the split into functions, if proofs/terminal follows
+//! `push_many`, `push_entries` and `push_scale`.
 ghost use Rattle.std.specs.Prelude.{◌≡◌, ◌-◌, ◌≤◌, ◌++◌, IfOk, max, replicate};
 ghost use Rattle.st_draw.specs.Terminal as spec;
 

@@ -1,11 +1,11 @@
 //! Parses the words of the command line of `chart`: a kind of picture, and the numbers of the first
-//! and the last row, all optional.
+//! and the last row, all optional. docs/chart.md has the rules. Only program.rt calls `read_words`.
 //!
-//! program.rt makes the call `read_words`. `picture_choice` in specs/Words.antt defines the
-//! meaning; the clause says that the call returns exactly that. Rows are numbered from 1. ROW_LIMIT
-//! is a figure of the definition and of docs/chart.md: a longer part is cut to 200 rows. A new kind
-//! is a variant, a row of `kind_named` in both, and a case in program.rt. The meaning is pinned by
-//! the definition and docs/chart.md; the bodies are free.
+//! Proved: the meaning is `picture_choice` of specs/Words.antt; `None` is a bad command line.
+//!
+//! Pinned, by specs/Words.antt and docs/chart.md: the words; rows are numbered from 1; ROW_LIMIT,
+//! the figure of `row_limit`: a longer part is cut to 200 rows. A new kind needs a variant, a row
+//! of `kind_named` here and in specs/Words.antt, and a case in program.rt. Free: the bodies.
 ghost use Rattle.std.specs.Prelude.{◌≡◌, map};
 ghost use Rattle.std.specs.String.{string_bytes};
 ghost use Rattle.st_draw.specs.Words as spec;

@@ -1,4 +1,10 @@
 -- The completions of the rows in a report, in order.
+--
+-- Proved: no `ensures` clause names a definition of this file.
+-- Laws: OneExecutesAtATick (specs/Laws.antt).
+-- Change: no page fixes these definitions, since no contract of a program unfolds to them; they
+-- change together with the clauses, definitions and laws that name them. docs/chart.md describes
+-- the subject.
 use Rattle.std.specs.Prelude.{ℕ, ◌≤◌, List, [], ◌∷◌, ⊤, Option, None, Some}
 use Rattle.st_entries.specs.Report.{item}
 use Rattle.st_entries.specs.declared.report.TimetableLine.{TimetableLine}

@@ -1,4 +1,11 @@
 -- The text of a card, from the listing at the beginning of a report.
+--
+-- Proved: by their `ensures` clauses these calls do what definitions here say: `card_text`
+-- (label.rt), `emits` (label.rt), `is_filled` (label.rt), `is_listed` (label.rt), and others.
+-- Read by: definitions in Caption.
+-- Laws: none names a definition of this file itself.
+-- Change: the meaning is fixed by docs/chart.md, since the contract of `st_draw::draw` unfolds to a
+-- definition here. The form is free, with the proofs that unfold it.
 use Rattle.std.specs.Prelude.{ℕ, ◌==◌, ◌&&◌, not, Bool, false, if◌then◌else◌, List, [], ◌∷◌, take, drop, Option, None, Some}
 use Rattle.std.specs.Option.{is_some}
 use Rattle.st_text.specs.Blanks.{without_front_blanks, without_end_blanks}

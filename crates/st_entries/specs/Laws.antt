@@ -1,4 +1,8 @@
 -- Laws of the entries of every report, and of every log of entries.
+--
+-- Proved: each law has its lemma in proofs/Laws.antt, with its name in small letters.
+-- Claimed: docs/CLAIMS.md names LabelsStayInTheirLines, LogsGoForward, OneExecutesAtATick.
+-- Change: docs/promises.txt lists each law, and the gate compares the list with the laws.
 use Rattle.std.specs.Prelude.{◌≡◌, ◌≤◌, ℕ, List, true}
 use Rattle.st_text.specs.Bytes.{is_printable}
 use Rattle.st_text.specs.Pieces.{pieces_of}

@@ -1,4 +1,11 @@
 -- A log of the events of a timetable's entries, for a pipeline viewer.
+--
+-- Proved: by their `ensures` clauses these calls do what definitions here say: `first_stage`
+-- (log.rt), `last_stage` (log.rt), `push_begin` (log.rt), `push_change` (log.rt), and others.
+-- Read by: definitions in Answers of st_draw.
+-- Laws: none names a definition of this file itself.
+-- Change: the meaning is fixed by docs/chart.md, since the contract of `st_draw::draw` unfolds to a
+-- definition here. The form is free, with the proofs that unfold it.
 use Rattle.std.specs.Prelude.{ℕ, ◌-◌, nat_eq, if◌then◌else◌, List, [], ◌∷◌, ◌++◌, codes, decimal}
 use Rattle.st_entries.specs.Caption.{first_text, second_text, third_text, with_dots}
 use Rattle.st_entries.specs.Moments.{happenings}

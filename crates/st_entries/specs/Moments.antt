@@ -1,4 +1,12 @@
 -- The events of a timetable's entries, in the order of ticks.
+--
+-- Proved: by their `ensures` clauses these calls do what definitions here say: `end_tick`
+-- (moments.rt), `happenings` (moments.rt), `moments_of` (moments.rt), `push` (moments.rt), and
+-- others.
+-- Read by: definitions in Log.
+-- Laws: LogsGoForward (specs/Laws.antt).
+-- Change: the meaning is fixed by docs/chart.md, since the contract of `st_draw::draw` unfolds to a
+-- definition here. The form is free, with the proofs that unfold it.
 use Rattle.std.specs.Prelude.{ℕ, ◌+◌, ◌≤◌, nat_le, max, if◌then◌else◌, List, [], ◌∷◌, ◌++◌, ⊤}
 use Rattle.st_io.specs.Count.{count_after}
 use Rattle.st_entries.specs.Phases.{first_tick}

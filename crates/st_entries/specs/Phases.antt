@@ -1,4 +1,11 @@
 -- The phases of an entry: the meaning of each of its bars, with its first and its last tick.
+--
+-- Proved: by their `ensures` clauses these calls do what definitions here say: `sort_entries`
+-- (moments.rt), `first_tick` (timetable.rt).
+-- Read by: definitions in Moments, Timetable, Terminal of st_draw, Drawing of st_draw, and others.
+-- Laws: OneExecutesAtATick (specs/Laws.antt).
+-- Change: the meaning is fixed by docs/chart.md, since the contract of `st_draw::draw` unfolds to a
+-- definition here. The form is free, with the proofs that unfold it.
 use Rattle.std.specs.Prelude.{ℕ, ◌+◌, nat_le, nat_lt, min, max, ◌&&◌, Bool, true, false, if◌then◌else◌, List, [], ◌∷◌}
 use Rattle.st_entries.specs.declared.timetable.DrawnEntry.{DrawnEntry}
 use Rattle.st_entries.specs.declared.timetable.DrawnEntry.TheVariants.{Done, Dropped, Taken, Shown}

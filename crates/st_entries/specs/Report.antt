@@ -1,5 +1,12 @@
 -- The contents of a report's lines about its timetable, read leniently: a line is words between
 -- blanks.
+--
+-- Proved: by their `ensures` clauses these calls do what definitions here say: `is_place`
+-- (label.rt), `dropped` (report.rt), `has` (report.rt), `is_row` (report.rt), and others.
+-- Read by: definitions in Label, Completions, Timetable.
+-- Laws: none names a definition of this file itself.
+-- Change: the meaning is fixed by docs/chart.md, since the contract of `st_draw::draw` unfolds to a
+-- definition here. The form is free, with the proofs that unfold it.
 use Rattle.std.specs.Prelude.{ℕ, ◌-◌, ◌^◌, nat_eq, ◌&&◌, Bool, if◌then◌else◌, List, [], get_or, codes, Option, None}
 use Rattle.std.specs.Option.{option_map, option_and_then}
 use Rattle.std.specs.Cmp.Lexicographic.{pointwise}

@@ -1,4 +1,12 @@
 -- The requested part of the timetable that the lines of a report describe.
+--
+-- Proved: by their `ensures` clauses these calls do what definitions here say: `push_entry`
+-- (timetable.rt), `read_timetable` (timetable.rt), `take_item` (timetable.rt), `take_line`
+-- (timetable.rt), and others.
+-- Read by: definitions in Answers of st_draw.
+-- Laws: OneExecutesAtATick (specs/Laws.antt).
+-- Change: the meaning is fixed by docs/chart.md, since the contract of `st_draw::draw` unfolds to a
+-- definition here. The form is free, with the proofs that unfold it.
 use Rattle.std.specs.Prelude.{ℕ, nat_le, nat_lt, ◌&&◌, Bool, if◌then◌else◌, List, [], ◌∷◌, ◌++◌, reverse, Option, None, Some}
 use Rattle.st_text.specs.Pieces.{pieces_of}
 use Rattle.st_io.specs.Count.{count_after}

@@ -1,11 +1,14 @@
 //! The texts of an entry (an executed or a dropped instruction, an interrupt, a snapshot): the
-//! three in front of its bars, and the title of its bars.
+//! three in front of its bars, and the title of its bars. docs/chart.md has the rules. The charts
+//! of `st_draw` (drawing.rt, terminal.rt, sheet.rt) and log_line.rt use these texts.
 //!
-//! Charts of `st_draw` and the log here show them. specs/Caption.antt defines each text; the
-//! clauses say that a call returns exactly that, or that memory ran out. CARD_LIMIT is a figure of
-//! the definitions, and a law in `st_laws` compares the names of indicators with the system
-//! symbols. Texts are pinned by the definitions, docs/chart.md and the vectors; the bodies are
-//! free; a change of `push_title` and `widest` needs one in proofs/caption as well.
+//! Proved: each call returns the definition of its name in specs/Caption.antt, unless memory runs
+//! out. The law `SymbolsAgree` (specs/Laws.antt of `st_laws`) compares the names of indicators with
+//! the system symbols.
+//!
+//! Pinned, by specs/Caption.antt, docs/chart.md and vectors/pictures: the texts; CARD_LIMIT, a
+//! figure of the definitions `card_limit` and `with_dots`, and of preconditions in `st_draw`
+//! (sheet.rt, terminal.rt). Free: the bodies, if proofs/caption follows `push_title` and `widest`.
 ghost use Rattle.std.specs.Prelude.{◌≡◌, ◌≤◌, ◌++◌, IfOk, decimal};
 ghost use Rattle.st_entries.specs.Caption as spec;
 

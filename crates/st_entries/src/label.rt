@@ -1,12 +1,14 @@
 //! The text of the card that was assembled to the bits at an address, from the listing at the
-//! beginning of a report.
+//! beginning of a report. docs/report.md has the columns of the listing: card in 1 to 5, location
+//! in 7 to 15, bits from 17, text from 34. Only caption.rt calls `label_at`.
 //!
-//! caption.rt makes the call `label_at`. `label` in specs/Label.antt defines the text; each clause
-//! says that the call returns exactly that. The columns are those of the listing
-//! (specs/Listing.antt of `st_report`): card in 1 to 5, location in 7 to 15, bits from 17, text
-//! from 34. The text is pinned by the definition and docs/chart.md. No clause compares the two
-//! crates, so a changed listing has to be changed here as well. The search is a scan; its form is
-//! free; a change of the loop of `label_at` needs one in proofs/label as well.
+//! Proved: the text is `label` of specs/Label.antt. Not proved: that `st_report` writes these
+//! columns (its specs/Listing.antt); the charts in vectors/pictures show this. A changed listing
+//! needs a change here.
+//!
+//! Pinned, by specs/Label.antt, docs/report.md and vectors/pictures: the columns; that the listing
+//! ends at the first line that does not begin with a number, and that the first card with this
+//! location counts. Free: the form of the search, if proofs/label follows the loop of `label_at`.
 ghost use Rattle.std.specs.Prelude.{◌≡◌};
 ghost use Rattle.st_entries.specs.Label as spec;
 ghost use Rattle.st_entries.specs.Report.{place_in_report};

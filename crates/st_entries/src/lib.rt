@@ -1,8 +1,14 @@
 //! The entries of the timetable in a report: their texts, and their events as a log for a pipeline
-//! viewer. `docs/chart.md` has the rules. Calls that allocate memory fail only if memory runs out.
+//! viewer. docs/chart.md has the rules. Only `st_draw` calls this crate. Input is any text, even if
+//! it is no report of `stretch`. Calls that allocate memory fail only if memory runs out.
 //!
-//! `st_draw` makes the calls. Input is any text, also one that is no report of `stretch`; the laws
-//! of specs/Laws.antt say what holds for each.
+//! Proved: each call returns what a definition of a file in specs/ says, which the head of its
+//! module names. The laws `OneExecutesAtATick`, `LogsGoForward` and `LabelsStayInTheirLines` stand
+//! in specs/Laws.antt. Not proved: that `st_report` writes the lines that are read here; the charts
+//! in vectors/pictures show this.
+//!
+//! Pinned, by `st_draw`, docs/chart.md and docs/CLAIMS.md: the public calls and types with their
+//! clauses. Free: all that is private.
 #![tactic(auto, unfolding(crate::specs::Caption::first_text, crate::specs::Caption::indicator_names, crate::specs::Caption::indicator_text, crate::specs::Caption::second_text, crate::specs::Caption::third_text, crate::specs::Caption::title, crate::specs::Caption::with_dots, crate::specs::Caption::words_with_number, crate::specs::Label::card_text, crate::specs::Label::is_listed, crate::specs::Label::label, crate::specs::Label::emits, crate::specs::Log::begin_lines, crate::specs::Log::change_lines, crate::specs::Log::log, crate::specs::Log::log_end_lines, crate::specs::Log::moment_lines, crate::specs::Moments::happenings, crate::specs::Moments::moments_of, crate::specs::Report::dropped_item, crate::specs::Report::item, crate::specs::Report::number_in_report, crate::specs::Report::place_in_report, crate::specs::Report::row_item, crate::specs::Report::word_in_line, crate::specs::Timetable::timetable))]
 
 mod caption;

@@ -1,12 +1,14 @@
 //! A log of the events of a timetable's entries, in the format Kanata of pipeline viewers: which
-//! stage each entry begins and ends at each tick.
+//! stage each entry begins and ends at each tick. docs/chart.md has the format. `st_draw`
+//! (program.rt) calls `write_log` for the picture `kanata`.
 //!
-//! `st_draw` makes the call `write_log`. `log` in specs/Log.antt defines the bytes; the clauses say
-//! that the call returns exactly these, or that memory ran out. Stages are W (waits for operands),
-//! T (waits for its turn), X (executes), D (dropped), I (interrupt) and S (snapshot). Besides,
-//! events are in the order of ticks (specs/Laws.antt). Texts and stages are pinned by the
-//! definition and docs/chart.md; the split into functions is free; a change of the loop of
-//! `push_moments` needs one in proofs/log as well.
+//! Proved: the bytes are `log` of specs/Log.antt, unless memory runs out. That events are in the
+//! order of ticks is the law `LogsGoForward`, that labels stay in their lines the law
+//! `LabelsStayInTheirLines` (specs/Laws.antt).
+//!
+//! Pinned, by this definition, docs/chart.md and the files .kanata of vectors/pictures: the stages
+//! W (waits for operands), T (waits for its turn), X (executes), D (dropped), I (interrupt) and S
+//! (snapshot). Free: the split into functions, if proofs/log follows the loop of `push_moments`.
 ghost use Rattle.std.specs.Prelude.{◌≡◌, ◌++◌, IfOk};
 ghost use Rattle.st_entries.specs.Log as spec;
 

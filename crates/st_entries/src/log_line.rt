@@ -1,9 +1,13 @@
-//! The lines of a log in the format Kanata, each one call; fields are separated by tabs.
+//! The lines of a log in the format Kanata, one call for each kind; fields are separated by tabs.
+//! docs/chart.md has the format. Only log.rt calls these functions, and decides which lines a log
+//! has.
 //!
-//! log.rt decides which lines a log has. specs/Log.antt defines each line; the clause says that
-//! exactly this line is appended, or that memory ran out. Ticks are what the format calls cycles,
-//! and numbers of entries count from 0. The texts are pinned by the definition, by viewers that
-//! read them, and by the vectors; the bodies are free.
+//! Proved: each call appends exactly a line of specs/Log.antt, or memory runs out. Not proved: that
+//! viewers accept the log.
+//!
+//! Pinned, by specs/Log.antt, docs/chart.md, the files .kanata of vectors/pictures and the viewers:
+//! the bytes. Ticks are what the format calls cycles; numbers of entries count from 0. Free: the
+//! bodies.
 #![tactic(auto, unfolding(crate::specs::Log::heading, crate::specs::Log::label_line, crate::specs::Log::log_end_line, crate::specs::Log::log_entry_line, crate::specs::Log::log_front, crate::specs::Log::log_label, crate::specs::Log::cycles_line, crate::specs::Log::stage_line))]
 
 ghost use Rattle.std.specs.Prelude.{◌≡◌, ◌++◌, IfOk};

@@ -1,11 +1,15 @@
-//! The events of a timetable's entries, in the order of ticks.
+//! The events of a timetable's entries, in the order of ticks. docs/chart.md has the rules. Only
+//! log.rt calls `happenings`. A report may have ticks in any order, so no event of an entry is put
+//! before the one that precedes it in that entry.
 //!
-//! log.rt makes the call `happenings`. specs/Moments.antt defines the events and their order
-//! (`in_order`, a stable sort); the clauses say that the call returns exactly these, or that memory
-//! ran out. A report may have ticks in any order, so each event is put at the earliest tick that is
-//! not before the events preceding it. The sorting call is free, as long as equal ticks keep their
-//! order. The order is pinned by the definition. proofs/moments follows `moments_of`,
-//! `sort_entries` and `sort_moments`.
+//! Proved: the events are `happenings` of specs/Moments.antt, sorted by `in_order` there, unless
+//! memory runs out. That no event has an earlier tick than the event before it is the law
+//! `LogsGoForward` (specs/Laws.antt).
+//!
+//! Pinned, by this definition and the files .kanata of vectors/pictures: events at equal ticks keep
+//! their order; an interrupt and a snapshot last one tick. Free: the sorting call, as long as it is
+//! stable, and the bodies, if proofs/moments follows `moments_of`, `sort_entries` and
+//! `sort_moments`.
 ghost use Rattle.std.specs.Prelude.{◌≡◌, ◌++◌, ◌∷◌, [], IfOk};
 ghost use Rattle.st_entries.specs.Phases.{first_tick as first_tick_of};
 ghost use Rattle.st_entries.specs.Moments as spec;

@@ -1,10 +1,14 @@
-//! Numbers and texts in printable characters, appended to a list of bytes.
+//! Numbers, and texts in printable characters, appended to a list of bytes. Text charts and logs
+//! show texts of a report by `push_plain`, SVG charts by `plain_byte`, so no control character of a
+//! report reaches a terminal. log_line.rt, caption.rt and `st_draw` call these functions.
+//! docs/chart.md describes charts and logs.
 //!
-//! Charts and logs show texts of a report by these calls only, so no control character of a report
-//! reaches a terminal. specs/Plain.antt defines the text; each clause says that exactly it is
-//! appended, or that memory ran out. A law in specs/Laws.antt says that it is printable. The bodies
-//! are free; a change of the loop of `push_plain` needs one in proofs/plain as well. The text is
-//! pinned by the definition.
+//! Proved: the definitions of specs/Plain.antt are appended, unless memory runs out. That a label
+//! of a log is printable is the law `LabelsStayInTheirLines` (specs/Laws.antt).
+//!
+//! Pinned, by specs/Plain.antt, docs/chart.md and vectors/pictures: a question mark for each byte
+//! outside 32 to 126; the calls, by specs/Escape.antt of `st_draw`. Free: the bodies, if
+//! proofs/plain follows the loop of `push_plain`.
 ghost use Rattle.std.specs.Prelude.{◌≡◌, ◌++◌, IfOk, decimal};
 ghost use Rattle.st_entries.specs.Plain as spec;
 

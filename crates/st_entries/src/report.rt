@@ -1,12 +1,15 @@
-//! Parses the lines of a report that describe its timetable: `ROW`, `DROP`, `INT` and `SNAP`.
+//! Parses the lines of a report that describe its timetable: `ROW`, `DROP`, `INT` and `SNAP`, as
+//! docs/report.md has them. timetable.rt calls `item_of` for each line; label.rt calls `number` and
+//! `place_of`; the charts show a `ReportAddress`.
 //!
-//! timetable.rt makes the call `item_of` for each line. specs/Report.antt defines the contents of a
-//! line, read leniently: only the keywords and numbers at their places count. Each clause says that
-//! the call returns exactly that. `st_report` writes these lines, and no law compares the two, but
-//! vectors of charts do. Addresses are words and bits, ticks are clock cycles, all below 2^64. A
-//! new line of the timetable needs a variant here and a case both of the definition and of
-//! `item_of`. The bodies are free. The lines are pinned by the definition and docs/report.md. The
-//! loop of `piece` has its proof in proofs/report, which follows it.
+//! Proved: the contents are `item` of specs/Report.antt, read leniently: only the keywords and
+//! numbers at their places count. Not proved: that `st_report` writes these lines; the charts in
+//! vectors/pictures show this.
+//!
+//! Pinned, by specs/Report.antt, docs/report.md and vectors/pictures: the places of keywords and
+//! numbers. Addresses are words and bits, ticks are clock cycles, all below 2^64. A new kind of
+//! line needs a variant here, and a case of `item` and of `item_of`. Free: the bodies, if
+//! proofs/report follows the recursion of `piece`.
 ghost use Rattle.std.specs.Prelude.{◌≡◌};
 ghost use Rattle.st_entries.specs.Report as spec;
 

@@ -1,12 +1,16 @@
 //! The requested part of the timetable that the lines of a report describe: the entries to be
-//! drawn.
+//! drawn. docs/chart.md has the rules. `st_draw` (program.rt) calls `read_timetable`; charts and
+//! logs use `DrawnEntry`.
 //!
-//! `st_draw` makes the call `read_timetable`. specs/Timetable.antt defines the timetable after each
-//! line; the clauses say that the call returns exactly that, or that memory ran out. Rows are
-//! executed instructions, numbered from 1; entries that are no rows belong to the row before them.
-//! The turn of a row is computed here: the tick at which its operands have arrived and the row
-//! before it is complete. The bodies are free, but proofs in proofs/timetable follow the loops. The
-//! result is pinned by the definition, docs/chart.md and vectors/pictures.
+//! Proved: the result is `timetable` of specs/Timetable.antt, unless memory runs out. If
+//! completions rise, as in every report, at most one row executes at a tick: the law
+//! `OneExecutesAtATick` (specs/Laws.antt).
+//!
+//! Pinned, by these definitions, docs/chart.md and vectors/pictures: rows are numbered as in the
+//! report; entries that are no rows belong to the row before them, and dropped ones come oldest
+//! first; the turn of a row is the tick at which its operands have arrived and the row before it is
+//! complete (`turn_of` in specs/Phases.antt). Free: the bodies, if proofs/timetable follows the
+//! loops.
 ghost use Rattle.std.specs.Prelude.{◌≡◌, ◌++◌, IfOk, [], reverse};
 ghost use Rattle.st_entries.specs.Phases.{first_tick as first_tick_of};
 ghost use Rattle.st_entries.specs.Timetable as spec;

@@ -1,4 +1,9 @@
 -- Laws of charges: of each row, and of all rows of a run.
+--
+-- Proved: each law has its lemma in proofs/Laws.antt, with its name in small letters.
+-- Claimed: docs/CLAIMS.md names ChargesAddUpToTheRun, ChargesFollow, RowsAreThoseOfTheRun,
+-- SegmentsStartBehindTheirEnd, and others.
+-- Change: docs/promises.txt lists each law, and the gate compares the list with the laws.
 use Rattle.std.specs.Prelude.{ℕ, ◌≡◌, ◌+◌, ◌<◌, ◌≤◌, true, List, All, map, length}
 use Rattle.st_rows.specs.Rows.{row_of_entry}
 use Rattle.st_rows.specs.declared.entry.Entry.{Entry}

@@ -1,5 +1,15 @@
 -- The entries that complete in a run, and the charges of all of them. The machine has the delays ds
 -- and n levels.
+--
+-- Proved: by their `ensures` clauses these calls do what definitions here say: `add_run`
+-- (running.rt of st_account), `write_run` (running.rt of st_account), `step` (account.rt of
+-- st_account).
+-- Read by: definitions in Text of st_account, Runs of st_causes.
+-- Laws: ChargesAddUpToTheRun (specs/Laws.antt), RowsAreThoseOfTheRun (specs/Laws.antt),
+-- LedgersTellWhereTicksWent (specs/Laws.antt of st_causes), TablesHaveTheRowsOfTheRun
+-- (specs/Laws.antt of st_causes), and others.
+-- Change: the meaning is fixed by docs/ledger.md, since the contract of `st_account::ledger`
+-- unfolds to a definition here. The form is free, with the proofs that unfold it.
 use Rattle.std.specs.Prelude.{ℕ, ◌+◌, List, [], ◌∷◌, ◌++◌, map}
 use Rattle.st_exec.specs.Step.{address}
 use Rattle.st_rows.specs.declared.issue.EntryTicks.{EntryTicks}

@@ -1,4 +1,11 @@
 -- The bytes of each line of the ledger, its line end included.
+--
+-- Proved: by their `ensures` clauses these calls do what definitions here say: `fill_charge`
+-- (lines.rt), `fill_row` (lines.rt), `fill_sum` (lines.rt), `put_stage` (lines.rt), and others.
+-- Read by: definitions in Totals, WaitLines of st_lines, EntryLines of st_lines, Runs of st_causes.
+-- Laws: none names a definition of this file itself.
+-- Change: the meaning is fixed by docs/ledger.md, since the contract of `st_account::ledger`
+-- unfolds to a definition here. The form is free, with the proofs that unfold it.
 use Rattle.std.specs.Prelude.{ℕ, List, ◌++◌, codes, decimal}
 use Rattle.st_text.specs.Bytes.{lf}
 use Rattle.st_text.specs.Numerals.{half_address}

@@ -1,11 +1,14 @@
 //! The ledger of a run: each tick is charged to one stage of one entry (completion-stall
-//! accounting). `docs/ledger.md` has the rules.
+//! accounting). docs/ledger.md has the rules ("Charges"). `st_account` and `st_tally` add up and
+//! write sums, `st_lines` writes rows and charges, `st_reasons` splits charges into waits.
 //!
-//! `st_account` writes the ledger with these calls, and `st_reasons` and `st_lines` split and
-//! format charges. The charges are defined in specs/Charges.antt, and specs/Laws.antt proves that
-//! they cover the run without a gap, so that they add up to its ticks. No call allocates. Free is
-//! all that is not exported; the charges are pinned by `st_reasons`, `st_account` and the laws of
-//! `st_causes`.
+//! Proved: charges and totals are those of specs/Charges.antt and specs/Totals.antt; by the laws
+//! `ChargesFollow` and `ChargesAddUpToTheRun` (specs/Laws.antt) they cover the run without a gap,
+//! so that they add up to its ticks. In the code no call allocates; no clause says so.
+//!
+//! Pinned, by docs/CLAIMS.md ("Where the ticks went"), docs/promises.txt, docs/ledger.md and
+//! vectors/ledger/lines.txt: the laws, and what is exported below with its clauses. Free: all that
+//! is not exported.
 #![tactic(auto, using(st_bits::specs::Storage::words_of_storage_is))]
 
 mod charges;

@@ -1,12 +1,14 @@
-//! The lines of the ledger about rows, charges and sums, by the rules of `docs/ledger.md`: one call
-//! for each kind of line, with its line end.
+//! The lines of the ledger about rows, charges and sums: one call for each kind of line, with its
+//! line end. docs/ledger.md has the lines. telling.rt, totals.rt and waits.rt of `st_lines` write
+//! them; `st_account` keeps a `RowLine`. Lines are built from their end in one buffer, since rows
+//! are many and successive numbers share digits (`KeptDigits`).
 //!
-//! Lines are built from their end in one buffer, since rows are many and successive numbers share
-//! digits (`KeptDigits`). telling.rt, totals.rt and `st_lines` write them. Ticks and numbers are
-//! decimal, addresses half-word addresses in the form `word.bit`.
+//! Proved: the bytes are those of specs/Lines.antt (`row_stage_line`, `charge_line`, `sum_line`,
+//! `stage_name`). Not proved: speed.
 //!
-//! Proved: the bytes are those of specs/Lines.antt, so a form is changed there too. Free: how
-//! digits are kept. Not proved: speed.
+//! Pinned, by these definitions, docs/ledger.md and vectors/ledger/lines.txt: each byte; ticks and
+//! numbers are decimal, addresses half-word addresses in the form `word.bit`. Free: how digits are
+//! kept, and the bodies, if proofs/lines follows `fill_row`, `fill_charge` and `fill_sum`.
 ghost use Rattle.std.specs.Prelude.{◌≡◌, ◌+◌, ◌≤◌, ◌++◌, [], length};
 ghost use Rattle.st_ledger.specs.Lines.{stage_name, row_stage_line, charge_line, sum_line};
 

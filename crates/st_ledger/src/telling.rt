@@ -1,10 +1,16 @@
 //! The line of a row, which are the ticks of one instruction, and its stages: the seven parts in
-//! which its ticks are charged, each with the tick at which it ends.
+//! which its ticks are charged, each with the tick at which it ends. docs/ledger.md has the rules
+//! ("Charges"). `st_lines` calls `write_row`, `parts` and `later`; totals.rt calls `parts` and
+//! `later`. `start` is the start of the segment in ticks; a stage that ends before the last
+//! completion has no charge.
 //!
-//! `st_account` and `st_lines` call these. `start` is the start of the segment in ticks; a stage
-//! that ends before the last completion has no charge. Proved: the stages are `parts_of_row` of
-//! specs/Charges.antt, which pins their ends, and the line is `row_stage_line` of specs/Lines.antt.
-//! Another rule of the timetable changes the ends (`docs/changing.md`). Free: the bodies.
+//! Proved: the stages are `parts_of_row` of specs/Charges.antt, and the line is `row_stage_line` of
+//! specs/Lines.antt, written as `WritesLines` (specs/Lines.antt of `st_io`) says. Laws about
+//! charges are in specs/Laws.antt, as `ChargesFollow`.
+//!
+//! Pinned, by `parts_of_row`, docs/ledger.md and vectors/ledger/lines.txt: the stages, their order
+//! and their ends. Another rule of the timetable changes the ends (docs/changing.md). Free: the
+//! bodies.
 ghost use Rattle.std.specs.Prelude.{◌≡◌, ◌∷◌, [], max};
 ghost use Rattle.st_io.specs.Lines.{WritesLines};
 ghost use Rattle.st_ledger.specs.Charges.{parts_of_row as parts_of};

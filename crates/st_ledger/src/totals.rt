@@ -1,11 +1,15 @@
-//! The ticks charged to each stage in a whole run, and their `SUM` lines.
+//! The ticks charged to each stage in a whole run, and their `SUM` lines. docs/ledger.md has the
+//! lines. `st_account` adds each row (the ticks of one instruction) as it completes, and writes the
+//! sums at the end; `st_tally` adds and writes those of each card.
 //!
-//! `st_account` adds each row (the ticks of one instruction) as it completes, and writes the sums
-//! at the end. Proved: each total grows by the charges of the row (`ticks_for` in
-//! specs/Charges.antt), no sum overflows (`AreWithin`: a total is at most the tick), and the lines
-//! are `sum_lines` of specs/Totals.antt. That the totals add up to the ticks of the run is a law
-//! (specs/Laws.antt). A new stage needs a field, its arms and its place in `sums_of`. Free: the
-//! recursion.
+//! Proved: each total grows by the charges of the row (`sums`, by `ticks_for` of
+//! specs/Charges.antt), no total exceeds the tick, so none overflows (`within`, `AreWithin` of
+//! specs/Totals.antt), and the lines are `sum_lines` there. By the law `ChargesAddUpToTheRun`
+//! (specs/Laws.antt) the totals add up to the ticks of the run.
+//!
+//! Pinned, by `stages` of specs/Totals.antt, docs/ledger.md and vectors/ledger/lines.txt: the lines
+//! and their order, which is that of the stages. A new stage needs a field, its arms and its place
+//! in `sums_of`. Free: the recursion, if proofs/totals follows.
 ghost use Rattle.std.specs.Prelude.{◌≡◌, ◌+◌, ◌<◌, ◌∷◌, [], max};
 ghost use Rattle.st_io.specs.Lines.{WritesLines};
 ghost use Rattle.st_ledger.specs.declared.charges.Stage.{Stage as StageOf};

@@ -1,8 +1,9 @@
 -- Lemmas on the origin of half-words and on its line.
-use Rattle.std.specs.Prelude.{Bool, None, Some, slice_index}
+use Rattle.std.specs.Prelude.{Bool, None, Some, slice_index, option_map}
 use Rattle.std.proofs.Common.{◌≡◌, ◌≢◌, ℕ, zero, suc, List, [], ◌++◌, refl, sym, ◌∙◌, ap, append_assoc}
 use Rattle.std.proofs.lemmas.List.{append-nil}
 use Rattle.st_lines.specs.Origins.{card_by, is_kept, origin_by, origin_at}
+use Rattle.st_lines.specs.declared.origins.Origin.{Origin}
 use Rattle.st_lines.specs.declared.origins.Origins.{Origins}
 use Rattle.st_state.specs.Machine.{Machine}
 
@@ -26,3 +27,14 @@ origin_some o s h card kept is some same =
     sym (card-some card kept some)
     ∙ ap (λ n. origin_by (card_by n) kept) is
     ∙ ap (λ k. origin_by (card_by (slice_index o.cards.items h)) k) same
+
+-- the card alone, whether or not its bits are there still
+
+pub card_none : (o : Origins) (s : Machine) (h card : ℕ) → card ≡ slice_index o.cards.items h → card ≡ 0
+    → option_map (λ (x : Origin). x.card) None ≡ option_map (λ (x : Origin). x.card) (origin_at o s h)
+card_none o s h card is none = ap (option_map (λ (x : Origin). x.card)) (origin_none o s h card is none)
+
+pub card_some : (o : Origins) (s : Machine) (h card : ℕ) (kept : Bool) → card ≡ slice_index o.cards.items h → card ≢ 0
+    → option_map (λ (x : Origin). x.card) (Some (record { card = card; kept = kept })) ≡ option_map (λ (x : Origin). x.card) (origin_at o s h)
+card_some o s h card kept is some =
+    ap (option_map (λ (x : Origin). x.card)) (origin_some o s h card (is_kept o.image.items s.words h) is some refl)

@@ -1,5 +1,14 @@
 -- The lines of a ledger between two entries: the end of a segment, and the state after an entry;
 -- and the lines about the machine before all entries.
+--
+-- Proved: by their `ensures` clauses these calls do what definitions here say: `write_ahead`
+-- (writing.rt), `write_border` (writing.rt), `write_standing` (writing.rt), `write_words`
+-- (writing.rt), and others.
+-- Read by: definitions in Text of st_account, LedgerRows of st_account, Passing of st_account.
+-- Laws: RowsAreAPartOfTheLedger (specs/Laws.antt of st_causes), TotalsAreTheLedgerWithoutRows
+-- (specs/Laws.antt of st_causes).
+-- Change: the meaning is fixed by docs/ledger.md, since the contract of `st_account::ledger`
+-- unfolds to a definition here. The form is free, with the proofs that unfold it.
 use Rattle.std.specs.Prelude.{ℕ, ◌+◌, Bool, true, false, not, ◌||◌, nat_eq, if◌then◌else◌, List, [], ◌∷◌, ◌++◌, length, slice_index, Option, None, Some}
 use Rattle.st_bits.specs.declared.limits.TheConstants.{WORDS}
 use Rattle.st_io.specs.Lines.{lines_for}

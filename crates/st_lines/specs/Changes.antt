@@ -1,4 +1,12 @@
 -- The words that may change after an entry.
+--
+-- Proved: by their `ensures` clauses these calls do what definitions here say: `are_left`
+-- (changes.rt), `next_of_card` (changes.rt), `next_word` (changes.rt).
+-- Read by: definitions in Standing of st_account.
+-- Laws: none names a definition of this file itself.
+-- Change: no page fixes these definitions, since no contract of a program unfolds to them; they
+-- change together with the clauses, definitions and laws that name them. docs/ledger.md describes
+-- the subject.
 use Rattle.std.specs.Prelude.{ℕ, ◌≡◌, ◌≢◌, ◌+◌, ◌<◌, ◌≤◌, ◌⊎◌, List, slice_index, Option, None, Some}
 use Rattle.st_bits.specs.declared.limits.TheConstants.{WORDS}
 use Rattle.st_exec.specs.Ahead.{IsNotAmong}

@@ -1,4 +1,13 @@
 -- The lines of a ledger about an entry: its properties and effects, and its row with its charges.
+--
+-- Proved: by their `ensures` clauses these calls do what definitions here say: `write_kind`
+-- (facts.rt), `write_changes` (facts.rt), `write_halves` (facts.rt), `write_spent` (facts.rt), and
+-- others.
+-- Read by: definitions in BorderLines, TellingWaits, Slots of st_tally, Tally of st_tally, and
+-- others.
+-- Laws: LostTicksAreThoseOfOtherStages (specs/Laws.antt of st_tally).
+-- Change: the meaning is fixed by docs/ledger.md, since the contract of `st_account::ledger`
+-- unfolds to a definition here. The form is free, with the proofs that unfold it.
 use Rattle.std.specs.Prelude.{ℕ, Bool, true, false, ◌==◌, ◌||◌, nat_eq, if◌then◌else◌, List, [], ◌∷◌, ◌++◌, Option, None, Some}
 use Rattle.st_bits.specs.Indicators.{indicator}
 use Rattle.st_state.specs.Interrupts.{first_from}

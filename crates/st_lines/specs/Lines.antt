@@ -1,4 +1,13 @@
 -- The bytes of the lines of a ledger about the machine and about segments, each with its line end.
+--
+-- Proved: by their `ensures` clauses these calls do what definitions here say: `fill_changed`
+-- (digits.rt), `fill_code` (digits.rt), `fill_index` (digits.rt), `fill_writes` (digits.rt), and
+-- others.
+-- Read by: definitions in EntryLines, BorderLines, LedgerRows of st_account, Passing of st_account,
+-- and others.
+-- Laws: none names a definition of this file itself.
+-- Change: the meaning is fixed by docs/ledger.md, since the contract of `st_account::ledger`
+-- unfolds to a definition here. The form is free, with the proofs that unfold it.
 use Rattle.std.specs.Prelude.{ℕ, ◌+◌, ◌/◌, Bool, List, [], ◌∷◌, ◌++◌, codes, decimal, take, drop, length, zero, suc, Option, None, Some}
 use Rattle.st_text.specs.Bytes.{lf}
 use Rattle.st_text.specs.Numerals.{half_address, hex_text, hex_word, flag}

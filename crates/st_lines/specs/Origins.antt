@@ -1,5 +1,12 @@
 -- The card that the first half-word of an entry comes from, and whether storage still has the bits
 -- of the image there.
+--
+-- Proved: by their `ensures` clauses these calls do what definitions here say: `at` (origins.rt),
+-- `half_at` (origins.rt), `is_kept` (origins.rt), `is_same_half` (origins.rt), and others.
+-- Read by: definitions in FirstCards of st_account.
+-- Laws: none names a definition of this file itself.
+-- Change: the meaning is fixed by docs/ledger.md, since the contract of `st_account::ledger`
+-- unfolds to a definition here. The form is free, with the proofs that unfold it.
 use Rattle.std.specs.Prelude.{ℕ, zero, suc, ◌+◌, ◌/◌, Bool, true, ◌==◌, ◌&&◌, if◌then◌else◌, List, slice_index, Option, None, Some}
 use Rattle.st_format.specs.Halves.{is_full}
 use Rattle.st_prep.specs.Reading.{half_of}

@@ -1,4 +1,13 @@
 -- The lines of the waits of a row, and of the cause that delayed it.
+--
+-- Proved: by their `ensures` clauses these calls do what definitions here say: `fill_because`
+-- (waits.rt), `fill_earlier` (waits.rt), `fill_prefetch` (waits.rt), `fill_start` (waits.rt), and
+-- others.
+-- Read by: definitions in EntryLines, Runs of st_causes, TallyLines of st_tally, Text of
+-- st_account.
+-- Laws: none names a definition of this file itself.
+-- Change: the meaning is fixed by docs/ledger.md, since the contract of `st_account::ledger`
+-- unfolds to a definition here. The form is free, with the proofs that unfold it.
 use Rattle.std.specs.Prelude.{ℕ, ◌-◌, List, [], ◌∷◌, ◌++◌, nat_lt, if◌then◌else◌, codes, decimal}
 use Rattle.st_text.specs.Bytes.{lf}
 use Rattle.st_banks.specs.Bank.{bank_of}

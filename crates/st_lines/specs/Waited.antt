@@ -1,5 +1,14 @@
 -- Preconditions and effects of writing charges with their waits on the totals of waits. A row uses
 -- some words, and the row before it others.
+--
+-- Proved: by their `ensures` clauses these calls do what definitions here say: `add_part`
+-- (waits.rt), `add_waits` (waits.rt), `write_part` (waits.rt), `write_parts` (waits.rt), and
+-- others.
+-- Read by: definitions in TellingWaits.
+-- Laws: none names a definition of this file itself.
+-- Change: no page fixes these definitions, since no contract of a program unfolds to them; they
+-- change together with the clauses, definitions and laws that name them. docs/ledger.md describes
+-- the subject.
 use Rattle.std.specs.Prelude.{ℕ, ◌≡◌, ◌+◌, true, List}
 use Rattle.st_ledger.specs.Charges.{all_ticks}
 use Rattle.st_ledger.specs.declared.charges.Charge.{Charge}

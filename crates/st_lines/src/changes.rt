@@ -1,13 +1,16 @@
 //! Writes the words that changed since the previous entry (instruction), one `WORD` line each, in
-//! order of address.
-//!
-//! writing.rt calls it after each entry. To compare all 98,304 words would be slow, so the caller
-//! says which words other than registers may have changed (`Changeable`), and only those and the
-//! registers are compared with a copy.
+//! order of address. docs/ledger.md has the lines. writing.rt calls `write_changed`, `keep_changed`
+//! and `keep_words`. To compare all 98,304 words would be slow, so the caller says which words
+//! other than registers may have changed (`Changeable`, made by `st_account`), and only these words
+//! and the registers are compared with a copy.
 //!
 //! Proved: the lines are `word_change_lines` of all words (specs/BorderLines.antt), given that no
-//! other word changed (`AreOthersAlike` in specs/Changes.antt), and the copy is up to date after
-//! them. Free: how unchanged words are skipped. Pinned: the order.
+//! other word changed (`AreOthersAlike` of specs/Changes.antt), and the copy is up to date after
+//! the call. Not proved: speed.
+//!
+//! Pinned, by `word_change_lines`, docs/ledger.md and vectors/ledger/lines.txt: the lines and their
+//! order; by `AreOthersAlike` and the proofs of `st_account`: the fields of `Changeable`. Free: how
+//! unchanged words are skipped, if proofs/changes follows.
 ghost use Rattle.std.specs.Prelude.{true, ◌≡◌, ℕ, ◌+◌, ◌<◌, ◌≤◌, ◌⊎◌, ◌++◌, drop, length, slice_index, slice_set, take, IsOk};
 ghost use Rattle.st_bits.specs.Storage.{words_of_storage};
 ghost use Rattle.st_bits.specs.declared.limits.TheConstants.{WORDS};

@@ -1,12 +1,14 @@
 //! Lines with hexadecimal digits, built from their end: changed words, index words, half-words, and
-//! the short lines that come with each entry.
+//! the short lines that come with each entry. docs/ledger.md has the lines. changes.rt, facts.rt
+//! and writing.rt call these, into a buffer that is overwritten. No other crate sees them.
 //!
-//! changes.rt, facts.rt and writing.rt call these, into a buffer that is overwritten. A word has 16
-//! digits, a half-word eight.
-//!
-//! Proved: each line is the definition of its form in specs/Lines.antt (`IC` is that of
-//! `st_report`), so a form is changed there too. Free: the table of digit pairs, which saves time.
+//! Proved: each line is the definition of its form in specs/Lines.antt (`changed_line`,
+//! `index_line`, `code_line`, `writes_line`); `ic_line` is that of specs/Line.antt of `st_report`.
 //! Not proved: speed.
+//!
+//! Pinned, by these definitions, docs/ledger.md and vectors/ledger/lines.txt: each byte; a word has
+//! 16 digits, a half-word eight. Free: the table of digit pairs, which saves time, if proofs/digits
+//! follows.
 ghost use Rattle.std.specs.Prelude.{◌≡◌, ◌+◌, ◌≤◌, ◌++◌, length};
 ghost use Rattle.st_text.specs.Numerals.{hex_text, hex_word};
 ghost use Rattle.st_report.specs.Line.{ic_line};

@@ -1,14 +1,15 @@
 //! Writes the facts about a single entry (instruction): its row of ticks, why it is serialized,
 //! whether it was suppressed, its card, its words, its charges with their waits, and the cause that
-//! delayed it.
+//! delayed it. docs/ledger.md has the lines. `st_account` calls `write_done` for a completed entry;
+//! writing.rt calls `write_facts` for entries that ran ahead. Entries are numbered from 1;
+//! addresses are half-word addresses for entries and word addresses for words.
 //!
-//! `st_account` calls `write_done` for a completed entry; writing.rt calls `write_facts` for
-//! entries that ran ahead. Entries are numbered from 1; addresses are half-word addresses for
-//! entries and word addresses for words.
+//! Proved: the lines are `done_entry_lines` or `facts_lines` of specs/EntryLines.antt; the totals
+//! grow by the waits of the entry (`HasToldWaits` of specs/TellingWaits.antt).
 //!
-//! Proved: the lines are `done_entry_lines` or `facts_lines` of specs/EntryLines.antt, whose order
-//! is pinned. The totals grow by the waits of the entry. Free: the split into functions. A new fact
-//! is a line there and a call here.
+//! Pinned, by these definitions, docs/ledger.md and vectors/ledger/lines.txt: the lines and their
+//! order. Free: the split into functions, if proofs/facts follows. A new fact is a line in
+//! specs/Lines.antt, its place in specs/EntryLines.antt, and a call here.
 ghost use Rattle.std.specs.Prelude.{◌≡◌, ◌-◌, ◌≤◌, ◌==◌, ◌||◌, ◌++◌, IsOk};
 ghost use Rattle.st_bits.specs.Indicators.{indicator as indicator_of};
 ghost use Rattle.st_prep.specs.Entry.{is_register as is_register_of, has_register as has_register_of};

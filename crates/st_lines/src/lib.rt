@@ -1,12 +1,17 @@
-//! The lines of a ledger: their contents, and the code that writes them. `docs/ledger.md` has the
-//! rules.
+//! The lines of a ledger: their contents, and the code that writes them. docs/ledger.md has the
+//! rules. `st_account` follows a run and writes its lines with these calls, `st_tally` writes sums
+//! of waits; charges come from `st_ledger`, waits and causes from `st_reasons`, entries from
+//! `st_plain`.
 //!
-//! `st_account` follows a run and writes its lines with these calls; charges come from `st_ledger`,
-//! waits and causes from `st_reasons`, entries from `st_plain`. The bytes of each line are defined
-//! in specs/ (`Lines`, `UseLines`, `WaitLines`), and their order by `EntryLines` and `BorderLines`;
-//! a ledger has no other lines. Proved: each call writes exactly the lines of its definition, or
-//! the first ones up to a failed write. No call allocates. A new kind of line needs its definition,
-//! its place in one of these, and a function. Free is all that is not exported.
+//! Proved: each call writes exactly the lines of its definition, or the first ones up to a failed
+//! write (`WritesLines`, specs/Lines.antt of `st_io`). The bytes of each line are defined in specs/
+//! (`Lines`, `UseLines`, `WaitLines`), their order by `EntryLines` and `BorderLines`. By the laws
+//! of `st_causes` (specs/Laws.antt there) the lines are true of the run. In the code no call
+//! allocates; no clause says so.
+//!
+//! Pinned, by these definitions, docs/ledger.md and the files of vectors/ledger: lines and order;
+//! by `st_account` and `st_tally`: the exported calls. A new kind of line needs its definition, its
+//! place in `EntryLines` or `BorderLines`, and a function. Free: all that is not exported.
 #![tactic(auto, using(st_bits::specs::Storage::words_of_storage_is))]
 
 mod changes;

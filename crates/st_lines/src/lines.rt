@@ -1,13 +1,16 @@
-//! The lines of a ledger about the machine and about segments, by the rules of `docs/ledger.md`:
-//! one call for each kind of line, with its line end.
-//!
-//! writing.rt and facts.rt write these lines. Numbers are decimal; ticks count from the start of
-//! the run, addresses are half-word addresses in the form `word.bit`, segments and entries are
-//! numbered from 1.
-//!
-//! Proved: the bytes are those of specs/Lines.antt, so another form changes both. A new reason
-//! (`Why`, `Alone`) needs its text there. Free: the bodies. Lines with many repetitions are in
+//! The lines of a ledger about the machine and about segments: one call for each kind of line, with
+//! its line end. docs/ledger.md has the lines. writing.rt and facts.rt write them; `st_account` and
+//! `st_tally` use `Why`, the reason for the start of a segment. Lines with many repetitions are in
 //! digits.rt, built faster.
+//!
+//! Proved: the bytes are those of specs/Lines.antt (`start_line`, `word_line`, `dropped_line` and
+//! so on), so another form changes the definition and this module.
+//!
+//! Pinned, by these definitions, docs/ledger.md and vectors/ledger/lines.txt: each byte; numbers
+//! are decimal, ticks count from the start of the run, addresses are half-word addresses in the
+//! form `word.bit`, segments and entries are numbered from 1. A new reason (`Why`, `Alone`) needs
+//! its text here and in specs/Lines.antt, and a new `Why` its heading in `st_tally`. Free: the
+//! bodies, if proofs/lines follows `push_numbers`.
 ghost use Rattle.std.specs.Prelude.{◌≡◌, ◌+◌, ◌*◌, ◌≤◌, ◌++◌, length, codes, decimal};
 ghost use Rattle.arrayvec.specs.ArrayString.{array_string_len};
 ghost use Rattle.st_lines.specs.Lines.{ledger_levels_line, numbers_text, delays_line, why_text, start_line, segment_end_line, word_line, missed_line, alone_text, alone_line, suppressed_line, ahead_text, dropped_line, begun_line, level_wait_line};

@@ -1,12 +1,17 @@
-//! The cards that the first half-words of entries come from, for the line `LAID`: the first card
-//! whose bits begin in that half-word, and whether storage still has the bits of the image there.
-//!
-//! `st_account` makes the table from the listing; facts.rt writes the line. `cards` is indexed by
-//! half-word address; cards are numbered from 1, and 0 means none.
+//! The cards that the first half-words of entries come from, for the line `LAID` (docs/ledger.md):
+//! the first card whose bits begin in that half-word, and whether storage still has the bits of the
+//! image there. `st_account` makes the table `Origins` from the listing; `st_account` and
+//! writing.rt call `at`, facts.rt writes the line, and `st_tally` reads `Origin`. `cards` is
+//! indexed by half-word address; cards are numbered from 1, and 0 means none.
 //!
 //! Proved: the origin is `origin_at` of specs/Origins.antt, and the line `emitted_line` of
-//! specs/Lines.antt. The table decides which of several cards counts. Free: the bodies.
-ghost use Rattle.std.specs.Prelude.{◌≡◌, ◌+◌, ◌≤◌, ◌++◌, length, codes, slice_index};
+//! specs/Lines.antt. Which of several cards counts is decided by the table (`first_card` of
+//! `st_account`), not here.
+//!
+//! Pinned, by these definitions, docs/ledger.md and vectors/ledger/lines.txt: the line, and that
+//! for a full word both half-words are compared with the image. Free: the bodies, if proofs/origins
+//! follows.
+ghost use Rattle.std.specs.Prelude.{◌≡◌, ◌+◌, ◌≤◌, ◌++◌, true, length, codes, slice_index, option_map};
 ghost use Rattle.st_prep.specs.Reading.{half_of as half_by};
 ghost use Rattle.st_text.specs.Numerals.{flag};
 ghost use Rattle.st_lines.specs.Lines.{emitted_line};
@@ -103,6 +108,24 @@ impl Origins {
             card,
             kept: is_kept(self.image.as_slice(), state.words(), h),
         })
+    }
+
+    /// The card that half-word `h` of a state comes from, if a card's bits begin there. Whether
+    /// storage still has these bits is valid only if `facts` is set.
+    #[inline(always)]
+    pub fn at_if(&self, facts: bool, state: &State, h: u32) -> Option<Origin>
+        ensures facts { facts ≡ true → result ≡ origin_at self.now state.now h }
+        ensures card { option_map (λ o. o.card) result
+            ≡ option_map (λ o. o.card) (origin_at self.now state.now h) }
+    {
+        if facts {
+            return self.at(state, h);
+        }
+        let card = number_at(&self.cards, h);
+        if card == 0 {
+            return None;
+        }
+        Some(Origin { card, kept: false })
     }
 }
 

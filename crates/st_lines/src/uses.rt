@@ -1,13 +1,14 @@
 //! The lines of the words that an entry (instruction) uses (`USE`): the role of each word, its
 //! source, and, if it is read, its ticks, its bank, and whether the read is made before the segment
-//! ends.
+//! ends. docs/ledger.md has the lines ("Uses"). facts.rt calls `write_uses`; `st_account` keeps a
+//! `FactLine`. Word addresses and ticks are decimal; successive reads share digits (`KeptDigits`).
+//! A read that is wanted only after the end of the segment has no line (`is_told`).
 //!
-//! facts.rt calls `write_uses`. Word addresses and ticks are decimal; successive reads share digits
-//! (`KeptDigits`). A read that is wanted only after the end of the segment has no line (`is_told`).
+//! Proved: the lines are `use_lines` of specs/UseLines.antt, in the order of the reads.
 //!
-//! Proved: the lines are `use_lines` of specs/UseLines.antt, in the order of the reads. A new
-//! source needs its text there. Free: how digits are kept. Pinned: the order, which other laws
-//! cite.
+//! Pinned, by `use_lines`, docs/ledger.md and vectors/ledger/lines.txt: the lines and their order.
+//! A new source of words needs its text here and in specs/UseLines.antt. Free: how digits are kept,
+//! if proofs/uses follows.
 ghost use Rattle.std.specs.Prelude.{◌≡◌, ◌+◌, ◌-◌, ◌<◌, ◌≤◌, ◌∷◌, ◌++◌, [], length, codes, decimal, if◌then◌else◌};
 ghost use Rattle.st_banks.specs.Bank.{bank_of as bank_by};
 ghost use Rattle.st_io.specs.Lines.{WritesLines};

@@ -1,12 +1,16 @@
 //! The lines of the charges and waits of a row, of the sums of waits, and of the cause that delayed
-//! it (`CHARGE`, `WAIT`, `SUM`, `BECAUSE`).
+//! the row (`CHARGE`, `WAIT`, `SUM`, `BECAUSE`). docs/ledger.md has the lines. facts.rt writes
+//! those of an entry; `st_account` and `st_tally` write the sums, and call `add_waits` for ledgers
+//! that have sums and no rows. A charge is followed by its waits, the last wait first.
 //!
-//! facts.rt writes those of an entry, and `st_account` the sums; `add_waits` only adds, for a
-//! ledger that has sums and nothing else. A charge is followed by its waits, the last wait first.
+//! Proved: the lines are those of specs/WaitLines.antt (`charged_lines`, `because_lines`,
+//! `wait_sum_lines`), and each total grows by the ticks of its waits (`HasToldWaits` of
+//! specs/TellingWaits.antt, `AddsWaits` of specs/Waited.antt).
 //!
-//! Proved: the lines are those of specs/WaitLines.antt, and each total grows by the ticks of its
-//! waits (`HasToldWaits`, `AddsWaits`). Pinned: the order, and that a row with no charge but
-//! executing has no cause. Free: the recursions and buffers.
+//! Pinned, by these definitions, docs/ledger.md and vectors/ledger/reasons.txt: the lines and their
+//! order, and that a row with no charge but executing has no cause. Free: the recursions and
+//! buffers, if proofs/waits follows. A new `Stall` or `Reason` of `st_reasons` needs its text here
+//! and in specs/WaitLines.antt.
 ghost use Rattle.std.specs.Prelude.{◌≡◌, ◌+◌, ◌≤◌, ◌∷◌, ◌++◌, [], length, IsOk};
 ghost use Rattle.st_io.specs.Lines.{WritesLines};
 ghost use Rattle.st_ledger.specs.Charges.{charges_behind, part_charges, parts_of_row};

@@ -1,14 +1,16 @@
 //! Writes the lines between two entries (instructions): the end of a segment with the flushed
 //! entries, the printed lines, the state, and the start of a segment; and the first and last lines
-//! of a ledger.
+//! of a ledger. docs/ledger.md has the lines. `st_account` calls `write_border` after each entry,
+//! with the facts in `Border` and `Between`, and the other public calls at the start and the end.
+//! Segments and entries are numbered from 1; `old` is a copy of all words.
 //!
-//! `st_account` calls `write_border` after each entry, with the facts in `Border` and `Between`,
-//! and the others at the start and the end. Segments and entries are numbered from 1; `old` is a
-//! copy of all words.
+//! Proved: the lines are those of specs/BorderLines.antt, in that order, and the copy is up to date
+//! after them. Words are compared only where `between.may` allows a change: the clause `left`
+//! (`IsCopyBehind` of specs/Changes.antt) is what `st_account` has to prove.
 //!
-//! Proved: the lines are those of specs/BorderLines.antt, in that order; the copy is up to date
-//! after them. Pinned: words are compared only where `between.may` allows a change, and the caller
-//! proves that. Free: the split into functions.
+//! Pinned, by specs/BorderLines.antt, docs/ledger.md and vectors/ledger/lines.txt: the lines and
+//! their order; by `st_account`: the public structures. Free: the split into functions, if
+//! proofs/writing follows.
 ghost use Rattle.std.specs.Prelude.{◌≡◌, ◌+◌, ◌<◌, ◌≤◌, ◌^◌, ℕ, ◌∷◌, ◌++◌, [], if◌then◌else◌, ◌||◌, length, min, Some, false, IsOk};
 ghost use Rattle.st_io.specs.Lines.{WritesLines, lines_for};
 ghost use Rattle.st_bits.specs.Storage.{words_of_storage};

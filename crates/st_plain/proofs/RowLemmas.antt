@@ -3,9 +3,10 @@ use Rattle.std.specs.Prelude.{slice_set, slice_index_or}
 use Rattle.std.proofs.Common.{◌≡◌, ℕ, ◌+◌, ◌-◌, List, [], ◌∷◌, length, take, refl, sym, ap, ◌∙◌, arith}
 use Rattle.st_rows.specs.Asked.{runs_asked, following_asked, formed_asked, prepared_asked}
 use Rattle.st_rows.specs.Notes.{log_after_reads}
-use Rattle.st_rows.specs.Rows.{bus_a, tick_p, operands, reads_of_entry}
+use Rattle.st_rows.specs.Rows.{bus_a, tick_p, operands, reads_of_entry, row_of_entry, issue_after_entry}
 use Rattle.st_rows.specs.declared.bus.Bus.{Bus}
 use Rattle.st_rows.specs.declared.entry.Entry.{Entry}
+use Rattle.st_rows.specs.declared.issue.EntryTicks.{EntryTicks}
 use Rattle.st_rows.specs.declared.issue.IssueState.{IssueState}
 use Rattle.st_rows.specs.declared.log.Made.{Made}
 use Rattle.st_rows.specs.declared.past.Past.{Past}
@@ -32,6 +33,17 @@ module _ (ds : List ℕ) (f : IssueState) (e : Entry) where
       next
       ∙ rw is (noted-two ds (formed_asked ds f e) (prepared_asked ds n f e) f.bus (bus_a ds f e) log one (sym (served-formed ds f e)) made)
       ∙ ap (λ reads. log_after_reads ds reads f.bus log) (sym (two-parts ds n f e))
+
+-- ---- the issue state after an entry
+
+-- the entry of a fetch unit is that of the row
+pub after-passed : (ds : List ℕ) (n : ℕ) (f : IssueState) (e x : Entry) (row : EntryTicks) (b : Bus) (g : IssueState) → x ≡ e → row ≡ row_of_entry ds n f e
+    → b ≡ (issue_after_entry ds n f e).bus
+    → (row ≡ row_of_entry ds n f x → b ≡ (issue_after_entry ds n f x).bus → g ≡ issue_after_entry ds n f x)
+    → g ≡ issue_after_entry ds n f e
+after-passed ds n f e x row b g same is bus passed =
+    passed (is ∙ ap (row_of_entry ds n f) (sym same)) (bus ∙ ap (λ y. (issue_after_entry ds n f y).bus) (sym same))
+    ∙ ap (issue_after_entry ds n f) same
 
 -- ---- the last eight entries
 

@@ -1,4 +1,13 @@
 -- The facts of predicted entries, and the reads that are made for them.
+--
+-- Proved: by their `ensures` clauses these calls do what definitions here say: `look` (looking.rt),
+-- `begin` (rows.rt), `known_if` (known.rt), `code_found` (known.rt), and others.
+-- Read by: definitions in Text of st_account, Paths of st_reasons, Standing of st_account, Runs of
+-- st_causes.
+-- Laws: ReasonsAreTrue (specs/ReasonLaws.antt of st_reasons), OneEntryIsBegun (specs/Laws.antt of
+-- st_causes).
+-- Change: the meaning is fixed by docs/ledger.md, since the contract of `st_account::ledger`
+-- unfolds to a definition here. The form is free, with the proofs that unfold it.
 use Rattle.std.specs.Prelude.{ℕ, ◌-◌, max, Bool, nat_lt, if◌then◌else◌, List, [], ◌∷◌, ◌++◌, Option, None, Some, is_some}
 use Rattle.st_format.specs.Formats.{first_half, second_half}
 use Rattle.st_format.specs.declared.instruction.Instr.{Instr}

@@ -1,5 +1,14 @@
 -- The words that an entry uses, registers included, in the order of their reads, and the source of
 -- each word.
+--
+-- Proved: by their `ensures` clauses these calls do what definitions here say: `begin` (rows.rt),
+-- `finish` (rows.rt), `use_data` (uses.rt), `use_registers` (uses.rt), and others.
+-- Read by: definitions in Looking, Text of st_account, Segments of st_reasons.
+-- Laws: ReadsOfAnEntryComeInTurn (specs/Laws.antt), ReadsOfAnEntryAreInTime (specs/Laws.antt of
+-- st_reasons), ReasonsAreTrue (specs/ReasonLaws.antt of st_reasons), ForwardedWordsAreWritten
+-- (specs/WaitLaws.antt of st_reasons), and others.
+-- Change: the meaning is fixed by docs/ledger.md, since the contract of `st_account::ledger`
+-- unfolds to a definition here. The form is free, with the proofs that unfold it.
 use Rattle.std.specs.Prelude.{ℕ, zero, suc, ◌+◌, ◌-◌, nat_lt, if◌then◌else◌, List, [], ◌∷◌, ◌++◌, map, Option, None, Some}
 use Rattle.st_bits.specs.declared.register.TheConstants.{FIRST_STORAGE_WORD}
 use Rattle.st_prep.specs.declared.entries.Words.{Words}

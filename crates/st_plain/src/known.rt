@@ -1,10 +1,15 @@
 //! The facts of an entry (instruction) that its preparation does not have, and which the ledger
 //! writes: the index-side word, whether it is EX, and the half-words that are executed.
+//! docs/ledger.md has their lines. rows.rt calls `known_if`; rows.rt, looking.rt and `st_account`
+//! keep the facts, and `st_lines` writes them. Half-words are 32 bits; the index-side word is a
+//! word address, a register included.
 //!
-//! rows.rt calls `known_if`. Half-words are 32 bits; the index-side word is a word address, a
-//! register included. Proved: the facts are `known_at` of specs/Looking.antt, for each state. Free:
-//! the shortcut for an entry that prefetches (it has no forbidden word), which saves reading its
-//! words again. A new fact is a field here, in `known_at`, and a line of `st_lines`.
+//! Proved: the facts are `known_at` of specs/Looking.antt, for each state. Not proved: that the
+//! shortcut for an entry that asks for following words (it has no forbidden word) saves time.
+//!
+//! Pinned, by `known_at`, by specs/EntryLines.antt of `st_lines`, docs/ledger.md and
+//! vectors/ledger/lines.txt: the fields of `Known` and `Code`. A new fact is a field here, in
+//! `known_at`, and a line of `st_lines`. Free: that shortcut, if proofs/known follows.
 ghost use Rattle.std.specs.Prelude.{◌≡◌, None, Some, if◌then◌else◌, true};
 ghost use Rattle.st_bits.specs.Indicators.{IsIndicatorIfAny};
 ghost use Rattle.st_prep.specs.Fetch.{index_words as index_words_of, place_of as place_by, words_fetched};

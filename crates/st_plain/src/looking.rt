@@ -1,13 +1,17 @@
 //! The predicted entries after a state: those that an overlapped machine has in flight when the
-//! last entry completes, and the first one that came too late.
+//! last entry completes, and the first one that came too late. Ticks are those of the run.
+//! docs/timetable.md has the rules. `st_account` (behind.rt) calls `look` at the end of a segment,
+//! and `st_lines` writes the flushed entries. `look` makes predicted steps on the state itself, and
+//! undoes them (`st_back`), so no copy of storage is needed.
 //!
-//! `st_account` asks at the end of a segment, to write the flushed entries. `look` makes predicted
-//! steps on the state itself, and undoes them (`st_back`), so no copy of storage is needed. Ticks
-//! are those of the run; at most 8 entries are found.
+//! Proved, by the clauses of `look`: the entries in flight are those of `prepared_before`
+//! (`st_segment`), the late one that of `first_late` (specs/Looking.antt), both as `seen_ahead`
+//! (specs/Looking.antt); log and bus have their reads, of the late one those up to its address; the
+//! state is unchanged. `prediction` is `predicted_state` of `st_exec`.
 //!
-//! Proved: the entries are `prepared_before` and `first_late` of those along the predictions
-//! (`st_segment`, specs/Looking.antt), their reads are in the log, and the state is unchanged.
-//! Free: the recursion.
+//! Pinned, by `seen_ahead`, docs/ledger.md and vectors/ledger/lines.txt: which entries are found,
+//! at most as many as there are levels; by `st_account` and `st_lines`: the fields of `FoundAhead`,
+//! `Reach` and `Ahead`. Free: the recursion, if proofs/looking follows.
 ghost use Rattle.std.specs.Prelude.{◌≡◌, suc, ◌+◌, ◌-◌, ◌*◌, ◌≤◌, ◌<◌, ◌^◌, ◌∷◌, ◌++◌, [], map, length, None};
 ghost use Rattle.st_bits.specs.declared.limits.TheConstants.{MOST_DELAY};
 ghost use Rattle.st_state.specs.Machine.{IsMachine};

@@ -1,13 +1,16 @@
 //! The row (the ticks) of the next entry (instruction) of a state, the words that it uses, and its
-//! wait for a level, a place in flight.
+//! wait for a level, a place in flight. docs/timetable.md has the rules. `begin` plans the entry up
+//! to A and P, `fill` computes R and C, and `pass` advances the issue state. `st_account`
+//! (stepping.rt) calls all three, and finds a cause of delay (`st_reasons`) before `pass`;
+//! looking.rt calls `finish` for the last two. The requirements `early` keep C of the last entry at
+//! most 2^63 + 2^20.
 //!
-//! `begin` plans the entry up to A and P, `finish` computes R and C and advances the issue state:
-//! the two halves, since a cause of delay (`st_reasons`) is found between them. looking.rt and
-//! `st_account` call both. C of the last entry is at most 2^63 + 2^20.
+//! Proved: the row is `row_of_entry` of specs/Rows.antt of `st_rows`, the words are `formed_uses`
+//! and `prepared_uses` of specs/Uses.antt, and the wait is `level_wait` of specs/Looking.antt.
 //!
-//! Proved: the row is `row_of_entry` of `st_rows`, and the words are `formed_uses` and
-//! `prepared_uses` of specs/Uses.antt. Pinned: there is room for 48 words (`space`). Free: how the
-//! wait is computed; it is `level_wait` of specs/Looking.antt.
+//! Pinned, by these definitions, docs/timetable.md and vectors/timetable.txt: the ticks; by
+//! `st_account`, `st_lines` and `st_reasons`: `Before`, `Begun` and `WaitedRow`; by the clauses
+//! here: room for 48 words (`space`). Free: how the wait is computed, if proofs/rows follows.
 ghost use Rattle.std.specs.Prelude.{◌≡◌, ℕ, ◌+◌, ◌-◌, ◌≤◌, ◌^◌, ◌∷◌, ◌++◌, List, length, take, true, IfSome};
 ghost use Rattle.st_bits.specs.Indicators.{IsIndicatorIfAny};
 ghost use Rattle.st_bits.specs.declared.limits.TheConstants.{MOST_DELAY};
@@ -193,9 +196,76 @@ pub fn begin(
     }
 }
 
-/// Completes the row of an entry that `begin` has planned: advances the issue state over it, and
-/// notes the words that it uses from its preparation on. `unit` is as `begin` left it, and `uses`
-/// has room for 34 more words: 32 operand words, and two that are prefetched.
+/// Completes the row of an entry that `begin` has planned, and notes the words that it uses from
+/// its preparation on. The issue state is left as it is before the entry; `pass` advances it.
+/// `unit` is as `begin` left it, and `uses` has room for 34 more words: 32 operand words, and two
+/// that are prefetched.
+#[inline(always)]
+pub fn fill(
+    issue: &IssueState,
+    unit: &mut FetchUnit,
+    timing: &Timing<'_>,
+    log: &mut Log,
+    uses: &mut Uses,
+) -> EntryTicks
+    requires entry { IsEntryInTime unit.old.entry }
+    requires tight { IsTight MOST_DELAY issue.now }
+    requires early { issue.now.c ≤ 2 ^ 63 + 2 ^ 20 }
+    requires address { let t = timing.now in
+        unit.old.formed.a ≡ tick_a t.delays.now.list issue.now unit.old.entry }
+    requires tick { let t = timing.now in
+        unit.old.formed.p ≡ tick_p t.delays.now.list t.levels issue.now unit.old.entry }
+    requires bus { let t = timing.now in
+        unit.old.words.bus ≡ bus_a t.delays.now.list issue.now unit.old.entry }
+    requires runs { IsRuns unit.old.prepared.reads }
+    requires space { length uses.old.items + 34 ≤ 48 }
+
+    ensures value { let t = timing.now in
+        result ≡ row_of t.delays.now.list t.levels issue.now unit.old.entry }
+    ensures after { let t = timing.now in
+        unit.new.words.bus ≡ (after_of t.delays.now.list t.levels issue.now unit.old.entry).bus }
+    ensures log { let t = timing.now in
+        (before : List Made) → log.old ≡ log_after_reads t.delays.now.list
+        (formed_asked t.delays.now.list issue.now unit.old.entry) issue.now.bus before →
+        log.new ≡ log_after_reads t.delays.now.list
+        (asked_of t.delays.now.list t.levels issue.now unit.old.entry) issue.now.bus before }
+    ensures uses { let t = timing.now in
+        uses.new.items ≡ uses.old.items ++ prepared_uses t.delays.now.list t.levels
+        issue.now unit.old.entry unit.old.prepared.reads }
+    ensures kept { unit.new ≡ record unit.old { words = unit.new.words } }
+{
+    let entry = &unit.entry;
+    let Formed { a, p } = unit.formed;
+    let wanted = Wanted {
+        tick: p,
+        delays: timing.delays,
+        past: &issue.past,
+    };
+    let data = DataWords {
+        all: unit.prepared.reads,
+        read: entry.reads,
+    };
+    let words = &mut unit.words;
+    words.answered = p;
+    words.awaited = 0;
+    use_data(uses, words, log, &wanted, data);
+    let r = words.answered;
+    let c = issue.c.max(r) + u64::from(entry.cost);
+    follow(&mut words.bus, log, uses, &wanted, entry);
+    EntryTicks { a, p, r, c }
+}
+
+/// Advances the issue state over an entry with the given row; `unit` is as `fill` left it.
+#[inline(always)]
+pub fn pass(issue: &mut IssueState, unit: &FetchUnit, row: &EntryTicks)
+    ensures { (ds : List ℕ) (n : ℕ) → row.now ≡ row_of ds n issue.old unit.now.entry →
+        unit.now.words.bus ≡ (after_of ds n issue.old unit.now.entry).bus →
+        issue.new ≡ after_of ds n issue.old unit.now.entry }
+{
+    issue.pass(&unit.entry, row, &unit.words.bus);
+}
+
+/// Completes the row of an entry as `fill` does, and advances the issue state as `pass` does.
 #[inline(always)]
 pub fn finish(
     issue: &mut IssueState,
@@ -232,26 +302,8 @@ pub fn finish(
     ensures bound { issue.new.c ≤ issue.old.c + most_ticks_of_entry }
     ensures kept { unit.new ≡ record unit.old { words = unit.new.words } }
 {
-    let entry = &unit.entry;
-    let Formed { a, p } = unit.formed;
-    let wanted = Wanted {
-        tick: p,
-        delays: timing.delays,
-        past: &issue.past,
-    };
-    let data = DataWords {
-        all: unit.prepared.reads,
-        read: entry.reads,
-    };
-    let words = &mut unit.words;
-    words.answered = p;
-    words.awaited = 0;
-    use_data(uses, words, log, &wanted, data);
-    let r = words.answered;
-    let c = issue.c.max(r) + u64::from(entry.cost);
-    follow(&mut words.bus, log, uses, &wanted, entry);
-    let row = EntryTicks { a, p, r, c };
-    issue.pass(entry, &row, &words.bus);
+    let row = fill(&*issue, unit, timing, log, uses);
+    pass(issue, &*unit, &row);
     row
 }
 

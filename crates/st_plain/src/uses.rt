@@ -1,10 +1,14 @@
 //! Notes the registers that an entry (instruction) uses, in the list of the words that are read for
 //! it: the timetable makes no read for a register, so its observer does not hear of it.
+//! docs/ledger.md has the lines of words ("Uses"). rows.rt calls `use_side_register` and
+//! `use_data`; no other crate sees them. Registers are words below 32, and come first in a run.
 //!
-//! rows.rt calls these. Registers are words below 32, and come first in a run. Proved: the list
-//! grows by `data_uses` or `side_register` of specs/Uses.antt, and bus and log are those of the
-//! timetable. Pinned: the order of the list, which is that of the `USE` lines; at most 48 words.
-//! Free: the loops.
+//! Proved: the list grows by `data_uses` or `side_register` of specs/Uses.antt, and bus and log are
+//! those of the timetable.
+//!
+//! Pinned, by these definitions, docs/ledger.md and vectors/ledger/lines.txt: the order of the
+//! list, which is that of the `USE` lines; by the type `Uses` of `st_rows`: at most 48 words. Free:
+//! the loops, if proofs/uses follows.
 ghost use Rattle.std.specs.Prelude.{◌≡◌, ◌+◌, ◌-◌, ◌<◌, ◌≤◌, ◌^◌, ◌∷◌, ◌++◌, [], length};
 ghost use Rattle.st_prep.specs.Ranges.{IsRuns};
 ghost use Rattle.st_rows.specs.Ranges.{IsBusWithin, IsReadingWithin, ArePastWithin, IsReadable};

@@ -1,4 +1,12 @@
 -- The truth of a wait: the condition that it names holds at each of its ticks.
+--
+-- Proved: no `ensures` clause names a definition of this file.
+-- Laws: WaitsAreTrue (specs/WaitLaws.antt), WaitsCoverTheirCharge (specs/WaitLaws.antt),
+-- NamedReadsAreMade (specs/Laws.antt of st_causes), WaitsOfARunAreTrue (specs/Laws.antt of
+-- st_causes), and others.
+-- Change: no page fixes these definitions, since no contract of a program unfolds to them; they
+-- change together with the clauses, definitions and laws that name them. docs/ledger.md describes
+-- the subject.
 use Rattle.std.specs.Prelude.{ℕ, ◌≡◌, ◌≤◌, ◌<◌, Bool, true, ◌&&◌, nat_eq, nat_le, nat_lt, List, [], ◌∷◌}
 use Rattle.std.specs.List.{list_any}
 use Rattle.st_rows.specs.declared.uses.ReadTicks.{ReadTicks}
@@ -8,7 +16,7 @@ use Rattle.st_reasons.specs.declared.waits.Stall.{Stall}
 use Rattle.st_reasons.specs.declared.waits.Stall.TheVariants.{Turn, Bank, Storage}
 use Rattle.st_reasons.specs.declared.waits.Wait.{Wait}
 
--- ---- the condition of a wait up to tick `to` at one of its ticks, the one from t to t + 1
+-- ---- the condition of a wait up to tick `to` at its tick t + 1, the one from t to t + 1
 
 -- whether a read causes this tick of the wait: a TURN, if the read is accepted at t; a BANK, if it
 -- is wanted and first in turn, its bank is not free yet, and it is accepted at the end of the wait;

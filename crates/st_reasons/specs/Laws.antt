@@ -1,4 +1,8 @@
 -- Laws of the waits of a charge, and of the words from which they are found.
+--
+-- Proved: each law has its lemma in proofs/Laws.antt, with its name in small letters.
+-- Claimed: docs/CLAIMS.md names ReadsOfAnEntryAreInTime, WaitsAreWithinTheirCharge.
+-- Change: docs/promises.txt lists each law, and the gate compares the list with the laws.
 use Rattle.std.specs.Prelude.{ℕ, ◌-◌, ◌≤◌, List, All, Option}
 use Rattle.st_ledger.specs.declared.charges.Charge.{Charge}
 use Rattle.st_prep.specs.declared.entries.Words.{Words}

@@ -1,6 +1,13 @@
 -- The cause of a row's delay as a path without a gap: from the tick before its address is formed,
 -- back over the answers and wants of its instruction words, to an event outside the row. Words are
 -- listed youngest first.
+--
+-- Proved: no `ensures` clause names a definition of this file.
+-- Laws: ReasonsAreTrue (specs/ReasonLaws.antt), ReasonsOfARunAreTrue (specs/Laws.antt of
+-- st_causes).
+-- Change: no page fixes these definitions, since no contract of a program unfolds to them; they
+-- change together with the clauses, definitions and laws that name them. docs/ledger.md describes
+-- the subject.
 use Rattle.std.specs.Prelude.{ℕ, ◌≡◌, ◌⊎◌, ◌+◌, ◌-◌, ◌<◌, max, Bool, true, false, not, ◌&&◌, ◌||◌, nat_eq, nat_le, nat_lt, if◌then◌else◌, List, ◌∷◌, ◌++◌, length, reverse, None, Some}
 use Rattle.std.specs.List.{list_any}
 use Rattle.st_rows.specs.Rows.{tick_a, index_arrival, tick_p, done_before}

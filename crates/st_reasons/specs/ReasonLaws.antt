@@ -1,6 +1,10 @@
 -- Laws of the causes in the ledger, for each segment on each machine. The machine has the delays ds
 -- and n levels, and the segment starts at a tick with these banks; the entry x comes after the
 -- others, which are listed youngest first.
+--
+-- Proved: each law has its lemma in proofs/ReasonLaws.antt, with its name in small letters.
+-- Claimed: docs/CLAIMS.md names NoTwoRowsAreDoneAtOnce, ReasonsAreTrue.
+-- Change: docs/promises.txt lists each law, and the gate compares the list with the laws.
 use Rattle.std.specs.Prelude.{ℕ, ◌≤◌, ◌<◌, List, ◌∷◌, All}
 use Rattle.st_banks.specs.declared.answers.LastAnswers.{LastAnswers}
 use Rattle.st_rows.specs.Rows.{tick_a, tick_p, completion_of}

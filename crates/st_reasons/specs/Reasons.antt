@@ -1,5 +1,13 @@
 -- The cause for which a row was not prepared earlier: the end of the path that leads back from its
 -- completion. Words are listed youngest first: those of the row, and those of the row before it.
+--
+-- Proved: by their `ensures` clauses these calls do what definitions here say: `back_to`
+-- (because.rt), `bus_or_order` (because.rt), `done_at` (because.rt), `earlier_reason` (because.rt),
+-- and others.
+-- Read by: definitions in Paths, Served, Text of st_account, Runs of st_causes.
+-- Laws: ReasonsAreTrue (specs/ReasonLaws.antt).
+-- Change: the meaning is fixed by docs/ledger.md, since the contract of `st_account::ledger`
+-- unfolds to a definition here. The form is free, with the proofs that unfold it.
 use Rattle.std.specs.Prelude.{ℕ, ◌-◌, Bool, ◌&&◌, ◌||◌, nat_eq, nat_le, nat_lt, if◌then◌else◌, List, [], ◌∷◌, find, length, reverse, Option, None, Some, unwrap_or}
 use Rattle.std.specs.List.{list_any}
 use Rattle.st_bits.specs.declared.register.TheConstants.{FIRST_STORAGE_WORD}

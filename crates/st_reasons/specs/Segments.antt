@@ -1,4 +1,11 @@
 -- The words that the entries of a segment use, as the ledger lists them, for the segment so far.
+--
+-- Proved: no `ensures` clause names a definition of this file.
+-- Laws: WaitsAddUpToTheirStage (specs/WaitLaws.antt), WaitsAreTrue (specs/WaitLaws.antt),
+-- WaitsEndBeforeTheirRow (specs/WaitLaws.antt), ReasonsAreTrue (specs/ReasonLaws.antt), and others.
+-- Change: no page fixes these definitions, since no contract of a program unfolds to them; they
+-- change together with the clauses, definitions and laws that name them. docs/ledger.md describes
+-- the subject.
 use Rattle.std.specs.Prelude.{ℕ, ◌≡◌, List, [], ◌∷◌, ◌++◌, reverse, Option}
 use Rattle.st_banks.specs.declared.answers.LastAnswers.{LastAnswers}
 use Rattle.st_prep.specs.declared.entries.Words.{Words}

@@ -1,4 +1,12 @@
 -- Reads with their ticks, as the bus serves them and as the words of entries list them.
+--
+-- Proved: no `ensures` clause names a definition of this file.
+-- Laws: ReadsToldAreThoseOfTheBus (specs/WaitLaws.antt), BanksAreHeldByTheReadBefore
+-- (specs/WaitLaws.antt), ForwardedWordsAreWritten (specs/WaitLaws.antt), HeldWordsAreBrought
+-- (specs/WaitLaws.antt), and others.
+-- Change: no page fixes these definitions, since no contract of a program unfolds to them; they
+-- change together with the clauses, definitions and laws that name them. docs/ledger.md describes
+-- the subject.
 use Rattle.std.specs.Prelude.{ℕ, ◌-◌, get_or, Some, ◌≡◌, ◌≤◌, Bool, true, false, ◌&&◌, nat_eq, if◌then◌else◌, List, [], ◌∷◌, ◌++◌}
 use Rattle.std.specs.List.{list_any}
 use Rattle.st_banks.specs.Bank.{bank_of, last_of}

@@ -1,4 +1,14 @@
 -- The totals of waits, by the stage of their charge and by kind of wait.
+--
+-- Proved: by their `ensures` clauses these calls do what definitions here say: `add` (sums.rt),
+-- `add_one` (sums.rt), `wait_sums` (sums.rt), `find_waits` (tables.rt of st_tally), and others.
+-- Read by: definitions in Waited of st_lines, Standing of st_account, Tally of st_tally, Slots of
+-- st_tally, and others.
+-- Laws: WaitsAddUpToTheirStage (specs/WaitLaws.antt), WaitsAreWithinTheirCharge (specs/Laws.antt),
+-- IndexWordsWaitForNoTurn (specs/WaitLaws.antt), WaitsCoverTheirCharge (specs/WaitLaws.antt), and
+-- others.
+-- Change: the meaning is fixed by docs/ledger.md, since the contract of `st_account::ledger`
+-- unfolds to a definition here. The form is free, with the proofs that unfold it.
 use Rattle.std.specs.Prelude.{ℕ, ◌+◌, ◌-◌, ◌≤◌, Bool, true, false, nat_eq, if◌then◌else◌, List, [], ◌∷◌}
 use Rattle.st_ledger.specs.Charges.{is_stage}
 use Rattle.st_ledger.specs.declared.charges.Charge.{Charge}

@@ -1,6 +1,11 @@
 -- Laws of the waits in the ledger, for each segment on each machine. The machine has the delays ds
 -- and n levels, and the segment starts at a tick with these banks; the entry x comes after the
 -- others, which are listed youngest first, and the run's last entry completed at tick t.
+--
+-- Proved: each law has its lemma in proofs/WaitLaws.antt, with its name in small letters.
+-- Claimed: docs/CLAIMS.md names BanksAreHeldByTheReadBefore, ForwardedWordsAreWritten,
+-- HeldWordsAreBrought, IndexWordsWaitForNoTurn, and others.
+-- Change: docs/promises.txt lists each law, and the gate compares the list with the laws.
 use Rattle.std.specs.Prelude.{ℕ, ◌≡◌, ◌+◌, ◌<◌, true, false, List, ◌∷◌, All, drop, length, Option}
 use Rattle.st_banks.specs.declared.answers.LastAnswers.{LastAnswers}
 use Rattle.st_banks.specs.declared.answers.TheConstants.{BANKS}

@@ -1,6 +1,15 @@
 -- The waits in the ticks of a charge, the last one first. Words are listed youngest first: those of
 -- the row, and then those of the row before it. Older reads do not matter, because a row wants its
 -- words only when the reads of the rows before the last one have been accepted.
+--
+-- Proved: by their `ensures` clauses these calls do what definitions here say: `acceptance`
+-- (waits.rt), `add_all_turns` (waits.rt), `add_bus` (waits.rt), `add_data` (waits.rt), and others.
+-- Read by: definitions in Segments, Sums, WaitLines of st_lines.
+-- Laws: WaitsAreWithinTheirCharge (specs/Laws.antt), NamedReadsAreMade (specs/Laws.antt of
+-- st_causes), WaitsOfARunAreTrue (specs/Laws.antt of st_causes), WaitsOfARunCoverTheirCharges
+-- (specs/Laws.antt of st_causes).
+-- Change: the meaning is fixed by docs/ledger.md, since the contract of `st_account::ledger`
+-- unfolds to a definition here. The form is free, with the proofs that unfold it.
 use Rattle.std.specs.Prelude.{ℕ, ◌+◌, max, Bool, ◌&&◌, nat_eq, nat_le, nat_lt, if◌then◌else◌, List, [], ◌∷◌, ◌++◌, take, reverse}
 use Rattle.st_ledger.specs.declared.charges.Charge.{Charge}
 use Rattle.st_ledger.specs.declared.charges.Stage.{Stage}

@@ -1,4 +1,12 @@
 -- The words that an entry uses, as needed for its waits.
+--
+-- Proved: by their `ensures` clauses these calls do what definitions here say: `is_read_at`
+-- (waits.rt), `decides` (uses.rt), `is_answered` (uses.rt), `is_any_due` (uses.rt), and others.
+-- Read by: definitions in Paths, Reasons, Waits, Causes, and others.
+-- Laws: ReadsOfAnEntryAreInTime (specs/Laws.antt), WaitsAreWithinTheirCharge (specs/Laws.antt),
+-- InstructionWordsAreFirst (specs/WaitLaws.antt), NamedReadsAreMade (specs/Laws.antt of st_causes).
+-- Change: the meaning is fixed by docs/ledger.md, since the contract of `st_account::ledger`
+-- unfolds to a definition here. The form is free, with the proofs that unfold it.
 use Rattle.std.specs.Prelude.{ℕ, ◌≤◌, Bool, true, false, not, ◌&&◌, nat_eq, List, length, All}
 use Rattle.std.specs.List.{list_any}
 use Rattle.st_rows.specs.declared.uses.ReadTicks.{ReadTicks}

@@ -1,13 +1,16 @@
 //! Finds the cause for which a row (one instruction with its ticks) was not prepared earlier: the
 //! path from its address back in time, to the completion, read or preparation that decided it.
+//! docs/ledger.md has the rules ("Reasons"). `st_account` calls `find_reason` between the two
+//! halves of a row; `st_lines` writes the `BECAUSE` line, `st_tally` counts by `Reason`. Distances
+//! count rows, 1 to 8; ticks are those of the run.
 //!
-//! `st_account` calls `find_reason` between the two halves of a row; `st_lines` writes the
-//! `BECAUSE` line. Distances count rows, 1 to 8; ticks are those of the run.
+//! Proved: the cause is `because` of specs/Reasons.antt. By the law `ReasonsAreTrue`
+//! (specs/ReasonLaws.antt) it did delay the row, by the ticks that `late` says.
 //!
-//! Proved: the cause is `because` of specs/Reasons.antt; that it did delay the row, by the ticks
-//! that `late` says, is a law (specs/ReasonLaws.antt). Pinned: the order in which causes are tried,
-//! which decides between causes at one tick. A new cause needs a variant, its case there, and its
-//! name in `st_lines`. Free: the recursions.
+//! Pinned, by `because`, docs/ledger.md and vectors/ledger/reasons.txt: the cause, and so the order
+//! in which causes are tried, which decides between causes at one tick. A new cause needs a
+//! variant, its case in specs/Reasons.antt, its name in `st_lines`, and its heading in `st_tally`.
+//! Free: the recursions, if proofs/because follows.
 ghost use Rattle.std.specs.Prelude.{◌≡◌, ◌-◌, ◌≤◌, nat_eq, find, reverse, All, unwrap_or};
 ghost use Rattle.st_reasons.specs.declared.because.StallCause.TheVariants.{Prefetch as PrefetchOf};
 ghost use Rattle.std.specs.List.{list_any};

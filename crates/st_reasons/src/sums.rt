@@ -1,12 +1,15 @@
-//! The ticks of waits, by stage and by kind of wait, in a whole run.
+//! The ticks of waits, by stage and by kind of wait, in a whole run. docs/ledger.md has the rules
+//! ("Waits"). `st_lines` adds the waits of each charge and writes the sums at the end; `st_account`
+//! and `st_tally` keep the totals. Only three stages wait for words (instruction, index, operand),
+//! and an index-side word never waits for a turn, so there are eight sums.
 //!
-//! `st_lines` adds the waits of each charge and writes the sums at the end. Only three stages wait
-//! for words (instruction, index, operand), and an index-side word never waits for a turn, so there
-//! are eight sums.
+//! Proved: each sum grows by the ticks of its waits (`sums`, by specs/Sums.antt), and none exceeds
+//! the tick, so none overflows (`within`, `AreWaitsWithin`). By the law `WaitSumsAddUp`
+//! (specs/Laws.antt of `st_causes`) the sums of a stage add up to its charges.
 //!
-//! Proved: each sum grows by the ticks of its waits (specs/Sums.antt), and none overflows, since it
-//! is at most the tick. That the sums of a stage are its charge is a law of `st_causes`. Pinned by
-//! `wait_sums_by`: the order of the sums, that of the lines. Free: the recursion.
+//! Pinned, by `wait_sums_by` of specs/Sums.antt, docs/ledger.md and vectors/ledger/lines.txt: the
+//! sums and their order, that of the lines. A new kind of wait needs a field of `Shares`, its arm
+//! in `add_one`, and its sums in `wait_sums_by`. Free: the recursion, if proofs/sums follows.
 ghost use Rattle.std.specs.Prelude.{◌≡◌, ◌+◌, ◌-◌, ◌≤◌, ◌<◌, ◌^◌, true, if◌then◌else◌};
 ghost use Rattle.st_ledger.specs.declared.charges.Stage.{Stage as StageOf};
 ghost use Rattle.st_ledger.specs.Charges.{is_stage};

@@ -1,10 +1,14 @@
 //! Small questions about the words that an entry (instruction) uses, for waits.rt and because.rt:
 //! the last word, whether it is read, its role, and whether it is the first of its role with an
-//! answer at a tick.
-//!
+//! answer at a tick. No other crate sees them. docs/ledger.md has the rules ("Waits", "Reasons").
 //! Lists are in the order of the reads; the searches go from the last word to the first, so
-//! definitions have the reversed list. Proved: each answer is the definition of specs/Words.antt.
-//! Pinned: of several answers at one tick the first word decides. Free: the bodies.
+//! definitions have the reversed list.
+//!
+//! Proved: each answer is the definition of its name in specs/Words.antt.
+//!
+//! Pinned, by `decides` of specs/Words.antt, docs/ledger.md and vectors/ledger/reasons.txt: of
+//! several answers at one tick the first word decides. Free: the bodies, if proofs/uses follows
+//! `is_any_due`.
 ghost use Rattle.std.specs.Prelude.{◌≡◌, ◌+◌, ◌∷◌, [], length, reverse, MatchOption, IfSome};
 ghost use Rattle.std.specs.List.{list_any};
 ghost use Rattle.st_reasons.specs.Words.{is_read as is_read_of, read_of as read_by, is_instruction as is_instruction_of, is_index as is_index_of, is_operand as is_operand_of, is_role as is_role_of, is_answered as is_answered_of, is_answered_at as is_due_of, decides as decides_of};

@@ -1,13 +1,16 @@
 //! Finds the waits in the ticks of a charge (the ticks that one stage of an instruction took): for
 //! which word a row waited, and whether for its turn on the bus, for a bank, or for storage.
+//! docs/ledger.md has the rules ("Waits"). `st_lines` calls `fill_waits` for each charge, with the
+//! words of the row and of the row before it; earlier reads do not matter. A wait has the ticks
+//! `from` + 1 to `to`; the last wait comes first in the list.
 //!
-//! `st_lines` calls `fill_waits` for each charge, with the words of the row and of the row before
-//! it; earlier reads do not matter. A wait has the ticks `from` + 1 to `to`; the last wait comes
-//! first in the list.
+//! Proved: the list is `charge_waits` of specs/Waits.antt. By the laws `WaitsAreTrue` and
+//! `WaitsCoverTheirCharge` (specs/WaitLaws.antt) the waits are true and cover the charge.
 //!
-//! Proved: the list is `charge_waits` of specs/Waits.antt. That waits are true and cover the charge
-//! are laws (specs/WaitLaws.antt). Pinned: room for 514 waits, by 48 words of each row and four
-//! instruction words. Free: the recursions.
+//! Pinned, by `charge_waits`, docs/ledger.md and vectors/ledger/reasons.txt: the waits; by the
+//! clauses and proofs/waits: room for 514 waits, from 48 words of each row and four instruction
+//! words; by `st_lines`, `st_tally` and `st_account`: the types. Free: the recursions, if
+//! proofs/waits follows.
 ghost use Rattle.std.specs.Prelude.{◌≡◌, ◌+◌, ◌*◌, ◌≤◌, ◌<◌, ◌++◌, List, length, take, reverse, nat_eq, ◌&&◌};
 ghost use Rattle.st_rows.specs.declared.uses.Use.{Use as UseOf};
 ghost use Rattle.st_reasons.specs.Words.{is_read as is_read_of, read_of as read_by};

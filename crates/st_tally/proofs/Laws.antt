@@ -13,4 +13,4 @@ pub headings_share_the_lost_ticks : HeadingsShareTheLostTicks
 headings_share_the_lost_ticks xs = lost-shared xs
 
 pub lost_ticks_are_those_of_other_stages : LostTicksAreThoseOfOtherStages
-lost_ticks_are_those_of_other_stages d order start address ready = lost-others d order start address ready
+lost_ticks_are_those_of_other_stages d start address ready = lost-others d start address ready

@@ -1,5 +1,7 @@
 pub mod WaitSums
 pub mod CardLemmas
+pub mod Alike
+pub mod Executing
 pub mod ReasonLemmas
 pub mod TableLemmas
 pub mod LineLemmas

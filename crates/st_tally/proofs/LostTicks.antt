@@ -1,13 +1,13 @@
 -- Lemmas on the ticks that an entry lost.
 use Rattle.std.specs.Prelude.{max}
-use Rattle.std.proofs.Common.{◌≡◌, ℕ, ◌+◌, ◌-◌, ◌≤◌, false, List, [], ◌∷◌, inl, inr, refl, ◌∙◌, ap, arith}
+use Rattle.std.proofs.Common.{◌≡◌, ℕ, ◌+◌, ◌-◌, ◌≤◌, false, List, [], ◌∷◌, inl, inr, refl, sym, ◌∙◌, ap, arith}
 use Rattle.st_ledger.specs.Charges.{charges_behind, is_stage, ticks_for, all_ticks}
 use Rattle.st_ledger.specs.declared.charges.StagePart.{StagePart}
 use Rattle.st_ledger.specs.declared.charges.Stage.TheVariants.{Restart, Instruction, Address, Index, Preparing, Operand, Executing}
+use Rattle.st_ledger.proofs.Added.{reach-later, reach-end}
 use Rattle.st_ledger.proofs.Sums.{lt-cases}
 use Rattle.st_lines.specs.EntryLines.{charges_of_entry}
 use Rattle.st_lines.specs.declared.facts.EntryDone.{EntryDone}
-use Rattle.st_tally.specs.Slots.{IsInOrder}
 use Rattle.st_tally.specs.Tally.{lost_by}
 
 -- a stage other than EXECUTING has no ticks of it
@@ -51,7 +51,30 @@ executing d start address ready =
     ∙ executed t6 r.c
     ∙ ap (λ t. r.c - t) last
 
-pub lost-others : (d : EntryDone) → IsInOrder d → d.start ≤ d.row.ticks.p → d.row.ticks.a ≤ d.row.ticks.p → d.row.ticks.p ≤ d.row.ticks.r
+-- all charges end with the last of its stages
+reached : (d : EntryDone) → d.start ≤ d.row.ticks.p → d.row.ticks.a ≤ d.row.ticks.p → d.row.ticks.p ≤ d.row.ticks.r
+    → d.before + all_ticks (charges_of_entry d) ≡ max (max d.before d.row.ticks.r) d.row.ticks.c
+reached d start address ready =
+    let r = d.row.ticks in
+    let t1 : ℕ = max d.before d.start in
+    let t2 : ℕ = max t1 (r.a - 1) in
+    let t3 : ℕ = max t2 r.a in
+    let t4 : ℕ = max t3 (r.p - 1) in
+    let t5 : ℕ = max t4 r.p in
+    let t6 : ℕ = max t5 r.r in
+    let t7 : ℕ = max t6 r.c in
+    let last : t6 ≡ max d.before r.r = omega (arith, start, address, ready) in
+    sym (reach-later d.before t1 _ _ (record { stage = Restart; end = d.start }) refl refl)
+    ∙ sym (reach-later t1 t2 _ _ (record { stage = Instruction; end = r.a - 1 }) refl refl)
+    ∙ sym (reach-later t2 t3 _ _ (record { stage = Address; end = r.a }) refl refl)
+    ∙ sym (reach-later t3 t4 _ _ (record { stage = Index; end = r.p - 1 }) refl refl)
+    ∙ sym (reach-later t4 t5 _ _ (record { stage = Preparing; end = r.p }) refl refl)
+    ∙ sym (reach-later t5 t6 _ _ (record { stage = Operand; end = r.r }) refl refl)
+    ∙ sym (reach-later t6 t7 _ _ (record { stage = Executing; end = r.c }) refl refl)
+    ∙ sym (reach-end t7 [] refl)
+    ∙ ap (λ t. max t r.c) last
+
+pub lost-others : (d : EntryDone) → d.start ≤ d.row.ticks.p → d.row.ticks.a ≤ d.row.ticks.p → d.row.ticks.p ≤ d.row.ticks.r
     → lost_by d + ticks_for Executing (charges_of_entry d) ≡ all_ticks (charges_of_entry d)
-lost-others d order start address ready =
-    omega (arith, order.later, order.ready, order.reach, executing d start address ready)
+lost-others d start address ready =
+    omega (arith, reached d start address ready, executing d start address ready)

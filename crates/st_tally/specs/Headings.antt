@@ -1,4 +1,13 @@
 -- The headings under which rows are counted by their reason.
+--
+-- Proved: by their `ensures` clauses these calls do what definitions here say: `heading_at`
+-- (headings.rt), `heading_of` (headings.rt), `heading_of_reason` (headings.rt), `heading_of_start`
+-- (headings.rt), and others.
+-- Read by: definitions in Tally, Slots, TallyLines.
+-- Laws: HeadingsShareTheLostTicks (specs/Laws.antt), HeadingsShareTheRowsWithReasons
+-- (specs/Laws.antt).
+-- Change: the meaning is fixed by docs/ledger.md, since the contract of `st_account::ledger`
+-- unfolds to a definition here. The form is free, with the proofs that unfold it.
 use Rattle.std.specs.Prelude.{ℕ, Bool, false, nat_eq, nat_lt, if◌then◌else◌, List, [], ◌∷◌, Option, None, Some}
 use Rattle.st_reasons.specs.declared.because.Reason.{Reason}
 use Rattle.st_reasons.specs.declared.because.Reason.TheVariants.{Serial as ForSerial, Store as ForStore, Level as ForLevel, Forwarding as ForForwarding, Bus as ForBus, Order as ForOrder}

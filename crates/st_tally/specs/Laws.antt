@@ -1,4 +1,9 @@
 -- Laws of the tables of a run.
+--
+-- Proved: each law has its lemma in proofs/Laws.antt, with its name in small letters.
+-- Claimed: docs/CLAIMS.md names CardsShareTheRows, HeadingsShareTheLostTicks,
+-- HeadingsShareTheRowsWithReasons, LostTicksAreThoseOfOtherStages.
+-- Change: docs/promises.txt lists each law, and the gate compares the list with the laws.
 use Rattle.std.specs.Prelude.{ℕ, ◌≡◌, ◌+◌, ◌≤◌, ◌<◌, zero, suc, List, All}
 use Rattle.std.specs.List.{filter, sum_by}
 use Rattle.std.specs.Option.{is_some}
@@ -7,7 +12,6 @@ use Rattle.st_ledger.specs.declared.charges.Stage.TheVariants.{Executing}
 use Rattle.st_lines.specs.EntryLines.{charges_of_entry}
 use Rattle.st_lines.specs.declared.facts.EntryDone.{EntryDone}
 use Rattle.st_tally.specs.Headings.{headings}
-use Rattle.st_tally.specs.Slots.{IsInOrder}
 use Rattle.st_tally.specs.Tally.{TalliedRow, card_of, reason_of, lost_by, rows_of_card, rows_for, lost_ticks}
 
 -- the sum of a function over the numbers below n
@@ -37,6 +41,6 @@ HeadingsShareTheLostTicks = (xs : List TalliedRow) →
 -- The ticks that an entry lost are those of its charges that are not of EXECUTING, if it is prepared
 -- in its segment, and its operands are available then or later.
 abbrev pub LostTicksAreThoseOfOtherStages : Type 0
-LostTicksAreThoseOfOtherStages = (d : EntryDone) → IsInOrder d →
+LostTicksAreThoseOfOtherStages = (d : EntryDone) →
     d.start ≤ d.row.ticks.p → d.row.ticks.a ≤ d.row.ticks.p → d.row.ticks.p ≤ d.row.ticks.r →
     lost_by d + ticks_for Executing (charges_of_entry d) ≡ all_ticks (charges_of_entry d)

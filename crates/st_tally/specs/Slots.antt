@@ -1,4 +1,12 @@
 -- Bounds of the numbers in tables, and the lines of tables by these numbers.
+--
+-- Proved: by their `ensures` clauses these calls do what definitions here say: `fill_reason`
+-- (lines.rt), `add` (tables.rt), `add_card` (tables.rt), `add_found` (tables.rt), and others.
+-- Read by: definitions in Tallying of st_account.
+-- Laws: none names a definition of this file itself.
+-- Change: no page fixes these definitions, since no contract of a program unfolds to them; they
+-- change together with the clauses, definitions and laws that name them. docs/ledger.md describes
+-- the subject.
 use Rattle.std.specs.Prelude.{ℕ, ◌≡◌, ◌+◌, ◌≤◌, ◌<◌, ◌^◌, List, ◌++◌, length, get_or, set, Option, None, Some}
 use Rattle.st_io.specs.Lines.{lines_for}
 use Rattle.st_ledger.specs.Charges.{all_ticks, ticks_for}
@@ -43,6 +51,13 @@ pub record IsInOrder (d : EntryDone) : Type 0 where
   pub ready : d.row.ticks.r ≤ d.row.ticks.c
   pub early : d.row.ticks.c < 2 ^ 64
   pub reach : d.before + all_ticks (charges_of_entry d) ≡ d.row.ticks.c
+
+-- an entry only executes: its other stages end before its charges begin
+pub record OnlyExecutes (d : EntryDone) : Type 0 where
+  pub started : d.start ≤ d.before
+  pub formed : d.row.ticks.a ≤ d.before
+  pub prepared : d.row.ticks.p ≤ d.before
+  pub ready : d.row.ticks.r ≤ d.before
 
 -- ---- a row more
 

@@ -1,4 +1,14 @@
 -- The tables of a run as sums over its rows.
+--
+-- Proved: by their `ensures` clauses these calls do what definitions here say: `add` (tables.rt),
+-- `add_card` (tables.rt), `write` (writing.rt), `card_of` (tables.rt), and others.
+-- Read by: definitions in TallyLines, Slots, Tallying of st_account, LedgerTables of st_account,
+-- and others.
+-- Laws: CardsShareTheRows (specs/Laws.antt), HeadingsShareTheLostTicks (specs/Laws.antt),
+-- HeadingsShareTheRowsWithReasons (specs/Laws.antt), LostTicksAreThoseOfOtherStages
+-- (specs/Laws.antt), and others.
+-- Change: the meaning is fixed by docs/ledger.md, since the contract of `st_account::ledger`
+-- unfolds to a definition here. The form is free, with the proofs that unfold it.
 use Rattle.std.specs.Prelude.{ℕ, ◌≡◌, ◌-◌, ◌<◌, Bool, true, not, min, nat_eq, List, length, get_or, Option, None, Some}
 use Rattle.std.specs.List.{filter, sum_by}
 use Rattle.st_rows.specs.declared.uses.Use.{Use}

@@ -1,4 +1,12 @@
 -- The lines of the tables of a run.
+--
+-- Proved: by their `ensures` clauses these calls do what definitions here say: `fill_card`
+-- (lines.rt), `fill_dropped` (lines.rt), `fill_level` (lines.rt), `fill_missed` (lines.rt), and
+-- others.
+-- Read by: definitions in Slots, LedgerSums of st_account.
+-- Laws: TotalsAreTheLedgerWithoutRows (specs/Laws.antt of st_causes).
+-- Change: the meaning is fixed by docs/ledger.md, since the contract of `st_account::ledger`
+-- unfolds to a definition here. The form is free, with the proofs that unfold it.
 use Rattle.std.specs.Prelude.{ℕ, nat_eq, if◌then◌else◌, List, [], ◌∷◌, ◌++◌, length, codes, decimal}
 use Rattle.st_text.specs.Bytes.{lf}
 use Rattle.st_io.specs.Lines.{lines_for}

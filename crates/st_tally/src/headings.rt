@@ -1,4 +1,15 @@
-//! The headings under which rows are counted by their reason.
+//! The headings under which the tables of a run count rows by their reason, for the lines `REASON`.
+//! docs/ledger.md has the table ("Totals and tables"). tables.rt finds the heading of each row;
+//! lines.rt and writing.rt write its name and its line. No other crate uses them.
+//!
+//! Proved: `heading_at` is the definition of its name in specs/Headings.antt, none for a row
+//! without a line BECAUSE; `place` is `heading_number` of that file. The headings share all rows
+//! that have a reason: law `HeadingsShareTheRowsWithReasons` in specs/Laws.antt.
+//!
+//! Pinned, by `headings` of specs/Headings.antt and vectors/ledger/sums.txt: the eleven headings
+//! and their order, which is that of the lines. `all_headings` of writing.rt repeats it. A new
+//! `Reason` or `StallCause` of `st_reasons`, or a new `Why` of `st_lines`, needs its heading here
+//! and in specs/Headings.antt. Free: the split into functions.
 ghost use Rattle.std.specs.Prelude.{◌≡◌, ◌<◌};
 ghost use Rattle.st_tally.specs.Headings.{heading_number, heading_of_start as start_heading, heading_of_reason as reason_heading, heading_of as heading_by, heading_at as heading_for};
 

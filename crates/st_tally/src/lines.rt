@@ -1,5 +1,14 @@
-//! The lines of the tables, by the rules of `docs/ledger.md`: one call for each kind of line, with
-//! its line end.
+//! The lines of the tables, one call for each kind of line, with its line end. docs/ledger.md has
+//! the lines ("Totals and tables"). Only writing.rt calls these functions; `LineFromEnd` of
+//! `st_report` is filled from its end, so the parts are put in reverse.
+//!
+//! Proved: the bytes are those of specs/TallyLines.antt (`card_line`, `missed_count_line`,
+//! `level_count_line`, `drop_count_line`, `heading_name`) and `reason_sum_line` of
+//! specs/Slots.antt.
+//!
+//! Pinned, by these definitions, docs/ledger.md and vectors/ledger/sums.txt: each byte. A new kind
+//! of line is a definition, a function here and a call in writing.rt. Free: the buffer and the
+//! bodies.
 ghost use Rattle.std.specs.Prelude.{◌≡◌, ◌+◌, ◌≤◌, ◌++◌, length};
 ghost use Rattle.st_tally.specs.TallyLines.{card_line, heading_name, missed_count_line, level_count_line, drop_count_line};
 ghost use Rattle.st_tally.specs.Slots.{reason_sum_line};

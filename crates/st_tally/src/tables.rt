@@ -1,6 +1,17 @@
-//! The sums over the rows of a run, by card and by reason.
+//! The sums over the rows of a run, by card and by reason. docs/ledger.md has the tables ("Totals
+//! and tables"). `st_account` makes `Tables` with `new` (program.rt) and adds each completed entry
+//! with `add` (tallying.rt); writing.rt writes them. Sums are ticks and numbers of rows.
+//!
+//! Proved: after each `add` the tables are the sums over one row more (clause `tally`, `IsTally` in
+//! specs/Tally.antt), and no sum overflows (`within`). Laws in specs/Laws.antt:
+//! `HeadingsShareTheRowsWithReasons`, and `CardsShareTheRows`, which needs a place for each card;
+//! the law `RowsComeFromTheCards` of `st_causes` (specs/CardLaws.antt there) gives the place.
+//!
+//! Pinned, by `IsTally`: index 0 is the sum of rows without a card; a row whose card has no place
+//! is left out. Free: the bodies, if proofs/tables follows.
 ghost use Rattle.std.specs.Prelude.{◌≡◌, ◌≢◌, ◌+◌, ◌≤◌, ◌<◌, ◌^◌, ◌∷◌, ◌++◌, [], ℕ, List, true, if◌then◌else◌, not, nat_eq, length, get_or, IfOk};
-ghost use Rattle.st_ledger.specs.Charges.{all_ticks};
+ghost use Rattle.st_ledger.specs.Charges.{all_ticks, ticks_for};
+ghost use Rattle.st_ledger.specs.Totals.{sum_at, AreWithin};
 ghost use Rattle.st_ledger.specs.declared.charges.Stage.{Stage};
 ghost use Rattle.st_lines.specs.EntryLines.{charges_of_entry};
 ghost use Rattle.st_lines.specs.Waited.{AreWaitsReady, AddsWaits};
@@ -9,8 +20,8 @@ ghost use Rattle.st_reasons.specs.Words.{AreWordsInTime};
 ghost use Rattle.st_reasons.specs.declared.waits.Stall.{Stall};
 ghost use Rattle.st_tally.specs.Headings.{heading_number, heading_at as heading_for};
 ghost use Rattle.st_tally.specs.declared.headings.Heading.{Heading};
-ghost use Rattle.st_tally.specs.Tally.{TalliedRow, card_by_origin, late_by as late_for, no_card_sum, no_reason_sum, IsTally};
-ghost use Rattle.st_tally.specs.Slots.{IsCardSumWithin, IsReasonSumWithin, AreTablesWithin, IsInOrder, CanAddShares, CanAddWaits, both_shares, both_waits, AddsCard, with_entry, with_reason};
+ghost use Rattle.st_tally.specs.Tally.{TalliedRow, card_by_origin, late_by as late_for, no_card_sum, no_reason_sum, no_waits, IsTally};
+ghost use Rattle.st_tally.specs.Slots.{IsCardSumWithin, IsReasonSumWithin, AreTablesWithin, IsInOrder, CanAddShares, CanAddWaits, both_shares, both_waits, OnlyExecutes, AddsCard, with_entry, with_reason};
 
 use crate::headings::{HEADINGS, heading_at};
 use st_bits::NoMemory;
@@ -77,15 +88,46 @@ fn add_found(waits: &mut WaitTotals, more: &WaitTotals)
     add_shares(&mut waits.operand, &more.operand);
 }
 
-// The ticks of the waits of an entry; `waits` lends its room.
-fn find_waits(done: &EntryDone, uses: &[Use], before: &[Use], waits: &mut Waits) -> WaitTotals
+// Adds the ticks of the waits of an entry, which has none if it only executes.
+fn add_waits_of(executes: bool, waits: &mut WaitTotals, more: &WaitTotals)
+    requires none { executes ≡ true → more.now ≡ no_waits }
+    requires fit { CanAddWaits waits.old more.now }
+    ensures { waits.new ≡ both_waits waits.old more.now }
+{
+    if !executes {
+        add_found(waits, more);
+    }
+}
+
+// Whether an entry only executes: its other stages end before its charges begin.
+fn only_executes(done: &EntryDone) -> bool
+    ensures { result ≡ true → OnlyExecutes done.now }
+{
+    let ticks = &done.row.ticks;
+    done.start.max(ticks.a).max(ticks.p).max(ticks.r) <= done.before
+}
+
+// The ticks of the waits of an entry, which has none if it only executes; `waits` lends its room.
+fn find_waits(
+    executes: bool,
+    done: &EntryDone,
+    uses: &[Use],
+    before: &[Use],
+    waits: &mut Waits,
+) -> WaitTotals
+    requires executes { executes ≡ true → OnlyExecutes done.now }
+    requires later { done.now.before < done.now.row.ticks.c }
     requires used { AreWordsInTime uses.now }
     requires earlier { AreWordsInTime before.now }
     ensures sums { (r : Stage) (s : Stall) → is_parted r ≡ true →
         waited_at r s result ≡ row_stalled r s uses.now before.now (charges_of_entry done.now) }
     ensures within { AreWaitsWithin (all_ticks (charges_of_entry done.now)) result }
+    ensures none { executes ≡ true → result ≡ no_waits }
 {
     let mut found = WaitTotals::default();
+    if executes {
+        return found;
+    }
     add_waits(
         done.before,
         done.start,
@@ -98,14 +140,32 @@ fn find_waits(done: &EntryDone, uses: &[Use], before: &[Use], waits: &mut Waits)
     found
 }
 
+// Adds the ticks of an entry that only executes.
+fn add_executing(sums: &mut Totals, done: &EntryDone)
+    requires executes { OnlyExecutes done.now }
+    requires order { IsInOrder done.now }
+    requires within { AreWithin done.now.before sums.old }
+    ensures sums { (s : Stage) → sum_at s sums.new
+        ≡ sum_at s sums.old + ticks_for s (charges_of_entry done.now) }
+    ensures within { AreWithin done.now.row.ticks.c sums.new }
+{
+    sums.executing += done.row.ticks.c - done.before;
+}
+
 // Adds an entry with its waits to the sums of a card.
-fn add_to_card(sum: &mut CardSum, done: &EntryDone, found: &WaitTotals)
+fn add_to_card(executes: bool, sum: &mut CardSum, done: &EntryDone, found: &WaitTotals)
+    requires executes { executes ≡ true → OnlyExecutes done.now }
+    requires none { executes ≡ true → found.now ≡ no_waits }
     requires order { IsInOrder done.now }
     requires within { IsCardSumWithin done.now.before sum.old }
     requires few { AreWaitsWithin (all_ticks (charges_of_entry done.now)) found.now }
     ensures { AddsCard done.now found.now sum.old sum.new }
 {
     sum.rows += 1;
+    if executes {
+        add_executing(&mut sum.sums, done);
+        return;
+    }
     sum.sums.add_row(&done.row.ticks, done.before, done.start);
     add_found(&mut sum.waits, found);
 }
@@ -121,7 +181,9 @@ fn card_of(origin: Option<Origin>) -> u32
 }
 
 // Adds an entry with its waits to the sums of its card, if the table has that card.
-fn add_card(cards: &mut Vec<CardSum>, done: &EntryDone, found: &WaitTotals)
+fn add_card(executes: bool, cards: &mut Vec<CardSum>, done: &EntryDone, found: &WaitTotals)
+    requires executes { executes ≡ true → OnlyExecutes done.now }
+    requires none { executes ≡ true → found.now ≡ no_waits }
     requires order { IsInOrder done.now }
     requires within { (k : ℕ) → k < length cards.old.items →
         IsCardSumWithin done.now.before (get_or cards.old.items k no_card_sum) }
@@ -136,7 +198,7 @@ fn add_card(cards: &mut Vec<CardSum>, done: &EntryDone, found: &WaitTotals)
 {
     let k = card_of(done.origin) as usize;
     if k < cards.len() {
-        add_to_card(&mut cards[k], done, found);
+        add_to_card(executes, &mut cards[k], done, found);
     }
 }
 
@@ -245,9 +307,9 @@ impl Tables {
 
     /// Adds a completed entry, whose segment begins for the reason `why`. The entry uses the words
     /// `uses`, and the entry before it in its segment the words `before`. Its waits are added to
-    /// the totals in `waiting` too. Of the entry neither number, address nor end of the segment
-    /// matter. No number may be greater than the tick at which the entry before completed, except
-    /// the ticks of waits for a level.
+    /// the totals in `waiting` too. Of the entry neither number, address, end of the segment nor the
+    /// KEPT of its line LAID matter, and its cause only if it lost ticks. No number may be greater
+    /// than the tick at which the entry before completed, except the ticks of waits for a level.
     pub fn add(
         &mut self,
         done: &EntryDone,
@@ -270,9 +332,10 @@ impl Tables {
         ensures waits { AddsWaits uses.now before.now done.now.before (charges_of_entry done.now)
             waiting.old.totals waiting.new.totals }
     {
-        let found = find_waits(done, uses, before, &mut waiting.waits);
-        add_found(&mut waiting.totals, &found);
-        add_card(&mut self.cards, done, &found);
+        let executes = only_executes(done);
+        let found = find_waits(executes, done, uses, before, &mut waiting.waits);
+        add_waits_of(executes, &mut waiting.totals, &found);
+        add_card(executes, &mut self.cards, done, &found);
         add_reason(&mut self.reasons, why, done);
         self.count(done);
     }

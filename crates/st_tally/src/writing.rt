@@ -1,4 +1,15 @@
-//! Writes the lines of the tables.
+//! Writes the lines of the tables: those of the cards that have rows, those of all headings, and
+//! the counts. docs/ledger.md has their order ("Totals and tables"). `st_account` (running.rt)
+//! calls `write` at the end of a run; lines.rt forms the lines.
+//!
+//! Proved: if the tables are those of some rows (`IsTally` in specs/Tally.antt), the lines are
+//! `table_lines` of specs/TallyLines.antt, all of them on Ok, the first ones after a failed write
+//! (`WritesLines` of `st_io`). Not proved here: the number of dropped entries, which the caller
+//! passes.
+//!
+//! Pinned, by `table_lines`, docs/ledger.md and vectors/ledger/sums.txt: the order of lines.
+//! Pinned, by `st_ledger` and `st_lines`: the fifteen lines `SUM` after a card. Free: the split
+//! into functions, if proofs/writing follows.
 ghost use Rattle.std.specs.Prelude.{◌≡◌, ◌+◌, ◌<◌, ◌∷◌, [], List, length, get_or};
 ghost use Rattle.st_io.specs.Lines.{WritesLines, lines_for};
 ghost use Rattle.st_tally.specs.Headings.{headings};

@@ -5,7 +5,7 @@ use Rattle.st_account.specs.Tallying.{AddsKeptRow}
 use Rattle.st_account.specs.Text.{segment_end_at}
 use Rattle.st_account.proofs.BorderLemmas.{segment-is, issue-after, words-left, until-same, why-is, dropped-counted}
 use Rattle.st_account.proofs.StallLemmas.{waiting-same, adds-same, words-read}
-use Rattle.st_account.proofs.TallyLemmas.{ready-same, row-same}
+use Rattle.st_account.proofs.TallyLemmas.{ready-same, row-same, waiting-ended, ready-ended, adds-ended, row-ended}
 use Rattle.st_account.proofs.tallying.tally_to_next.Goals as goal
 
 pub returns-clause-number : goal.returns-clause-number
@@ -20,12 +20,14 @@ returns-clause-issue c ds n left b m xs cards is going =
 
 pub tally_row-requires-clause-waiting : goal.tally_row-requires-clause-waiting
 tally_row-requires-clause-waiting c =
-    waiting-same c.args.account.now.last c.enter_next-border.new.self.last c.args.account.now.waiting.totals _ c.enter_next-border.ensures.last
-    (ap (λ (x : Account). x.waiting.totals) c.enter_next-border.ensures.rest) c.requires.waiting
+    waiting-ended c.end_of-account.result c.enter_next-border.new.self.last _
+    (waiting-same c.args.account.now.last c.enter_next-border.new.self.last c.args.account.now.waiting.totals _ c.enter_next-border.ensures.last
+    (ap (λ (x : Account). x.waiting.totals) c.enter_next-border.ensures.rest) c.requires.waiting)
 
 pub tally_row-requires-clause-ready : goal.tally_row-requires-clause-ready
 tally_row-requires-clause-ready c =
-    ready-same c.args.account.now.k c.args.account.now.last c.enter_next-border.new.self.last _ c.enter_next-border.ensures.last c.requires.ready
+    ready-ended c.end_of-account.result c.args.account.now.k c.enter_next-border.new.self.last _
+    (ready-same c.args.account.now.k c.args.account.now.last c.enter_next-border.new.self.last _ c.enter_next-border.ensures.last c.requires.ready)
 
 pub returns-clause-earlier : goal.returns-clause-earlier
 returns-clause-earlier c ds n left b m xs cards is =
@@ -39,15 +41,16 @@ returns-clause-read c =
 
 pub returns-clause-waits : goal.returns-clause-waits
 returns-clause-waits c =
-    adds-same _ _ _ _ _ _ c.enter_next-border.ensures.last (ap (λ (x : Account). x.waiting.totals) c.enter_next-border.ensures.rest) c.tally_row.ensures.waits
+    adds-same _ _ _ _ _ _ c.enter_next-border.ensures.last (ap (λ (x : Account). x.waiting.totals) c.enter_next-border.ensures.rest)
+    (adds-ended c.end_of-account.result c.args.account.now.k c.enter_next-border.new.self.last _ _ c.tally_row.ensures.waits)
 
 pub returns-clause-row : goal.returns-clause-row
 returns-clause-row c ds n left b m xs cards is going =
     subst (AddsKeptRow c.args.account.now.k c.args.account.now.last (segment_end_at left m) c.args.tally.now.why c.args.tally.now.tables) (sym c.pass_border.ensures.tables)
     (row-same _ c.args.account.now.last c.enter_next-border.new.self.last _ _ _ _ _ c.enter_next-border.ensures.last
     (until-same ds n left b m c.args.account.now xs cards is c.enter_next-border.new.self c.enter_next-border.result c.enter_next-border.ensures.rest c.enter_next-border.ensures.border
-    c.enter_next-border.ensures.ends c.enter_next-border.ensures.begins c.enter_next-border.ensures.last going _ c.end_of-end.ensures)
-    c.tally_row.ensures.row)
+    c.enter_next-border.ensures.ends c.enter_next-border.ensures.begins c.enter_next-border.ensures.last going _ c.end_of-account.ensures)
+    (row-ended c.end_of-account.result c.args.account.now.k c.enter_next-border.new.self.last _ _ _ _ c.tally_row.ensures.row))
 
 pub returns-clause-why : goal.returns-clause-why
 returns-clause-why c ds n left b m xs cards is =

@@ -1,7 +1,11 @@
-use Rattle.std.specs.Prelude.{All}
-use Rattle.std.proofs.Common.{refl, sym, ◌∙◌, ap, subst}
+use Rattle.std.specs.Prelude.{All, option_map}
+use Rattle.std.proofs.Common.{List, ◌<◌, refl, sym, ◌∙◌, ap, subst}
 use Rattle.st_exec.specs.Ahead.{IsNotAmong}
 use Rattle.st_exec.specs.Completion.{prediction}
+use Rattle.st_exec.specs.Step.{address}
+use Rattle.st_rows.specs.declared.uses.Use.{Use}
+use Rattle.st_lines.specs.declared.origins.Origin.{Origin}
+use Rattle.st_reasons.specs.declared.because.StallCause.{StallCause}
 use Rattle.st_rows.proofs.Within.{delays-are}
 use Rattle.st_segment.proofs.EntryRanges.{entry-ranges}
 use Rattle.st_plain.specs.Looking.{side_at}
@@ -16,7 +20,7 @@ use Rattle.st_reasons.proofs.Laws.{reads_of_an_entry_are_in_time}
 use Rattle.st_lines.specs.Origins.{origin_at}
 use Rattle.st_account.specs.Text.{lines_of_entry}
 use Rattle.st_account.proofs.LeftLemmas.{entry-left}
-use Rattle.st_account.proofs.TallyLemmas.{kept-rows-some, entry-ordered}
+use Rattle.st_account.proofs.TallyLemmas.{row-counts, entry-ordered}
 use Rattle.st_account.proofs.StallLemmas.{kept-stalled-some, row-reach, row-stalled}
 use Rattle.st_account.proofs.account.Account.step.Goals as goal
 
@@ -30,20 +34,20 @@ returns-clause-lines c facts p end some is =
     (ap (λ (l : Last). l.done.address) rest ∙ c.count_on.ensures.address ∙ c.next_address-address.ensures.value)
     (ap (λ (l : Last). l.done.origin) rest
     ∙ c.count_on.ensures.origin
-    ∙ c.at-self.ensures
+    ∙ c.at_if-self.ensures.facts facts
     ∙ ap (origin_at c.args.self.now.origins c.args.self.now.state) c.next_address-address.ensures.value)
     (ap (λ (l : Last). l.done.row.ticks) rest ∙ c.count_on.ensures.row)
     (ap (λ (l : Last). l.done.row.level_wait) rest ∙ c.count_on.ensures.wait)
     (ap (λ (l : Last). l.done.n) rest ∙ c.count_on.ensures.number ∙ c.row_number-self.ensures.number)
-    (ap (λ (l : Last). l.mispredicted) rest)
+    (ap (λ (l : Last). l.done.mispredicted) rest)
     (ap (λ (l : Last). l.unit.prepared) rest ∙ c.count_on.ensures.plan)
-    (ap (λ (l : Last). l.done.known) rest ∙ c.count_on.ensures.known facts)
+    (ap (λ (l : Last). l.known) rest ∙ c.count_on.ensures.known facts)
     (ap (λ (l : Last). l.done.before) rest ∙ c.count_on.ensures.before)
     (ap (λ (l : Last). l.done.start) rest ∙ c.count_on.ensures.start)
     (ap (λ (l : Last). l.uses.items) rest ∙ c.count_on.ensures.uses)
     refl
-    (ap (λ (l : Last). l.because) rest
-    ∙ c.count_on.ensures.because
+    (ap (λ (l : Last). l.done.because) rest
+    ∙ c.count_on.ensures.because facts
     ∙ ap (λ us. because c.args.self.now.last.issue (entry c.interrupt-taken.result c.args.self.now.state) c.count_on.new.last.done.row.ticks.a
     c.count_on.new.last.done.row.ticks.p c.count_on.new.last.done.row.level_wait
     (formed_uses c.args.timing.now.delays.now.list c.args.self.now.last.issue (entry c.interrupt-taken.result c.args.self.now.state)
@@ -58,35 +62,37 @@ returns-clause-lines c facts p end some is =
 pub returns-clause-row : goal.returns-clause-row
 returns-clause-row c p end v some is =
     let rest = c.execute.ensures.rest in
-    kept-rows-some _ _ end v some
-    ∙ entry-row (origin_at c.args.self.now.origins) c.args.timing.now.delays.now.list c.args.timing.now.levels p end v c.args.self.now.state c.args.self.now.last
+    let o = origin_at c.args.self.now.origins in
+    let s = c.args.self.now.state in
+    let e = entry c.interrupt-taken.result s in
+    let words = formed_uses c.args.timing.now.delays.now.list c.args.self.now.last.issue e (side_at c.interrupt-taken.result s) in
+    let why : Last → List Use → StallCause =
+    λ (l : Last). λ bs. because c.args.self.now.last.issue e l.done.row.ticks.a l.done.row.ticks.p l.done.row.level_wait words bs in
+    row-counts _ c.execute.new.last end v (o s (address s)) (why c.execute.new.last c.execute.new.last.before.items) _ some
+    (ap (λ (l : Last). option_map (λ (x : Origin). x.card) l.done.origin) rest
+    ∙ ap (option_map (λ (x : Origin). x.card)) c.count_on.ensures.origin
+    ∙ c.at_if-self.ensures.card
+    ∙ ap (λ h. option_map (λ (x : Origin). x.card) (o s h)) c.next_address-address.ensures.value)
+    (λ lost.
+    ap (λ (l : Last). l.done.because) rest
+    ∙ c.count_on.ensures.lost (subst (λ (l : Last). l.done.before < l.done.row.ticks.r) rest lost)
+    ∙ ap (why c.count_on.new.last) (sym c.count_on.ensures.earlier)
+    ∙ ap (λ (l : Last). why l l.before.items) (sym rest))
+    (entry-row o c.args.timing.now.delays.now.list c.args.timing.now.levels p end v s c.args.self.now.last
     c.interrupt-taken.result _ _ _ _ _ _ _ _ _ _ _ _ is
     c.interrupt-taken.ensures.value
     (ap (λ (l : Last). l.done.address) rest ∙ c.count_on.ensures.address ∙ c.next_address-address.ensures.value)
-    (ap (λ (l : Last). l.done.origin) rest
-    ∙ c.count_on.ensures.origin
-    ∙ c.at-self.ensures
-    ∙ ap (origin_at c.args.self.now.origins c.args.self.now.state) c.next_address-address.ensures.value)
+    refl
     (ap (λ (l : Last). l.done.row.ticks) rest ∙ c.count_on.ensures.row)
     (ap (λ (l : Last). l.done.row.level_wait) rest ∙ c.count_on.ensures.wait)
     (ap (λ (l : Last). l.done.n) rest ∙ c.count_on.ensures.number ∙ c.row_number-self.ensures.number)
-    (ap (λ (l : Last). l.mispredicted) rest)
+    (ap (λ (l : Last). l.done.mispredicted) rest)
     (ap (λ (l : Last). l.done.before) rest ∙ c.count_on.ensures.before)
     (ap (λ (l : Last). l.done.start) rest ∙ c.count_on.ensures.start)
     (ap (λ (l : Last). l.uses.items) rest ∙ c.count_on.ensures.uses)
     refl
-    (ap (λ (l : Last). l.because) rest
-    ∙ c.count_on.ensures.because
-    ∙ ap (λ us. because c.args.self.now.last.issue (entry c.interrupt-taken.result c.args.self.now.state) c.count_on.new.last.done.row.ticks.a
-    c.count_on.new.last.done.row.ticks.p c.count_on.new.last.done.row.level_wait
-    (formed_uses c.args.timing.now.delays.now.list c.args.self.now.last.issue (entry c.interrupt-taken.result c.args.self.now.state)
-    (side_at c.interrupt-taken.result c.args.self.now.state)) us)
-    (sym c.count_on.ensures.earlier)
-    ∙ ap (λ (l : Last). because c.args.self.now.last.issue (entry c.interrupt-taken.result c.args.self.now.state) l.done.row.ticks.a l.done.row.ticks.p
-    l.done.row.level_wait
-    (formed_uses c.args.timing.now.delays.now.list c.args.self.now.last.issue (entry c.interrupt-taken.result c.args.self.now.state)
-    (side_at c.interrupt-taken.result c.args.self.now.state)) l.before.items) (sym rest))
-    (ap (λ (l : Last). l.before.items) rest ∙ c.count_on.ensures.earlier)
+    refl
+    (ap (λ (l : Last). l.before.items) rest ∙ c.count_on.ensures.earlier))
 
 pub returns-clause-ordered : goal.returns-clause-ordered
 returns-clause-ordered c =

@@ -11,7 +11,7 @@ returns-clause-came c b m at =
     let ds = c.args.timing.now.delays.now.list in
     let n = c.args.timing.now.levels in
     let a = c.args.self.now in
-    let still = c.is_still-still.ensures ∙ ap (still_by a.state a.last.mispredicted) c.signals.ensures in
+    let still = c.is_still-still.ensures ∙ ap (still_by a.state a.last.done.mispredicted) c.signals.ensures in
     let last = ap (λ (x : Account). x.last) c.look_if.ensures.rest in
     let segment = ap (λ (x : Account). x.k) c.look_if.ensures.rest in
     let size : length c.look_if.new.self.words.items ≡ words_of_storage → length a.words.items ≡ words_of_storage =
@@ -21,7 +21,7 @@ returns-clause-came c b m at =
           c.look_if.ensures.state (sym c.settle-came.ensures.came);
       tick = at.hand.tick ∙ ap (λ l. l.tick) (sym last);
       issue = at.hand.issue ∙ ap (λ l. l.issue) (sym last);
-      mispredicted = at.hand.mispredicted ∙ ap (λ l. l.mispredicted) (sym last);
+      mispredicted = at.hand.mispredicted ∙ ap (λ l. l.done.mispredicted) (sym last);
       was = at.was ∙ ap (λ l. l.enabled) (sym last);
       dropped = λ ends.
           dropped-is ds n b m a c.args.pending.now.signals c.args.pending.now.cards at c.args.left c.is_still-still.result c.is_end_near.result still
@@ -49,7 +49,7 @@ returns-clause-came c b m at =
 
 pub settle-came-requires : goal.settle-came-requires
 settle-came-requires c still =
-    let last = c.args.self.now.last.mispredicted in (
+    let last = c.args.self.now.last.done.mispredicted in (
       last,
       ap (λ u. still_by u last c.args.pending.now.signals) c.look_if.ensures.state
           ∙ sym (c.is_still-still.ensures ∙ ap (still_by c.args.self.now.state last) c.signals.ensures) ∙ still,

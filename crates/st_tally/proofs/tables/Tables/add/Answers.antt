@@ -7,8 +7,8 @@ use Rattle.st_tally.proofs.WaitSums.{waits-fit, found-added}
 use Rattle.st_tally.proofs.TableLemmas.{tally-more, tables-within}
 use Rattle.st_tally.proofs.tables.Tables.add.Goals as goal
 
-pub add_found-requires : goal.add_found-requires
-add_found-requires c =
+pub add_waits_of-requires-clause-fit : goal.add_waits_of-requires-clause-fit
+add_waits_of-requires-clause-fit c =
     waits-fit c.args.done.now.before (all_ticks (charges_of_entry c.args.done.now)) _ _ (omega (arith, c.requires.order.reach, c.requires.order.early))
     c.requires.waits.within c.find_waits-found.ensures.within
 
@@ -30,4 +30,4 @@ pub returns-clause-waits : goal.returns-clause-waits
 returns-clause-waits c =
     found-added c.args.uses.now c.args.before.now c.args.done.now.before (charges_of_entry c.args.done.now) _ _ c.find_waits-found.result
     c.requires.waits.within c.find_waits-found.ensures.within c.find_waits-found.ensures.sums
-    c.add_found.ensures
+    c.add_waits_of.ensures
