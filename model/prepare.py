@@ -31,7 +31,7 @@ class Entry:
     counter: int = 0
     address: int = 0                            # the effective address, or where the field begins
     side: int = None                            # the index-side word
-    change: tuple = None                        # an index word that is changed early: its number and the new word
+    change: tuple = None                        # an index word that is changed speculatively: its number and the new word
     on: int = 0                                 # its indicators, and those of a comparison
     off: int = 0
     reads: list = field(default_factory=list)
@@ -105,7 +105,7 @@ def fetch_all(state, entry):
     return EXE if entry.is_ex and entry.made.name == 'EX' else None
 
 
-# ---- what is planned: the early change, the words, the counter and the cost
+# ---- what is planned: the speculative change, the words, the counter and the cost
 
 def index_word(state, number):
     """The index word whose value is added; number 0 is none."""
