@@ -1,22 +1,11 @@
 -- The invariant of a machine when a card comes.
-use Rattle.std.specs.Prelude.{IfSome, IsSome, take, drop}
-use Rattle.std.proofs.Common.{◌≡◌, ℕ, ◌+◌, ◌<◌, ◌≤◌, Bool, true, false, List, [], ◌∷◌, length, Option, None, Some, refl, sym, subst, ◌∙◌, ap, arith}
-use Rattle.std.proofs.lemmas.List.{length-take, length-drop, length-set, ext_get_or, get_or-take, get_or-drop, get_or-set_other}
-use Rattle.st_state.specs.Machine.{Machine, IsMachine, HasArea, word, state_with_store}
-use Rattle.st_state.specs.Interrupts.{state_with_signal}
+use Rattle.st_ahead.proofs.Common.{IfSome, IsSome, take, drop, ◌≡◌, ℕ, ◌+◌, ◌<◌, ◌≤◌, List, [], ◌∷◌, length, Option, None, Some, refl, sym, subst, ◌∙◌, ap, arith, length-take, length-set, ext_get_or, get_or-take, get_or-drop, get_or-set_other, Machine, IsMachine, HasArea, word, state_with_store, state_with_signal, AreAlikeBesideOrders, Place, Overlap, machine_after_segment, read_in_by, index_words, place_of, all_stored, read_in, opening_issue, IssueState, LookaheadView, IsOpened, answers_before, overlap_of, IsBetween, IsInside}
+use Rattle.std.proofs.lemmas.List.{length-drop}
 use Rattle.st_state.specs.declared.devices.Order.{Order}
-use Rattle.st_prep.specs.BesideOrders.{AreAlikeBesideOrders}
-use Rattle.st_prep.specs.declared.entries.Place.{Place}
-use Rattle.st_ahead.specs.Overlap.{Overlap}
-use Rattle.st_ahead.specs.Calls.{machine_after_segment, read_in_by}
-use Rattle.st_prep.specs.Fetch.{index_words, place_of}
-use Rattle.st_exec.specs.Transfer.{all_stored, read_in}
 use Rattle.st_exec.proofs.Unchanged.{stored-other}
-use Rattle.st_rows.specs.Rows.{opening_issue}
-use Rattle.st_rows.specs.declared.issue.IssueState.{IssueState}
-use Rattle.st_ahead.specs.Forecast.{LookaheadView, IsOpened}
-use Rattle.st_ahead.specs.Inside.{answers_before, overlap_of, IsBetween, IsInside}
-use Rattle.st_ahead.proofs.Standing.{inside-fresh}
+use Rattle.st_ahead.proofs.Standing.{inside-ended}
+use Rattle.st_ahead.specs.declared.phase.Phase.{Phase as PhaseField}
+use Rattle.st_ahead.specs.declared.phase.Phase.TheVariants as fields
 
 -- ---- states that agree in the index words
 
@@ -80,26 +69,24 @@ card-opened s u f v alike o = assumption (o.index ∙ sym (index-below s u alike
     place-at : ℕ → Place
     place-at h = record { counter = h; address = h; table = None }
 
-card-hazard_free : (halt : Bool) (n : ℕ) (ds : List ℕ) (s u : Machine) (t b : Option ℕ) (now : ℕ) (owed over fresh : Bool) (v : LookaheadView)
-    → IsInside (overlap_of n ds s t b now owed over halt fresh v) fresh v → over ≡ true → fresh ≡ true → IsMachine u → (IsMachine s → AreAlikeBelow s u)
-    → IsInside (overlap_of n ds u t b now owed over halt fresh v) fresh v
-card-hazard_free halt n ds s u t b now owed false fresh v is ends done m alike = absurd (cc ends)
-card-hazard_free halt n ds s u t b now owed true false v is ends done m alike = absurd (cc done)
-card-hazard_free halt n ds s u t b now false true true v is ends done m alike = absurd (cc ((is.settled refl).0))
-card-hazard_free halt n ds s u (Some i) b now true true true v is ends done m alike = absurd (cc ((is.done refl).0))
-card-hazard_free halt n ds s u None b now true true true v is ends done m alike =
+card-ended : (n : ℕ) (ds : List ℕ) (s u : Machine) (t b : Option ℕ) (now : ℕ) (v : LookaheadView)
+    → IsInside (overlap_of n ds s t b now fields.Ended v) v → IsMachine u → (IsMachine s → AreAlikeBelow s u)
+    → IsInside (overlap_of n ds u t b now fields.Ended v) v
+card-ended n ds s u (Some i) b now v is m alike = absurd (cc is.in_phase)
+card-ended n ds s u None b now v is m alike =
     let between : IsBetween now None s v = is.lookahead in
-    inside-fresh halt true n ds u b now v is.some is.few is.in_time
-    (assumption (card-opened s u (opening_issue (answers_before now v) v.issue.c) v (alike between.machine) between.opened)) (λ e. absurd (cc e)) (is.done refl).1
+    inside-ended n ds u b now v is.some is.few is.in_time
+    (assumption (card-opened s u (opening_issue (answers_before now v) v.issue.c) v (alike between.machine) between.opened))
 
-pub card-inside : (halt : Bool) (n : ℕ) (ds : List ℕ) (s u : Machine) (t b : Option ℕ) (now : ℕ) (owed over fresh : Bool) (v : LookaheadView) (order : Option Order) (card : List ℕ)
-    → IsInside (overlap_of n ds s t b now owed over halt fresh v) fresh v → over ≡ true → fresh ≡ true → order ≡ s.reader → IsSome order
+pub card-inside : (n : ℕ) (ds : List ℕ) (s u : Machine) (t b : Option ℕ) (now : ℕ) (p : PhaseField) (v : LookaheadView) (order : Option Order) (card : List ℕ)
+    → IsInside (overlap_of n ds s t b now p v) v → p ≡ fields.Ended → order ≡ s.reader → IsSome order
     → IfSome order (λ o. u ≡ read_in s o.word (Some card)) → IsMachine u
-    → IsInside (overlap_of n ds u t b now owed over halt fresh v) fresh v
-card-inside halt n ds s u t b now owed over fresh v None card is ends done same some h m = absurd (cc some)
-card-inside halt n ds s u t b now owed over fresh v (Some o) card is ends done same some h m =
-    card-hazard_free halt n ds s u t b now owed over fresh v is ends done m
-    (λ before. subst (λ x. AreAlikeBelow s x) (sym h) (read-below s o.word card (subst HasArea (sym same) before.reader_area).0))
+    → IsInside (overlap_of n ds u t b now p v) v
+card-inside n ds s u t b now p v None card is over same some h m = absurd (cc some)
+card-inside n ds s u t b now p v (Some o) card is over same some h m =
+    subst (λ (q : PhaseField). IsInside (overlap_of n ds u t b now q v) v) (sym over)
+    (card-ended n ds s u t b now v (subst (λ (q : PhaseField). IsInside (overlap_of n ds s t b now q v) v) over is) m
+    (λ before. subst (λ x. AreAlikeBelow s x) (sym h) (read-below s o.word card (subst HasArea (sym same) before.reader_area).0)))
 
 -- an order without a card
 pub no_card-alike : (s u : Machine) (order : Option Order) → ((w : ℕ) → AreAlikeBesideOrders s (read_in s w None)) → IsSome order

@@ -1,39 +1,6 @@
 -- The look-ahead after the oldest entry completes, and after the operands of the tick arrive.
-use Rattle.std.proofs.Common.{◌≡◌, ℕ, zero, suc, ◌+◌, ◌*◌, ◌<◌, ◌≤◌, Bool, true, false, not, ◌&&◌, ◌||◌, List, [], ◌∷◌, ◌++◌, append_assoc, length, inl, Option, None, refl, sym, subst, ◌∙◌, ap, arith}
-use Rattle.std.specs.Prelude.{All, IfSome, ◌==◌, if◌then◌else◌}
-use Rattle.std.proofs.lemmas.List.Elements.{All-nil, All-head, All-tail}
-use Rattle.std.proofs.lemmas.Bool.{and_parts, eqb-true, ne_eqb}
-use Rattle.st_state.specs.Machine.{Machine, IsMachine}
-use Rattle.st_prep.specs.Fetch.{place_of}
-use Rattle.st_prep.specs.Plan.{plan}
-use Rattle.st_exec.specs.Completion.{state_after_execution, prediction}
-use Rattle.st_rows.specs.BusTimes.{Read}
-use Rattle.st_rows.specs.Notes.{IsLogged}
-use Rattle.st_rows.specs.Ranges.{AreDelaysUpTo}
-use Rattle.st_rows.specs.Rows.{row_of_entry, issue_after_entry, wanted_from, reads_of_entry}
-use Rattle.st_rows.specs.declared.entry.Entry.{Entry}
-use Rattle.st_rows.specs.declared.fetching.Fetching.{Fetching}
-use Rattle.st_rows.specs.declared.bus.Bus.{Bus}
-use Rattle.st_rows.specs.declared.issue.IssueState.{IssueState}
-use Rattle.st_rows.specs.declared.log.Made.{Made}
-use Rattle.st_rows.proofs.LogLaws.{logs_go_on}
-use Rattle.st_rows.proofs.MadeLemmas.{free-served}
-use Rattle.st_rows.proofs.Served.{served-asked}
-use Rattle.st_rows.proofs.Tight.{tight-after}
-use Rattle.st_ring.specs.declared.level.Level.{Level}
-use Rattle.st_segment.specs.Ahead.{ahead, issue_behind}
-use Rattle.st_segment.specs.Entries.{entry}
-use Rattle.st_segment.specs.Predictions.{predictions, table_behind}
-use Rattle.st_segment.proofs.EntryRanges.{entry-ranges}
-use Rattle.st_segment.proofs.PredictionLemmas.{prediction-machine, behind-none}
+use Rattle.st_ahead.proofs.Common.{◌≡◌, ℕ, zero, suc, ◌+◌, ◌*◌, ◌<◌, ◌≤◌, Bool, true, false, not, ◌&&◌, ◌||◌, List, [], ◌∷◌, ◌++◌, append_assoc, length, inl, Option, None, refl, sym, subst, ◌∙◌, ap, arith, All, IfSome, ◌==◌, if◌then◌else◌, All-nil, All-head, All-tail, and_parts, eqb-true, ne_eqb, Machine, IsMachine, place_of, plan, state_after_execution, prediction, Read, IsLogged, AreDelaysUpTo, row_of_entry, issue_after_entry, wanted_from, reads_of_entry, Entry, Fetching, Bus, IssueState, Made, logs_go_on, free-served, served-asked, tight-after, Level, ahead, issue_behind, entry, predictions, table_behind, entry-ranges, prediction-machine, behind-none, LevelsView, AreLevels, AreAhead, AreFull, PlannedRow, levels-issue, after-c, IsNext, Rests, reads_so_far, FetchUnit, LookaheadView, IsLookahead, IsOutlook, IsNextIf, is_open, count, asked_ahead}
 use Rattle.st_segment.proofs.StepLemmas.{prediction-alone}
-use Rattle.st_ring.specs.Levels.{LevelsView, AreLevels, AreAhead, AreFull}
-use Rattle.st_ring.specs.declared.plans.PlannedRow.{PlannedRow}
-use Rattle.st_ring.proofs.LevelLemmas.{levels-issue}
-use Rattle.st_ring.proofs.OrderLemmas.{after-c}
-use Rattle.st_next.specs.Progress.{IsNext, Rests, reads_so_far}
-use Rattle.st_next.specs.declared.fetch_unit.FetchUnit.{FetchUnit}
-use Rattle.st_ahead.specs.Forecast.{LookaheadView, IsLookahead, IsOutlook, IsNextIf, is_open, count, asked_ahead}
 use Rattle.st_ahead.proofs.Openings.{first-none, so-far}
 use Rattle.st_ahead.proofs.LevelTicks.{done-later, behind-soon, same-count, prepared-still, done-after}
 

@@ -1,34 +1,7 @@
 -- The next entry at its P: its known part, its reads, and the room for it.
-use Rattle.std.specs.Prelude.{All, if◌then◌else◌, get_or, ◌-◌, ◌^◌}
-use Rattle.std.proofs.Common.{◌≡◌, ℕ, zero, suc, ◌+◌, ◌<◌, ◌≤◌, Bool, true, false, List, [], ◌∷◌, ◌++◌, inl, inr, length, Option, None, refl, sym, subst, ◌∙◌, ap, ap₂, arith}
-use Rattle.std.proofs.lemmas.List.{get_or-take}
-use Rattle.std.proofs.lemmas.List.Elements.{All-head}
-use Rattle.st_state.specs.Machine.{Machine}
-use Rattle.st_exec.specs.Completion.{prediction}
-use Rattle.st_rows.specs.Asked.{fetches_asked, side_asked, formed_asked, words_asked}
-use Rattle.st_rows.specs.Entries.{no_runs}
-use Rattle.st_rows.specs.Ranges.{AreDelaysUpTo, IsEntryInTime}
-use Rattle.st_rows.specs.Rows.{row_of_entry, issue_after_entry, preparation_tick, address_tick, done_before, tick_a, tick_p, tick_c}
-use Rattle.st_rows.specs.declared.entry.Entry.{Entry}
-use Rattle.st_rows.specs.declared.issue.IssueState.{IssueState}
-use Rattle.st_rows.specs.declared.past.Past.{Past}
-use Rattle.st_rows.proofs.MadeLemmas.{before-cases}
-use Rattle.st_ring.specs.declared.level.Level.{Level}
-use Rattle.st_segment.specs.Entries.{entry}
-use Rattle.st_segment.specs.Predictions.{predictions, table_behind}
-use Rattle.st_segment.specs.Alone.{RunAhead}
-use Rattle.st_segment.proofs.EntryRanges.{entry-ranges}
-use Rattle.st_segment.proofs.PredictionLemmas.{behind-indicator}
-use Rattle.st_ring.specs.Levels.{AreLevels}
-use Rattle.st_ring.specs.declared.plans.PlannedRow.{PlannedRow}
-use Rattle.st_next.specs.Known.{IsStateBefore}
-use Rattle.st_next.specs.Words.{asked_so_far}
-use Rattle.st_next.specs.Progress.{IsPlanned, reads_so_far}
-use Rattle.st_next.specs.declared.fetch_unit.FetchUnit.{FetchUnit}
-use Rattle.st_ahead.specs.Forecast.{LookaheadView, IsNextIf, count, is_open}
-use Rattle.st_ahead.specs.Going.{IsGoing, BecomesLevel}
+use Rattle.st_ahead.proofs.Common.{All, if◌then◌else◌, get_or, ◌≡◌, ℕ, zero, suc, ◌+◌, ◌<◌, ◌≤◌, Bool, true, false, List, [], ◌∷◌, ◌++◌, inl, inr, length, Option, None, refl, sym, subst, ◌∙◌, ap, ap₂, arith, get_or-take, All-head, Machine, prediction, fetches_asked, side_asked, formed_asked, words_asked, no_runs, AreDelaysUpTo, IsEntryInTime, row_of_entry, issue_after_entry, preparation_tick, address_tick, done_before, tick_a, tick_p, tick_c, Entry, IssueState, Past, before-cases, Level, entry, predictions, table_behind, RunAhead, entry-ranges, behind-indicator, AreLevels, PlannedRow, IsStateBefore, asked_so_far, IsPlanned, reads_so_far, FetchUnit, LookaheadView, IsNextIf, count, is_open, IsGoing, BecomesLevel, fetch_words}
+use Rattle.std.specs.Prelude.{◌-◌, ◌^◌}
 use Rattle.st_ahead.proofs.Further.{going-late, next-known}
-use Rattle.st_rows.specs.Words.{fetch_words}
 
 -- ---- the ticks of a row
 

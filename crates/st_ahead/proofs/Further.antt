@@ -1,38 +1,7 @@
 -- More becomes known of the next entry while the levels before it are not completed.
-use Rattle.std.specs.Prelude.{All, if◌then◌else◌, ◌==◌, ◌-◌, ◌^◌}
-use Rattle.std.proofs.Common.{◌≡◌, ℕ, zero, suc, ◌<◌, ◌≤◌, ◌||◌, max, Bool, true, false, not, List, [], ◌∷◌, ◌++◌, append_assoc, length, inl, inr, Option, refl, sym, subst, ◌∙◌, ap, arith, ◌+◌}
-use Rattle.std.proofs.lemmas.List.Elements.{All-head}
-use Rattle.st_state.specs.Machine.{Machine}
-use Rattle.st_rows.specs.Asked.{bus_after_reads}
-use Rattle.st_rows.specs.BusTimes.{Read}
-use Rattle.st_rows.specs.Notes.{log_after_reads, IsLogged}
-use Rattle.st_rows.specs.Ranges.{IsEntryInTime}
-use Rattle.st_rows.specs.Rows.{row_of_entry, tick_a}
-use Rattle.st_rows.specs.declared.bus.Bus.{Bus}
-use Rattle.st_rows.specs.declared.entry.Entry.{Entry}
-use Rattle.st_rows.specs.declared.fetching.Fetching.{Fetching}
-use Rattle.st_rows.specs.declared.issue.IssueState.{IssueState}
-use Rattle.st_rows.specs.declared.log.Made.{Made}
-use Rattle.st_rows.proofs.LogLaws.{logged-noted}
-use Rattle.st_rows.proofs.Parts.{a-p}
-use Rattle.st_rows.proofs.Served.{served-append}
-use Rattle.st_segment.specs.Entries.{entry}
-use Rattle.st_segment.specs.Predictions.{predictions, table_behind}
-use Rattle.st_segment.proofs.EntryRanges.{entry-ranges}
-use Rattle.st_segment.proofs.PredictionLemmas.{behind-indicator}
-use Rattle.st_ring.specs.Levels.{AreAhead}
-use Rattle.st_ring.specs.declared.plans.PlannedRow.{PlannedRow}
-use Rattle.st_ring.proofs.LevelLemmas.{levels-beside}
-use Rattle.st_ring.proofs.OrderLemmas.{done-order}
-use Rattle.st_next.specs.Known.{IsStateBefore}
-use Rattle.st_next.specs.Going.{IsIssueInTime, GoesOnTo, IsReadFurther}
-use Rattle.st_next.specs.Progress.{IsNext, IsPlanned, IsKnown, Rests, reads_so_far}
-use Rattle.st_next.specs.declared.fetch_unit.FetchUnit.{FetchUnit}
-use Rattle.st_next.proofs.Resting.{address-late}
-use Rattle.st_next.proofs.Starting.{new-reads}
+use Rattle.st_ahead.proofs.Common.{All, if◌then◌else◌, ◌==◌, ◌≡◌, ℕ, zero, suc, ◌<◌, ◌≤◌, ◌||◌, max, Bool, true, false, not, List, [], ◌∷◌, ◌++◌, append_assoc, length, inl, inr, Option, refl, sym, subst, ◌∙◌, ap, arith, ◌+◌, All-head, Machine, bus_after_reads, Read, log_after_reads, IsLogged, IsEntryInTime, row_of_entry, tick_a, Bus, Entry, Fetching, IssueState, Made, logged-noted, a-p, served-append, entry, predictions, table_behind, entry-ranges, behind-indicator, AreAhead, PlannedRow, levels-beside, done-order, IsStateBefore, IsIssueInTime, GoesOnTo, IsReadFurther, IsNext, IsPlanned, IsKnown, Rests, reads_so_far, FetchUnit, address-late, new-reads, LookaheadView, IsNextIf, count, is_open, asked_ahead, reads_ahead, IsGoing}
+use Rattle.std.specs.Prelude.{◌-◌, ◌^◌}
 use Rattle.st_next.proofs.Whole.{served-so-far}
-use Rattle.st_ahead.specs.Forecast.{LookaheadView, IsNextIf, count, is_open, asked_ahead, reads_ahead}
-use Rattle.st_ahead.specs.Going.{IsGoing}
 use Rattle.st_ahead.proofs.Served.{served-ahead}
 
 -- ---- an entry that rests up to a tick rests up to an earlier one

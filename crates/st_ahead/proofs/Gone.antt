@@ -1,24 +1,7 @@
 -- The look-ahead advances to a later tick: to P of the next entry, or to the last tick.
-use Rattle.std.specs.Prelude.{All, ◌-◌, ◌^◌, nat_le, if◌then◌else◌}
-use Rattle.std.proofs.Common.{◌≡◌, ℕ, zero, suc, ◌+◌, ◌<◌, ◌≤◌, Bool, true, false, List, [], ◌∷◌, length, Option, None, Some, refl, sym, subst, ◌∙◌, arith, ◌*◌}
+use Rattle.st_ahead.proofs.Common.{All, nat_le, if◌then◌else◌, ◌≡◌, ℕ, zero, suc, ◌+◌, ◌<◌, ◌≤◌, Bool, true, false, List, [], ◌∷◌, length, Option, None, Some, refl, sym, subst, ◌∙◌, arith, ◌*◌, leb-true, leb-false, All-nil, All-head, All-weaker, Machine, IsMachine, AreDelaysUpTo, most_ticks_of_entry, row_of_entry, IssueState, Level, entry, ahead, prepared_before, entry-ranges, AreLevels, due_of, PlannedRow, levels-beside, done-order, ahead-rests, LookaheadView, IsLookahead, IsOutlook, count, is_open, IsGoing, HasGone, WaitsFor}
+use Rattle.std.specs.Prelude.{◌-◌, ◌^◌}
 use Rattle.std.specs.Option.{IfSome}
-use Rattle.std.proofs.lemmas.Bool.{leb-true, leb-false}
-use Rattle.std.proofs.lemmas.List.Elements.{All-nil, All-head, All-weaker}
-use Rattle.st_state.specs.Machine.{Machine, IsMachine}
-use Rattle.st_rows.specs.Ranges.{AreDelaysUpTo, most_ticks_of_entry}
-use Rattle.st_rows.specs.Rows.{row_of_entry}
-use Rattle.st_rows.specs.declared.issue.IssueState.{IssueState}
-use Rattle.st_ring.specs.declared.level.Level.{Level}
-use Rattle.st_segment.specs.Entries.{entry}
-use Rattle.st_segment.specs.Ahead.{ahead, prepared_before}
-use Rattle.st_segment.proofs.EntryRanges.{entry-ranges}
-use Rattle.st_ring.specs.Levels.{AreLevels, due_of}
-use Rattle.st_ring.specs.declared.plans.PlannedRow.{PlannedRow}
-use Rattle.st_ring.proofs.LevelLemmas.{levels-beside}
-use Rattle.st_ring.proofs.OrderLemmas.{done-order}
-use Rattle.st_ring.proofs.RestLemmas.{ahead-rests}
-use Rattle.st_ahead.specs.Forecast.{LookaheadView, IsLookahead, IsOutlook, count, is_open}
-use Rattle.st_ahead.specs.Going.{IsGoing, HasGone, WaitsFor}
 use Rattle.st_ahead.proofs.Due.{done-behind}
 use Rattle.st_ahead.proofs.Further.{next-planned, next-sooner}
 use Rattle.st_ahead.proofs.LevelTicks.{done-after, done-later}

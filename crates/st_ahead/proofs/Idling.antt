@@ -1,17 +1,5 @@
 -- Ticks at which nothing happens are passed at once.
-use Rattle.std.specs.Prelude.{is_none, nat_le, if◌then◌else◌}
-use Rattle.std.proofs.Common.{◌≡◌, ℕ, zero, suc, ◌+◌, ◌<◌, ◌≤◌, Bool, true, false, List, Option, None, Some, refl, sym, subst, ◌∙◌, ap, arith}
-use Rattle.std.proofs.lemmas.Bool.{ne_eqb, cond-false, or_parts}
-use Rattle.std.proofs.lemmas.Bool.Decides.{nat_tests}
-use Rattle.st_state.specs.Machine.{Machine}
-use Rattle.st_exec.specs.Step.{interrupt, rests}
-use Rattle.st_rows.specs.Rows.{row_of_entry}
-use Rattle.st_rows.specs.declared.issue.IssueState.{IssueState}
-use Rattle.st_segment.specs.Entries.{entry}
-use Rattle.st_ahead.specs.Overlap.{Overlap, state_ahead, oldest_row, interrupt_due}
-use Rattle.st_ahead.specs.Calls.{is_done, machine_after_completion, machine_after_tick, machine_after_pass, settled_by, answer_by, machine_after_settling, answer}
-use Rattle.st_ahead.specs.RunTo.{after_ticks, may_come_from_outside, IsPassed, ArePassed}
-use Rattle.st_ahead.specs.declared.events.Settled.TheVariants.{Goes}
+use Rattle.st_ahead.proofs.Common.{is_none, nat_le, if◌then◌else◌, ◌≡◌, ℕ, zero, suc, ◌+◌, ◌<◌, ◌≤◌, Bool, true, false, List, Option, None, Some, refl, sym, subst, ◌∙◌, ap, arith, ne_eqb, cond-false, or_parts, nat_tests, Machine, interrupt, rests, row_of_entry, IssueState, entry, Ready, Ticked, Overlap, state_ahead, oldest_row, interrupt_due, is_done, machine_after_completion, machine_after_tick, machine_after_pass, settled_by, answer_by, machine_after_settling, answer, after_ticks, may_come_from_outside, IsPassed, ArePassed, Goes}
 use Rattle.st_ahead.proofs.Standing.{overlap}
 
 -- ---- no tick
@@ -24,7 +12,7 @@ passed-none count m = record { each = λ i before. absurd (omega (arith, before)
 
 module _ (ds : List ℕ) (n : ℕ) (s : Machine) (t : Option ℕ) (f : IssueState) (due : (if is_none t then interrupt s else None) ≡ None) (awake : rests s ≡ false) where
   abbrev hazard_free : ℕ → Overlap
-  hazard_free now = overlap false ds n s t None f now false false None
+  hazard_free now = overlap ds n s t None f now Ready
 
   not-done : (now : ℕ) → now < (row_of_entry ds n f (entry t s)).c → is_done (hazard_free now) ≡ false
   unfolding state_ahead oldest_row
@@ -68,9 +56,9 @@ pub goes-passed : (m : Overlap) → answer m ≡ Goes → machine_after_settling
 unfolding answer machine_after_settling
 goes-passed m e = goes-by (interrupt_due m) (rests m.state) m.mispredicted m e
 
-pub late-ticked : (m : Overlap) → is_done m ≡ false → machine_after_tick m ≡ record m { owed = true; closing = None }
+pub late-ticked : (m : Overlap) → is_done m ≡ false → machine_after_tick m ≡ record m { phase = Ticked }
 unfolding machine_after_tick
-late-ticked m e = cond-false (is_done m) (machine_after_completion m) (record m { owed = true; closing = None }) e
+late-ticked m e = cond-false (is_done m) (machine_after_completion m) (record m { phase = Ticked }) e
 
 pub less-than : (a b : ℕ) → nat_le a b ≡ false → b < a
 less-than a b test = grind (arith, nat_tests)

@@ -1,43 +1,7 @@
 -- The next entry is prepared at the tick or later, and its remaining reads are requested then or later.
-use Rattle.std.specs.Prelude.{All, ◌==◌, if◌then◌else◌, IfSome}
-use Rattle.std.proofs.Common.{◌≡◌, ℕ, zero, suc, ◌+◌, ◌<◌, ◌≤◌, ◌||◌, max, Bool, true, false, not, List, [], ◌∷◌, ◌++◌, append_assoc, length, length-append, drop, Option, None, Some, refl, sym, subst, ◌∙◌, ap, ap₂, arith}
-use Rattle.std.proofs.lemmas.Bool.{lt-ltb, le-ltb}
-use Rattle.std.proofs.lemmas.List.{append-nil}
-use Rattle.std.proofs.lemmas.List.Elements.{All-append, All-weaker, All-head, All-tail}
-use Rattle.st_state.specs.Machine.{Machine, IsMachine}
-use Rattle.st_exec.specs.Completion.{prediction}
-use Rattle.st_rows.specs.Asked.{fetches_asked, words_asked, side_asked, side_count, following_asked, formed_asked, prepared_asked, data_of, bus_after_reads, made_before}
-use Rattle.st_rows.specs.BusTimes.{Read}
-use Rattle.st_rows.specs.Notes.{notes_of_reads, answers_left, AreEarly}
-use Rattle.st_rows.specs.Ranges.{AreDelaysUpTo, IsEntryInTime, IsNear, IsTight}
-use Rattle.st_rows.specs.Rows.{row_of_entry, issue_after_entry, wanted_from, tick_a, tick_p, operands, reads_of_entry}
-use Rattle.st_rows.specs.Words.{fetch_words, fetch_word}
-use Rattle.st_rows.specs.declared.bus.Bus.{Bus}
-use Rattle.st_rows.specs.declared.entry.WordRun.{WordRun}
-use Rattle.st_rows.specs.declared.fetching.Fetching.{Fetching}
-use Rattle.st_rows.specs.declared.entry.Entry.{Entry}
-use Rattle.st_rows.specs.declared.issue.IssueState.{IssueState}
-use Rattle.st_rows.proofs.LogLaws.{undone_is_made_before, few_are_undone, logs_go_on}
-use Rattle.st_rows.proofs.MadeLemmas.{made-more}
-use Rattle.st_rows.proofs.Parts.{asked-parts, two-parts, at-prepared, free-formed}
-use Rattle.st_rows.proofs.Served.{made-bounds, served-append, served-asked, few-words, few-side, few-operands, few-following, served-formed}
-use Rattle.st_rows.proofs.Tight.{tight-after}
-use Rattle.st_ring.specs.declared.level.Level.{Level}
-use Rattle.st_segment.specs.Entries.{entry}
-use Rattle.st_segment.specs.Predictions.{predictions, table_behind}
-use Rattle.st_segment.specs.Ahead.{ahead, reads_before}
-use Rattle.st_segment.proofs.EntryRanges.{entry-ranges}
-use Rattle.st_segment.proofs.PredictionLemmas.{prediction-machine, behind-none}
-use Rattle.st_ring.specs.Levels.{AreLevels}
-use Rattle.st_ring.specs.declared.plans.PlannedRow.{PlannedRow}
-use Rattle.st_ring.proofs.LevelLemmas.{levels-beside}
-use Rattle.st_next.specs.Words.{asked_so_far}
-use Rattle.st_next.specs.Progress.{IsNext, IsPlanned, Rests, reads_so_far}
-use Rattle.st_next.specs.declared.fetch_unit.FetchUnit.{FetchUnit}
-use Rattle.st_next.proofs.Resting.{address-late, rest-left}
-use Rattle.st_ahead.specs.Forecast.{LookaheadView, IsOutlook, IsNextIf, count, is_open, asked_ahead}
+use Rattle.st_ahead.proofs.Common.{All, ◌==◌, if◌then◌else◌, IfSome, ◌≡◌, ℕ, zero, suc, ◌+◌, ◌<◌, ◌≤◌, ◌||◌, max, Bool, true, false, not, List, [], ◌∷◌, ◌++◌, append_assoc, length, length-append, Option, None, Some, refl, sym, subst, ◌∙◌, ap, ap₂, arith, lt-ltb, le-ltb, append-nil, All-append, All-weaker, All-head, All-tail, Machine, IsMachine, prediction, fetches_asked, words_asked, side_asked, side_count, following_asked, formed_asked, prepared_asked, data_of, bus_after_reads, made_before, Read, notes_of_reads, answers_left, AreEarly, AreDelaysUpTo, IsEntryInTime, IsNear, IsTight, row_of_entry, issue_after_entry, wanted_from, tick_a, tick_p, operands, reads_of_entry, fetch_words, fetch_word, Bus, WordRun, Fetching, Entry, IssueState, undone_is_made_before, few_are_undone, logs_go_on, made-more, asked-parts, two-parts, at-prepared, free-formed, made-bounds, served-append, served-asked, few-words, few-side, few-operands, few-following, served-formed, tight-after, Level, entry, predictions, table_behind, ahead, reads_before, entry-ranges, prediction-machine, behind-none, AreLevels, PlannedRow, levels-beside, asked_so_far, IsNext, IsPlanned, Rests, reads_so_far, FetchUnit, address-late, rest-left, LookaheadView, IsOutlook, IsNextIf, count, is_open, asked_ahead, reads_of, uses, wishes}
+use Rattle.std.proofs.Common.{drop}
 use Rattle.st_ahead.proofs.Further.{bus-ahead, some-by}
-use Rattle.st_rows.specs.Uses.{reads_of, uses, wishes}
 
 -- no words
 abbrev none : WordRun

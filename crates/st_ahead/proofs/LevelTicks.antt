@@ -1,23 +1,6 @@
 -- Levels at a tick: which of them are completed, how many there are, and C of the issue state after them.
-use Rattle.std.proofs.Common.{◌≡◌, ℕ, zero, suc, ◌+◌, ◌*◌, ◌<◌, ◌≤◌, List, [], ◌∷◌, length, Option, None, refl, sym, ◌∙◌, ap, arith}
-use Rattle.std.specs.Prelude.{All, IfSome}
-use Rattle.std.proofs.lemmas.List.Elements.{All-nil, All-cons, All-head, All-tail}
-use Rattle.st_state.specs.Machine.{Machine, IsMachine}
-use Rattle.st_exec.specs.Completion.{prediction}
-use Rattle.st_rows.specs.Ranges.{AreDelaysUpTo, IsTight}
-use Rattle.st_rows.specs.Rows.{row_of_entry, issue_after_entry, tick_c}
-use Rattle.st_rows.specs.declared.issue.IssueState.{IssueState}
+use Rattle.st_ahead.proofs.Common.{◌≡◌, ℕ, zero, suc, ◌+◌, ◌*◌, ◌<◌, ◌≤◌, List, [], ◌∷◌, length, Option, None, refl, sym, ◌∙◌, ap, arith, All, IfSome, All-nil, All-cons, All-head, All-tail, Machine, IsMachine, prediction, AreDelaysUpTo, IsTight, row_of_entry, issue_after_entry, tick_c, IssueState, tight-after, Level, issue_behind, entry, entry-ranges, prediction-machine, AreLevels, PlannedRow, levels-issue, after-c}
 use Rattle.st_rows.proofs.Stages.{c-within}
-use Rattle.st_rows.proofs.Tight.{tight-after}
-use Rattle.st_ring.specs.declared.level.Level.{Level}
-use Rattle.st_segment.specs.Ahead.{issue_behind}
-use Rattle.st_segment.specs.Entries.{entry}
-use Rattle.st_segment.proofs.EntryRanges.{entry-ranges}
-use Rattle.st_segment.proofs.PredictionLemmas.{prediction-machine}
-use Rattle.st_ring.specs.Levels.{AreLevels}
-use Rattle.st_ring.specs.declared.plans.PlannedRow.{PlannedRow}
-use Rattle.st_ring.proofs.LevelLemmas.{levels-issue}
-use Rattle.st_ring.proofs.OrderLemmas.{after-c}
 
 module _ (ds : List ℕ) (n : ℕ) where
   -- ---- one entry

@@ -1,13 +1,5 @@
 -- The rows of entries that complete in some ticks, and the queue of rows.
-use Rattle.std.specs.Prelude.{take, drop, nat_eq, if◌then◌else◌}
-use Rattle.std.proofs.Common.{◌≡◌, ℕ, zero, suc, ◌+◌, ◌-◌, ◌≤◌, Bool, true, false, List, [], ◌∷◌, ◌++◌, length, inl, inr, refl, sym, ◌∙◌, ap, arith, append_assoc, length-drop, length-append}
-use Rattle.std.proofs.lemmas.Bool.{cases_eq, eq-eqb, ne_eqb}
-use Rattle.std.proofs.lemmas.List.{append-nil, length-take}
-use Rattle.st_ahead.specs.Overlap.{Overlap}
-use Rattle.st_ahead.specs.Calls.{is_done, row_done, machine_after_tick, machine_after_settling}
-use Rattle.st_ahead.specs.RunTo.{after_ticks, IsPassed, ArePassed}
-use Rattle.st_ahead.specs.RowsDone.{Queue, queue_with, rows_in_ticks}
-use Rattle.st_ahead.specs.declared.events.Row.{Row}
+use Rattle.st_ahead.proofs.Common.{take, drop, nat_eq, if◌then◌else◌, ◌≡◌, ℕ, zero, suc, ◌+◌, ◌-◌, ◌≤◌, Bool, true, false, List, [], ◌∷◌, ◌++◌, length, inl, inr, refl, sym, ◌∙◌, ap, arith, append_assoc, length-drop, length-append, cases_eq, eq-eqb, ne_eqb, append-nil, length-take, Overlap, is_done, row_done, machine_after_tick, machine_after_settling, after_ticks, IsPassed, ArePassed, Queue, queue_with, rows_in_ticks, Row}
 use Rattle.st_ahead.proofs.Idling.{zero-comes}
 
 -- ---- the queue

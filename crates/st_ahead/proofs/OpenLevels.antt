@@ -1,16 +1,7 @@
 -- If the next entry can be known, no level is serializing.
+use Rattle.st_ahead.proofs.Common.{◌≡◌, ℕ, ◌≤◌, ◌||◌, List, [], ◌∷◌, length, Option, sym, ◌∙◌, ap, arith, not-true, Machine, plan, issue_after_entry, IssueState, Level, entry, RunAhead, AreLevels, PlannedRow}
 use Rattle.std.specs.Prelude.{true, false, not}
-use Rattle.std.proofs.Common.{◌≡◌, ℕ, ◌≤◌, ◌||◌, ◌==◌, List, [], ◌∷◌, length, Option, sym, ◌∙◌, ap, arith}
-use Rattle.std.proofs.lemmas.Bool.{not-true}
-use Rattle.st_state.specs.Machine.{Machine}
-use Rattle.st_prep.specs.Plan.{plan}
-use Rattle.st_rows.specs.Rows.{issue_after_entry}
-use Rattle.st_rows.specs.declared.issue.IssueState.{IssueState}
-use Rattle.st_ring.specs.declared.level.Level.{Level}
-use Rattle.st_segment.specs.Entries.{entry}
-use Rattle.st_segment.specs.Alone.{RunAhead}
-use Rattle.st_ring.specs.Levels.{AreLevels}
-use Rattle.st_ring.specs.declared.plans.PlannedRow.{PlannedRow}
+use Rattle.std.proofs.Common.{◌==◌}
 
 -- the issue state after a single level says whether the level is serializing
 one-level : (ds : List ℕ) (n tick : ℕ) (t : Option ℕ) (s : Machine) (f last : IssueState) (level : Level) (plans : List PlannedRow)

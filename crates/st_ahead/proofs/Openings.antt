@@ -1,36 +1,10 @@
 -- The opening of a segment is a look-ahead without levels.
-use Rattle.std.specs.Prelude.{All, if◌then◌else◌, Bool, true, false}
-use Rattle.std.proofs.Common.{◌≡◌, ℕ, ◌+◌, ◌<◌, ◌≤◌, max, List, [], inl, Option, IfSome, refl, sym, subst, ◌∙◌, ap, arith}
-use Rattle.std.proofs.lemmas.List.{append-nil}
-use Rattle.std.proofs.lemmas.List.Elements.{All-nil, All-replicate}
-use Rattle.st_state.specs.Machine.{Machine, IsMachine}
-use Rattle.st_banks.specs.declared.answers.LastAnswers.{LastAnswers}
-use Rattle.st_prep.specs.Fetch.{index_words, place_of}
-use Rattle.st_rows.specs.Asked.{fetches_asked, words_asked}
-use Rattle.st_rows.specs.Ranges.{IsTight, IsNear, ArePastWithin}
-use Rattle.st_rows.specs.Rows.{opening_issue, words_tick}
-use Rattle.st_rows.specs.Words.{fetch_words, fetch_word}
+use Rattle.st_ahead.proofs.Common.{All, if◌then◌else◌, ◌≡◌, ℕ, ◌+◌, ◌<◌, ◌≤◌, max, List, [], inl, Option, refl, sym, subst, ◌∙◌, ap, arith, append-nil, All-nil, All-replicate, Machine, IsMachine, LastAnswers, index_words, place_of, fetches_asked, words_asked, IsTight, IsNear, ArePastWithin, opening_issue, words_tick, fetch_words, fetch_word, no_runs, Level, PlannedRow, Entry, Fetching, IssueState, Past, WordRun, ahead, entry, predictions, split_words, RunAhead, LevelsView, AreLevels, AreAhead, AreFull, words_so_far, asked_so_far, IsStart, AreFirstWords, IsNext, Rests, reads_so_far, FetchUnit, LookaheadView, IsLookahead, IsOpened, behind, reads_of, uses, wishes}
+use Rattle.std.specs.Prelude.{Bool, true, false}
+use Rattle.std.proofs.Common.{IfSome}
 use Rattle.st_fetch.specs.declared.fetched.AskedWord.{AskedWord}
 use Rattle.st_fetch.specs.Planned.{no_word}
-use Rattle.st_rows.specs.Entries.{no_runs}
-use Rattle.st_ring.specs.declared.level.Level.{Level}
-use Rattle.st_ring.specs.declared.plans.PlannedRow.{PlannedRow}
-use Rattle.st_rows.specs.declared.entry.Entry.{Entry}
-use Rattle.st_rows.specs.declared.fetching.Fetching.{Fetching}
-use Rattle.st_rows.specs.declared.issue.IssueState.{IssueState}
-use Rattle.st_rows.specs.declared.past.Past.{Past}
-use Rattle.st_rows.specs.declared.entry.WordRun.{WordRun}
 use Rattle.st_rows.proofs.NoteLemmas.{opened-log}
-use Rattle.st_segment.specs.Ahead.{ahead}
-use Rattle.st_segment.specs.Entries.{entry}
-use Rattle.st_segment.specs.Predictions.{predictions, split_words}
-use Rattle.st_segment.specs.Alone.{RunAhead}
-use Rattle.st_ring.specs.Levels.{LevelsView, AreLevels, AreAhead, AreFull}
-use Rattle.st_next.specs.Words.{words_so_far, asked_so_far, IsStart, AreFirstWords}
-use Rattle.st_next.specs.Progress.{IsNext, Rests, reads_so_far}
-use Rattle.st_next.specs.declared.fetch_unit.FetchUnit.{FetchUnit}
-use Rattle.st_ahead.specs.Forecast.{LookaheadView, IsLookahead, IsOpened}
-use Rattle.st_rows.specs.Uses.{behind, reads_of, uses, wishes}
 
 abbrev none : WordRun
 none = record { first = 0; len = 0 }

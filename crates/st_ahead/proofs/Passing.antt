@@ -1,13 +1,6 @@
 -- Passed ticks, with completions at some of them.
-use Rattle.std.specs.Prelude.{nat_le, nat_lt}
-use Rattle.std.proofs.Common.{◌≡◌, ℕ, zero, suc, ◌+◌, ◌-◌, ◌<◌, ◌≤◌, ◌^◌, if◌then◌else◌, Bool, true, false, None, refl, sym, subst, ◌∙◌, ap, arith}
-use Rattle.std.proofs.lemmas.Bool.Decides.{nat_tests}
-use Rattle.std.proofs.lemmas.Bool.{or_parts}
-use Rattle.st_exec.specs.Step.{rests}
-use Rattle.st_ahead.specs.Overlap.{Overlap, interrupt_due}
-use Rattle.st_ahead.specs.Calls.{is_done, machine_after_completion, machine_after_tick, machine_after_pass, machine_after_settling, answer}
-use Rattle.st_ahead.specs.RunTo.{after_ticks, may_come_from_outside, IsPassed, ArePassed}
-use Rattle.st_ahead.specs.declared.events.Settled.TheVariants.{Goes}
+use Rattle.st_ahead.proofs.Common.{nat_le, nat_lt, ◌≡◌, ℕ, zero, suc, ◌+◌, ◌-◌, ◌<◌, ◌≤◌, ◌^◌, Bool, true, false, None, refl, sym, subst, ◌∙◌, ap, arith, nat_tests, or_parts, rests, Ready, Ticked, Overlap, interrupt_due, MaySettle, is_done, machine_after_completion, machine_after_tick, machine_after_pass, machine_after_settling, answer, after_ticks, may_come_from_outside, IsPassed, ArePassed, Goes}
+use Rattle.std.proofs.Common.{if◌then◌else◌}
 use Rattle.st_ahead.proofs.Idling.{less-than, zero-comes, goes-passed, late-ticked}
 
 -- ---- ticks in sequence
@@ -61,11 +54,11 @@ passed-any count k old new are = record {
 
 -- ---- a tick
 
-pub ticked-owed : (m : Overlap) → (machine_after_tick m).owed ≡ true
+pub ticked-settles : (m : Overlap) → MaySettle (machine_after_tick m)
 unfolding machine_after_tick machine_after_completion
-ticked-owed m = by (is_done m)
+ticked-settles m = by (is_done m)
   where
-    by : (b : Bool) → (if b then machine_after_completion m else record m { owed = true; closing = None }).owed ≡ true
+    by : (b : Bool) → MaySettle (if b then machine_after_completion m else record m { phase = Ticked })
     by true = refl
     by false = refl
 
@@ -77,7 +70,7 @@ pub ticked-now : (m : Overlap) → (machine_after_tick m).now ≡ m.now
 unfolding machine_after_tick machine_after_completion
 ticked-now m = by (is_done m)
   where
-    by : (b : Bool) → (if b then machine_after_completion m else record m { owed = true; closing = None }).now ≡ m.now
+    by : (b : Bool) → (if b then machine_after_completion m else record m { phase = Ticked }).now ≡ m.now
     by true = refl
     by false = refl
 
@@ -86,10 +79,10 @@ few-none count t few none = omega (arith, less-than count t.state.done (or_parts
 
 -- the machine after a passed tick
 pub passed-keeps : (count : ℕ) (m : Overlap) → IsPassed count m → count ≤ 2 ^ 63 → m.state.done < 2 ^ 63
-    → ((machine_after_settling (machine_after_tick m)).owed ≡ false) × ((machine_after_settling (machine_after_tick m)).now ≡ m.now + 1) × ((machine_after_settling (machine_after_tick m)).state.done < 2 ^ 63)
+    → ((machine_after_settling (machine_after_tick m)).phase ≡ Ready) × ((machine_after_settling (machine_after_tick m)).now ≡ m.now + 1) × ((machine_after_settling (machine_after_tick m)).state.done < 2 ^ 63)
 passed-keeps count m is few small =
     let same : machine_after_settling (machine_after_tick m) ≡ machine_after_pass (machine_after_tick m) = goes-passed (machine_after_tick m) is.goes in (
-      ap (λ (x : Overlap). x.owed) same,
+      ap (λ (x : Overlap). x.phase) same,
       ap (λ (x : Overlap). x.now) same ∙ ap (λ (k : ℕ). k + 1) (ticked-now m),
       subst {A = Overlap} (λ x. x.state.done < 2 ^ 63) (sym same) (by (is_done m) refl),
     )

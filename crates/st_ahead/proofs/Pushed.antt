@@ -1,29 +1,6 @@
 -- The look-ahead after the next entry has become a level.
-use Rattle.std.specs.Prelude.{All, if◌then◌else◌, ◌==◌}
-use Rattle.std.proofs.Common.{◌≡◌, ℕ, suc, ◌+◌, ◌<◌, ◌≤◌, ◌||◌, max, Bool, true, false, not, List, [], ◌∷◌, ◌++◌, length, Option, None, refl, sym, subst, ◌∙◌, ap, arith}
-use Rattle.std.proofs.lemmas.List.{append-nil}
-use Rattle.std.proofs.lemmas.List.Elements.{All-append, All-cons, All-nil}
-use Rattle.st_state.specs.Machine.{Machine}
-use Rattle.st_prep.specs.Fetch.{place_of}
-use Rattle.st_prep.specs.Plan.{plan}
-use Rattle.st_prep.specs.declared.entries.Prepared.{Prepared}
+use Rattle.st_ahead.proofs.Common.{All, if◌then◌else◌, ◌==◌, ◌≡◌, ℕ, suc, ◌+◌, ◌<◌, ◌≤◌, ◌||◌, max, Bool, true, false, not, List, [], ◌∷◌, ◌++◌, length, Option, None, refl, sym, subst, ◌∙◌, ap, arith, append-nil, All-append, All-cons, All-nil, Machine, place_of, plan, Prepared, formed_asked, prepared_asked, Read, log_after_reads, IsLogged, IsTight, issue_after_entry, wanted_from, tick_p, reads_of_entry, Entry, IssueState, two-parts, Level, entry, predictions, table_behind, AreAhead, AreNotDone, reads_so_far, new-next, new-rests, new-reads, LookaheadView, IsNextIf, count, is_open, asked_ahead, reads_ahead, IsGoing, BecomesLevel}
 use Rattle.st_prep.proofs.GivenLemmas.{differs}
-use Rattle.st_rows.specs.Asked.{formed_asked, prepared_asked}
-use Rattle.st_rows.specs.BusTimes.{Read}
-use Rattle.st_rows.specs.Notes.{log_after_reads, IsLogged}
-use Rattle.st_rows.specs.Ranges.{IsTight}
-use Rattle.st_rows.specs.Rows.{issue_after_entry, wanted_from, tick_p, reads_of_entry}
-use Rattle.st_rows.specs.declared.entry.Entry.{Entry}
-use Rattle.st_rows.specs.declared.issue.IssueState.{IssueState}
-use Rattle.st_rows.proofs.Parts.{two-parts}
-use Rattle.st_ring.specs.declared.level.Level.{Level}
-use Rattle.st_segment.specs.Entries.{entry}
-use Rattle.st_segment.specs.Predictions.{predictions, table_behind}
-use Rattle.st_ring.specs.Levels.{AreAhead, AreNotDone}
-use Rattle.st_next.specs.Progress.{reads_so_far}
-use Rattle.st_next.proofs.Starting.{new-next, new-rests, new-reads}
-use Rattle.st_ahead.specs.Forecast.{LookaheadView, IsNextIf, count, is_open, asked_ahead, reads_ahead}
-use Rattle.st_ahead.specs.Going.{IsGoing, BecomesLevel}
 use Rattle.st_ahead.proofs.Further.{bus-ahead, logged-more}
 use Rattle.st_ahead.proofs.Due.{reads-formed}
 use Rattle.st_ahead.proofs.Served.{asked-more}

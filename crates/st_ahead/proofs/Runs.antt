@@ -1,42 +1,14 @@
 -- The look-ahead of a machine that makes ticks, with completions at some of them.
+use Rattle.st_ahead.proofs.Common.{◌≡◌, ℕ, zero, suc, ◌+◌, ◌<◌, ◌≤◌, Bool, true, false, List, [], ◌∷◌, ◌++◌, Option, None, Some, refl, sym, subst, ◌∙◌, ap, arith, ◌*◌, eq-eqb, true_from_ne_false, cond-true, append-nil, All-weaker, Machine, IsMachine, plan, state_after_execution, prediction, is_mispredicted, interrupt, rests, made_before, reads_of_entry, row_of_entry, issue_after_entry, IssueState, Level, ahead, reads_before, entry, IsCompleted, Completed, ahead-rests, Overlap, state_ahead, oldest_row, interrupt_due, banks_at_its_end, machine_between_ticks, is_done, row_done, machine_after_completion, machine_after_tick, machine_after_pass, machine_after_settling, answer, answer_by, ArePassed, may_come_from_outside, Queue, queue_with, rows_in_ticks, IsAwake, GoesFrom, HasPassed, LookaheadView, IsLookahead, IsOutlook, count, IsGoing, IsDueAt, answers_before, Row, Goes, after-c, most_ticks_of_entry}
 use Rattle.std.specs.Prelude.{◌-◌}
-use Rattle.std.proofs.Common.{◌≡◌, ℕ, zero, suc, ◌+◌, ◌<◌, ◌≤◌, if◌then◌else◌, Bool, true, false, List, [], ◌∷◌, ◌++◌, Option, None, Some, refl, sym, subst, ◌∙◌, ap, arith, ◌*◌}
+use Rattle.std.proofs.Common.{if◌then◌else◌}
 use Rattle.std.specs.Option.{IfSome}
-use Rattle.std.proofs.lemmas.Bool.{eq-eqb, true_from_ne_false, cond-true}
-use Rattle.std.proofs.lemmas.List.{append-nil}
-use Rattle.std.proofs.lemmas.List.Elements.{All-weaker}
-use Rattle.st_state.specs.Machine.{Machine, IsMachine}
-use Rattle.st_prep.specs.Plan.{plan}
-use Rattle.st_exec.specs.Completion.{state_after_execution, prediction, is_mispredicted}
-use Rattle.st_exec.specs.Step.{interrupt, rests}
-use Rattle.st_rows.specs.Asked.{made_before}
-use Rattle.st_rows.specs.Rows.{reads_of_entry}
-use Rattle.st_rows.specs.Rows.{row_of_entry, issue_after_entry}
-use Rattle.st_rows.specs.declared.issue.IssueState.{IssueState}
-use Rattle.st_ring.specs.declared.level.Level.{Level}
-use Rattle.st_segment.specs.Ahead.{ahead, reads_before}
-use Rattle.st_segment.specs.Entries.{entry}
-use Rattle.st_ring.specs.Levels.{IsCompleted}
-use Rattle.st_ring.specs.declared.levels.Completed.{Completed}
-use Rattle.st_ring.proofs.RestLemmas.{ahead-rests}
-use Rattle.st_ahead.specs.Overlap.{Overlap, state_ahead, oldest_row, interrupt_due, banks_at_its_end, machine_between_ticks}
-use Rattle.st_ahead.specs.Calls.{is_done, row_done, machine_after_completion, machine_after_tick, machine_after_pass, machine_after_settling, answer, answer_by}
-use Rattle.st_ahead.specs.RunTo.{ArePassed, may_come_from_outside}
-use Rattle.st_ahead.specs.RowsDone.{Queue, queue_with, rows_in_ticks}
-use Rattle.st_ahead.specs.Running.{IsAwake, GoesFrom, HasPassed}
-use Rattle.st_ahead.specs.Forecast.{LookaheadView, IsLookahead, IsOutlook, count}
-use Rattle.st_ahead.specs.Going.{IsGoing, IsDueAt}
-use Rattle.st_ahead.specs.Inside.{answers_before}
-use Rattle.st_ahead.specs.declared.events.Row.{Row}
-use Rattle.st_ahead.specs.declared.events.Settled.TheVariants.{Goes}
 use Rattle.st_ahead.proofs.Idling.{are-idle, goes-passed, passed-none}
 use Rattle.st_ahead.proofs.Passing.{passed-join, passed-one, passed-any, goes-answers}
 use Rattle.st_ahead.proofs.LevelTicks.{done-after, done-later}
 use Rattle.st_ahead.proofs.Settling.{lookahead-runs}
 use Rattle.st_ahead.proofs.NotedRows.{queue-both, queue-none, rows-join, rows-none, row-one}
 use Rattle.st_ahead.proofs.Standing.{same-answers, same-row, told}
-use Rattle.st_ring.proofs.OrderLemmas.{after-c}
-use Rattle.st_rows.specs.Ranges.{most_ticks_of_entry}
 
 -- ---- an entry completes at a tick
 

@@ -1,31 +1,9 @@
 -- States that differ only in indicators and orders have equal entries in flight.
-use Rattle.std.proofs.Common.{◌≡◌, ℕ, zero, suc, ◌<◌, ◌≤◌, Bool, true, false, List, ◌++◌, ◌⊎◌, Option, None, refl, sym, subst, ◌∙◌, ap, arith}
-use Rattle.std.proofs.lemmas.List.Elements.{All-weaker}
-use Rattle.st_state.specs.Machine.{Machine, IsMachine}
-use Rattle.st_prep.specs.BesideOrders.{AreAlikeBesideOrders}
-use Rattle.st_prep.specs.Fetch.{place_of}
-use Rattle.st_prep.specs.Plan.{needs, decode_context, plan}
-use Rattle.st_exec.specs.Completion.{prediction}
-use Rattle.st_segment.proofs.PredictionLemmas.{prediction-machine}
-use Rattle.st_rows.specs.Rows.{reads_of_entry}
-use Rattle.st_rows.specs.Rows.{issue_after_entry, tick_a, bus_a, tick_p}
-use Rattle.st_rows.specs.Notes.{IsLogged}
-use Rattle.st_rows.specs.declared.entry.Entry.{Entry}
-use Rattle.st_rows.specs.declared.issue.IssueState.{IssueState}
-use Rattle.st_segment.specs.Ahead.{ahead}
-use Rattle.st_segment.specs.Entries.{entry}
-use Rattle.st_segment.specs.Predictions.{predictions, table_behind}
-use Rattle.st_segment.specs.Alone.{RunAhead}
+use Rattle.st_ahead.proofs.Common.{◌≡◌, ℕ, zero, suc, ◌<◌, ◌≤◌, Bool, true, false, List, ◌++◌, ◌⊎◌, Option, None, refl, sym, subst, ◌∙◌, ap, arith, All-weaker, Machine, IsMachine, AreAlikeBesideOrders, place_of, needs, decode_context, plan, prediction, prediction-machine, reads_of_entry, issue_after_entry, tick_a, bus_a, tick_p, IsLogged, Entry, IssueState, ahead, entry, predictions, table_behind, RunAhead, AreNotDone, PlannedRow, AreFirstWords, IsNext, IsPlanned, preparation_without_side, Rests, wanted_next, reads_so_far, FetchUnit, LookaheadView, IsLookahead, IsOpened, IsNextIf, asked_ahead, count, is_open}
 use Rattle.st_segment.proofs.PassedOver.{entry-same, passed-over}
 use Rattle.st_segment.proofs.SameReading.{same-index, same-place, same-decode_context}
-use Rattle.st_ring.specs.Levels.{AreNotDone}
-use Rattle.st_ring.specs.declared.plans.PlannedRow.{PlannedRow}
 use Rattle.st_ring.proofs.AloneLemmas.{AwaitsLast, behind-ahead}
 use Rattle.st_ring.proofs.PassLemmas.{ahead-same, full-same}
-use Rattle.st_next.specs.Words.{AreFirstWords}
-use Rattle.st_next.specs.Progress.{IsNext, IsPlanned, preparation_without_side, Rests, wanted_next, reads_so_far}
-use Rattle.st_next.specs.declared.fetch_unit.FetchUnit.{FetchUnit}
-use Rattle.st_ahead.specs.Forecast.{LookaheadView, IsLookahead, IsOpened, IsNextIf, asked_ahead, count, is_open}
 
 -- ---- predictions
 

@@ -1,21 +1,5 @@
 -- The reads of the levels.
-use Rattle.std.proofs.Common.{◌≡◌, ℕ, suc, List, [], ◌∷◌, ◌++◌, append_assoc, length, Option, None, sym, ◌∙◌, ap, ap₂}
-use Rattle.std.proofs.lemmas.List.{append-nil}
-use Rattle.st_state.specs.Machine.{Machine}
-use Rattle.st_exec.specs.Completion.{prediction}
-use Rattle.st_rows.specs.Asked.{bus_after_reads}
-use Rattle.st_rows.specs.Rows.{reads_of_entry}
-use Rattle.st_rows.specs.Rows.{issue_after_entry}
-use Rattle.st_rows.specs.declared.issue.IssueState.{IssueState}
-use Rattle.st_rows.proofs.Served.{served-append, served-asked}
-use Rattle.st_ring.specs.declared.level.Level.{Level}
-use Rattle.st_segment.specs.Ahead.{ahead}
-use Rattle.st_segment.specs.Entries.{entry}
-use Rattle.st_segment.specs.Predictions.{predictions, table_behind}
-use Rattle.st_segment.proofs.PredictionLemmas.{behind-none}
-use Rattle.st_ring.specs.Levels.{AreLevels}
-use Rattle.st_ring.specs.declared.plans.PlannedRow.{PlannedRow}
-use Rattle.st_ahead.specs.Forecast.{asked_ahead}
+use Rattle.st_ahead.proofs.Common.{◌≡◌, ℕ, suc, List, [], ◌∷◌, ◌++◌, append_assoc, length, Option, None, sym, ◌∙◌, ap, ap₂, append-nil, Machine, prediction, bus_after_reads, reads_of_entry, issue_after_entry, IssueState, served-append, served-asked, Level, ahead, entry, predictions, table_behind, behind-none, AreLevels, PlannedRow, asked_ahead}
 
 module _ (ds : List ℕ) (n tick : ℕ) where
   pub served-ahead : (t : Option ℕ) (s : Machine) (f last : IssueState) (ring : List Level) (plans : List PlannedRow)

@@ -1,40 +1,15 @@
 -- The invariant of a machine when a tick is settled.
-use Rattle.std.specs.Prelude.{All, IsSome, is_none, is_some, ◌&&◌, if◌then◌else◌, IfSome}
-use Rattle.std.proofs.Common.{◌≡◌, ℕ, ◌+◌, ◌-◌, ◌<◌, ◌≤◌, ◌^◌, ◌||◌, not, Bool, true, false, List, length, Option, None, Some, refl, sym, subst, ◌∙◌, ap, arith, ◌*◌}
-use Rattle.std.proofs.lemmas.List.Elements.{All-weaker, All-replicate}
-use Rattle.std.proofs.lemmas.Bool.{cond-true, cond-false}
-use Rattle.st_state.specs.Machine.{Machine, IsMachine}
-use Rattle.st_state.specs.Interrupts.{pending}
-use Rattle.st_prep.specs.Fetch.{place_of, index_words}
-use Rattle.st_prep.specs.declared.entries.Place.{Place}
-use Rattle.st_exec.specs.Step.{interrupt, rests}
+use Rattle.st_ahead.proofs.Common.{All, is_none, is_some, if◌then◌else◌, ◌≡◌, ℕ, ◌+◌, ◌-◌, ◌<◌, ◌≤◌, ◌^◌, Bool, true, false, List, length, Option, None, Some, refl, sym, subst, ◌∙◌, ap, arith, ◌*◌, All-weaker, All-replicate, cond_both, Machine, IsMachine, pending, place_of, index_words, Place, interrupt, rests, LastAnswers, BANKS, opening_issue, IssueState, Level, oldest_issue, ahead, prepared_before, length-ahead, Phase, Ready, Ticked, Ended, Stopped, has_ended, Overlap, state_ahead, with_counter, levels_of, interrupt_due, MaySettle, MayServe, may_serve, may_settle, drop_count, machine_after_segment, run_ended, machine_after_pass, machine_after_settling, answer, settled_by, answer_by, LookaheadView, IsLookahead, IsOpened, count, is_open, IsGoing, overlap_of, phase_of, answers_before, IsBetween, IsInside, Goes, Interrupt, Mispredicted, Waits, most_ticks_of_entry}
+use Rattle.std.specs.Prelude.{◌&&◌}
 use Rattle.st_banks.specs.Bank.{idle_banks}
-use Rattle.st_banks.specs.declared.answers.LastAnswers.{LastAnswers}
-use Rattle.st_banks.specs.declared.answers.TheConstants.{BANKS}
-use Rattle.st_rows.specs.Rows.{opening_issue}
-use Rattle.st_rows.specs.declared.issue.IssueState.{IssueState}
-use Rattle.st_ring.specs.declared.level.Level.{Level}
-use Rattle.st_ring.specs.Levels.{oldest_issue}
-use Rattle.st_segment.specs.Ahead.{ahead, prepared_before}
-use Rattle.st_ring.proofs.LevelLemmas.{length-ahead}
-use Rattle.st_ahead.specs.Overlap.{Overlap, state_ahead, with_counter, levels_of, interrupt_due}
-use Rattle.st_ahead.specs.Calls.{drop_count, machine_after_segment, machine_after_pass, machine_after_settling, answer, settled_by, answer_by}
-use Rattle.st_ahead.specs.Forecast.{LookaheadView, IsLookahead, IsOpened, count, is_open}
-use Rattle.st_ahead.specs.Going.{IsGoing}
-use Rattle.st_ahead.specs.Inside.{overlap_of, answers_before, IsBetween, IsInside, IsInTime, IsLookaheadOf}
+use Rattle.st_ahead.specs.Overlap.{Completed}
+use Rattle.st_ahead.specs.declared.phase.Phase.{Phase as PhaseField}
 use Rattle.st_ahead.proofs.Openings.{opening-lookahead}
-use Rattle.st_ahead.specs.declared.events.Settled.TheVariants.{Goes, Interrupt, Mispredicted, Waits}
 use Rattle.st_ahead.proofs.Further.{next-sooner}
-use Rattle.st_ahead.proofs.Standing.{opened-answers, opened-issue, same-fields, inside-fresh, inside-between}
-use Rattle.st_rows.specs.Ranges.{most_ticks_of_entry}
+use Rattle.st_ahead.proofs.Standing.{opened-answers, opened-issue, overlap, same-field, same-fields, inside-ended, inside-between}
+use Rattle.st_ahead.specs.declared.phase.Phase.TheVariants as fields
 
--- ---- nothing is due if no entry completed
-
-pub quiet-inside : (halt : Bool) (n : ℕ) (ds : List ℕ) (s : Machine) (t b : Option ℕ) (now : ℕ) (owed over fresh : Bool) (v : LookaheadView)
-    → IsInside (overlap_of n ds s t b now owed over halt fresh v) fresh v → (overlap_of n ds s t b now owed over halt fresh v).closing ≡ None
-    → (interrupt_due (overlap_of n ds s t b now owed over halt fresh v) ≡ None) × (rests s ≡ false) × (b ≡ None)
-quiet-inside halt n ds s t b now owed over false v is e = is.quiet refl
-quiet-inside halt n ds s t b now owed over true v is e = absurd (cc e)
+-- ---- tests
 
 pub counted-index : (c : Option ℕ) (s : Machine) → index_words (with_counter c s) ≡ index_words s
 unfolding index_words
@@ -47,33 +22,22 @@ counted-index (Some h) s = refl
 pub record IsEnded (m e : Overlap) : Type 0 where
   pub state : e.state ≡ m.state
   pub taken : e.taken ≡ m.taken
-  pub owed : e.owed ≡ m.owed
-  pub ended : e.ended ≡ true
-  pub stopped : e.stopped ≡ m.stopped
-  pub closing : e.closing ≡ m.closing
+  pub phase : MaySettle m → e.phase ≡ Ended
 
-pub ended-rest : (m e : Overlap) (b : Bool) → m.ended ≡ b → e ≡ machine_after_segment m → IsEnded m e
+-- the segment has ended, and the decision is owed
+pub ended-settles : (p : Phase) → has_ended p ≡ true → may_settle p ≡ true → p ≡ Ended
+ended-settles p over may = grind arith
+
+-- where an order may take effect, the decision may be made
+pub serve-settles : (p : Phase) → may_serve p ≡ true → may_settle p ≡ true
+serve-settles p may = grind arith
+
+pub ended-rest : (m e : Overlap) → e ≡ machine_after_segment m → IsEnded m e
 unfolding machine_after_segment
-ended-rest m e true over is =
-    let same : e ≡ m = is ∙ cond-true m.ended m _ over in
-    record {
-      state = ap (λ (x : Overlap). x.state) same;
-      taken = ap (λ (x : Overlap). x.taken) same;
-      owed = ap (λ (x : Overlap). x.owed) same;
-      ended = ap (λ (x : Overlap). x.ended) same ∙ over;
-      stopped = ap (λ (x : Overlap). x.stopped) same;
-      closing = ap (λ (x : Overlap). x.closing) same;
-    }
-ended-rest m e false over is =
-    let same = is ∙ cond-false m.ended m _ over in
-    record {
-      state = ap (λ (x : Overlap). x.state) same;
-      taken = ap (λ (x : Overlap). x.taken) same;
-      owed = ap (λ (x : Overlap). x.owed) same;
-      ended = ap (λ (x : Overlap). x.ended) same;
-      stopped = ap (λ (x : Overlap). x.stopped) same;
-      closing = ap (λ (x : Overlap). x.closing) same;
-    }
+ended-rest m e is = subst (IsEnded m) (sym is)
+    (cond_both (has_ended m.phase) m _ (IsEnded m)
+    (λ over. record { state = refl; taken = refl; phase = ended-settles m.phase over })
+    (λ going. record { state = refl; taken = refl; phase = λ may. refl }))
 
 due-none : (t p : Option ℕ) (i : ℕ) → (if is_none t then p else None) ≡ Some i → (t ≡ None) × (p ≡ Some i)
 due-none None p i e = (refl, e)
@@ -84,10 +48,10 @@ due-taken m i e = due-none m.taken (interrupt m.state) i e
 
 -- ---- decisions
 
-pub answer-interrupt : (m e : Overlap) (i d : ℕ) → e.state ≡ m.state → d ≡ drop_count m → interrupt_due m ≡ Some i
-    → Interrupt i e.state.done e.state.ic d ≡ answer m
+pub answer-interrupt : (m : Overlap) (s : Machine) (i d : ℕ) → s ≡ m.state → d ≡ drop_count m → interrupt_due m ≡ Some i
+    → Interrupt i s.done s.ic d ≡ answer m
 unfolding answer
-answer-interrupt m e i d state count due = rw (due, state, count) refl
+answer-interrupt m s i d state count due = rw (due, state, count) refl
 
 pub settled-interrupt : (m e x : Overlap) (i : ℕ) → e ≡ machine_after_segment m → interrupt_due m ≡ Some i → x ≡ machine_after_pass (record e { taken = Some i }) → x ≡ machine_after_settling m
 unfolding machine_after_settling
@@ -117,10 +81,6 @@ pub settled-mispredicted : (m x : Overlap) → interrupt_due m ≡ None → rest
 unfolding machine_after_settling
 settled-mispredicted m x due goes mispredicted is = rw (due, goes) (is ∙ settled-by-mispredicted m.mispredicted m mispredicted)
 
-pub none-behind : (p : Option ℕ) → is_some p ≡ false → p ≡ None
-none-behind None e = refl
-none-behind (Some h) e = absurd (cc e)
-
 pub answer-goes : (m : Overlap) → interrupt_due m ≡ None → rests m.state ≡ false → m.mispredicted ≡ None → Goes ≡ answer m
 unfolding answer
 answer-goes m due goes right = rw (due, goes, right) refl
@@ -131,23 +91,24 @@ settled-goes m x due goes right is = rw (due, goes, right) is
 
 -- ---- the flushed levels
 
-pub levels-counted : (halt : Bool) (n : ℕ) (ds : List ℕ) (s : Machine) (t b : Option ℕ) (now : ℕ) (fresh : Bool) (v : LookaheadView)
+pub levels-counted : (n : ℕ) (ds : List ℕ) (s : Machine) (t b : Option ℕ) (now : ℕ) (p : Phase) (v : LookaheadView)
     → prepared_before now (ahead ds n n t (with_counter b s) (oldest_issue v.levels.plans v.issue)) ≡ ahead ds n (count v) t (with_counter b s) (oldest_issue v.levels.plans v.issue)
-    → length (levels_of (overlap_of n ds s t b now true false halt fresh v)) ≡ count v
+    → has_ended p ≡ false → length (levels_of (overlap ds n s t b (oldest_issue v.levels.plans v.issue) now p)) ≡ count v
 unfolding levels_of state_ahead
-levels-counted halt n ds s t b now fresh v levels =
-    ap length levels ∙ length-ahead ds n (count v) t (with_counter b s) (oldest_issue v.levels.plans v.issue)
+levels-counted n ds s t b now p v levels going =
+    rw going (ap length levels ∙ length-ahead ds n (count v) t (with_counter b s) (oldest_issue v.levels.plans v.issue))
 
-pub end-hazard_free : (halt : Bool) (n : ℕ) (ds : List ℕ) (s : Machine) (b : Option ℕ) (now : ℕ) (v w : LookaheadView)
-    → IsInside (overlap_of n ds s None b now true false halt true v) true v → IsMachine s → count v ≤ n
-    → length (levels_of (overlap_of n ds s None b now true false halt true v)) ≡ count v
+pub end-first : (n : ℕ) (ds : List ℕ) (s : Machine) (b : Option ℕ) (now : ℕ) (v w : LookaheadView)
+    → IsInside (overlap_of n ds s None b now fields.Completed v) v → IsMachine s → count v ≤ n
+    → prepared_before now (ahead ds n n None (with_counter b s) (oldest_issue v.levels.plans v.issue)) ≡ ahead ds n (count v) None (with_counter b s) (oldest_issue v.levels.plans v.issue)
     → IsOpened None s (opening_issue (answers_before now v) (now + 1 + count v)) w
     → All (λ x. x ≤ now + 1 + count v + 255) (answers_before now v).ticks
-    → IsInside (overlap_of n ds s None b now true true halt true w) true w
-    × (count v ≡ drop_count (overlap_of n ds s None b now true false halt true v))
-    × (overlap_of n ds s None b now true true halt true w ≡ machine_after_segment (overlap_of n ds s None b now true false halt true v))
+    → IsInside (overlap_of n ds s None b now fields.Ended w) w
+    × (count v ≡ drop_count (overlap_of n ds s None b now fields.Completed v))
+    × (overlap_of n ds s None b now fields.Ended w ≡ machine_after_segment (overlap_of n ds s None b now fields.Completed v))
 unfolding drop_count machine_after_segment
-end-hazard_free halt n ds s b now v w is m most levels opened early =
+end-first n ds s b now v w is m most levels opened early =
+    let counted = levels-counted n ds s None b now (Completed (answers_before now v)) v levels refl in
     let banks : answers_before now w ≡ answers_before now v = opened-answers now None s (answers_before now v) (now + 1 + count v) w opened in
     let start : w.issue.c ≡ now + 1 + count v = ap (λ (f : IssueState). f.c) opened.issue in
     let few : n ≤ 8 = is.few in
@@ -162,47 +123,37 @@ end-hazard_free halt n ds s b now v w is m most levels opened early =
       later = omega (arith, start);
       soon = omega (arith, start, most, few);
     } in (
-      inside-fresh halt true n ds s b now w is.some few is.in_time between (λ e. absurd (cc e))
-          (subst (λ (x : LastAnswers). All (λ y. y ≤ now + 255) x.ticks) (sym banks) (is.done refl).1),
-      sym levels,
-      same-fields halt ds n s s None b b _ _ now true true _ _ refl refl (issue ∙ ap (λ k. opening_issue (answers_before now v) (now + 1 + k)) (sym levels)) (ap Some banks),
+      inside-ended n ds s b now w is.some few is.in_time between,
+      sym counted,
+      same-fields ds n s s None b b _ _ now Ended Ended refl refl (issue ∙ ap (λ k. opening_issue (answers_before now v) (now + 1 + k)) (sym counted)) refl,
     )
 
--- the segment has already ended
-pub end-again : (halt : Bool) (n : ℕ) (ds : List ℕ) (s : Machine) (t b : Option ℕ) (now : ℕ) (owed over fresh : Bool) (v : LookaheadView) → over ≡ true
-    → (0 ≡ drop_count (overlap_of n ds s t b now owed over halt fresh v))
-    × (overlap_of n ds s t b now owed over halt fresh v ≡ machine_after_segment (overlap_of n ds s t b now owed over halt fresh v))
-unfolding drop_count machine_after_segment
-end-again halt n ds s t b now owed true fresh v e = (refl, refl)
-end-again halt n ds s t b now owed false fresh v e = absurd (cc e)
-
-pub end-first : (halt : Bool) (n : ℕ) (ds : List ℕ) (s : Machine) (t b : Option ℕ) (now : ℕ) (owed over fresh : Bool) (v w : LookaheadView)
-    → IsInside (overlap_of n ds s t b now owed over halt fresh v) fresh v → IsMachine s → owed ≡ true → over ≡ false → fresh ≡ true → count v ≤ n
-    → (IsLookahead ds n now now t (with_counter b s) (oldest_issue v.levels.plans v.issue) v
-    → prepared_before now (ahead ds n n t (with_counter b s) (oldest_issue v.levels.plans v.issue)) ≡ ahead ds n (count v) t (with_counter b s) (oldest_issue v.levels.plans v.issue))
-    → (IsLookahead ds n now now t (with_counter b s) (oldest_issue v.levels.plans v.issue) v → IsOpened None s (opening_issue (answers_before now v) (now + 1 + count v)) w)
-    → All (λ x. x ≤ now + 1 + count v + 255) (answers_before now v).ticks
-    → IsInside (overlap_of n ds s t b now owed true halt fresh w) fresh w
-    × (count v ≡ drop_count (overlap_of n ds s t b now owed over halt fresh v))
-    × (overlap_of n ds s t b now owed true halt fresh w ≡ machine_after_segment (overlap_of n ds s t b now owed over halt fresh v))
+pub completed-lookahead : (n : ℕ) (ds : List ℕ) (s : Machine) (b : Option ℕ) (now : ℕ) (v : LookaheadView)
+    → IsInside (overlap_of n ds s None b now fields.Completed v) v → IsLookahead ds n now now None (with_counter b s) (oldest_issue v.levels.plans v.issue) v
 unfolding state_ahead
-end-first halt n ds s t b now false over fresh v w is m owes ends done most levels opened early = absurd (cc owes)
-end-first halt n ds s t b now true true fresh v w is m owes ends done most levels opened early = absurd (cc ends)
-end-first halt n ds s t b now true false false v w is m owes ends done most levels opened early = absurd (cc done)
-end-first halt n ds s (Some i) b now true false true v w is m owes ends done most levels opened early = absurd (cc ((is.done refl).0))
-end-first halt n ds s None b now true false true v w is m owes ends done most levels opened early =
-    end-hazard_free halt n ds s b now v w is m most (levels-counted halt n ds s None b now true v (levels is.lookahead)) (opened is.lookahead) early
+completed-lookahead n ds s b now v is = is.lookahead
+
+pub ticked-lookahead : (n : ℕ) (ds : List ℕ) (s : Machine) (t b : Option ℕ) (now : ℕ) (v : LookaheadView)
+    → IsInside (overlap_of n ds s t b now fields.Ticked v) v → IsLookahead ds n now now t (with_counter b s) (oldest_issue v.levels.plans v.issue) v
+unfolding state_ahead
+ticked-lookahead n ds s t b now v is = is.lookahead
+
+-- the segment has already ended
+pub end-again : (m : Overlap) → has_ended m.phase ≡ true → (0 ≡ drop_count m) × (m ≡ machine_after_segment m)
+unfolding drop_count machine_after_segment
+end-again m over = rw over (refl, refl)
 
 -- no entry completed at the tick
-given-hazard_free : (halt : Bool) (n : ℕ) (ds : List ℕ) (s : Machine) (t b : Option ℕ) (now : ℕ) (v w : LookaheadView)
-    → IsInside (overlap_of n ds s t b now true false halt false v) false v → IsMachine s → count v ≤ n
-    → length (levels_of (overlap_of n ds s t b now true false halt false v)) ≡ count v
+pub given-up : (n : ℕ) (ds : List ℕ) (s : Machine) (t b : Option ℕ) (now : ℕ) (v w : LookaheadView)
+    → IsInside (overlap_of n ds s t b now fields.Ticked v) v → IsMachine s → count v ≤ n
+    → prepared_before now (ahead ds n n t (with_counter b s) (oldest_issue v.levels.plans v.issue)) ≡ ahead ds n (count v) t (with_counter b s) (oldest_issue v.levels.plans v.issue)
     → IsOpened t s (opening_issue idle_banks (now + 1 + count v)) w
-    → IsInside (overlap_of n ds s t b now true true halt false w) false w
-    × (count v ≡ drop_count (overlap_of n ds s t b now true false halt false v))
-    × (overlap_of n ds s t b now true true halt false w ≡ machine_after_segment (overlap_of n ds s t b now true false halt false v))
+    → IsInside (overlap_of n ds s t b now fields.Stopped w) w
+    × (count v ≡ drop_count (overlap_of n ds s t b now fields.Ticked v))
+    × (overlap_of n ds s t b now fields.Stopped w ≡ run_ended (overlap_of n ds s t b now fields.Ticked v))
 unfolding drop_count machine_after_segment
-given-hazard_free halt n ds s t b now v w is m most levels opened =
+given-up n ds s t b now v w is m most levels opened =
+    let counted = levels-counted n ds s t b now Ticked v levels refl in
     let banks : answers_before now w ≡ idle_banks = opened-answers now t s idle_banks (now + 1 + count v) w opened in
     let start : w.issue.c ≡ now + 1 + count v = ap (λ (f : IssueState). f.c) opened.issue in
     let few : n ≤ 8 = is.few in
@@ -217,106 +168,64 @@ given-hazard_free halt n ds s t b now v w is m most levels opened =
       later = omega (arith, start);
       soon = omega (arith, start, most, few);
     } in (
-      record {
-        some = is.some;
-        few = few;
-        lookahead = between;
-        indicator = is.indicator;
-        in_time = is.in_time;
-        settled = λ e. absurd (cc e);
-        quiet = is.quiet;
-        done = λ e. absurd (cc e);
-        unstarted = λ e. absurd (cc e);
-      },
-      sym levels,
-      same-fields halt ds n s s t b b _ _ now true true None None refl refl (issue ∙ ap (λ k. opening_issue idle_banks (now + 1 + k)) (sym levels)) refl,
+      record { some = is.some; few = few; lookahead = between; indicator = is.indicator; in_time = is.in_time; in_phase = tt },
+      sym counted,
+      same-fields ds n s s t b b _ _ now Stopped Stopped refl refl (issue ∙ ap (λ k. opening_issue idle_banks (now + 1 + k)) (sym counted)) refl,
     )
 
-pub given-up : (halt : Bool) (n : ℕ) (ds : List ℕ) (s : Machine) (t b : Option ℕ) (now : ℕ) (owed over fresh : Bool) (v w : LookaheadView)
-    → IsInside (overlap_of n ds s t b now owed over halt fresh v) fresh v → IsMachine s → owed ≡ true → over ≡ false
-    → (overlap_of n ds s t b now owed over halt fresh v).closing ≡ None → count v ≤ n
-    → (IsLookahead ds n now now t (with_counter b s) (oldest_issue v.levels.plans v.issue) v
-    → prepared_before now (ahead ds n n t (with_counter b s) (oldest_issue v.levels.plans v.issue)) ≡ ahead ds n (count v) t (with_counter b s) (oldest_issue v.levels.plans v.issue))
-    → (IsLookahead ds n now now t (with_counter b s) (oldest_issue v.levels.plans v.issue) v → IsOpened t s (opening_issue idle_banks (now + 1 + count v)) w)
-    → IsInside (overlap_of n ds s t b now owed true halt fresh w) fresh w
-    × (count v ≡ drop_count (overlap_of n ds s t b now owed over halt fresh v))
-    × (overlap_of n ds s t b now owed true halt fresh w ≡ machine_after_segment (overlap_of n ds s t b now owed over halt fresh v))
-unfolding state_ahead
-given-up halt n ds s t b now false over fresh v w is m owes ends none most levels opened = absurd (cc owes)
-given-up halt n ds s t b now true true fresh v w is m owes ends none most levels opened = absurd (cc ends)
-given-up halt n ds s t b now true false true v w is m owes ends none most levels opened = absurd (cc none)
-given-up halt n ds s t b now true false false v w is m owes ends none most levels opened =
-    given-hazard_free halt n ds s t b now v w is m most (levels-counted halt n ds s t b now false v (levels is.lookahead)) (opened is.lookahead)
+-- ---- phases
 
--- the number of the tick and the indicator of the interrupt are in their ranges
-pub giving-up : (halt : Bool) (n : ℕ) (ds : List ℕ) (s : Machine) (t b : Option ℕ) (now : ℕ) (owed over fresh : Bool) (v : LookaheadView)
-    → IsInside (overlap_of n ds s t b now owed over halt fresh v) fresh v → owed ≡ true → (now < 2 ^ 63) × IfSome t (λ i. i < 64)
-giving-up halt n ds s t b now false over fresh v is owes = absurd (cc owes)
-giving-up halt n ds s t b now true over fresh v is owes = (is.in_time, is.indicator)
+-- the field of a machine whose last tick completed an entry, if the segment has not ended
+completed-field : (x : LastAnswers) (p : PhaseField) → may_serve (phase_of x p) ≡ true → has_ended (phase_of x p) ≡ false → p ≡ fields.Completed
+completed-field x p may going = grind arith
 
--- the premises of the end of a segment
-pub record IsEnding (n : ℕ) (ds : List ℕ) (s : Machine) (t b : Option ℕ) (now : ℕ) (v : LookaheadView) : Type 0 where
-  pub lookahead : IsLookahead ds n now now t (with_counter b s) (oldest_issue v.levels.plans v.issue) v
-  pub done : (oldest_issue v.levels.plans v.issue).c ≡ now
-  pub early : now < 2 ^ 63
+-- a machine in a phase that its field gives
+pub in-field : (n : ℕ) (ds : List ℕ) (s : Machine) (t b : Option ℕ) (now : ℕ) (p q : PhaseField) (v : LookaheadView) (m : Overlap)
+    → IsInside (overlap_of n ds s t b now p v) v → overlap_of n ds s t b now p v ≡ m → p ≡ q
+    → IsInside (overlap_of n ds s t b now q v) v × (overlap_of n ds s t b now q v ≡ m)
+in-field n ds s t b now p q v m is view field =
+    subst (λ (q : PhaseField). IsInside (overlap_of n ds s t b now q v) v × (overlap_of n ds s t b now q v ≡ m)) field (is, view)
 
-pub ending : (halt : Bool) (n : ℕ) (ds : List ℕ) (s : Machine) (t b : Option ℕ) (now : ℕ) (owed over fresh : Bool) (v : LookaheadView)
-    → IsInside (overlap_of n ds s t b now owed over halt fresh v) fresh v → owed ≡ true → over ≡ false → fresh ≡ true
-    → IsEnding n ds s t b now v
-unfolding state_ahead
-ending halt n ds s t b now false over fresh v is owes ends done = absurd (cc owes)
-ending halt n ds s t b now true true fresh v is owes ends done = absurd (cc ends)
-ending halt n ds s t b now true false false v is owes ends done = absurd (cc done)
-ending halt n ds s t b now true false true v is owes ends done = record { lookahead = is.lookahead; done = (is.done refl).2 refl; early = is.in_time }
+-- a machine at whose last tick an entry completed, by its fields
+pub record IsCompletedBy (n : ℕ) (ds : List ℕ) (s : Machine) (t b : Option ℕ) (now : ℕ) (v : LookaheadView) (m : Overlap) : Type 0 where
+  pub none : t ≡ None
+  pub inside : IsInside (overlap_of n ds s None b now fields.Completed v) v
+  pub view : overlap_of n ds s None b now fields.Completed v ≡ m
 
-pub fresh-closing : (halt : Bool) (n : ℕ) (ds : List ℕ) (s : Machine) (t b : Option ℕ) (now : ℕ) (owed over fresh : Bool) (v : LookaheadView)
-    → IsSome (overlap_of n ds s t b now owed over halt fresh v).closing → fresh ≡ true
-fresh-closing halt n ds s t b now owed over true v some = refl
-fresh-closing halt n ds s t b now owed over false v some = absurd (cc some)
+pub completed : (n : ℕ) (ds : List ℕ) (s : Machine) (t b : Option ℕ) (now : ℕ) (p : PhaseField) (v : LookaheadView) (m : Overlap)
+    → IsInside (overlap_of n ds s t b now p v) v → overlap_of n ds s t b now p v ≡ m → MayServe m → has_ended m.phase ≡ false → IsCompletedBy n ds s t b now v m
+completed n ds s t b now p v m is view may going =
+    let field = completed-field (answers_before now v) p (subst MayServe (sym view) may) (subst (λ (x : Overlap). has_ended x.phase ≡ false) (sym view) going) in
+    let at = in-field n ds s t b now p fields.Completed v m is view field in
+    let none = at.0.in_phase.0 in
+    record {
+      none = none;
+      inside = subst (λ (k : Option ℕ). IsInside (overlap_of n ds s k b now fields.Completed v) v) none at.0;
+      view = sym (ap (λ (k : Option ℕ). overlap_of n ds s k b now fields.Completed v) none) ∙ at.1;
+    }
 
 -- ---- the end of a run
 
-same-lookahead : (over halt : Bool) (n : ℕ) (ds : List ℕ) (s : Machine) (t b : Option ℕ) (now : ℕ) (owed fresh : Bool) (v : LookaheadView)
-    → IsLookaheadOf over (overlap_of n ds s t b now owed over halt fresh v) v → IsLookaheadOf over (overlap_of n ds s t b now owed over true fresh v) v
-unfolding state_ahead
-same-lookahead true halt n ds s t b now owed fresh v is = is
-same-lookahead false halt n ds s t b now owed fresh v is = is
-
-pub stop-inside : (halt : Bool) (n : ℕ) (ds : List ℕ) (s : Machine) (t b : Option ℕ) (now : ℕ) (owed over fresh : Bool) (v : LookaheadView)
-    → IsInside (overlap_of n ds s t b now owed over halt fresh v) fresh v → owed ≡ true → IsInside (overlap_of n ds s t b now owed over true fresh v) fresh v
-stop-inside halt n ds s t b now owed over fresh v is owes = record {
-  some = is.some;
-  few = is.few;
-  lookahead = same-lookahead over halt n ds s t b now owed fresh v is.lookahead;
-  indicator = is.indicator;
-  in_time = is.in_time;
-  settled = λ e. absurd (cc (sym e ∙ owes));
-  quiet = is.quiet;
-  done = is.done;
-  unstarted = λ e f. absurd (cc (sym e ∙ owes));
-}
+pub stopped-inside : (n : ℕ) (ds : List ℕ) (s : Machine) (t b : Option ℕ) (now : ℕ) (p : PhaseField) (v : LookaheadView)
+    → IsInside (overlap_of n ds s t b now p v) v → phase_of (answers_before now v) p ≡ Ended → IsInside (overlap_of n ds s t b now fields.Stopped v) v
+stopped-inside n ds s t b now p v is over =
+    let at : IsInside (overlap_of n ds s t b now fields.Ended v) v = subst (λ (q : PhaseField). IsInside (overlap_of n ds s t b now q v) v) (same-field (answers_before now v) p fields.Ended over) is in
+    record { some = at.some; few = at.few; lookahead = at.lookahead; indicator = at.indicator; in_time = at.in_time; in_phase = tt }
 
 -- ---- the next tick
 
-pub owed-early : (owed : Bool) (now : ℕ) → owed ≡ true → IsInTime owed now → now < 2 ^ 63
-owed-early true now e early = early
-owed-early false now e early = absurd (cc e)
-
 -- the next segment is open
-pub pass-inside : (halt : Bool) (n : ℕ) (ds : List ℕ) (s : Machine) (t b : Option ℕ) (now : ℕ) (owed over fresh : Bool) (v : LookaheadView)
-    → IsInside (overlap_of n ds s t b now owed over halt fresh v) fresh v → halt ≡ false → owed ≡ true → over ≡ true
-    → interrupt_due (overlap_of n ds s t b now owed over halt fresh v) ≡ None → rests s ≡ false
-    → IsInside (overlap_of n ds s t None (now + 1) false false halt false v) false v
-    × (overlap_of n ds s t None (now + 1) false false halt false v ≡ machine_after_pass (overlap_of n ds s t b now owed over halt fresh v))
-unfolding state_ahead
-pass-inside halt n ds s t b now false over fresh v is off owes ends due goes = absurd (cc owes)
-pass-inside halt n ds s t b now true false fresh v is off owes ends due goes = absurd (cc ends)
-pass-inside halt n ds s t b now true true fresh v is off owes ends due goes =
+pub pass-inside : (n : ℕ) (ds : List ℕ) (s : Machine) (t b : Option ℕ) (now : ℕ) (v : LookaheadView)
+    → IsInside (overlap_of n ds s t b now fields.Ended v) v
+    → interrupt_due (overlap_of n ds s t b now fields.Ended v) ≡ None → rests s ≡ false
+    → IsInside (overlap_of n ds s t None (now + 1) fields.Ready v) v
+    × (overlap_of n ds s t None (now + 1) fields.Ready v ≡ machine_after_pass (overlap_of n ds s t b now fields.Ended v))
+pass-inside n ds s t b now v is due goes =
     let between : IsBetween now t s v = is.lookahead in
     let later : now + 1 ≤ v.issue.c = between.later in
     let soon : v.issue.c ≤ now + 1 + 9 = omega (arith, between.soon) in
     let lookahead = opening-lookahead ds n now (now + 1) v.issue.c t s (answers_before now v) v between.opened between.machine is.indicator between.banks later soon in (
-      inside-between halt n ds s t now v is.some is.few off is.in_time
+      inside-between n ds s t now v is.some is.few is.in_time
           (subst (λ (f : IssueState). IsLookahead ds n now (now + 1) t s f v) (sym (opened-issue t s (opening_issue (answers_before now v) v.issue.c) v between.opened)) lookahead) is.indicator due goes,
       refl,
     )
@@ -331,41 +240,27 @@ pending-of true p i e = e
 pending-of false p i e = absurd (cc e)
 
 -- an interrupt is taken
-pub interrupt-inside : (halt : Bool) (n : ℕ) (ds : List ℕ) (s : Machine) (b : Option ℕ) (now : ℕ) (owed over fresh : Bool) (v : LookaheadView) (i : ℕ)
-    → IsInside (overlap_of n ds s None b now owed over halt fresh v) fresh v → halt ≡ false → owed ≡ true → over ≡ true
-    → i < 64 → interrupt s ≡ Some i
-    → let w = record v { next = record v.next { place = place_of s (Some i) } } in
-    IsInside (overlap_of n ds s (Some i) None (now + 1) false false halt false w) false w
-    × (overlap_of n ds s (Some i) None (now + 1) false false halt false w ≡ machine_after_pass (record (overlap_of n ds s None b now owed over halt fresh v) { taken = Some i }))
-unfolding state_ahead
-interrupt-inside halt n ds s b now false over fresh v i is off owes ends few due = absurd (cc owes)
-interrupt-inside halt n ds s b now true false fresh v i is off owes ends few due = absurd (cc ends)
-interrupt-inside halt n ds s b now true true fresh v i is off owes ends few due =
-    let w = record v { next = record v.next { place = place_of s (Some i) } } in
+pub interrupt-taken : (n : ℕ) (ds : List ℕ) (s : Machine) (b : Option ℕ) (now : ℕ) (v w : LookaheadView) (i : ℕ)
+    → IsInside (overlap_of n ds s None b now fields.Ended v) v → i < 64 → interrupt s ≡ Some i
+    → {place : Place} → place ≡ place_of s (Some i) → w ≡ record v { next = record v.next { place = place } }
+    → IsInside (overlap_of n ds s (Some i) None (now + 1) fields.Ready w) w
+    × (overlap_of n ds s (Some i) None (now + 1) fields.Ready w ≡ machine_after_pass (record (overlap_of n ds s None b now fields.Ended v) { taken = Some i }))
+interrupt-taken n ds s b now v w i is few due {place} at there =
+    let x = record v { next = record v.next { place = place_of s (Some i) } } in
+    let P : LookaheadView → Type 0 = λ x. IsInside (overlap_of n ds s (Some i) None (now + 1) fields.Ready x) x
+    × (overlap_of n ds s (Some i) None (now + 1) fields.Ready x ≡ machine_after_pass (record (overlap_of n ds s None b now fields.Ended v) { taken = Some i })) in
     let between : IsBetween now None s v = is.lookahead in
     let o = between.opened in
-    let opened : IsOpened (Some i) s (opening_issue (answers_before now v) v.issue.c) w = assumption in
+    let opened : IsOpened (Some i) s (opening_issue (answers_before now v) v.issue.c) x = assumption in
     let later : now + 1 ≤ v.issue.c = between.later in
     let soon : v.issue.c ≤ now + 1 + 9 = omega (arith, between.soon) in
-    let lookahead = opening-lookahead ds n now (now + 1) v.issue.c (Some i) s (answers_before now v) w opened between.machine few between.banks later soon in (
-      inside-between halt n ds s (Some i) now w is.some is.few off is.in_time
-          (subst (λ (f : IssueState). IsLookahead ds n now (now + 1) (Some i) s f w) (sym (opened-issue (Some i) s (opening_issue (answers_before now v) v.issue.c) w opened)) lookahead)
+    let lookahead = opening-lookahead ds n now (now + 1) v.issue.c (Some i) s (answers_before now v) x opened between.machine few between.banks later soon in
+    subst P (sym (there ∙ ap (λ p. record v { next = record v.next { place = p } }) at)) (
+      inside-between n ds s (Some i) now x is.some is.few is.in_time
+          (subst (λ (f : IssueState). IsLookahead ds n now (now + 1) (Some i) s f x) (sym (opened-issue (Some i) s (opening_issue (answers_before now v) v.issue.c) x opened)) lookahead)
           few refl (rest-not s.waiting (pending s) i (pending-of s.enabled (pending s) i due)),
       refl,
     )
-
-pub interrupt-taken : (halt : Bool) (n : ℕ) (ds : List ℕ) (s : Machine) (t b : Option ℕ) (now : ℕ) (owed over fresh : Bool) (v w : LookaheadView) (i : ℕ) → t ≡ None
-    → IsInside (overlap_of n ds s t b now owed over halt fresh v) fresh v → halt ≡ false → owed ≡ true → over ≡ true
-    → i < 64 → interrupt s ≡ Some i
-    → {place : Place} → place ≡ place_of s (Some i) → w ≡ record v { next = record v.next { place = place } }
-    → IsInside (overlap_of n ds s (Some i) None (now + 1) false false halt false w) false w
-    × (overlap_of n ds s (Some i) None (now + 1) false false halt false w ≡ machine_after_pass (record (overlap_of n ds s t b now owed over halt fresh v) { taken = Some i }))
-interrupt-taken halt n ds s (Some j) b now owed over fresh v w i none is off owes ends few due at there = absurd (cc none)
-interrupt-taken halt n ds s None b now owed over fresh v w i none is off owes ends few due at there =
-    let P : LookaheadView → Type 0 = λ x. IsInside (overlap_of n ds s (Some i) None (now + 1) false false halt false x) false x
-    × (overlap_of n ds s (Some i) None (now + 1) false false halt false x ≡ machine_after_pass (record (overlap_of n ds s None b now owed over halt fresh v) { taken = Some i })) in
-    subst P (sym (there ∙ ap (λ p. record v { next = record v.next { place = p } }) at))
-    (interrupt-inside halt n ds s b now owed over fresh v i is off owes ends few due)
 
 -- ---- the look-ahead advances
 
@@ -387,79 +282,42 @@ lookahead-runs ds n now t s f v lookahead =
     let late : v.next.planned ≡ true → (now - 1) ≤ v.next.formed.p = λ planned. omega (arith, is.late planned) in
     assumption (All-weaker (λ (level : Level). level.p < now) (λ level. level.p < now - 1 + 1) (λ level h. omega (arith, h)) v.levels.ring is.prepared, next-sooner (is_open v) ds n now (now - 1) t s v (omega arith) is.next)
 
-pub going-lookahead : (halt : Bool) (n : ℕ) (ds : List ℕ) (s : Machine) (t b : Option ℕ) (now : ℕ) (owed over fresh : Bool) (v : LookaheadView)
-    → IsInside (overlap_of n ds s t b now owed over halt fresh v) fresh v → owed ≡ true → over ≡ false → b ≡ None
+going-by : (n : ℕ) (ds : List ℕ) (s : Machine) (t : Option ℕ) (now : ℕ) (p : PhaseField) (v : LookaheadView)
+    → IsInside (overlap_of n ds s t None now p v) v → may_settle (phase_of (answers_before now v) p) ≡ true → has_ended (phase_of (answers_before now v) p) ≡ false
     → IsLookahead ds n now now t s (oldest_issue v.levels.plans v.issue) v × (now < 2 ^ 63)
 unfolding state_ahead
-going-lookahead halt n ds s t b now false over fresh v is owes ends right = absurd (cc owes)
-going-lookahead halt n ds s t b now true true fresh v is owes ends right = absurd (cc ends)
-going-lookahead halt n ds s t (Some h) now true false fresh v is owes ends right = absurd (cc right)
-going-lookahead halt n ds s t None now true false fresh v is owes ends right = (is.lookahead, is.in_time)
+going-by n ds s t now fields.Ready v is may going = absurd (cc may)
+going-by n ds s t now fields.Ticked v is may going = (is.lookahead, is.in_time)
+going-by n ds s t now fields.Completed v is may going = (is.lookahead, is.in_time)
+going-by n ds s t now fields.Ended v is may going = absurd (cc going)
+going-by n ds s t now fields.Stopped v is may going = absurd (cc may)
 
-pub go-inside : (halt : Bool) (n : ℕ) (ds : List ℕ) (s : Machine) (t b : Option ℕ) (now : ℕ) (owed over fresh : Bool) (v w : LookaheadView)
-    → IsInside (overlap_of n ds s t b now owed over halt fresh v) fresh v → halt ≡ false → owed ≡ true → over ≡ false → b ≡ None
-    → interrupt_due (overlap_of n ds s t b now owed over halt fresh v) ≡ None → rests s ≡ false
+-- a machine that goes on in its segment, by its fields
+pub record IsGoingBy (n : ℕ) (ds : List ℕ) (s : Machine) (t b : Option ℕ) (now : ℕ) (p : PhaseField) (v : LookaheadView) (m : Overlap) : Type 0 where
+  pub right : b ≡ None
+  pub inside : IsInside (overlap_of n ds s t None now p v) v
+  pub view : overlap_of n ds s t None now p v ≡ m
+  pub lookahead : IsLookahead ds n now now t s (oldest_issue v.levels.plans v.issue) v
+  pub early : now < 2 ^ 63
+
+pub going : (n : ℕ) (ds : List ℕ) (s : Machine) (t b : Option ℕ) (now : ℕ) (p : PhaseField) (v : LookaheadView) (m : Overlap)
+    → IsInside (overlap_of n ds s t b now p v) v → overlap_of n ds s t b now p v ≡ m → MaySettle m → has_ended m.phase ≡ false → m.mispredicted ≡ None
+    → IsGoingBy n ds s t b now p v m
+going n ds s t b now p v m is view may goes none =
+    let right : b ≡ None = ap (λ (x : Overlap). x.mispredicted) view ∙ none in
+    let inside = subst (λ (k : Option ℕ). IsInside (overlap_of n ds s t k now p v) v) right is in
+    let here : overlap_of n ds s t None now p v ≡ m = sym (ap (λ (k : Option ℕ). overlap_of n ds s t k now p v) right) ∙ view in
+    let both = going-by n ds s t now p v inside (subst MaySettle (sym here) may) (subst (λ (x : Overlap). has_ended x.phase ≡ false) (sym here) goes) in
+    record { right = right; inside = inside; view = here; lookahead = both.0; early = both.1 }
+
+pub go-inside : (n : ℕ) (ds : List ℕ) (s : Machine) (t : Option ℕ) (now : ℕ) (p : PhaseField) (v w : LookaheadView)
+    → IsInside (overlap_of n ds s t None now p v) v → now < 2 ^ 63
+    → interrupt_due (overlap_of n ds s t None now p v) ≡ None → rests s ≡ false
     → IsLookahead ds n now (now + 1) t s (oldest_issue v.levels.plans v.issue) w
     → oldest_issue w.levels.plans w.issue ≡ oldest_issue v.levels.plans v.issue
-    → IsInside (overlap_of n ds s t b (now + 1) false over halt false w) false w
-    × (overlap_of n ds s t b (now + 1) false over halt false w ≡ machine_after_pass (overlap_of n ds s t b now owed over halt fresh v))
-unfolding state_ahead
-go-inside halt n ds s t b now false over fresh v w is off owes ends right due goes lookahead issue = absurd (cc owes)
-go-inside halt n ds s t b now true true fresh v w is off owes ends right due goes lookahead issue = absurd (cc ends)
-go-inside halt n ds s t (Some h) now true false fresh v w is off owes ends right due goes lookahead issue = absurd (cc right)
-go-inside halt n ds s t None now true false fresh v w is off owes ends right due goes lookahead issue = (
-  inside-between halt n ds s t now w is.some is.few off is.in_time (subst (λ (f : IssueState). IsLookahead ds n now (now + 1) t s f w) (sym issue) lookahead) is.indicator due goes,
-  same-fields halt ds n s s t None None _ _ (now + 1) false false None None refl refl issue refl,
+    → IsInside (overlap_of n ds s t None (now + 1) fields.Ready w) w
+    × (overlap_of n ds s t None (now + 1) fields.Ready w ≡ machine_after_pass (overlap_of n ds s t None now p v))
+go-inside n ds s t now p v w is early due goes lookahead issue = (
+  inside-between n ds s t now w is.some is.few early (subst (λ (f : IssueState). IsLookahead ds n now (now + 1) t s f w) (sym issue) lookahead) is.indicator due goes,
+  same-fields ds n s s t None None _ _ (now + 1) Ready Ready refl refl issue refl,
 )
-
--- if no entry completed at a tick, there are no answers for the end of the segment
-pub not-fresh : (fresh : Bool) (banks : LastAnswers) → fresh ≡ false → (if fresh then Some banks else None) ≡ None
-not-fresh true banks stale = absurd (cc stale)
-not-fresh false banks stale = refl
-
--- if an entry completed at a tick, there are answers for the end of the segment
-pub fresh-some : (fresh : Bool) (banks : LastAnswers) → fresh ≡ true → IsSome (if fresh then Some banks else None)
-fresh-some true banks done = refl
-fresh-some false banks done = absurd (cc done)
-
--- three tests say whether the machine continues
-both-none : (b d : Option ℕ) → (is_some b || is_some d) ≡ false → (d ≡ None) × (b ≡ None)
-both-none (Some h) d none = absurd (cc none)
-both-none None (Some i) none = absurd (cc none)
-both-none None None none = (refl, refl)
-
-pub goes-yes : (m : Overlap) (ends waits : Bool) → ends ≡ (is_some m.mispredicted || is_some (interrupt_due m)) → ends ≡ false
-    → waits ≡ rests m.state → not waits ≡ true → (interrupt_due m ≡ None) × (rests m.state ≡ false) × (m.mispredicted ≡ None)
-goes-yes m ends true is none by goes = absurd (cc goes)
-goes-yes m ends false is none by goes =
-    let both = both-none m.mispredicted (interrupt_due m) (sym is ∙ none) in
-    (both.0, sym by, both.1)
-
-some-first : (b d r : Bool) → (b || d) ≡ true → (b || d || r) ≡ true
-some-first true d r some = refl
-some-first false true r some = refl
-some-first false false r some = absurd (cc some)
-
-some-last : (b d r : Bool) → r ≡ true → (b || d || r) ≡ true
-some-last true d r some = refl
-some-last false true r some = refl
-some-last false false r some = some
-
-pub goes-not : (m : Overlap) (ends : Bool) → ends ≡ (is_some m.mispredicted || is_some (interrupt_due m)) → ends ≡ true
-    → (is_some m.mispredicted || is_some (interrupt_due m) || rests m.state) ≡ true
-goes-not m ends is some = some-first (is_some m.mispredicted) (is_some (interrupt_due m)) (rests m.state) (sym is ∙ some)
-
-pub goes-no : (m : Overlap) (waits : Bool) → waits ≡ rests m.state → not waits ≡ false
-    → (is_some m.mispredicted || is_some (interrupt_due m) || rests m.state) ≡ true
-goes-no m true by waits = some-last (is_some m.mispredicted) (is_some (interrupt_due m)) (rests m.state) (sym by)
-goes-no m false by waits = absurd (cc waits)
-
-mispredicted-by : (b : Bool) (d : Option ℕ) (r : Bool) → d ≡ None → r ≡ false → (b || is_some d || r) ≡ true → b ≡ true
-mispredicted-by true d r none goes some = refl
-mispredicted-by false (Some i) r none goes some = absurd (cc none)
-mispredicted-by false None true none goes some = absurd (cc goes)
-mispredicted-by false None false none goes some = absurd (cc some)
-
-pub mispredicted : (m : Overlap) → interrupt_due m ≡ None → rests m.state ≡ false
-    → (is_some m.mispredicted || is_some (interrupt_due m) || rests m.state) ≡ true → is_some m.mispredicted ≡ true
-mispredicted m none goes some = mispredicted-by (is_some m.mispredicted) (interrupt_due m) (rests m.state) none goes some

@@ -1,43 +1,38 @@
 -- The view of a machine, and its lent parts.
-use Rattle.std.specs.Prelude.{if◌then◌else◌, ◌-◌}
+use Rattle.st_ahead.proofs.Common.{if◌then◌else◌, IfSome, ◌≡◌, ℕ, ◌+◌, ◌≤◌, Bool, true, false, List, [], ◌∷◌, length, Option, None, sym, subst, ◌∙◌, ap, arith, Machine, prediction, opening_issue, issue_after_entry, IssueState, Level, entry, Ahead, ahead, prepared_before, split_words, oldest_issue, AreLevels, AreFull, PlannedRow, length-ahead, is_owed, Overlap, state_ahead, levels_of, last_tick_made, IsLevelOf, AreLevelsOf, lent_index_words, LookaheadView, IsLookahead, count, answers_before, overlap_of, IsBetween, IsInside}
+use Rattle.std.specs.Prelude.{◌-◌, ◌<◌}
 use Rattle.std.specs.List.{AllZip}
-use Rattle.std.proofs.Common.{◌≡◌, ℕ, ◌+◌, ◌≤◌, Bool, true, false, List, [], ◌∷◌, length, Option, None, sym, subst, ◌∙◌, ap, arith}
-use Rattle.st_state.specs.Machine.{Machine}
-use Rattle.st_exec.specs.Completion.{prediction}
-use Rattle.st_rows.specs.Rows.{opening_issue, issue_after_entry}
-use Rattle.st_rows.specs.declared.issue.IssueState.{IssueState}
-use Rattle.st_ring.specs.declared.level.Level.{Level}
-use Rattle.st_segment.specs.Entries.{entry}
-use Rattle.st_segment.specs.Ahead.{Ahead, ahead, prepared_before}
-use Rattle.st_segment.specs.Predictions.{split_words}
-use Rattle.st_ring.specs.Levels.{oldest_issue, AreLevels, AreFull}
-use Rattle.st_ring.specs.declared.plans.PlannedRow.{PlannedRow}
-use Rattle.st_ring.proofs.LevelLemmas.{length-ahead}
-use Rattle.st_ahead.specs.Overlap.{Overlap, state_ahead, levels_of, last_tick_made}
-use Rattle.st_ahead.specs.Shown.{IsLevelOf, AreLevelsOf, lent_index_words}
-use Rattle.st_ahead.specs.Forecast.{LookaheadView, IsLookahead, count}
-use Rattle.st_ahead.specs.Inside.{answers_before, overlap_of, IsBetween, IsInside}
+use Rattle.st_ahead.specs.declared.phase.Phase.{Phase as PhaseField}
 use Rattle.st_ahead.proofs.Openings.{opening-lookahead}
 use Rattle.st_ahead.proofs.Standing.{opened-issue}
+use Rattle.st_ahead.specs.declared.phase.Phase.TheVariants as fields
 
 -- ---- the look-ahead, at each moment
 
--- the look-ahead exists also after the end of a segment
-pub lookahead-inside : (halt : Bool) (n : ℕ) (ds : List ℕ) (s : Machine) (t b : Option ℕ) (now : ℕ) (owed over fresh : Bool) (v : LookaheadView)
-    → IsInside (overlap_of n ds s t b now owed over halt fresh v) fresh v
-    → IsLookahead ds n (last_tick_made (overlap_of n ds s t b now owed over halt fresh v)) now t (state_ahead (overlap_of n ds s t b now owed over halt fresh v)) (oldest_issue v.levels.plans v.issue) v
-unfolding state_ahead
-lookahead-inside halt n ds s t b now owed false fresh v is = is.lookahead
-lookahead-inside halt n ds s t b now owed true fresh v is =
-    let between : IsBetween now t s v = is.lookahead in
+between-lookahead : (n : ℕ) (ds : List ℕ) (s : Machine) (t : Option ℕ) (now : ℕ) (v : LookaheadView) → IsBetween now t s v → IfSome t (λ i. i < 64)
+    → IsLookahead ds n now now t s (oldest_issue v.levels.plans v.issue) v
+between-lookahead n ds s t now v between indicator =
     let later : now + 1 ≤ v.issue.c = between.later in
-    let tick = last_tick_made (overlap_of n ds s t b now owed true halt fresh v) in
-    let lookahead = opening-lookahead ds n tick now v.issue.c t s (answers_before now v) v between.opened between.machine is.indicator between.banks (omega (arith, later)) between.soon in
-    subst (λ (f : IssueState). IsLookahead ds n tick now t s f v) (sym (opened-issue t s (opening_issue (answers_before now v) v.issue.c) v between.opened)) lookahead
+    let lookahead = opening-lookahead ds n now now v.issue.c t s (answers_before now v) v between.opened between.machine indicator between.banks (omega (arith, later)) between.soon in
+    subst (λ (f : IssueState). IsLookahead ds n now now t s f v) (sym (opened-issue t s (opening_issue (answers_before now v) v.issue.c) v between.opened)) lookahead
 
-pub soon-last : (owed : Bool) (now : ℕ) → now ≤ (if owed then now else now - 1) + 1
-soon-last true now = omega arith
-soon-last false now = omega arith
+-- the look-ahead exists also after the end of a segment
+pub lookahead-inside : (n : ℕ) (ds : List ℕ) (s : Machine) (t b : Option ℕ) (now : ℕ) (p : PhaseField) (v : LookaheadView)
+    → IsInside (overlap_of n ds s t b now p v) v
+    → IsLookahead ds n (last_tick_made (overlap_of n ds s t b now p v)) now t (state_ahead (overlap_of n ds s t b now p v)) (oldest_issue v.levels.plans v.issue) v
+unfolding state_ahead
+lookahead-inside n ds s t b now fields.Ready v is = is.lookahead
+lookahead-inside n ds s t b now fields.Ticked v is = is.lookahead
+lookahead-inside n ds s t b now fields.Completed v is = is.lookahead
+lookahead-inside n ds s t b now fields.Ended v is = between-lookahead n ds s t now v is.lookahead is.indicator
+lookahead-inside n ds s t b now fields.Stopped v is = between-lookahead n ds s t now v is.lookahead is.indicator
+
+soon-by : (owed : Bool) (now : ℕ) → now ≤ (if owed then now else now - 1) + 1
+soon-by true now = omega arith
+soon-by false now = omega arith
+
+pub soon-last : (m : Overlap) → m.now ≤ last_tick_made m + 1
+soon-last m = soon-by (is_owed m.phase) m.now
 
 -- ---- levels
 

@@ -1,19 +1,9 @@
 -- The invariant of a machine when a signal comes, or an order takes effect.
-use Rattle.std.specs.Prelude.{IsSome, is_none, if◌then◌else◌}
-use Rattle.std.proofs.Common.{◌≡◌, ◌⊎◌, inl, inr, ℕ, ◌-◌, Bool, true, false, List, Option, None, Some, refl, sym, subst, ◌∙◌, arith}
-use Rattle.std.proofs.lemmas.Bool.{and_left}
-use Rattle.st_banks.specs.declared.answers.LastAnswers.{LastAnswers}
-use Rattle.st_state.specs.Machine.{Machine, IsMachine}
-use Rattle.st_state.specs.Interrupts.{pending}
-use Rattle.st_prep.specs.BesideOrders.{AreAlikeBesideOrders}
-use Rattle.st_rows.specs.Rows.{opening_issue}
-use Rattle.st_rows.specs.declared.issue.IssueState.{IssueState}
-use Rattle.st_ring.specs.Levels.{oldest_issue, AreNotDone}
-use Rattle.st_ahead.specs.Overlap.{state_ahead, with_counter}
-use Rattle.st_ahead.specs.Forecast.{LookaheadView, IsLookahead}
-use Rattle.st_ahead.specs.Inside.{answers_before, overlap_of, IsBetween, IsInside}
+use Rattle.st_ahead.proofs.Common.{is_none, ◌≡◌, inl, inr, ℕ, ◌-◌, false, List, Option, None, Some, refl, sym, subst, ◌∙◌, arith, and_left, Machine, IsMachine, pending, AreAlikeBesideOrders, opening_issue, IssueState, oldest_issue, AreNotDone, state_ahead, with_counter, LookaheadView, IsLookahead, answers_before, overlap_of, IsBetween, IsInside, MayServe, MaySignal}
 use Rattle.st_ahead.proofs.SameLookahead.{opened-same}
-use Rattle.st_ahead.proofs.Standing.{off-if, inside-fresh}
+use Rattle.st_ahead.proofs.Standing.{off-if, same-field, inside-completed, inside-ended}
+use Rattle.st_ahead.specs.declared.phase.Phase.{Phase as PhaseField}
+use Rattle.st_ahead.specs.declared.phase.Phase.TheVariants as fields
 
 -- ---- the predicted counter
 
@@ -31,61 +21,67 @@ abbrev LooksAhead : List ℕ → ℕ → ℕ → LookaheadView → Type 0
 LooksAhead ds n now v = (x y : Machine) (f : IssueState) → IsLookahead ds n now now None x f v → AreNotDone now v.levels → f.c ≡ now
     → IsMachine y → AreAlikeBesideOrders x y → IsLookahead ds n now now None y f v
 
-before-first : (halt : Bool) (n : ℕ) (ds : List ℕ) (s u : Machine) (t b : Option ℕ) (now : ℕ) (over fresh : Bool) (v : LookaheadView)
-    → IsInside (overlap_of n ds s t b now false over halt fresh v) fresh v → now ≡ 0 → IsMachine u → AreAlikeBesideOrders s u → LooksAhead ds n now v
-    → IsInside (overlap_of n ds u t b now false over halt fresh v) fresh v
+before-first : (n : ℕ) (ds : List ℕ) (s u : Machine) (t b : Option ℕ) (now : ℕ) (v : LookaheadView)
+    → IsInside (overlap_of n ds s t b now fields.Ready v) v → now ≡ 0 → IsMachine u → AreAlikeBesideOrders s u → LooksAhead ds n now v
+    → IsInside (overlap_of n ds u t b now fields.Ready v) v
 unfolding state_ahead
-before-first halt n ds s u t b now true fresh v is start m alike on = absurd (cc ((is.settled refl).1))
-before-first halt n ds s u t b now false true v is start m alike on = absurd (cc ((is.settled refl).0))
-before-first halt n ds s u t (Some h) now false false v is start m alike on = absurd (cc ((is.quiet refl).2))
-before-first halt n ds s u (Some i) None now false false v is start m alike on = absurd (cc ((is.unstarted refl start).2))
-before-first halt n ds s u None None now false false v is start m alike on =
+before-first n ds s u t (Some h) now v is start m alike on = absurd (cc is.in_phase.0.right)
+before-first n ds s u (Some i) None now v is start m alike on = absurd (cc (is.in_phase.1 start).taken)
+before-first n ds s u None None now v is start m alike on =
     let f = oldest_issue v.levels.plans v.issue in
-    let un = is.unstarted refl start in
+    let un = is.in_phase.1 start in
     let last : now - 1 ≡ now = omega (arith, start) in
     let lookahead : IsLookahead ds n now now None s f v = subst (λ (x : ℕ). IsLookahead ds n x now None s f v) last is.lookahead in
-    let next = on s u f lookahead lookahead.outlook.not_done (un.3 ∙ sym start) m alike in
-    let enabled : u.enabled ≡ false = alike.enabled ∙ un.0 in
-    let waiting : u.waiting ≡ false = alike.waiting ∙ un.1 in
+    let next = on s u f lookahead lookahead.outlook.not_done (un.start ∙ sym start) m alike in
+    let enabled : u.enabled ≡ false = alike.enabled ∙ un.enabled in
+    let waiting : u.waiting ≡ false = alike.waiting ∙ un.waiting in
     record {
       some = is.some;
       few = is.few;
       lookahead = subst (λ (x : ℕ). IsLookahead ds n x now None u f v) (sym last) next;
       indicator = tt;
       in_time = is.in_time;
-      settled = is.settled;
-      quiet = λ e. (off-if u.enabled (pending u) enabled, and_left u.waiting (is_none (pending u)) waiting, refl);
-      done = λ e. absurd (cc e);
-      unstarted = λ e g. (enabled, waiting, refl, un.3);
+      in_phase = (
+        record { due = off-if u.enabled (pending u) enabled; goes = and_left u.waiting (is_none (pending u)) waiting; right = refl },
+        λ first. record { enabled = enabled; waiting = waiting; taken = refl; start = un.start },
+      );
     }
 
-behind-done : (halt : Bool) (n : ℕ) (ds : List ℕ) (s u : Machine) (t b : Option ℕ) (now : ℕ) (over fresh : Bool) (v : LookaheadView)
-    → IsInside (overlap_of n ds s t b now true over halt fresh v) fresh v → fresh ≡ true → IsMachine u → AreAlikeBesideOrders s u → LooksAhead ds n now v
-    → IsInside (overlap_of n ds u t b now true over halt fresh v) fresh v
+behind-completed : (n : ℕ) (ds : List ℕ) (s u : Machine) (t b : Option ℕ) (now : ℕ) (v : LookaheadView)
+    → IsInside (overlap_of n ds s t b now fields.Completed v) v → IsMachine u → AreAlikeBesideOrders s u → LooksAhead ds n now v
+    → IsInside (overlap_of n ds u t b now fields.Completed v) v
 unfolding state_ahead
-behind-done halt n ds s u t b now over false v is done m alike on = absurd (cc done)
-behind-done halt n ds s u (Some i) b now over true v is done m alike on = absurd (cc ((is.done refl).0))
-behind-done halt n ds s u None b now true true v is done m alike on =
-    let between : IsBetween now None s v = is.lookahead in
-    inside-fresh halt true n ds u b now v is.some is.few is.in_time
-    (assumption (opened-same None s u (opening_issue (answers_before now v) v.issue.c) v between.opened alike)) (λ e. absurd (cc e)) (is.done refl).1
-behind-done halt n ds s u None b now false true v is done m alike on =
+behind-completed n ds s u (Some i) b now v is m alike on = absurd (cc is.in_phase.0)
+behind-completed n ds s u None b now v is m alike on =
     let f = oldest_issue v.levels.plans v.issue in
     let lookahead : IsLookahead ds n now now None (with_counter b s) f v = is.lookahead in
-    let next = on (with_counter b s) (with_counter b u) f lookahead lookahead.outlook.not_done ((is.done refl).2 refl)
-    (counted-machine b s u lookahead.outlook.machine m) (counted-alike b s u alike) in
-    inside-fresh halt false n ds u b now v is.some is.few is.in_time next (λ e. (is.done refl).2 refl) (is.done refl).1
+    inside-completed n ds u b now v is.some is.few is.in_time
+    (on (with_counter b s) (with_counter b u) f lookahead lookahead.outlook.not_done is.in_phase.1 (counted-machine b s u lookahead.outlook.machine m) (counted-alike b s u alike))
+    is.in_phase.1 is.in_phase.2
 
-done-fresh : (fresh : Bool) (banks : LastAnswers) → IsSome (if fresh then Some banks else None) → fresh ≡ true
-done-fresh true banks some = refl
-done-fresh false banks some = absurd (cc some)
+behind-ended : (n : ℕ) (ds : List ℕ) (s u : Machine) (t b : Option ℕ) (now : ℕ) (v : LookaheadView)
+    → IsInside (overlap_of n ds s t b now fields.Ended v) v → IsMachine u → AreAlikeBesideOrders s u
+    → IsInside (overlap_of n ds u t b now fields.Ended v) v
+behind-ended n ds s u (Some i) b now v is m alike = absurd (cc is.in_phase)
+behind-ended n ds s u None b now v is m alike =
+    let between : IsBetween now None s v = is.lookahead in
+    inside-ended n ds u b now v is.some is.few is.in_time
+    (assumption (opened-same None s u (opening_issue (answers_before now v) v.issue.c) v between.opened alike))
 
-pub signal-inside : (halt : Bool) (n : ℕ) (ds : List ℕ) (s u : Machine) (t b : Option ℕ) (now : ℕ) (owed over fresh : Bool) (v : LookaheadView)
-    → IsInside (overlap_of n ds s t b now owed over halt fresh v) fresh v
-    → ((owed ≡ false) × (now ≡ 0)) ⊎ ((owed ≡ true) × IsSome (overlap_of n ds s t b now owed over halt fresh v).closing)
-    → IsMachine u → AreAlikeBesideOrders s u → LooksAhead ds n now v
-    → IsInside (overlap_of n ds u t b now owed over halt fresh v) fresh v
-signal-inside halt n ds s u t b now false over fresh v is (inl turn) m alike on = before-first halt n ds s u t b now over fresh v is turn.1 m alike on
-signal-inside halt n ds s u t b now true over fresh v is (inl turn) m alike on = absurd (cc turn.0)
-signal-inside halt n ds s u t b now true over fresh v is (inr turn) m alike on = behind-done halt n ds s u t b now over fresh v is (done-fresh fresh (answers_before now v) turn.1) m alike on
-signal-inside halt n ds s u t b now false over fresh v is (inr turn) m alike on = absurd (cc turn.0)
+pub serve-inside : (n : ℕ) (ds : List ℕ) (s u : Machine) (t b : Option ℕ) (now : ℕ) (p : PhaseField) (v : LookaheadView)
+    → IsInside (overlap_of n ds s t b now p v) v → MayServe (overlap_of n ds s t b now p v) → IsMachine u → AreAlikeBesideOrders s u → LooksAhead ds n now v
+    → IsInside (overlap_of n ds u t b now p v) v
+serve-inside n ds s u t b now fields.Ready v is may m alike on = absurd (cc may)
+serve-inside n ds s u t b now fields.Ticked v is may m alike on = absurd (cc may)
+serve-inside n ds s u t b now fields.Completed v is may m alike on = behind-completed n ds s u t b now v is m alike on
+serve-inside n ds s u t b now fields.Ended v is may m alike on = behind-ended n ds s u t b now v is m alike
+serve-inside n ds s u t b now fields.Stopped v is may m alike on = absurd (cc may)
+
+pub signal-inside : (n : ℕ) (ds : List ℕ) (s u : Machine) (t b : Option ℕ) (now : ℕ) (p : PhaseField) (v : LookaheadView)
+    → IsInside (overlap_of n ds s t b now p v) v → MaySignal (overlap_of n ds s t b now p v) → IsMachine u → AreAlikeBesideOrders s u → LooksAhead ds n now v
+    → IsInside (overlap_of n ds u t b now p v) v
+signal-inside n ds s u t b now p v is (inl turn) m alike on =
+    let field = same-field (answers_before now v) p fields.Ready turn.0 in
+    subst (λ (q : PhaseField). IsInside (overlap_of n ds u t b now q v) v) (sym field)
+    (before-first n ds s u t b now v (subst (λ (q : PhaseField). IsInside (overlap_of n ds s t b now q v) v) field is) turn.1 m alike on)
+signal-inside n ds s u t b now p v is (inr may) m alike on = serve-inside n ds s u t b now p v is may m alike on

@@ -1,21 +1,5 @@
 -- Whether the oldest entry completes at a tick.
-use Rattle.std.proofs.Common.{◌≡◌, ◌≢◌, ℕ, zero, suc, ◌+◌, ◌<◌, ◌≤◌, Bool, true, false, List, [], ◌∷◌, length, Option, refl, arith}
-use Rattle.std.specs.Prelude.{All, nat_lt, ◌==◌, if◌then◌else◌}
-use Rattle.std.proofs.lemmas.Bool.{eq-eqb, ltb-false}
-use Rattle.std.proofs.lemmas.List.Elements.{All-head}
-use Rattle.st_state.specs.Machine.{Machine, word}
-use Rattle.st_prep.specs.Plan.{plan}
-use Rattle.st_exec.specs.Completion.{state_after_execution, predicted_state, prediction}
-use Rattle.st_rows.specs.Ranges.{AreDelaysUpTo, IsEntryInTime, IsTight}
-use Rattle.st_rows.specs.Rows.{row_of_entry}
-use Rattle.st_rows.specs.declared.entry.Entry.{Entry}
-use Rattle.st_rows.specs.declared.issue.IssueState.{IssueState}
-use Rattle.st_rows.proofs.Tight.{later-r, later-c}
-use Rattle.st_ring.specs.declared.level.Level.{Level}
-use Rattle.st_segment.specs.Ahead.{Ahead, ahead, prepared_before}
-use Rattle.st_segment.specs.Entries.{entry}
-use Rattle.st_ring.specs.Levels.{AreLevels, is_oldest_due}
-use Rattle.st_ring.specs.declared.plans.PlannedRow.{PlannedRow}
+use Rattle.st_ahead.proofs.Common.{◌≡◌, ◌≢◌, ℕ, zero, suc, ◌+◌, ◌<◌, ◌≤◌, Bool, true, false, List, [], ◌∷◌, length, Option, refl, arith, All, nat_lt, ◌==◌, if◌then◌else◌, eq-eqb, ltb-false, All-head, Machine, word, plan, state_after_execution, predicted_state, prediction, AreDelaysUpTo, IsEntryInTime, IsTight, row_of_entry, Entry, IssueState, later-r, later-c, Level, Ahead, ahead, prepared_before, entry, AreLevels, is_oldest_due, PlannedRow}
 
 -- ---- a level that is not due
 

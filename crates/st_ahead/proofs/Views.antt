@@ -1,21 +1,7 @@
 -- The view of the levels.
-use Rattle.std.specs.Prelude.{◌++◌, map, replicate, get_or, slice_get, nat_le, option_map, ◌-◌}
-use Rattle.std.proofs.Common.{◌≡◌, ℕ, zero, suc, ◌≤◌, Bool, List, [], ◌∷◌, length, Option, None, Some, refl, sym, ◌∙◌, ap, arith}
-use Rattle.std.proofs.lemmas.List.{length-append, length-map, length-replicate}
-use Rattle.st_state.specs.Machine.{Machine}
-use Rattle.st_exec.specs.Completion.{prediction}
-use Rattle.st_prep.specs.declared.entries.Prepared.{Prepared}
-use Rattle.st_prep.specs.Plan.{plan}
-use Rattle.st_rows.specs.Rows.{row_of_entry, issue_after_entry}
-use Rattle.st_rows.specs.declared.issue.IssueState.{IssueState}
-use Rattle.st_ring.specs.declared.level.Level.{Level}
-use Rattle.st_segment.specs.Entries.{entry}
-use Rattle.st_segment.specs.Ahead.{Ahead, ahead, next_ahead}
-use Rattle.st_ring.specs.Levels.{AreLevels, IsLevel}
-use Rattle.st_ring.specs.declared.plans.PlannedRow.{PlannedRow}
-use Rattle.st_ahead.specs.Overlap.{Overlap, state_ahead, levels_of, last_tick_made}
-use Rattle.st_ahead.specs.Forecast.{LookaheadView, count}
-use Rattle.st_ahead.specs.Shown.{word_before_change, level_shown, view_at_tick, lent_index_words}
+use Rattle.st_ahead.proofs.Common.{map, replicate, get_or, slice_get, nat_le, option_map, ◌≡◌, ℕ, zero, suc, ◌≤◌, Bool, List, [], ◌∷◌, length, Option, None, Some, refl, sym, ◌∙◌, ap, arith, length-map, length-replicate, Machine, prediction, Prepared, plan, row_of_entry, issue_after_entry, IssueState, Level, entry, Ahead, ahead, next_ahead, AreLevels, IsLevel, PlannedRow, Overlap, state_ahead, levels_of, last_tick_made, LookaheadView, count, word_before_change, level_shown, view_at_tick, lent_index_words}
+use Rattle.std.specs.Prelude.{◌++◌, ◌-◌}
+use Rattle.std.proofs.lemmas.List.{length-append}
 use Rattle.st_ahead.specs.declared.events.LevelView.{LevelView}
 use Rattle.st_ahead.specs.declared.events.View.{View}
 use Rattle.st_ahead.proofs.Showing.{IsShowing, showing-count}

@@ -1,15 +1,15 @@
 -- The effect of the calls of an overlapped machine, and their results.
 --
 -- Proved: by their `ensures` clauses these calls do what definitions here say: `end` (machine.rt),
--- `end_or_give_up` (machine.rt), `give_up` (machine.rt), `interrupt` (machine.rt), and others.
--- Read by: definitions in RunTo, RowsDone, Running, Reached of st_refine, and others.
+-- `give_up` (machine.rt), `interrupt` (machine.rt), `read_in` (machine.rt), and others.
+-- Read by: definitions in RunTo, RowsDone, Running, Decided, and others.
 -- Laws: LevelsAreUnwound (specs/Laws.antt of st_refine), OpeningsAreKept (specs/Laws.antt of
 -- st_refine), OpeningsFollow (specs/Laws.antt of st_refine), SignalsLeaveLevels (specs/Laws.antt of
 -- st_refine), and others.
 -- Change: no page fixes these definitions, since no contract of a program unfolds to them; they
 -- change together with the clauses, definitions and laws that name them. docs/inside.md describes
 -- the subject.
-use Rattle.std.specs.Prelude.{ℕ, ◌≡◌, ◌+◌, ◌==◌, Bool, true, false, if◌then◌else◌, List, length, Option, None, Some, IsSome, ◌⊎◌}
+use Rattle.std.specs.Prelude.{ℕ, ◌≡◌, ◌+◌, ◌==◌, Bool, true, false, if◌then◌else◌, List, length, Option, None, Some, ◌⊎◌}
 use Rattle.st_banks.specs.Bank.{idle_banks}
 use Rattle.st_banks.specs.declared.answers.LastAnswers.{LastAnswers}
 use Rattle.st_state.specs.Interrupts.{state_with_signal}
@@ -19,7 +19,7 @@ use Rattle.st_exec.specs.Step.{rests}
 use Rattle.st_exec.specs.Transfer.{read_in, printed_out}
 use Rattle.st_rows.specs.Rows.{issue_after_entry}
 use Rattle.st_segment.specs.Ahead.{issue_behind_end}
-use Rattle.st_ahead.specs.Overlap.{Overlap, oldest_entry, oldest_row, levels_of, banks_at_its_end, interrupt_due}
+use Rattle.st_ahead.specs.Overlap.{Phase, Ready, Ticked, Completed, Ended, Stopped, has_ended, closing, Overlap, oldest_entry, oldest_row, levels_of, banks_at_its_end, interrupt_due}
 use Rattle.st_ahead.specs.declared.events.Row.{Row}
 use Rattle.st_ahead.specs.declared.events.Event.{Event}
 use Rattle.st_ahead.specs.declared.events.Event.TheVariants.{Passed, Done}
@@ -54,14 +54,12 @@ machine_after_completion m = record m {
   taken = None;
   mispredicted = mispredicted_counter m;
   issue = issue_after_entry m.delays m.levels m.issue (oldest_entry m);
-  owed = true;
-  closing = Some (banks_at_its_end m);
+  phase = Completed (banks_at_its_end m);
 }
 
 -- the machine after a tick, whose decision is owed
 unfoldable pub machine_after_tick : Overlap → Overlap
-machine_after_tick m = if is_done m then machine_after_completion m
-    else record m { owed = true; closing = None }
+machine_after_tick m = if is_done m then machine_after_completion m else record m { phase = Ticked }
 
 -- the result of a tick
 abbrev pub IsEvent : Overlap → Event → Type 0
@@ -72,7 +70,7 @@ IsEvent m (Done row) = (is_done m ≡ true) × (row ≡ row_done m)
 
 -- the number of levels that are flushed
 unfoldable pub drop_count : Overlap → ℕ
-drop_count m = if m.ended then 0 else length (levels_of m)
+drop_count m = if has_ended m.phase then 0 else length (levels_of m)
 
 -- the last answers of the banks at the opening of the next segment; if no entry completed at this
 -- tick, the reads are forgotten
@@ -83,25 +81,34 @@ banks_left None = idle_banks
 -- the machine at the opening of the next segment
 unfoldable pub machine_after_segment : Overlap → Overlap
 machine_after_segment m =
-    if m.ended then m
+    if has_ended m.phase then m
     else record m {
-      issue = issue_behind_end (banks_left m.closing) m.now (length (levels_of m));
-      ended = true;
+      issue = issue_behind_end (banks_left (closing m.phase)) m.now (length (levels_of m));
+      phase = Ended;
     }
 
 -- the machine at the end of a run
 abbrev pub run_ended : Overlap → Overlap
-run_ended m = record (machine_after_segment m) { stopped = true }
+run_ended m = record (machine_after_segment m) { phase = Stopped }
 
 -- ---- the decision after a tick
+
+-- the decision may be made: it is owed, and the run has not ended
+abbrev pub may_settle : Phase → Bool
+may_settle Ready = false
+may_settle Ticked = true
+may_settle (Completed banks) = true
+may_settle Ended = true
+may_settle Stopped = false
+
+abbrev pub MaySettle : Overlap → Type 0
+MaySettle m = may_settle m.phase ≡ true
 
 -- the machine before the next tick, with no decision owed
 abbrev pub machine_after_pass : Overlap → Overlap
 machine_after_pass m = record m {
-  owed = false;
-  ended = false;
+  phase = Ready;
   mispredicted = None;
-  closing = None;
   now = m.now + 1;
 }
 
@@ -135,16 +142,21 @@ answer m = answer_by (interrupt_due m) (rests m.state) m.mispredicted m
 abbrev pub signalled_by : ℕ → Overlap → Overlap
 signalled_by i m = record m { state = state_with_signal m.state i }
 
--- a signal may come before the first tick, or after a tick that completed an entry, while its
--- decision is owed and the run has not ended
-abbrev pub MaySignal : Overlap → Type 0
-MaySignal m = (((m.owed ≡ false) × (m.now ≡ 0)) ⊎ ((m.owed ≡ true) × IsSome m.closing))
-    × (m.stopped ≡ false)
-
 -- an order may take effect after a tick that completed an entry, while its decision is owed and the
 -- run has not ended
+abbrev pub may_serve : Phase → Bool
+may_serve Ready = false
+may_serve Ticked = false
+may_serve (Completed banks) = true
+may_serve Ended = true
+may_serve Stopped = false
+
 abbrev pub MayServe : Overlap → Type 0
-MayServe m = (m.owed ≡ true) × IsSome m.closing × (m.stopped ≡ false)
+MayServe m = may_serve m.phase ≡ true
+
+-- a signal may come before the first tick, and whenever an order may take effect
+abbrev pub MaySignal : Overlap → Type 0
+MaySignal m = ((m.phase ≡ Ready) × (m.now ≡ 0)) ⊎ MayServe m
 
 -- the machine after the reader's order for the area at the word w; a card first ends the segment
 abbrev pub read_in_by : ℕ → Option (List ℕ) → Overlap → Overlap

@@ -4,6 +4,7 @@ pub mod Shown
 pub mod Forecast
 pub mod Ticked
 pub mod Inside
+pub mod Decided
 pub mod Going
 pub mod RunTo
 pub mod RowsDone

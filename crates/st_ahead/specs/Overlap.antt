@@ -1,16 +1,16 @@
 -- The abstract state of an overlapped machine, and values derived from it.
 --
 -- Proved: by their `ensures` clauses these calls do what definitions here say: `run_to`
--- (lookahead_run.rt), `ends` (machine.rt), `goes_on` (machine.rt), `interrupt_due` (machine.rt),
+-- (lookahead_run.rt), `ends` (machine.rt), `has_ended` (machine.rt), `interrupt_due` (machine.rt),
 -- and others.
--- Read by: definitions in Calls, Inside, Shown, Running, and others.
--- Laws: RowsTellTheLevels (specs/Laws.antt of st_refine), LevelsAreUnwound (specs/Laws.antt of
--- st_refine), TheStateIsSplit (specs/Laws.antt of st_refine), CompletionsAreSteps (specs/Laws.antt
--- of st_refine), and others.
+-- Read by: definitions in Calls, Inside, Shown, Decided, and others.
+-- Laws: LevelsAreUnwound (specs/Laws.antt of st_refine), OpeningsFollow (specs/Laws.antt of
+-- st_refine), RowsTellTheLevels (specs/Laws.antt of st_refine), TheStateIsSplit (specs/Laws.antt of
+-- st_refine), and others.
 -- Change: no page fixes these definitions, since no contract of a program unfolds to them; they
 -- change together with the clauses, definitions and laws that name them. docs/inside.md describes
 -- the subject.
-use Rattle.std.specs.Prelude.{ℕ, ◌-◌, Bool, false, if◌then◌else◌, is_none, List, Option, None, Some}
+use Rattle.std.specs.Prelude.{ℕ, ◌-◌, Bool, true, false, if◌then◌else◌, is_none, List, Option, None, Some}
 use Rattle.st_state.specs.Machine.{Machine}
 use Rattle.st_exec.specs.Step.{interrupt}
 use Rattle.st_banks.specs.declared.answers.LastAnswers.{LastAnswers}
@@ -22,12 +22,49 @@ use Rattle.st_rows.specs.declared.issue.EntryTicks.{EntryTicks}
 use Rattle.st_segment.specs.Entries.{entry}
 use Rattle.st_segment.specs.Ahead.{Ahead, ahead, prepared_before, reads_to_end, banks_at_end}
 
+-- ---- phases
+
+-- the phase of a machine between two calls: the next tick may be made (`Ready`); or the decision
+-- after the last tick is owed, at which no entry completed (`Ticked`), or one did, and the banks
+-- have these last answers if the segment ends here (`Completed`), or one did, and the segment has
+-- ended (`Ended`); or the run has ended at the last tick (`Stopped`)
+pub data Phase : Type 0 where
+  Ready : Phase
+  Ticked : Phase
+  Completed : LastAnswers → Phase
+  Ended : Phase
+  Stopped : Phase
+
+-- whether the last tick is not passed: its decision is owed, or the run has ended at it
+abbrev pub is_owed : Phase → Bool
+is_owed Ready = false
+is_owed Ticked = true
+is_owed (Completed banks) = true
+is_owed Ended = true
+is_owed Stopped = true
+
+-- whether the segment has ended at the last tick
+abbrev pub has_ended : Phase → Bool
+has_ended Ready = false
+has_ended Ticked = false
+has_ended (Completed banks) = false
+has_ended Ended = true
+has_ended Stopped = true
+
+-- the last answers of the banks if the segment ends at the last tick, which completed an entry
+abbrev pub closing : Phase → Option LastAnswers
+closing Ready = None
+closing Ticked = None
+closing (Completed banks) = Some banks
+closing Ended = None
+closing Stopped = None
+
+-- ---- the machine
+
 -- the delays of reads and the number of levels; the committed state; the indicator of an interrupt
 -- that was taken, until its table instruction completes; the predicted counter, if a branch was
--- mispredicted at this tick; the issue state of the oldest uncompleted entry; the next tick, or the
--- last one if its decision is owed; whether a decision is owed; whether the segment has ended at
--- this tick; whether the run has ended; and, if an entry completed at this tick, the last answers
--- of the banks if the segment ends here
+-- mispredicted at this tick; the issue state of the oldest uncompleted entry; the next tick if the
+-- machine is ready for it, or else the last one; and the phase
 pub record Overlap : Type 0 where
   pub delays : List ℕ
   pub levels : ℕ
@@ -36,10 +73,7 @@ pub record Overlap : Type 0 where
   pub mispredicted : Option ℕ
   pub issue : IssueState
   pub now : ℕ
-  pub owed : Bool
-  pub ended : Bool
-  pub stopped : Bool
-  pub closing : Option LastAnswers
+  pub phase : Phase
 
 -- a machine between two ticks
 abbrev pub machine_between_ticks : List ℕ → ℕ → Machine → Option ℕ → IssueState → ℕ → Overlap
@@ -51,10 +85,7 @@ machine_between_ticks ds n s t f now = record {
   mispredicted = None;
   issue = f;
   now = now;
-  owed = false;
-  ended = false;
-  stopped = false;
-  closing = None;
+  phase = Ready;
 }
 
 -- a machine before its first tick
@@ -69,7 +100,7 @@ with_counter (Some h) s = record s { ic = h }
 -- the state that the entries in flight follow: after a mispredicted branch, with the predicted
 -- counter
 unfoldable pub state_ahead : Overlap → Machine
-state_ahead m = if m.ended then m.state else with_counter m.mispredicted m.state
+state_ahead m = if has_ended m.phase then m.state else with_counter m.mispredicted m.state
 
 -- the oldest uncompleted entry
 abbrev pub oldest_entry : Overlap → Entry
@@ -100,4 +131,4 @@ interrupt_due m = if is_none m.taken then interrupt m.state else None
 
 -- the last tick made, 0 before the first one
 abbrev pub last_tick_made : Overlap → ℕ
-last_tick_made m = if m.owed then m.now else m.now - 1
+last_tick_made m = if is_owed m.phase then m.now else m.now - 1

@@ -19,6 +19,7 @@ mod lookahead_shown;
 mod lookahead_steps;
 mod lookahead_tick;
 mod machine;
+mod phase;
 mod row_queue;
 
 pub use events::{Event, LevelView, Row, Settled, View};

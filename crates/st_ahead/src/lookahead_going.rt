@@ -19,7 +19,7 @@ use crate::lookahead::Lookahead;
 use st_banks::Delays;
 use st_next::PlanContext;
 use st_prep::{Place, Prepared};
-use st_rows::{FormedEntry, Nobody, Timing};
+use st_rows::{FormedEntry, Nobody, Timing, WordRuns};
 use st_state::State;
 
 impl<const N: usize> Lookahead<N> {
@@ -137,6 +137,7 @@ impl<const N: usize> Lookahead<N> {
             entry: &self.next.entry,
             timing: &timing,
             formed: self.next.formed,
+            registers: WordRuns::default(),
         };
         let filled = self
             .issue

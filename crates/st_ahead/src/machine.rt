@@ -19,6 +19,7 @@ use crate::committed::CommittedState;
 use crate::events::{Event, LevelView, Row, Settled, View};
 use crate::lookahead::Lookahead;
 use crate::lookahead_run::Limits;
+use crate::phase::{Decision, Phase};
 use crate::row_queue::RowQueue;
 use st_banks::{Delays, LastAnswers};
 use st_exec::is_at_rest;
@@ -36,16 +37,9 @@ pub struct Machine<const N: usize> {
     committed: CommittedState,
     // The predicted counter, if a branch was mispredicted at this tick.
     mispredicted: Option<u32>,
-    // The next tick, or the last one if its decision is owed.
+    // The next tick if the machine is ready for it, or else the last one.
     now: u64,
-    // Whether a decision is owed.
-    owed: bool,
-    // Whether the segment has ended at this tick.
-    ended: bool,
-    // Whether the run has ended at this tick.
-    stopped: bool,
-    // Whether an entry completed at this tick.
-    fresh: bool,
+    phase: Phase,
     lookahead: Lookahead<N>,
 }
 
@@ -57,17 +51,18 @@ impl<const N: usize> Model for Machine<N> {
     ghost Value = { Overlap };
 
     ghost view = { λ a. overlap_of N a.delays.list a.committed.state a.committed.taken a.mispredicted a.now
-        a.owed a.ended a.stopped a.fresh a.lookahead };
+        a.phase a.lookahead };
 
     ghost invariant = { λ a. IsInside (overlap_of N a.delays.list a.committed.state a.committed.taken
-        a.mispredicted a.now a.owed a.ended a.stopped a.fresh a.lookahead) a.fresh a.lookahead };
+        a.mispredicted a.now a.phase a.lookahead) a.lookahead };
 }
 
 impl<const N: usize> Machine<N> {
     ghost use Rattle.st_state.specs.Machine.{IsMachine};
     ghost use Rattle.st_exec.specs.Step.{rests};
-    ghost use Rattle.st_ahead.specs.Overlap.{machine_at_start, interrupt_due as interrupt_due_of};
-    ghost use Rattle.st_ahead.specs.Calls.{IsEvent, machine_after_tick, drop_count, machine_after_segment, run_ended, answer, machine_after_settling, machine_after_pass, signalled_by, MaySignal, MayServe, read_in_by, dropped_by, printed_by};
+    ghost use Rattle.st_ahead.specs.Overlap.{Ready, Ticked, Ended, has_ended as has_ended_at, machine_at_start, interrupt_due as interrupt_due_of};
+    ghost use Rattle.st_ahead.specs.Decided.{IsDecision};
+    ghost use Rattle.st_ahead.specs.Calls.{IsEvent, machine_after_tick, drop_count, machine_after_segment, run_ended, answer, machine_after_settling, machine_after_pass, signalled_by, MaySettle, MaySignal, MayServe, read_in_by, dropped_by, printed_by};
     ghost use Rattle.st_exec.specs.Transfer.{read_in as read_in_of, words_from};
     ghost use Rattle.st_ahead.specs.Overlap.{last_tick_made as last_tick_of};
     ghost use Rattle.st_ahead.specs.Shown.{AreLevelsOf, lent_index_words, view_at_tick};
@@ -91,10 +86,7 @@ impl<const N: usize> Machine<N> {
             committed: CommittedState { state, taken: None },
             mispredicted: None,
             now: 0,
-            owed: false,
-            ended: false,
-            stopped: false,
-            fresh: false,
+            phase: Phase::Ready,
             lookahead,
         }
     }
@@ -103,7 +95,7 @@ impl<const N: usize> Machine<N> {
     /// tick, and operands arrive. Before the call no decision is owed, and the number of the tick
     /// and that of the completed instructions are below 2^63.
     pub fn tick(&mut self) -> Event
-        requires settled { self.old.owed ≡ false }
+        requires settled { self.old.phase ≡ Ready }
         requires tick { self.old.now < 2 ^ 63 }
         requires done { self.old.state.done < 2 ^ 63 }
         ensures event { IsEvent self.old result }
@@ -112,13 +104,13 @@ impl<const N: usize> Machine<N> {
         let now = self.now;
         let done = self.lookahead.tick(&mut self.committed.state, now);
         let number = done_in(&self.committed.state);
-        self.owed = true;
         let Some(done) = done else {
+            self.phase = Phase::Ticked;
             return Event::Passed;
         };
         self.committed.taken = None;
         self.mispredicted = done.mispredicted;
-        self.fresh = true;
+        self.phase = Phase::Completed;
         Event::Done(Row {
             number,
             address: done.address,
@@ -136,7 +128,7 @@ impl<const N: usize> Machine<N> {
     /// call no decision is owed; `last` and the number of completed instructions are below 2^63,
     /// and `count` is at most 2^63.
     pub fn run_to(&mut self, count: u64, last: u64, rows: &mut RowQueue) -> Option<Row>
-        requires settled { self.old.owed ≡ false }
+        requires settled { self.old.phase ≡ Ready }
         requires count { count ≤ 2 ^ 63 }
         requires last { last < 2 ^ 63 }
         requires done { self.old.state.done < 2 ^ 63 }
@@ -160,8 +152,7 @@ impl<const N: usize> Machine<N> {
             return None;
         };
         self.mispredicted = stop.done.mispredicted;
-        self.fresh = true;
-        self.owed = true;
+        self.phase = Phase::Completed;
         self.now = stop.tick;
         Some(Row {
             number,
@@ -176,77 +167,75 @@ impl<const N: usize> Machine<N> {
     /// is still owed; or a mispredicted branch ends the segment; or the machine continues. A
     /// decision is owed, and the run has not ended.
     pub fn settle(&mut self) -> Settled
-        requires owed { self.old.owed ≡ true }
-        requires stands { self.old.stopped ≡ false }
+        requires turn { MaySettle self.old }
         ensures answer { result ≡ answer self.old }
         ensures after { self.new ≡ machine_after_settling self.old }
     {
-        if self.goes_on() {
-            self.go_on();
-            return Settled::Goes;
+        match self.decision() {
+            Decision::Interrupt(indicator) => self.interrupt(indicator),
+            Decision::Waits => {
+                self.end();
+                Settled::Waits
+            }
+            Decision::Mispredicted => {
+                let dropped = self.end();
+                self.pass();
+                Settled::Mispredicted { dropped }
+            }
+            Decision::Goes => {
+                self.go_on();
+                Settled::Goes
+            }
         }
-        if let Some(indicator) = self.interrupt_due() {
-            return self.interrupt(indicator);
-        }
-        if self.is_resting() {
-            self.end();
-            return Settled::Waits;
-        }
-        let dropped = self.end();
-        self.pass();
-        Settled::Mispredicted { dropped }
     }
 
     /// Continues after the last tick, as `settle` does if it answers `Goes`: no interrupt is due,
     /// the machine is not at rest, and no branch was mispredicted. A decision is owed, and the run
     /// has not ended.
     pub fn go_on(&mut self)
-        requires owed { self.old.owed ≡ true }
-        requires stands { self.old.stopped ≡ false }
+        requires turn { MaySettle self.old }
         requires due { interrupt_due_of self.old ≡ None }
         requires goes { rests self.old.state ≡ false }
         requires right { self.old.mispredicted ≡ None }
 
         ensures { self.new ≡ machine_after_pass self.old }
     {
-        if self.ended {
+        if self.has_ended() {
             self.pass();
             return;
         }
         let now = self.now;
         self.lookahead
             .go_on(now, &self.committed.state, &self.delays);
-        self.owed = false;
-        self.fresh = false;
+        self.phase = Phase::Ready;
         self.now += 1;
     }
 
-    // Whether the decision after the last tick is to continue.
-    fn goes_on(&self) -> bool
-        ensures yes { result ≡ true → (interrupt_due_of self.entry.now ≡ None)
-            × (rests self.entry.now.state ≡ false) × (self.entry.now.mispredicted ≡ None) }
-        ensures no { result ≡ false → (is_some self.entry.now.mispredicted
-            || is_some (interrupt_due_of self.entry.now)
-            || rests self.entry.now.state) ≡ true }
-        ensures done { result ≡ false → IsSome self.entry.now.closing }
+    // The decision after the last tick. If no entry completed at it, the machine continues.
+    fn decision(&self) -> Decision
+        requires turn { MaySettle self.now }
+        ensures { IsDecision self.entry.now result }
     {
-        if !self.is_fresh() {
-            return true;
+        if self.phase == Phase::Ticked {
+            return Decision::Goes;
         }
-        if self.ends() {
-            return false;
+        if let Some(indicator) = self.interrupt_due() {
+            return Decision::Interrupt(indicator);
         }
-        !self.is_resting()
+        if is_at_rest(&self.committed.state) {
+            return Decision::Waits;
+        }
+        if self.is_mispredicted() {
+            return Decision::Mispredicted;
+        }
+        Decision::Goes
     }
 
-    // Whether an entry completed at this tick. If none did, no interrupt is due, the machine is not
-    // at rest, and no branch was mispredicted.
-    fn is_fresh(&self) -> bool
-        ensures yes { result ≡ true → IsSome self.entry.now.closing }
-        ensures no { result ≡ false → (interrupt_due_of self.entry.now ≡ None)
-            × (rests self.entry.now.state ≡ false) × (self.entry.now.mispredicted ≡ None) }
+    // Whether the segment has ended at the last tick.
+    fn has_ended(&self) -> bool
+        ensures { result ≡ has_ended_at self.entry.now.phase }
     {
-        self.fresh
+        matches!(self.phase, Phase::Ended | Phase::Stopped)
     }
 
     // The indicator whose interrupt is taken before the next entry, if there is one.
@@ -258,13 +247,6 @@ impl<const N: usize> Machine<N> {
             return None;
         }
         st_exec::interrupt(&self.committed.state)
-    }
-
-    // Whether the machine waits, and no indicator is pending.
-    fn is_resting(&self) -> bool
-        ensures { result ≡ rests self.entry.now.state }
-    {
-        is_at_rest(&self.committed.state)
     }
 
     // Whether a branch was mispredicted at this tick.
@@ -286,27 +268,24 @@ impl<const N: usize> Machine<N> {
     // Ends the segment at this tick, which completed an entry, unless it has already ended. Returns
     // the number of flushed levels.
     fn end(&mut self) -> u8
-        requires owed { self.old.owed ≡ true }
-        requires done { IsSome self.old.closing }
+        requires turn { MayServe self.old }
         ensures dropped { result ≡ drop_count self.old }
         ensures after { self.new ≡ machine_after_segment self.old }
     {
-        if self.ended {
+        if self.has_ended() {
             return 0;
         }
         let now = self.now;
         let dropped = self.lookahead.end(&self.committed.state, None, now);
-        self.ended = true;
+        self.phase = Phase::Ended;
         dropped
     }
 
     // Takes the interrupt of this indicator, which is due.
     fn interrupt(&mut self, indicator: u8) -> Settled
-        requires owed { self.old.owed ≡ true }
-        requires stands { self.old.stopped ≡ false }
+        requires turn { MayServe self.old }
         requires due { interrupt_due_of self.old ≡ Some indicator }
         requires known { indicator < 64 }
-        requires done { IsSome self.old.closing }
 
         ensures answer { result ≡ answer self.old }
         ensures after { self.new ≡ machine_after_settling self.old }
@@ -318,9 +297,7 @@ impl<const N: usize> Machine<N> {
         self.lookahead.stand(place);
         self.committed.taken = Some(indicator);
         self.mispredicted = None;
-        self.owed = false;
-        self.ended = false;
-        self.fresh = false;
+        self.phase = Phase::Ready;
         self.now += 1;
         Settled::Interrupt {
             indicator,
@@ -333,18 +310,14 @@ impl<const N: usize> Machine<N> {
     // Settles a tick at which the segment has ended, no interrupt is due, and the machine is not at
     // rest.
     fn pass(&mut self)
-        requires owed { self.old.owed ≡ true }
-        requires stands { self.old.stopped ≡ false }
-        requires ended { self.old.ended ≡ true }
+        requires ended { self.old.phase ≡ Ended }
         requires due { interrupt_due_of self.old ≡ None }
         requires goes { rests self.old.state ≡ false }
 
         ensures { self.new ≡ machine_after_pass self.old }
     {
         self.mispredicted = None;
-        self.owed = false;
-        self.ended = false;
-        self.fresh = false;
+        self.phase = Phase::Ready;
         self.now += 1;
     }
 
@@ -361,53 +334,31 @@ impl<const N: usize> Machine<N> {
     /// Ends the run, and with it the segment, at a tick whose decision is owed. Returns the number
     /// of flushed levels. After `stop` no call that changes the machine is allowed.
     pub fn stop(&mut self) -> u8
-        requires owed { self.old.owed ≡ true }
-        requires stands { self.old.stopped ≡ false }
+        requires turn { MaySettle self.old }
         ensures dropped { result ≡ drop_count self.old }
         ensures after { self.new ≡ run_ended self.old }
     {
-        let dropped = self.end_or_give_up();
-        self.halt();
-        dropped
-    }
-
-    // Ends the segment at this tick, unless it has ended. Returns the number of flushed levels.
-    fn end_or_give_up(&mut self) -> u8
-        requires { self.old.owed ≡ true }
-        ensures dropped { result ≡ drop_count self.old }
-        ensures after { self.new ≡ machine_after_segment self.old }
-    {
-        if self.fresh {
-            self.end()
-        } else {
+        if self.phase == Phase::Ticked {
             self.give_up()
+        } else {
+            let dropped = self.end();
+            self.phase = Phase::Stopped;
+            dropped
         }
     }
 
-    // Ends the run.
-    fn halt(&mut self)
-        requires { self.old.owed ≡ true }
-        ensures { self.new ≡ record self.old { stopped = true } }
-    {
-        self.stopped = true;
-    }
-
-    // Ends the segment at this tick, which completed no entry, unless it has already ended. Returns
-    // the number of flushed levels.
+    // Ends the run, and with it the segment, at a tick that completed no entry. Returns the number
+    // of flushed levels.
     fn give_up(&mut self) -> u8
-        requires owed { self.old.owed ≡ true }
-        requires none { self.old.closing ≡ None }
+        requires none { self.old.phase ≡ Ticked }
         ensures dropped { result ≡ drop_count self.old }
-        ensures after { self.new ≡ machine_after_segment self.old }
+        ensures after { self.new ≡ run_ended self.old }
     {
-        if self.ended {
-            return 0;
-        }
         let now = self.now;
         let dropped = self
             .lookahead
             .give_up(&self.committed.state, self.committed.taken, now);
-        self.ended = true;
+        self.phase = Phase::Stopped;
         dropped
     }
 
@@ -444,7 +395,7 @@ impl<const N: usize> Machine<N> {
     fn store_card(&mut self, card: [u64; 8])
         requires order { IsSome self.old.state.reader }
         requires turn { MayServe self.old }
-        requires ended { self.old.ended ≡ true }
+        requires ended { self.old.phase ≡ Ended }
         ensures { IfSome self.old.state.reader (λ order.
             self.new ≡ record self.old {
               state = read_in_of self.old.state order.word
@@ -506,7 +457,7 @@ impl<const N: usize> Machine<N> {
     fn last_tick(&self) -> u64
         ensures { result ≡ last_tick_of self.entry.now }
     {
-        if self.owed {
+        if self.phase != Phase::Ready {
             return self.now;
         }
         if self.now == 0 { 0 } else { self.now - 1 }

@@ -6,7 +6,9 @@
 //! Proved: nothing of the numbers; the small contracts only carry the protocol of the calls from
 //! one helper to the next (docs/inside.md has that protocol). Pinned: the expected numbers, which
 //! model/overlap.py gives. Free: the helpers; other programs may be tested in this way.
-ghost use Rattle.std.specs.Prelude.{◌≡◌, ◌+◌, ◌<◌, ◌≤◌, true, false, IfOk};
+ghost use Rattle.std.specs.Prelude.{◌≡◌, ◌+◌, ◌<◌, ◌≤◌, IfOk};
+ghost use Rattle.st_ahead.specs.Overlap.{Ready};
+ghost use Rattle.st_ahead.specs.Calls.{MaySettle};
 
 use crate::blank;
 use st_ahead::{Event, Machine, Settled};
@@ -28,10 +30,9 @@ fn opened(alloc: Global) -> Result<State, Fail> {
 
 // A machine of four levels before its first tick, whose reads take one tick each.
 fn machine_at_start(rt: &impl Abort, alloc: Global, state: State) -> Result<Machine<4>, Fail>
-    ensures settled { IfOk result (λ m. m.owed ≡ false) }
+    ensures ready { IfOk result (λ m. m.phase ≡ Ready) }
     ensures first { IfOk result (λ m. m.now ≡ 0) }
     ensures done { IfOk result (λ m. m.state.done ≡ 0) }
-    ensures stands { IfOk result (λ m. m.stopped ≡ false) }
 {
     assert!(rt; state.done == 0 && !state.enabled && !state.waiting);
     match Delays::new(alloc, &[1]) {
@@ -42,15 +43,13 @@ fn machine_at_start(rt: &impl Abort, alloc: Global, state: State) -> Result<Mach
 
 // Makes a tick at which no entry completes.
 fn make_tick(rt: &impl Abort, machine: &mut Machine<4>)
-    requires settled { machine.old.owed ≡ false }
+    requires ready { machine.old.phase ≡ Ready }
     requires early { machine.old.now < 1000 }
     requires done { machine.old.state.done ≡ 0 }
-    requires stands { machine.old.stopped ≡ false }
 
-    ensures owed { machine.new.owed ≡ true }
+    ensures turn { MaySettle machine.new }
     ensures now { machine.new.now ≡ machine.old.now }
     ensures done { machine.new.state.done ≡ 0 }
-    ensures stands { machine.new.stopped ≡ false }
 {
     let Event::Passed = machine.tick() else {
         panic!(rt; "an entry is done");
@@ -59,14 +58,12 @@ fn make_tick(rt: &impl Abort, machine: &mut Machine<4>)
 
 // Settles the machine, which continues.
 fn settle(rt: &impl Abort, machine: &mut Machine<4>)
-    requires owed { machine.old.owed ≡ true }
+    requires turn { MaySettle machine.old }
     requires done { machine.old.state.done ≡ 0 }
-    requires stands { machine.old.stopped ≡ false }
 
-    ensures settled { machine.new.owed ≡ false }
+    ensures ready { machine.new.phase ≡ Ready }
     ensures now { machine.new.now ≡ machine.old.now + 1 }
     ensures done { machine.new.state.done ≡ 0 }
-    ensures stands { machine.new.stopped ≡ false }
 {
     let Settled::Goes = machine.settle() else {
         panic!(rt; "something else comes");
@@ -75,15 +72,13 @@ fn settle(rt: &impl Abort, machine: &mut Machine<4>)
 
 // Makes `count` ticks at which no entry completes, and settles the machine.
 fn make_ticks(rt: &impl Abort, machine: &mut Machine<4>, count: u64)
-    requires settled { machine.old.owed ≡ false }
+    requires ready { machine.old.phase ≡ Ready }
     requires early { machine.old.now + count ≤ 1000 }
     requires done { machine.old.state.done ≡ 0 }
-    requires stands { machine.old.stopped ≡ false }
 
-    ensures settled { machine.new.owed ≡ false }
+    ensures ready { machine.new.phase ≡ Ready }
     ensures now { machine.new.now ≡ machine.old.now + count }
     ensures done { machine.new.state.done ≡ 0 }
-    ensures stands { machine.new.stopped ≡ false }
 {
     'ticks: for _k in 0..count {
         make_tick(rt, machine);

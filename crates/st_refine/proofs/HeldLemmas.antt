@@ -1,10 +1,7 @@
 -- The held words after reads.
-use Rattle.std.proofs.Common.{◌≡◌, ℕ, zero, suc, ◌≤◌, Bool, true, false, if◌then◌else◌, List, [], ◌∷◌, ◌++◌, length, take, refl, sym, ◌∙◌, ap, arith, append_assoc}
+use Rattle.st_refine.proofs.Common.{◌≡◌, ℕ, zero, suc, ◌≤◌, Bool, true, false, List, [], ◌∷◌, ◌++◌, length, take, refl, sym, ◌∙◌, ap, arith, append_assoc, AskedWord, bus_after_reads, bus_after_read, answer_at, Read, after_one, Bus}
+use Rattle.std.proofs.Common.{if◌then◌else◌}
 use Rattle.std.proofs.lemmas.Grind.{common_steps}
-use Rattle.st_fetch.specs.declared.fetched.AskedWord.{AskedWord}
-use Rattle.st_rows.specs.Asked.{bus_after_reads}
-use Rattle.st_rows.specs.BusTimes.{bus_after_read, answer_at, Read, after_one}
-use Rattle.st_rows.specs.declared.bus.Bus.{Bus}
 use Rattle.st_refine.specs.HeldReads.{held_by, held_of_reads}
 
 -- the first n items of a list that is followed by the first m of another

@@ -1,38 +1,12 @@
 -- The bound of the ticks between completions.
-use Rattle.std.specs.Prelude.{All, IfSome, IsSome, if◌then◌else◌}
+use Rattle.st_refine.proofs.Common.{All, IfSome, IsSome, if◌then◌else◌, ◌≡◌, ℕ, ◌+◌, ◌*◌, ◌≤◌, Bool, true, false, List, [], ◌∷◌, length, inl, inr, Option, None, Some, refl, sym, subst, ◌∙◌, ap, arith, cases_Bool, eqb-true, cond_both, All-replicate, All-weaker, AskedWord, Machine, state_with_store, state_with_signal, plan, state_after_execution, rests, all_stored, read_in, printed_out, LastAnswers, AreDelaysUpTo, IsEntryInTime, IsTight, IsNear, row_of_entry, opening_issue, address_tick, preparation_tick, tick_a, tick_p, tick_c, made_before, Read, Bus, Entry, Past, IssueState, ready-after, made-bounds, entry, entry-ranges, Ready, Ticked, Ended, Stopped, is_owed, has_ended, closing, Overlap, state_ahead, oldest_entry, oldest_row, levels_of, banks_at_its_end, interrupt_due, is_done, machine_after_completion, machine_after_tick, banks_left, machine_after_segment, run_ended, machine_after_pass, machine_after_settling, settled_by, read_in_by, IsReached, Starts, Ticks, Settles, Signals, Reads, Prints, Stops}
 use Rattle.std.proofs.Math.Nat.{mul-add}
-use Rattle.std.proofs.Common.{◌≡◌, ℕ, ◌+◌, ◌*◌, ◌≤◌, Bool, true, false, List, [], ◌∷◌, length, inl, inr, Option, None, Some, refl, sym, subst, ◌∙◌, ap, arith}
-use Rattle.std.proofs.lemmas.Bool.{eqb-true, cond_both}
-use Rattle.std.proofs.lemmas.List.Elements.{All-replicate, All-weaker}
-use Rattle.st_fetch.specs.declared.fetched.AskedWord.{AskedWord}
-use Rattle.st_state.specs.Machine.{Machine, state_with_store}
-use Rattle.st_state.specs.Interrupts.{state_with_signal}
-use Rattle.st_prep.specs.Plan.{plan}
 use Rattle.st_exec.proofs.Unchanged.{completed-done}
-use Rattle.st_exec.specs.Completion.{state_after_execution}
-use Rattle.st_exec.specs.Step.{rests}
-use Rattle.st_exec.specs.Transfer.{all_stored, read_in, printed_out}
-use Rattle.st_banks.specs.declared.answers.LastAnswers.{LastAnswers}
 use Rattle.st_banks.specs.declared.answers.TheConstants.{BANKS}
-use Rattle.st_rows.specs.Ranges.{AreDelaysUpTo, IsEntryInTime, IsTight, IsNear}
-use Rattle.st_rows.specs.Rows.{row_of_entry, opening_issue, address_tick, preparation_tick, tick_a, tick_p, tick_c}
-use Rattle.st_rows.specs.Asked.{made_before}
-use Rattle.st_rows.specs.BusTimes.{Read}
-use Rattle.st_rows.specs.declared.bus.Bus.{Bus}
-use Rattle.st_rows.specs.declared.entry.Entry.{Entry}
-use Rattle.st_rows.specs.declared.past.Past.{Past}
-use Rattle.st_rows.specs.declared.issue.IssueState.{IssueState}
-use Rattle.st_rows.proofs.Awaited.{ready-after}
-use Rattle.st_rows.proofs.Served.{made-bounds}
 use Rattle.st_rows.proofs.Stages.{c-within}
 use Rattle.st_rows.proofs.Tight.{tight-after}
-use Rattle.st_segment.specs.Entries.{entry}
-use Rattle.st_segment.proofs.EntryRanges.{entry-ranges}
-use Rattle.st_ahead.specs.Overlap.{Overlap, state_ahead, oldest_entry, oldest_row, levels_of, banks_at_its_end, interrupt_due}
-use Rattle.st_ahead.specs.Calls.{is_done, machine_after_completion, machine_after_tick, banks_left, machine_after_segment, run_ended, machine_after_pass, machine_after_settling, settled_by, read_in_by}
-use Rattle.st_refine.specs.Reached.{IsReached, Starts, Ticks, Settles, Signals, Reads, Prints, Stops}
 use Rattle.st_refine.proofs.LevelLists.{few-before}
-use Rattle.st_refine.proofs.Kept.{ticks_made, IsIdle, IsPhase, IsKept, idle-of, fresh-of, kept, seen-idle, after-oldest, made-settled, made-owed, ended-rest, settled-idle_is, closing-cases}
+use Rattle.st_refine.proofs.Kept.{ticks_made, IsIdle, IsKept, idle-none, idle-of, fresh-of, has_completed, served, settling, closing-some, kept, seen-idle, after-oldest, made-settled, made-owed, ended-rest, settled-idle_is}
 
 -- ---- issue states
 
@@ -69,10 +43,10 @@ made-soon most ds t reads b are near free =
 
 pub record IsWithin (most : ℕ) (m : Overlap) (made since : ℕ) : Type 0 where
   pub tight : IsTight most m.issue
-  pub banks : IfSome m.closing (λ b. All (λ t. t ≤ m.now + most) b.ticks)
+  pub banks : IfSome (closing m.phase) (λ b. All (λ t. t ≤ m.now + most) b.ticks)
   pub ticks : made ≡ ticks_made m
   pub near : m.issue.c + since ≤ made + 8
-  pub fresh : IsSome m.closing → since ≡ 0
+  pub fresh : has_completed m.phase ≡ true → since ≡ 0
 
 pub levels-few : (m : Overlap) → length (levels_of m) ≤ m.levels
 unfolding levels_of
@@ -84,34 +58,34 @@ left-soon most m None some soon = absurd (cc some)
 left-soon most m (Some banks) some soon = soon
 
 opened : Overlap → Overlap
-opened m = record m { issue = opening_issue (banks_left m.closing) (m.now + 1 + length (levels_of m)); ended = true }
+opened m = record m { issue = opening_issue (banks_left (closing m.phase)) (m.now + 1 + length (levels_of m)); phase = Ended }
 
 -- ---- each call
 
-within-ended : (most made since : ℕ) (m : Overlap) → IsKept m → IsSome m.closing → IsWithin most m made since → IsWithin most (machine_after_segment m) made since
+within-ended : (most made since : ℕ) (m : Overlap) → IsKept m → has_completed m.phase ≡ true → IsWithin most m made since → IsWithin most (machine_after_segment m) made since
 unfolding machine_after_segment
 within-ended most made since m is some w =
     let fresh = fresh-of m is some in
     let start = m.now + 1 + length (levels_of m) in
     let none : since ≡ 0 = w.fresh some in
-    let owed : ticks_made m ≡ m.now + 1 = made-owed m.owed m.now fresh.owed in
-    cond_both m.ended m _ (λ (x : Overlap). IsWithin most x made since)
+    let owed : ticks_made m ≡ m.now + 1 = made-owed m.phase m.now fresh.owed in
+    cond_both (has_ended m.phase) m _ (λ (x : Overlap). IsWithin most x made since)
     (λ over. w)
     (λ going. record {
       tight =
-          opening-tight most start (banks_left m.closing)
-          (All-weaker (λ t. t ≤ m.now + most) (λ t. t ≤ start + most) (λ t low. omega arith) (banks_left m.closing).ticks
-          (left-soon most m m.closing some w.banks));
-      banks = w.banks;
-      ticks = w.ticks;
+          opening-tight most start (banks_left (closing m.phase))
+          (All-weaker (λ t. t ≤ m.now + most) (λ t. t ≤ start + most) (λ t low. omega arith) (banks_left (closing m.phase)).ticks
+          (left-soon most m (closing m.phase) (closing-some m.phase some going) w.banks));
+      banks = tt;
+      ticks = w.ticks ∙ owed;
       near = omega (arith, none, w.ticks, owed, levels-few m, is.few);
-      fresh = w.fresh;
+      fresh = λ again. none;
     })
 
-within-passed : (most made since : ℕ) (m : Overlap) → m.owed ≡ true → IsWithin most m made since → IsWithin most (machine_after_pass m) made since
+within-passed : (most made since : ℕ) (m : Overlap) → is_owed m.phase ≡ true → IsWithin most m made since → IsWithin most (machine_after_pass m) made since
 within-passed most made since m owed w =
-    let fresh : IsSome (machine_after_pass m).closing → since ≡ 0 = λ some. absurd (cc some) in
-    assumption (w.ticks ∙ made-owed m.owed m.now owed)
+    let fresh : has_completed (machine_after_pass m).phase ≡ true → since ≡ 0 = λ some. absurd (cc some) in
+    assumption (w.ticks ∙ made-owed m.phase m.now owed)
 
 within-table : (most made since : ℕ) (m : Overlap) (t : Option ℕ) → IsWithin most m made since → IsWithin most (record m { taken = t }) made since
 within-table most made since m t w = record { tight = w.tight; banks = w.banks; ticks = w.ticks; near = w.near; fresh = w.fresh }
@@ -119,42 +93,42 @@ within-table most made since m t w = record { tight = w.tight; banks = w.banks; 
 within-state : (most made since : ℕ) (m : Overlap) (s : Machine) → IsWithin most m made since → IsWithin most (record m { state = s }) made since
 within-state most made since m s w = record { tight = w.tight; banks = w.banks; ticks = w.ticks; near = w.near; fresh = w.fresh }
 
-within-stopped : (most made since : ℕ) (m : Overlap) → IsWithin most m made since → IsWithin most (record m { stopped = true }) made since
-within-stopped most made since m w = record { tight = w.tight; banks = w.banks; ticks = w.ticks; near = w.near; fresh = w.fresh }
+within-stopped : (most made since : ℕ) (m : Overlap) → is_owed m.phase ≡ true → has_completed m.phase ≡ true → IsWithin most m made since
+    → IsWithin most (record m { phase = Stopped }) made since
+within-stopped most made since m owed some w =
+    record { tight = w.tight; banks = tt; ticks = w.ticks ∙ made-owed m.phase m.now owed; near = w.near; fresh = λ again. w.fresh some }
 
-within-settled_fresh : (due behind : Option ℕ) (resting : Bool) (most made since : ℕ) (m : Overlap) → IsKept m → IsSome m.closing
+within-settled_fresh : (due behind : Option ℕ) (resting : Bool) (most made since : ℕ) (m : Overlap) → IsKept m → has_completed m.phase ≡ true
     → IsWithin most m made since → IsWithin most (settled_by due resting behind m) made since
 within-settled_fresh (Some i) behind resting most made since m is some w =
-    let fresh = fresh-of m is some in
-    within-passed most made since (record (machine_after_segment m) { taken = Some i }) ((ended-rest m).owed ∙ fresh.owed)
+    within-passed most made since (record (machine_after_segment m) { taken = Some i }) (ended-rest m).owed
     (within-table most made since (machine_after_segment m) (Some i) (within-ended most made since m is some w))
 within-settled_fresh None behind true most made since m is some w = within-ended most made since m is some w
 within-settled_fresh None (Some h) false most made since m is some w =
-    within-passed most made since (machine_after_segment m) ((ended-rest m).owed ∙ (fresh-of m is some).owed) (within-ended most made since m is some w)
+    within-passed most made since (machine_after_segment m) (ended-rest m).owed (within-ended most made since m is some w)
 within-settled_fresh None None false most made since m is some w = within-passed most made since m (fresh-of m is some).owed w
 
-within-settled : (most made since : ℕ) (m : Overlap) → IsKept m → m.owed ≡ true → IsWithin most m made since → IsWithin most (machine_after_settling m) made since
+within-settled : (most made since : ℕ) (m : Overlap) → IsKept m → is_owed m.phase ≡ true → IsWithin most m made since → IsWithin most (machine_after_settling m) made since
 unfolding machine_after_settling
-within-settled most made since m is owed w = elim (closing-cases m.closing) [
-  | inl none ↦ let idle : IsIdle m = subst (λ c. IsPhase c m) none is.phase in
+within-settled most made since m is owed w = elim (cases_Bool (has_completed m.phase)) [
+  | inr none ↦ let idle : IsIdle m = idle-none m is none in
       subst (λ (x : Overlap). IsWithin most x made since) (sym (settled-idle_is m idle)) (within-passed most made since m owed w)
-  | inr some ↦ within-settled_fresh (interrupt_due m) m.mispredicted (rests m.state) most made since m is some w
+  | inl some ↦ within-settled_fresh (interrupt_due m) m.mispredicted (rests m.state) most made since m is some w
 ]
 
-within-ticked : (most made since : ℕ) (m : Overlap) → AreDelaysUpTo most m.delays → IsKept m → m.owed ≡ false → IsWithin most m made since
+within-ticked : (most made since : ℕ) (m : Overlap) → AreDelaysUpTo most m.delays → IsKept m → m.phase ≡ Ready → IsWithin most m made since
     → IsWithin most (machine_after_tick m) (made + 1) (if is_done m then 0 else since + 1)
 unfolding machine_after_tick machine_after_completion banks_at_its_end oldest_row
 within-ticked most made since m are is over w =
-    let both = idle-of m is over in
-    let idle : IsIdle m = both.1 in
+    let idle : IsIdle m = idle-of m is over in
     let same = seen-idle m idle.going idle.right in
     let e = oldest_entry m in
     let fits : IsEntryInTime e = subst (λ s. IsEntryInTime (entry m.taken s)) (sym same) (entry-ranges m.taken m.state is.machine is.indicator) in
-    let now : made ≡ m.now = w.ticks ∙ made-settled m.owed m.now over in
+    let now : made ≡ m.now = w.ticks ∙ made-settled m.phase m.now over in
     by-done (is_done m) fits now refl
   where
     by-done : (b : Bool) → IsEntryInTime (oldest_entry m) → made ≡ m.now → is_done m ≡ b
-        → IsWithin most (if b then machine_after_completion m else record m { owed = true; closing = None }) (made + 1) (if b then 0 else since + 1)
+        → IsWithin most (if b then machine_after_completion m else record m { phase = Ticked }) (made + 1) (if b then 0 else since + 1)
     by-done true fits now done =
         let e = oldest_entry m in
         let due : (row_of_entry m.delays m.levels m.issue e).c ≡ m.now = eqb-true (row_of_entry m.delays m.levels m.issue e).c m.now done in
@@ -179,7 +153,7 @@ within-ticked most made since m are is over w =
 pub ticked-delays : (m : Overlap) → (machine_after_tick m).delays ≡ m.delays
 unfolding machine_after_tick machine_after_completion
 ticked-delays m =
-    cond_both (is_done m) (machine_after_completion m) (record m { owed = true; closing = None }) (λ (x : Overlap). x.delays ≡ m.delays) (λ done. refl) (λ not_done. refl)
+    cond_both (is_done m) (machine_after_completion m) (record m { phase = Ticked }) (λ (x : Overlap). x.delays ≡ m.delays) (λ done. refl) (λ not_done. refl)
 
 settled_by-delays : (due behind : Option ℕ) (resting : Bool) (m : Overlap) → (settled_by due resting behind m).delays ≡ m.delays
 settled_by-delays (Some i) behind resting m = (ended-rest m).delays
@@ -191,7 +165,7 @@ pub settled-delays : (m : Overlap) → (machine_after_settling m).delays ≡ m.d
 unfolding machine_after_settling
 settled-delays m = settled_by-delays (interrupt_due m) m.mispredicted (rests m.state) m
 
-read-within : (most made since w : ℕ) (m : Overlap) (card : Option (List ℕ)) → IsKept m → IsSome m.closing → IsWithin most m made since
+read-within : (most made since w : ℕ) (m : Overlap) (card : Option (List ℕ)) → IsKept m → has_completed m.phase ≡ true → IsWithin most m made since
     → IsWithin most (read_in_by w card m) made since
 read-within most made since w m None is some h = within-state most made since m _ h
 read-within most made since w m (Some card) is some h = within-state most made since (machine_after_segment m) _ (within-ended most made since m is some h)
@@ -210,16 +184,16 @@ within most (Starts ds n s can) are = record {
 }
 within most (Ticks m made since from may) are =
     let same = subst (AreDelaysUpTo most) (ticked-delays m) are in
-    within-ticked most made since m same (kept from) may.settled (within most from same)
-within most (Settles m made since from owed stands) are =
-    within-settled most made since m (kept from) owed (within most from (subst (AreDelaysUpTo most) (settled-delays m) are))
+    within-ticked most made since m same (kept from) may.ready (within most from same)
+within most (Settles m made since from may) are =
+    within-settled most made since m (kept from) (settling m.phase may) (within most from (subst (AreDelaysUpTo most) (settled-delays m) are))
 within most (Signals m made since i from known may) are = within-state most made since m _ (within most from are)
 within most (Reads m made since order card from given fits may) are =
-    read-within most made since order.word m card (kept from) may.1 (within most from (subst (AreDelaysUpTo most) (read-delays order.word m card) are))
+    read-within most made since order.word m card (kept from) (served m.phase may) (within most from (subst (AreDelaysUpTo most) (read-delays order.word m card) are))
 within most (Prints m made since from given may) are = within-state most made since m _ (within most from are)
 within most (Stops m made since from may) are =
-    within-stopped most made since (machine_after_segment m)
-    (within-ended most made since m (kept from) may.1 (within most from (subst (AreDelaysUpTo most) (ended-rest m).delays are)))
+    within-stopped most made since (machine_after_segment m) (ended-rest m).owed (ended-rest m).done
+    (within-ended most made since m (kept from) (served m.phase may) (within most from (subst (AreDelaysUpTo most) (ended-rest m).delays are)))
 
 pub made-ticks : {m : Overlap} {made since : ℕ} → IsReached m made since → made ≡ ticks_made m
 made-ticks {m} from = (within 255 from (kept from).delays).ticks
@@ -228,21 +202,21 @@ pub in-time : (m : Overlap) (made since most : ℕ) → IsReached m made since �
 in-time m made since most from are =
     let w = within most from are in
     let is = kept from in
-    elim (closing-cases m.closing) [
-      | inl none ↦ let idle : IsIdle m = subst (λ c. IsPhase c m) none is.phase in
+    elim (cases_Bool (has_completed m.phase)) [
+      | inr none ↦ let idle : IsIdle m = idle-none m is none in
           let fits = entry-ranges m.taken m.state is.machine is.indicator in
           omega (arith, w.ticks, w.near, idle.early, row-within most m.delays m.levels m.issue (entry m.taken m.state) are fits w.tight)
-      | inr some ↦ omega (arith, w.fresh some)
+      | inl some ↦ omega (arith, w.fresh some)
     ]
 
 -- ---- all ticks
 
 -- the bounds at a tick with a completion
-done-early : (m : Overlap) (made since most : ℕ) → IsReached m made since → AreDelaysUpTo most m.delays → m.owed ≡ false → since + 1 ≤ 64 * (most + 4)
+done-early : (m : Overlap) (made since most : ℕ) → IsReached m made since → AreDelaysUpTo most m.delays → m.phase ≡ Ready → since + 1 ≤ 64 * (most + 4)
 done-early m made since most from are over =
     let w = within most from are in
     let is = kept from in
-    let idle = (idle-of m is over).1 in
+    let idle = idle-of m is over in
     let fits = entry-ranges m.taken m.state is.machine is.indicator in
     omega (arith, w.ticks, w.near, idle.early, row-within most m.delays m.levels m.issue (entry m.taken m.state) are fits w.tight)
 
@@ -256,7 +230,7 @@ counted-ticked : (b made since : ℕ) (m : Overlap) → since + 1 ≤ b → IsCo
 unfolding machine_after_tick machine_after_completion
 counted-ticked b made since m early counted = by-done (is_done m)
   where
-    by-done : (c : Bool) → IsCounted b (made + 1) (if c then 0 else since + 1) (if c then machine_after_completion m else record m { owed = true; closing = None })
+    by-done : (c : Bool) → IsCounted b (made + 1) (if c then 0 else since + 1) (if c then machine_after_completion m else record m { phase = Ticked })
     by-done true =
         let more : (state_after_execution m.taken m.state).done ≡ m.state.done + 1 = completed-done (plan m.state m.taken) m.state in
         omega (arith, counted, early, mul-add b m.state.done 1, ap (λ d. b * d) more)
@@ -296,8 +270,8 @@ counted : (most : ℕ) {m : Overlap} {made since : ℕ} → IsReached m made sin
 counted most (Starts ds n s can) are = omega arith
 counted most (Ticks m made since from may) are =
     let same = subst (AreDelaysUpTo most) (ticked-delays m) are in
-    counted-ticked (64 * (most + 4)) made since m (done-early m made since most from same may.settled) (counted most from same)
-counted most (Settles m made since from owed stands) are =
+    counted-ticked (64 * (most + 4)) made since m (done-early m made since most from same may.ready) (counted most from same)
+counted most (Settles m made since from may) are =
     same-counted (64 * (most + 4)) made since m (machine_after_settling m) (settled-state m) (counted most from (subst (AreDelaysUpTo most) (settled-delays m) are))
 counted most (Signals m made since i from known may) are = changed-counted (64 * (most + 4)) made since m (state_with_signal m.state i) refl (counted most from are)
 counted most (Reads m made since order card from given fits may) are =

@@ -1,34 +1,14 @@
 -- The invariant of a machine is kept by each call within the protocol.
-use Rattle.std.specs.Prelude.{IfSome, IsSome, is_none, ◌&&◌, if◌then◌else◌}
-use Rattle.std.proofs.Common.{◌≡◌, ℕ, zero, suc, ◌⊎◌, ◌+◌, ◌<◌, ◌≤◌, ◌^◌, Bool, true, false, List, length, inl, inr, Option, None, Some, refl, sym, subst, ◌∙◌, ap, arith}
-use Rattle.std.proofs.lemmas.Bool.{eqb-true, eqb-false, cond_both}
-use Rattle.st_state.specs.Machine.{Machine, IsMachine, word}
-use Rattle.st_state.specs.Interrupts.{state_with_signal, pending, is_pending, first_from}
-use Rattle.st_state.specs.declared.devices.Order.{Order}
-use Rattle.st_prep.specs.Plan.{plan}
+use Rattle.st_refine.proofs.Common.{IfSome, IsSome, is_none, ◌&&◌, if◌then◌else◌, ◌≡◌, ℕ, zero, suc, ◌+◌, ◌<◌, ◌≤◌, ◌^◌, Bool, true, false, List, length, inl, inr, Option, None, Some, refl, sym, subst, ◌∙◌, ap, arith, cases_Bool, eqb-true, eqb-false, cond_both, Machine, IsMachine, word, state_with_signal, pending, is_pending, first_from, Order, plan, plan-prepared, interrupt, rests, read_in, printed_out, kept-completed, LastAnswers, AreDelaysUpTo, row_of_entry, opening_issue, issue_after_entry, entry, Phase, Ready, Ticked, Completed, Ended, Stopped, is_owed, has_ended, closing, Overlap, machine_at_start, state_ahead, with_counter, oldest_entry, oldest_row, levels_of, interrupt_due, may_settle, may_serve, is_done, machine_after_completion, machine_after_tick, banks_left, machine_after_segment, machine_after_pass, machine_after_settling, settled_by, signalled_by, read_in_by, MaySignal, MayServe, due-taken, CanStart, IsCard, IsReached, Starts, Ticks, Settles, Signals, Reads, Prints, Stops, after-c}
 use Rattle.st_prep.proofs.Choices.{of_choice}
-use Rattle.st_prep.proofs.PlanLemmas.{plan-prepared}
-use Rattle.st_exec.specs.Step.{interrupt, rests}
-use Rattle.st_exec.specs.Transfer.{read_in, printed_out}
-use Rattle.st_exec.proofs.MachineKept.{kept-completed}
-use Rattle.st_banks.specs.declared.answers.LastAnswers.{LastAnswers}
-use Rattle.st_rows.specs.Ranges.{AreDelaysUpTo}
-use Rattle.st_rows.specs.Rows.{row_of_entry, opening_issue, issue_after_entry}
-use Rattle.st_segment.specs.Entries.{entry}
-use Rattle.st_ahead.specs.Overlap.{Overlap, machine_at_start, state_ahead, with_counter, oldest_entry, oldest_row, levels_of, interrupt_due}
-use Rattle.st_ahead.specs.Calls.{is_done, machine_after_completion, machine_after_tick, banks_left, machine_after_segment, machine_after_pass, machine_after_settling, settled_by, signalled_by, read_in_by, MaySignal, MayServe}
-use Rattle.st_ahead.proofs.Settling.{due-taken}
-use Rattle.st_refine.specs.Reached.{CanStart, IsCard, IsReached, Starts, Ticks, Settles, Signals, Reads, Prints, Stops}
 use Rattle.st_refine.proofs.StateLemmas.{signalled-machine, order-machine, printed-machine}
 use Rattle.st_refine.proofs.LevelLists.{done-behind}
-use Rattle.st_ring.proofs.OrderLemmas.{after-c}
-use Rattle.st_ahead.proofs.Passing.{ticked-owed}
 
 -- ---- the invariant
 
 -- the number of ticks made
 abbrev pub ticks_made : Overlap → ℕ
-ticks_made m = if m.owed then m.now + 1 else m.now
+ticks_made m = if is_owed m.phase then m.now + 1 else m.now
 
 -- the completion tick of the next entry of the state
 abbrev pub next_row : Overlap → ℕ
@@ -38,21 +18,29 @@ next_row m = (row_of_entry m.delays m.levels m.issue (entry m.taken m.state)).c
 pub record IsIdle (m : Overlap) : Type 0 where
   pub table : m.taken ≡ interrupt m.state
   pub awake : rests m.state ≡ false
-  pub going : m.ended ≡ false
+  pub going : has_ended m.phase ≡ false
   pub right : m.mispredicted ≡ None
   pub early : ticks_made m ≤ next_row m
-  pub unstarted : m.owed ≡ false → m.now ≡ 0 → (m.state.enabled ≡ false) × (m.state.waiting ≡ false)
+  pub unstarted : m.phase ≡ Ready → m.now ≡ 0 → (m.state.enabled ≡ false) × (m.state.waiting ≡ false)
 
 -- an entry completed at this tick, which is not settled
 pub record IsFresh (m : Overlap) : Type 0 where
-  pub owed : m.owed ≡ true
+  pub owed : is_owed m.phase ≡ true
   pub none : m.taken ≡ None
-  pub last : m.ended ≡ false → m.issue.c ≡ m.now
-  pub start : m.ended ≡ true → (m.now + 1 ≤ m.issue.p) × (m.now + 1 ≤ m.issue.c)
+  pub last : has_ended m.phase ≡ false → m.issue.c ≡ m.now
+  pub start : has_ended m.phase ≡ true → (m.now + 1 ≤ m.issue.p) × (m.now + 1 ≤ m.issue.c)
 
-abbrev pub IsPhase : Option LastAnswers → Overlap → Type 0
-IsPhase None m = IsIdle m
-IsPhase (Some banks) m = IsFresh m
+-- whether an entry completed at the last tick, and the next one is not ready
+abbrev pub has_completed : Phase → Bool
+has_completed Ready = false
+has_completed Ticked = false
+has_completed (Completed banks) = true
+has_completed Ended = true
+has_completed Stopped = true
+
+abbrev pub IsPhase : Bool → Overlap → Type 0
+IsPhase false m = IsIdle m
+IsPhase true m = IsFresh m
 
 pub record IsKept (m : Overlap) : Type 0 where
   pub some : 1 ≤ m.levels
@@ -61,26 +49,36 @@ pub record IsKept (m : Overlap) : Type 0 where
   pub machine : IsMachine m.state
   pub indicator : IfSome m.taken (λ i. i < 64)
   pub counter : IfSome m.mispredicted (λ h. h < 2 ^ 19)
-  pub phase : IsPhase m.closing m
+  pub phase : IsPhase (has_completed m.phase) m
 
--- an idle and a fresh machine are distinguished by whether a settle is owed
-idle-by : (c : Option LastAnswers) (m : Overlap) → IsPhase c m → m.owed ≡ false → (c ≡ None) × IsIdle m
-idle-by None m is settled = (refl, is)
-idle-by (Some banks) m is machine_after_settling = absurd (cc (sym machine_after_settling ∙ is.owed))
+-- ---- phases
 
-pub idle-of : (m : Overlap) → IsKept m → m.owed ≡ false → (m.closing ≡ None) × IsIdle m
-idle-of m is settled = idle-by m.closing m is.phase settled
+pub idle-none : (m : Overlap) → IsKept m → has_completed m.phase ≡ false → IsIdle m
+idle-none m is none = subst (λ b. IsPhase b m) none is.phase
 
-fresh-by : (c : Option LastAnswers) (m : Overlap) → IsPhase c m → IsSome c → IsFresh m
-fresh-by None m is some = absurd (cc some)
-fresh-by (Some banks) m is some = is
+pub idle-of : (m : Overlap) → IsKept m → m.phase ≡ Ready → IsIdle m
+idle-of m is ready = idle-none m is (ap has_completed ready)
 
-pub fresh-of : (m : Overlap) → IsKept m → IsSome m.closing → IsFresh m
-fresh-of m is some = fresh-by m.closing m is.phase some
+pub fresh-of : (m : Overlap) → IsKept m → has_completed m.phase ≡ true → IsFresh m
+fresh-of m is some = subst (λ b. IsPhase b m) some is.phase
 
-fresh-phase : (c : Option LastAnswers) (m : Overlap) → IsSome c → IsFresh m → IsPhase c m
-fresh-phase None m some is = absurd (cc some)
-fresh-phase (Some banks) m some is = is
+-- if an order may take effect, an entry completed
+pub served : (p : Phase) → may_serve p ≡ true → has_completed p ≡ true
+served p may = grind arith
+
+-- if the decision may be made, it is owed
+pub settling : (p : Phase) → may_settle p ≡ true → is_owed p ≡ true
+settling p may = grind arith
+
+ended-owed : (p : Phase) → has_ended p ≡ true → (is_owed p ≡ true) × (has_completed p ≡ true)
+ended-owed p over = grind arith
+
+-- the banks are known until the segment ends
+pub closing-some : (p : Phase) → has_completed p ≡ true → has_ended p ≡ false → IsSome (closing p)
+closing-some p some going = grind arith
+
+pub closing-of : (p : Phase) (banks : LastAnswers) → closing p ≡ Some banks → (has_completed p ≡ true) × (has_ended p ≡ false)
+closing-of p banks known = grind arith
 
 -- ---- states
 
@@ -150,9 +148,9 @@ seen-by : (over : Bool) (behind : Option ℕ) (s : Machine) → over ≡ false �
 seen-by over None s going right = of_choice (λ u. u ≡ s) over s s refl refl
 seen-by over (Some h) s going right = absurd (cc right)
 
-pub seen-idle : (m : Overlap) → m.ended ≡ false → m.mispredicted ≡ None → state_ahead m ≡ m.state
+pub seen-idle : (m : Overlap) → has_ended m.phase ≡ false → m.mispredicted ≡ None → state_ahead m ≡ m.state
 unfolding state_ahead
-seen-idle m going right = seen-by m.ended m.mispredicted m.state going right
+seen-idle m going right = seen-by (has_ended m.phase) m.mispredicted m.state going right
 
 -- the row of the oldest entry is that of the next entry of the state
 pub row-idle : (m : Overlap) → IsIdle m → (oldest_row m).c ≡ next_row m
@@ -163,26 +161,24 @@ mispredicted-by : (b : Bool) (h : ℕ) → h < 2 ^ 19 → IfSome (if b then Some
 mispredicted-by true h below = below
 mispredicted-by false h below = tt
 
-pub made-settled : (owed : Bool) (now : ℕ) → owed ≡ false → (if owed then now + 1 else now) ≡ now
-made-settled true now is = absurd (cc is)
-made-settled false now is = refl
+pub made-settled : (p : Phase) (now : ℕ) → p ≡ Ready → (if is_owed p then now + 1 else now) ≡ now
+made-settled p now is = rw is refl
 
-pub made-owed : (owed : Bool) (now : ℕ) → owed ≡ true → (if owed then now + 1 else now) ≡ now + 1
-made-owed true now is = refl
-made-owed false now is = absurd (cc is)
+pub made-owed : (p : Phase) (now : ℕ) → is_owed p ≡ true → (if is_owed p then now + 1 else now) ≡ now + 1
+made-owed p now is = rw is refl
 
 pub after-oldest : (m : Overlap) → (issue_after_entry m.delays m.levels m.issue (oldest_entry m)).c ≡ (oldest_row m).c
 unfolding oldest_row
 after-oldest m = after-c m.delays m.levels m.issue (oldest_entry m)
 
-pub kept-ticked : (m : Overlap) → IsKept m → m.owed ≡ false → IsKept (machine_after_tick m)
+pub kept-ticked : (m : Overlap) → IsKept m → m.phase ≡ Ready → IsKept (machine_after_tick m)
 unfolding machine_after_tick machine_after_completion
 kept-ticked m is settled =
-    let idle : IsIdle m = (idle-of m is settled).1 in
+    let idle : IsIdle m = idle-of m is settled in
     let c = row-idle m idle in
-    let now : ticks_made m ≡ m.now = made-settled m.owed m.now settled in
+    let now : ticks_made m ≡ m.now = made-settled m.phase m.now settled in
     let p = plan-prepared m.state m.taken is.machine is.indicator in
-    cond_both (is_done m) (machine_after_completion m) (record m { owed = true; closing = None }) IsKept
+    cond_both (is_done m) (machine_after_completion m) (record m { phase = Ticked }) IsKept
     (λ done.
     let due : (oldest_row m).c ≡ m.now = eqb-true (oldest_row m).c m.now done in
     record {
@@ -196,7 +192,7 @@ kept-ticked m is settled =
         owed = refl;
         none = refl;
         last = λ going. after-oldest m ∙ due;
-        start = λ over. absurd (cc (sym over ∙ idle.going));
+        start = λ over. absurd (cc over);
       };
     })
     (λ not_done.
@@ -211,7 +207,7 @@ kept-ticked m is settled =
       phase = record {
         table = idle.table;
         awake = idle.awake;
-        going = idle.going;
+        going = refl;
         right = idle.right;
         early = omega (arith, idle.early, now, c, other);
         unstarted = λ owed first. absurd (cc owed);
@@ -220,11 +216,11 @@ kept-ticked m is settled =
 
 -- ---- the end of a segment
 
-pub kept-ended : (m : Overlap) → IsKept m → IsSome m.closing → IsKept (machine_after_segment m)
+pub kept-ended : (m : Overlap) → IsKept m → has_completed m.phase ≡ true → IsKept (machine_after_segment m)
 unfolding machine_after_segment
 kept-ended m is some =
     let fresh = fresh-of m is some in
-    cond_both m.ended m (record m { issue = opening_issue (banks_left m.closing) (m.now + 1 + length (levels_of m)); ended = true }) IsKept
+    cond_both (has_ended m.phase) m (record m { issue = opening_issue (banks_left (closing m.phase)) (m.now + 1 + length (levels_of m)); phase = Ended }) IsKept
     (λ over. is)
     (λ going. record {
       some = is.some;
@@ -233,12 +229,12 @@ kept-ended m is some =
       machine = is.machine;
       indicator = is.indicator;
       counter = is.counter;
-      phase = fresh-phase m.closing _ some (record {
-        owed = fresh.owed;
+      phase = record {
+        owed = refl;
         none = fresh.none;
         last = λ again. absurd (cc again);
         start = λ over. (omega arith, omega arith);
-      });
+      };
     })
 
 -- the machine after the end of a segment
@@ -249,25 +245,40 @@ pub record IsEnded (m e : Overlap) : Type 0 where
   pub taken : e.taken ≡ m.taken
   pub behind : e.mispredicted ≡ m.mispredicted
   pub now : e.now ≡ m.now
-  pub owed : e.owed ≡ m.owed
-  pub ended : e.ended ≡ true
-  pub stopped : e.stopped ≡ m.stopped
-  pub closing : e.closing ≡ m.closing
+  pub owed : is_owed e.phase ≡ true
+  pub ended : has_ended e.phase ≡ true
+  pub done : has_completed e.phase ≡ true
 
 pub ended-rest : (m : Overlap) → IsEnded m (machine_after_segment m)
 unfolding machine_after_segment
 ended-rest m =
-    cond_both m.ended m (record m { issue = opening_issue (banks_left m.closing) (m.now + 1 + length (levels_of m)); ended = true }) (IsEnded m)
-    (λ over. assumption)
-    (λ going. assumption)
+    cond_both (has_ended m.phase) m (record m { issue = opening_issue (banks_left (closing m.phase)) (m.now + 1 + length (levels_of m)); phase = Ended }) (IsEnded m)
+    (λ over. record {
+      delays = refl;
+      levels = refl;
+      state = refl;
+      taken = refl;
+      behind = refl;
+      now = refl;
+      owed = (ended-owed m.phase over).0;
+      ended = over;
+      done = (ended-owed m.phase over).1;
+    })
+    (λ going. record { delays = refl; levels = refl; state = refl; taken = refl; behind = refl; now = refl; owed = refl; ended = refl; done = refl })
 
 -- the machine after the end of a run
-stopped-phase : (c : Option LastAnswers) (m : Overlap) → IsPhase c m → IsPhase c (record m { stopped = true })
-stopped-phase None m is = assumption
-stopped-phase (Some banks) m is = record { owed = is.owed; none = is.none; last = is.last; start = is.start }
-
-kept-stopped : (m : Overlap) → IsKept m → IsKept (record m { stopped = true })
-kept-stopped m is = assumption (stopped-phase m.closing m is.phase)
+kept-stopped : (m : Overlap) → IsKept m → has_completed m.phase ≡ true → has_ended m.phase ≡ true → IsKept (record m { phase = Stopped })
+kept-stopped m is some over =
+    let fresh = fresh-of m is some in
+    record {
+      some = is.some;
+      few = is.few;
+      delays = is.delays;
+      machine = is.machine;
+      indicator = is.indicator;
+      counter = is.counter;
+      phase = record { owed = refl; none = fresh.none; last = λ going. absurd (cc going); start = λ again. fresh.start over };
+    }
 
 -- ---- a settle
 
@@ -294,22 +305,22 @@ kept-passed m some few delays machine table awake late =
     }
 
 -- after a completion, the C of the issue state, or a later opening, is not before the tick
-pub late-fresh : (m : Overlap) → IsFresh m → (b : Bool) → m.ended ≡ b → m.now ≤ m.issue.c
+pub late-fresh : (m : Overlap) → IsFresh m → (b : Bool) → has_ended m.phase ≡ b → m.now ≤ m.issue.c
 late-fresh m fresh true over = omega (arith, (fresh.start over).1)
 late-fresh m fresh false going = omega (arith, fresh.last going)
 
 -- the machine after the tick of a completion passes
-kept-passed_fresh : (m : Overlap) (t : Option ℕ) → IsKept m → IsSome m.closing → t ≡ interrupt m.state → rests m.state ≡ false
+kept-passed_fresh : (m : Overlap) (t : Option ℕ) → IsKept m → has_completed m.phase ≡ true → t ≡ interrupt m.state → rests m.state ≡ false
     → IsKept (machine_after_pass (record m { taken = t }))
 kept-passed_fresh m t is some table awake =
-    kept-passed (record m { taken = t }) is.some is.few is.delays is.machine table awake (late-fresh m (fresh-of m is some) m.ended refl)
+    kept-passed (record m { taken = t }) is.some is.few is.delays is.machine table awake (late-fresh m (fresh-of m is some) (has_ended m.phase) refl)
 
 -- the machine after the tick of a completion passes, in the state before the end of a segment
-kept-passed_ended : (m : Overlap) (t : Option ℕ) → IsKept m → IsSome m.closing → t ≡ interrupt m.state → rests m.state ≡ false
+kept-passed_ended : (m : Overlap) (t : Option ℕ) → IsKept m → has_completed m.phase ≡ true → t ≡ interrupt m.state → rests m.state ≡ false
     → IsKept (machine_after_pass (record (machine_after_segment m) { taken = t }))
 kept-passed_ended m t is some table awake =
     let rest = ended-rest m in
-    kept-passed_fresh (machine_after_segment m) t (kept-ended m is some) (subst IsSome (sym rest.closing) some) (table ∙ ap interrupt (sym rest.state))
+    kept-passed_fresh (machine_after_segment m) t (kept-ended m is some) (rest.done) (table ∙ ap interrupt (sym rest.state))
     (ap rests rest.state ∙ awake)
 
 none-due : (t p : Option ℕ) → (if is_none t then p else None) ≡ None → t ≡ None → p ≡ None
@@ -319,7 +330,7 @@ none-due (Some i) p due none = absurd (cc none)
 same-taken : (m : Overlap) (t : Option ℕ) → m.taken ≡ t → IsKept (machine_after_pass (record m { taken = t })) → IsKept (machine_after_pass m)
 same-taken m t same is = subst (λ i. IsKept (machine_after_pass (record m { taken = i }))) (sym same) is
 
-settled-fresh : (due behind : Option ℕ) (resting : Bool) (m : Overlap) → IsKept m → IsSome m.closing → interrupt_due m ≡ due → rests m.state ≡ resting
+settled-fresh : (due behind : Option ℕ) (resting : Bool) (m : Overlap) → IsKept m → has_completed m.phase ≡ true → interrupt_due m ≡ due → rests m.state ≡ resting
     → IsKept (settled_by due resting behind m)
 settled-fresh (Some i) behind resting m is some due goes =
     let taken = due-taken m i due in
@@ -346,9 +357,9 @@ pub settled-idle_is : (m : Overlap) → IsIdle m → machine_after_settling m �
 unfolding machine_after_settling
 settled-idle_is m idle = rw (quiet m idle, idle.awake, idle.right) refl
 
-settled-idle : (m : Overlap) → IsKept m → IsIdle m → m.owed ≡ true → IsKept (machine_after_pass m)
+settled-idle : (m : Overlap) → IsKept m → IsIdle m → is_owed m.phase ≡ true → IsKept (machine_after_pass m)
 settled-idle m is idle owed =
-    let made : ticks_made m ≡ m.now + 1 = made-owed m.owed m.now owed in
+    let made : ticks_made m ≡ m.now + 1 = made-owed m.phase m.now owed in
     record {
       some = is.some;
       few = is.few;
@@ -366,21 +377,17 @@ settled-idle m is idle owed =
       };
     }
 
-pub closing-cases : (c : Option LastAnswers) → (c ≡ None) ⊎ IsSome c
-closing-cases None = inl refl
-closing-cases (Some banks) = inr refl
-
-pub kept-settled : (m : Overlap) → IsKept m → m.owed ≡ true → IsKept (machine_after_settling m)
+pub kept-settled : (m : Overlap) → IsKept m → is_owed m.phase ≡ true → IsKept (machine_after_settling m)
 unfolding machine_after_settling
-kept-settled m is owed = elim (closing-cases m.closing) [
-  | inl none ↦ let idle : IsIdle m = subst (λ c. IsPhase c m) none is.phase in subst IsKept (sym (settled-idle_is m idle)) (settled-idle m is idle owed)
-  | inr some ↦ settled-fresh (interrupt_due m) m.mispredicted (rests m.state) m is some refl refl
+kept-settled m is owed = elim (cases_Bool (has_completed m.phase)) [
+  | inr none ↦ let idle : IsIdle m = idle-none m is none in subst IsKept (sym (settled-idle_is m idle)) (settled-idle m is idle owed)
+  | inl some ↦ settled-fresh (interrupt_due m) m.mispredicted (rests m.state) m is some refl refl
 ]
 
 -- ---- external events
 
 -- only the state changes, after a tick with a completion
-pub kept-changed : (m : Overlap) (u : Machine) → IsKept m → IsSome m.closing → IsMachine u → IsKept (record m { state = u })
+pub kept-changed : (m : Overlap) (u : Machine) → IsKept m → has_completed m.phase ≡ true → IsMachine u → IsKept (record m { state = u })
 kept-changed m u is some machine =
     let fresh = fresh-of m is some in
     record {
@@ -390,24 +397,19 @@ kept-changed m u is some machine =
       machine = machine;
       indicator = is.indicator;
       counter = is.counter;
-      phase = fresh-phase m.closing _ some (record { owed = fresh.owed; none = fresh.none; last = fresh.last; start = fresh.start });
+      phase = subst (λ b. IsPhase b (record m { state = u })) (sym some) (record { owed = fresh.owed; none = fresh.none; last = fresh.last; start = fresh.start });
     }
 
-idle-phase : (c : Option LastAnswers) (m : Overlap) → c ≡ None → IsIdle m → IsPhase c m
-idle-phase None m none is = is
-idle-phase (Some banks) m none is = absurd (cc none)
-
 -- the machine after a signal before the first tick
-kept-unstarted : (m : Overlap) (i : ℕ) → IsKept m → m.owed ≡ false → m.now ≡ 0 → IsKept (signalled_by i m)
+kept-unstarted : (m : Overlap) (i : ℕ) → IsKept m → m.phase ≡ Ready → m.now ≡ 0 → IsKept (signalled_by i m)
 kept-unstarted m i is settled first =
-    let both = idle-of m is settled in
-    let idle = both.1 in
+    let idle = idle-of m is settled in
     let off = idle.unstarted settled first in
     let s = m.state in
     let u = state_with_signal s i in
     let table : m.taken ≡ interrupt u =
     idle.table ∙ off-interrupt s.enabled (pending s) off.0 ∙ sym (off-interrupt s.enabled (pending u) off.0) in
-    let made : ticks_made m ≡ 0 = made-settled m.owed m.now settled ∙ first in
+    let made : ticks_made m ≡ 0 = made-settled m.phase m.now settled ∙ first in
     record {
       some = is.some;
       few = is.few;
@@ -415,7 +417,7 @@ kept-unstarted m i is settled first =
       machine = signalled-machine s i is.machine;
       indicator = is.indicator;
       counter = is.counter;
-      phase = idle-phase m.closing _ both.0 (record {
+      phase = subst (λ b. IsPhase b (signalled_by i m)) (sym (ap has_completed settled)) (record {
         table = table;
         awake = off-rests s.waiting (pending u) off.1;
         going = idle.going;
@@ -426,55 +428,28 @@ kept-unstarted m i is settled first =
     }
 
 pub kept-signalled : (m : Overlap) (i : ℕ) → IsKept m → MaySignal m → IsKept (signalled_by i m)
-kept-signalled m i is may = elim may.0 [
+kept-signalled m i is may = elim may [
   | inl first ↦ kept-unstarted m i is first.0 first.1
-  | inr done ↦ kept-changed m (state_with_signal m.state i) is done.1 (signalled-machine m.state i is.machine)
+  | inr done ↦ kept-changed m (state_with_signal m.state i) is (served m.phase done) (signalled-machine m.state i is.machine)
 ]
 
 pub kept-read : (m : Overlap) (order : Order) (card : Option (List ℕ)) → IsKept m → m.state.reader ≡ Some order → IfSome card IsCard → MayServe m
     → IsKept (read_in_by order.word card m)
 kept-read m order None is given fits may =
-    kept-changed m (read_in m.state order.word None) is may.1 (order-machine m.state order None is.machine given fits)
+    kept-changed m (read_in m.state order.word None) is (served m.phase may) (order-machine m.state order None is.machine given fits)
 kept-read m order (Some card) is given fits may =
     let rest = ended-rest m in
-    kept-changed (machine_after_segment m) (read_in m.state order.word (Some card)) (kept-ended m is may.1) (subst IsSome (sym rest.closing) may.1)
+    kept-changed (machine_after_segment m) (read_in m.state order.word (Some card)) (kept-ended m is (served m.phase may)) rest.done
     (order-machine m.state order (Some card) is.machine given fits)
 
 -- ---- all calls
 
 pub kept : {m : Overlap} {made since : ℕ} → IsReached m made since → IsKept m
 kept (Starts ds n s can) = kept-started ds n s can
-kept (Ticks m made since from may) = kept-ticked m (kept from) may.settled
-kept (Settles m made since from owed stands) = kept-settled m (kept from) owed
+kept (Ticks m made since from may) = kept-ticked m (kept from) may.ready
+kept (Settles m made since from may) = kept-settled m (kept from) (settling m.phase may)
 kept (Signals m made since i from known may) = kept-signalled m i (kept from) may
 kept (Reads m made since order card from given fits may) = kept-read m order card (kept from) given fits may
-kept (Prints m made since from given may) = kept-changed m (printed_out m.state) (kept from) may.1 (printed-machine m.state (kept from).machine)
-kept (Stops m made since from may) = kept-stopped (machine_after_segment m) (kept-ended m (kept from) may.1)
-
--- a run in which no settle is owed has not ended
-settled_by-stopped : (due behind : Option ℕ) (resting : Bool) (m : Overlap) → (settled_by due resting behind m).stopped ≡ m.stopped
-settled_by-stopped (Some i) behind resting m = (ended-rest m).stopped
-settled_by-stopped None behind true m = (ended-rest m).stopped
-settled_by-stopped None (Some h) false m = (ended-rest m).stopped
-settled_by-stopped None None false m = refl
-
-pub settled-stopped : (m : Overlap) → (machine_after_settling m).stopped ≡ m.stopped
-unfolding machine_after_settling
-settled-stopped m = settled_by-stopped (interrupt_due m) m.mispredicted (rests m.state) m
-
-pub ticked-stopped : (m : Overlap) → (machine_after_tick m).stopped ≡ m.stopped
-unfolding machine_after_tick machine_after_completion
-ticked-stopped m = cond_both (is_done m) (machine_after_completion m) (record m { owed = true; closing = None }) (λ (x : Overlap). x.stopped ≡ m.stopped) (λ done. refl) (λ later. refl)
-
-read-stopped : (w : ℕ) (card : Option (List ℕ)) (m : Overlap) → (read_in_by w card m).stopped ≡ m.stopped
-read-stopped w None m = refl
-read-stopped w (Some card) m = (ended-rest m).stopped
-
-pub stands-settled : {m : Overlap} {made since : ℕ} → IsReached m made since → m.owed ≡ false → m.stopped ≡ false
-stands-settled (Starts ds n s can) over = refl
-stands-settled (Ticks m made since from may) over = absurd (cc (sym (ticked-owed m) ∙ over))
-stands-settled (Settles m made since from owed stands) over = settled-stopped m ∙ stands
-stands-settled (Signals m made since i from known may) over = may.1
-stands-settled (Reads m made since order card from given fits may) over = read-stopped order.word card m ∙ may.2
-stands-settled (Prints m made since from given may) over = may.2
-stands-settled (Stops m made since from may) over = absurd (cc (sym may.0 ∙ sym (ended-rest m).owed ∙ over))
+kept (Prints m made since from given may) = kept-changed m (printed_out m.state) (kept from) (served m.phase may) (printed-machine m.state (kept from).machine)
+kept (Stops m made since from may) =
+    kept-stopped (machine_after_segment m) (kept-ended m (kept from) (served m.phase may)) (ended-rest m).done (ended-rest m).ended

@@ -1,14 +1,14 @@
 -- Proofs of the laws of machines that are reached by calls within the protocol.
 use Rattle.std.specs.Prelude.{if◌then◌else◌}
-use Rattle.std.proofs.Common.{◌≡◌, ℕ, zero, suc, ◌+◌, ◌-◌, ◌<◌, ◌≤◌, ◌^◌, false, None, Some, refl, sym, subst, ◌∙◌, ap, arith}
-use Rattle.st_ahead.specs.Overlap.{Overlap}
+use Rattle.std.proofs.Common.{◌≡◌, ℕ, zero, suc, ◌+◌, ◌-◌, ◌<◌, ◌≤◌, ◌^◌, None, Some, refl, sym, subst, ◌∙◌, ap, arith}
+use Rattle.st_ahead.specs.Overlap.{Ready, Overlap}
 use Rattle.st_ahead.specs.Calls.{is_done, machine_after_tick, machine_after_segment, machine_after_settling}
 use Rattle.st_ahead.specs.RunTo.{after_ticks, ArePassed, RunsTo}
 use Rattle.st_ahead.specs.declared.events.Row.{Row}
-use Rattle.st_ahead.proofs.Passing.{ticked-owed, passed-keeps, passed-now}
+use Rattle.st_ahead.proofs.Passing.{ticked-settles, passed-keeps, passed-now}
 use Rattle.st_refine.specs.Reached.{IsReachedFrom, MayTick, Ticks, Settles}
 use Rattle.st_refine.specs.Laws.{IsLedTo, RunsAreReached, MachinesKeepTheirDelays, HeldWordsAreThoseOfReads, BanksHaveTheFirstReads, CompletionsComeInTime, LevelsAreLent, OpeningsAreKept, OpeningsFollow, RowsTellTheLevels, CompletionsAreSteps, LevelsAreUnwound, TheStateIsSplit, SignalsLeaveLevels}
-use Rattle.st_refine.proofs.Kept.{made-settled, kept, stands-settled, ticked-stopped}
+use Rattle.st_refine.proofs.Kept.{made-settled, served, kept}
 use Rattle.st_refine.proofs.InTime.{made-ticks, in-time, all-in_time, settled-state, levels-few}
 use Rattle.st_refine.proofs.StartLemmas.{start-delays, start-levels}
 use Rattle.st_refine.proofs.HeldLemmas.{held-words}
@@ -26,11 +26,11 @@ use Rattle.st_refine.proofs.StillLemmas.{still-done, still-signalled}
 -- the machine is reached, and no settle is owed
 record IsLedOver (start : Overlap) (made k : ℕ) (m new : Overlap) : Type 0 where
   pub led : IsLedTo start (made + k) new
-  pub settled : new.owed ≡ false
+  pub settled : new.phase ≡ Ready
   pub now : new.now ≡ m.now + k
   pub done : new.state.done < 2 ^ 63
 
-led-by : (k count made since : ℕ) (start m new : Overlap) → IsReachedFrom start m made since → m.owed ≡ false → m.state.done < 2 ^ 63
+led-by : (k count made since : ℕ) (start m new : Overlap) → IsReachedFrom start m made since → m.phase ≡ Ready → m.state.done < 2 ^ 63
     → m.now + k ≤ 2 ^ 63 → count ≤ 2 ^ 63 → ArePassed count k m new → IsLedOver start made k m new
 unfolding after_ticks
 led-by zero count made since start m new from owes few soon most are =
@@ -43,9 +43,8 @@ led-by zero count made since start m new from owes few soon most are =
     })
 led-by (suc k) count made since start m new from owes few soon most are =
     let keeps = passed-keeps count m (are.each 0 (omega arith)) most few in
-    let tick = Ticks m made since from.reached (record { settled = owes; tick = omega arith; done = few }) in
-    let next = Settles (machine_after_tick m) (made + 1) (if is_done m then 0 else since + 1) tick (ticked-owed m)
-    (ticked-stopped m ∙ stands-settled from.reached owes) in
+    let tick = Ticks m made since from.reached (record { ready = owes; tick = omega arith; done = few }) in
+    let next = Settles (machine_after_tick m) (made + 1) (if is_done m then 0 else since + 1) tick (ticked-settles m) in
     let rest = led-by k count (made + 1) (if is_done m then 0 else since + 1) start (machine_after_settling (machine_after_tick m)) new
     (record { reached = next; begun = from.begun }) keeps.0 keeps.2
     (omega (arith, keeps.1, soon)) most (record { each = λ i before. are.each (suc i) (omega (arith, before)); after = are.after }) in
@@ -61,15 +60,15 @@ done-reached : (start m new : Overlap) (made since count last : ℕ) (row : Row)
     count ≤ 2 ^ 63 → last < 2 ^ 63 → RunsTo count last (Some row) m new → IsReachedFrom start new (row.c + 1) 0
 done-reached start m new made since count last row from may most soon ran =
     let at : ran.before.now ≡ m.now + ran.ticks = passed-now ran.ticks count m ran.before ran.passed in
-    let led = led-by ran.ticks count made since start m ran.before from may.settled may.done (omega (arith, at, ran.soon, soon)) most ran.passed in
+    let led = led-by ran.ticks count made since start m ran.before from may.ready may.done (omega (arith, at, ran.soon, soon)) most ran.passed in
     let tick = Ticks ran.before (made + ran.ticks) led.led.since led.led.from.reached (record {
-      settled = led.settled;
+      ready = led.settled;
       tick = omega (arith, ran.soon, soon);
       done = led.done;
     }) in
     let ticks : IsReachedFrom start (machine_after_tick ran.before) (made + ran.ticks + 1) (if is_done ran.before then 0 else led.led.since + 1) =
     record { reached = tick; begun = led.led.from.begun } in
-    let all : made ≡ m.now = made-ticks from.reached ∙ made-settled m.owed m.now may.settled in
+    let all : made ≡ m.now = made-ticks from.reached ∙ made-settled m.phase m.now may.ready in
     let row_c : row.c ≡ ran.before.now = ap (λ (r : Row). r.c) ran.row_is in
     let same : made + ran.ticks + 1 ≡ row.c + 1 = omega (arith, all, at, row_c) in
     let none : (if is_done ran.before then 0 else led.led.since + 1) ≡ 0 = rw ran.done refl in
@@ -80,7 +79,7 @@ done-reached start m new made since count last row from may most soon ran =
 passed-led : (start m new : Overlap) (made since count last : ℕ) → IsReachedFrom start m made since → MayTick m →
     count ≤ 2 ^ 63 → last < 2 ^ 63 → RunsTo count last None m new → IsLedTo start (made + (last + 1 - m.now)) new
 passed-led start m new made since count last from may most soon ran =
-    (led-by (last + 1 - m.now) count made since start m new from may.settled may.done (omega (arith, may.tick, soon)) most ran).led
+    (led-by (last + 1 - m.now) count made since start m new from may.ready may.done (omega (arith, may.tick, soon)) most ran).led
 
 pub runs_are_reached : RunsAreReached
 runs_are_reached = record {
@@ -98,7 +97,7 @@ pub held_words_are_those_of_reads : HeldWordsAreThoseOfReads
 held_words_are_those_of_reads = held-words
 
 pub banks_have_the_first_reads : BanksHaveTheFirstReads
-banks_have_the_first_reads m made since j o changes from is going = have-first m made since j o changes from is going
+banks_have_the_first_reads = have-first
 
 pub completions_come_in_time : CompletionsComeInTime
 completions_come_in_time = record {
@@ -133,7 +132,7 @@ openings_follow = record {
   end = stands-ended;
   again = ended-again;
   stop = λ m j o changes is. stands-stopped (machine_after_segment m) j o changes is;
-  last = λ m made since from over may. cc (sym over ∙ stands-settled from may.settled);
+  last = λ m made since from over may. cc (sym over ∙ may.ready);
   interrupt = λ m made since i d ic k o xs from owed is stands. stands-interrupt m i d ic k o xs is stands;
   mispredicted = λ m made since k o xs from owed is stands. stands-mispredicted m k o xs owed is stands;
   waits = waits-ended;
@@ -166,7 +165,7 @@ completions_are_steps = record {
         ap (λ (r : Row). r.c) is.1 ∙ told.2,
       );
   mispredicted = λ m row is. tick-mispredicted m is.0;
-  passed = λ m is. tick-passed m is;
+  passed = tick-passed;
 }
 
 pub levels_are_unwound : LevelsAreUnwound
@@ -200,6 +199,6 @@ pub signals_leave_levels : SignalsLeaveLevels
 signals_leave_levels = record {
   signal = still-signalled;
   unread = λ m made since w from may.
-      (refl, still-done m (read_in m.state w None) (kept from) may.1 (beside-no_card m.state w));
-  print = λ m made since from may. still-done m (printed_out m.state) (kept from) may.1 (beside-printed m.state);
+      (refl, still-done m (read_in m.state w None) (kept from) (served m.phase may) (beside-no_card m.state w));
+  print = λ m made since from may. still-done m (printed_out m.state) (kept from) (served m.phase may) (beside-printed m.state);
 }

@@ -1,38 +1,18 @@
 -- The levels of the ring are the entries in flight, and undoing them gives the index words of the
 -- state.
-use Rattle.std.specs.Prelude.{slice_get, slice_index_or, is_some, not, nat_lt, nat_le, ◌&&◌, ◌||◌, ◌-◌, if◌then◌else◌}
+use Rattle.st_refine.proofs.Common.{slice_get, slice_index_or, is_some, not, nat_lt, nat_le, ◌&&◌, ◌-◌, if◌then◌else◌, ◌≡◌, ℕ, zero, suc, ◌+◌, ◌<◌, ◌≤◌, Bool, true, false, List, [], ◌∷◌, length, inl, inr, Option, None, Some, refl, sym, subst, ◌∙◌, ap, arith, cases_Bool, lt-ltb, ltb-true, FIRST_STORAGE_WORD, Machine, word, index_words, plan, Prepared, prediction, row_of_entry, issue_after_entry, IssueState, index_words_after, Kept, unwound, entry, RunAhead, predictions, table_behind, split_words, Ahead, next_ahead, ahead, issue_behind, behind-none, levels-keep, is_owed, has_ended, Overlap, state_ahead, oldest_row, levels_of, last_tick_made, IsLevelOf, AreLevelsOf, lent_index_words, view_at_tick, IsReached, state_before, table_before, issue_before, fills_at}
+use Rattle.std.specs.Prelude.{◌||◌}
 use Rattle.std.specs.List.{AllZip}
-use Rattle.std.proofs.Common.{◌≡◌, ℕ, zero, suc, ◌+◌, ◌<◌, ◌≤◌, Bool, true, false, List, [], ◌∷◌, length, inl, inr, Option, None, Some, refl, sym, subst, ◌∙◌, ap, arith}
-use Rattle.std.proofs.lemmas.Bool.{lt-ltb, ltb-true}
 use Rattle.std.proofs.lemmas.Slice.Zip.{AllZip-long}
-use Rattle.st_bits.specs.declared.register.TheConstants.{FIRST_STORAGE_WORD}
-use Rattle.st_state.specs.Machine.{Machine, word}
-use Rattle.st_prep.specs.Fetch.{index_words}
 use Rattle.st_prep.specs.FewWords.{is_transmission}
-use Rattle.st_prep.specs.Plan.{plan}
-use Rattle.st_prep.specs.declared.entries.Prepared.{Prepared}
-use Rattle.st_exec.specs.Completion.{prediction}
-use Rattle.st_rows.specs.Rows.{row_of_entry, issue_after_entry}
 use Rattle.st_rows.specs.Words.{fills}
-use Rattle.st_rows.specs.declared.issue.IssueState.{IssueState}
-use Rattle.st_ring.specs.Unwinding.{index_words_after, Kept, unwound}
 use Rattle.st_ring.specs.declared.level.Level.{Level}
 use Rattle.st_ring.proofs.Unwindings.{made-undone}
-use Rattle.st_segment.specs.Entries.{entry}
-use Rattle.st_segment.specs.Alone.{RunAhead}
-use Rattle.st_segment.specs.Predictions.{predictions, table_behind, split_words}
-use Rattle.st_segment.specs.Ahead.{Ahead, next_ahead, ahead, issue_behind}
-use Rattle.st_segment.proofs.PredictionLemmas.{behind-none}
 use Rattle.st_ring.specs.Slots.{fill_tick, is_there, slot_of, slots_of, IsKeptSlot as IsSlotKept}
 use Rattle.st_ring.specs.Levels.{AreLevels}
 use Rattle.st_ring.specs.declared.plans.PlannedRow.{PlannedRow}
-use Rattle.st_ring.proofs.UndoLemmas.{levels-keep}
-use Rattle.st_ahead.specs.Overlap.{Overlap, state_ahead, oldest_row, levels_of, last_tick_made}
-use Rattle.st_ahead.specs.Shown.{IsLevelOf, AreLevelsOf, lent_index_words, view_at_tick}
-use Rattle.st_refine.specs.Reached.{IsReached}
-use Rattle.st_refine.specs.Refined.{state_before, table_before, issue_before, fills_at}
 use Rattle.st_refine.proofs.LevelLists.{done-behind, most-ahead}
-use Rattle.st_refine.proofs.Kept.{IsIdle, IsPhase, IsKept, fresh-of, kept, row-idle, closing-cases, late-fresh}
+use Rattle.st_refine.proofs.Kept.{IsIdle, IsKept, idle-none, fresh-of, has_completed, kept, row-idle, late-fresh}
 use Rattle.st_refine.proofs.SplitLemmas.{seen-machine, seen-index, shown-last, levels-are}
 
 -- ---- the ring, level by level
@@ -170,9 +150,9 @@ levels-from ds n tick t s f (x ∷ xs) are = (
 
 pub oldest-late : (m : Overlap) → IsKept m → m.now ≤ (oldest_row m).c
 unfolding oldest_row
-oldest-late m is = elim (closing-cases m.closing) [
-  | inl none ↦ let idle : IsIdle m = subst (λ c. IsPhase c m) none is.phase in omega (arith, row-idle m idle, idle.early, made-late m.owed m.now)
-  | inr some ↦ omega (arith, late-fresh m (fresh-of m is some) m.ended refl, done-behind m.delays m.levels m.taken (state_ahead m) m.issue (seen-machine m is) is.indicator)
+oldest-late m is = elim (cases_Bool (has_completed m.phase)) [
+  | inr none ↦ let idle : IsIdle m = idle-none m is none in omega (arith, row-idle m idle, idle.early, made-late (is_owed m.phase) m.now)
+  | inl some ↦ omega (arith, late-fresh m (fresh-of m is some) (has_ended m.phase) refl, done-behind m.delays m.levels m.taken (state_ahead m) m.issue (seen-machine m is) is.indicator)
 ]
   where
     made-late : (owed : Bool) (now : ℕ) → now ≤ (if owed then now + 1 else now)

@@ -1,26 +1,6 @@
 -- The entries in flight that are prepared before a tick.
-use Rattle.std.specs.Prelude.{IfSome, get_or, ◌-◌, if◌then◌else◌, nat_lt}
-use Rattle.std.proofs.Common.{◌≡◌, ℕ, zero, suc, ◌+◌, ◌<◌, ◌≤◌, ◌||◌, Bool, true, false, List, [], ◌∷◌, ◌++◌, length, inl, inr, Option, None, refl, sym, subst, ◌∙◌, ap, arith}
-use Rattle.std.proofs.lemmas.Bool.{lt-ltb, le-ltb, ltb-true, false_from_ne_true, or_right}
-use Rattle.std.proofs.lemmas.List.{get_or-take}
-use Rattle.st_state.specs.Machine.{Machine, IsMachine}
-use Rattle.st_prep.specs.Plan.{plan}
-use Rattle.st_exec.specs.Completion.{prediction}
+use Rattle.st_refine.proofs.Common.{IfSome, get_or, ◌-◌, if◌then◌else◌, nat_lt, ◌≡◌, ℕ, zero, suc, ◌+◌, ◌<◌, ◌≤◌, ◌||◌, Bool, true, false, List, [], ◌∷◌, ◌++◌, length, inl, inr, Option, None, refl, sym, subst, ◌∙◌, ap, arith, lt-ltb, le-ltb, ltb-true, false_from_ne_true, or_right, get_or-take, Machine, IsMachine, plan, prediction, row_of_entry, issue_after_entry, address_tick, preparation_tick, done_before, tick_a, tick_p, tick_c, Entry, Past, IssueState, ready-after, entry, predictions, table_behind, RunAhead, Ahead, next_ahead, ahead, issue_behind, prepared_before, entry-ranges, prediction-machine, ahead-next, behind-none, before-cases, AddsOneAtMost, after-c}
 use Rattle.st_rows.specs.Entries.{no_runs}
-use Rattle.st_rows.specs.Rows.{row_of_entry, issue_after_entry, address_tick, preparation_tick, done_before, tick_a, tick_p, tick_c}
-use Rattle.st_rows.specs.declared.entry.Entry.{Entry}
-use Rattle.st_rows.specs.declared.past.Past.{Past}
-use Rattle.st_rows.specs.declared.issue.IssueState.{IssueState}
-use Rattle.st_rows.proofs.Awaited.{ready-after}
-use Rattle.st_segment.specs.Entries.{entry}
-use Rattle.st_segment.specs.Predictions.{predictions, table_behind}
-use Rattle.st_segment.specs.Alone.{RunAhead}
-use Rattle.st_segment.specs.Ahead.{Ahead, next_ahead, ahead, issue_behind, prepared_before}
-use Rattle.st_segment.proofs.EntryRanges.{entry-ranges}
-use Rattle.st_segment.proofs.PredictionLemmas.{prediction-machine, ahead-next, behind-none}
-use Rattle.st_rows.proofs.MadeLemmas.{before-cases}
-use Rattle.st_refine.specs.Refined.{AddsOneAtMost}
-use Rattle.st_ring.proofs.OrderLemmas.{after-c}
 
 -- ---- ticks of a row
 

@@ -1,3 +1,4 @@
+pub mod Common
 pub mod StateLemmas
 pub mod LevelLists
 pub mod Kept

@@ -1,35 +1,8 @@
 -- A machine is at the opening of its segment.
-use Rattle.std.specs.Prelude.{All, IfSome, IsSome, ◌==◌, if◌then◌else◌, ◌-◌}
-use Rattle.std.proofs.Common.{◌≡◌, ℕ, zero, suc, ◌+◌, ◌<◌, ◌≤◌, Bool, true, false, List, [], ◌∷◌, ◌++◌, length, Option, None, Some, refl, sym, subst, ◌∙◌, ap, ap₂, arith}
-use Rattle.std.proofs.lemmas.Bool.{eqb-true, ne_eqb, eq-eqb}
-use Rattle.std.proofs.lemmas.List.Elements.{All-nil, All-cons, All-head, All-tail, All-append, All-weaker}
-use Rattle.st_state.specs.Machine.{Machine}
-use Rattle.st_exec.specs.Completion.{state_after_execution, prediction}
-use Rattle.st_exec.specs.Step.{interrupt, rests, step}
-use Rattle.st_exec.specs.Transfer.{read_in}
-use Rattle.st_exec.proofs.StepLemmas.{step-done}
-use Rattle.st_banks.specs.declared.answers.LastAnswers.{LastAnswers}
-use Rattle.st_rows.specs.Asked.{bus_after_reads, made_before}
-use Rattle.st_rows.specs.Rows.{reads_of_entry}
-use Rattle.st_rows.specs.Rows.{row_of_entry, issue_after_entry, opening_issue, address_tick, preparation_tick, tick_a, tick_p, tick_c}
-use Rattle.st_rows.specs.declared.bus.Bus.{Bus}
-use Rattle.st_rows.specs.declared.entry.Entry.{Entry}
-use Rattle.st_rows.specs.declared.issue.IssueState.{IssueState}
-use Rattle.st_rows.proofs.Awaited.{ready-after}
-use Rattle.st_rows.proofs.Served.{served-append, served-asked}
-use Rattle.st_rows.proofs.MadeLemmas.{made-behind}
-use Rattle.st_segment.specs.Entries.{entry}
-use Rattle.st_segment.specs.Predictions.{table_behind}
-use Rattle.st_segment.specs.Ahead.{ahead, reads_before}
-use Rattle.st_ahead.specs.Overlap.{Overlap, machine_at_start, state_ahead, oldest_entry, oldest_row, levels_of, banks_at_its_end, interrupt_due}
-use Rattle.st_ahead.specs.Calls.{is_done, machine_after_completion, machine_after_tick, banks_left, machine_after_segment, machine_after_pass, machine_after_settling, answer, read_in_by, MayServe}
-use Rattle.st_ahead.specs.declared.events.Settled.TheVariants.{Goes, Interrupt, Mispredicted, Waits}
-use Rattle.st_refine.specs.Reached.{IsReached, MayTick}
-use Rattle.st_refine.specs.Openings.{Change, Signalled, ReadIn, PrintedOut, state_after_change, ExternalEvents, with_changes, Opening, first_opening, state_after, issue_at, reads_after, banks_behind, opening_behind, StandsAt}
-use Rattle.st_refine.proofs.Kept.{IsIdle, idle-of, fresh-of, kept, seen-idle, ended-rest}
+use Rattle.st_refine.proofs.Common.{All, IfSome, IsSome, ◌==◌, if◌then◌else◌, ◌-◌, ◌≡◌, ℕ, zero, suc, ◌+◌, ◌<◌, ◌≤◌, Bool, true, false, List, [], ◌∷◌, ◌++◌, length, Option, None, Some, refl, sym, subst, ◌∙◌, ap, ap₂, arith, eqb-true, ne_eqb, eq-eqb, All-nil, All-cons, All-head, All-tail, All-append, All-weaker, Machine, state_after_execution, prediction, interrupt, rests, step, read_in, step-done, LastAnswers, bus_after_reads, made_before, reads_of_entry, row_of_entry, issue_after_entry, opening_issue, address_tick, preparation_tick, tick_a, tick_p, tick_c, Bus, Entry, IssueState, ready-after, served-append, served-asked, made-behind, entry, table_behind, ahead, reads_before, Ready, Ticked, Ended, Stopped, is_owed, has_ended, closing, Overlap, machine_at_start, state_ahead, oldest_entry, oldest_row, levels_of, banks_at_its_end, interrupt_due, is_done, machine_after_completion, machine_after_tick, banks_left, machine_after_segment, machine_after_pass, machine_after_settling, answer, read_in_by, MayServe, Goes, Interrupt, Mispredicted, Waits, IsReached, MayTick, Change, Signalled, ReadIn, PrintedOut, state_after_change, ExternalEvents, with_changes, Opening, first_opening, state_after, issue_at, reads_after, banks_behind, opening_behind, StandsAt, after-c}
+use Rattle.st_refine.proofs.Kept.{IsIdle, idle-of, fresh-of, served, closing-some, kept, seen-idle, ended-rest}
 use Rattle.st_refine.proofs.InTime.{read-done}
 use Rattle.st_refine.proofs.RefinedLemmas.{goes-by, taken-by, mispredicted-by, waits-by, settled-goes, settled-taken, settled-mispredicted}
-use Rattle.st_ring.proofs.OrderLemmas.{after-c}
 
 -- ---- changes
 
@@ -171,7 +144,7 @@ stands-started ds n s = record {
   table = refl;
   done = λ some. absurd (omega (arith, some));
   before = All-nil (λ (x : ExternalEvents). x.done ≤ s.done);
-  banks = λ going. tt;
+  banks = tt;
 }
 
 -- ---- an external change
@@ -196,25 +169,25 @@ stands-changed m x j o xs is =
           subst begin (sym same)
           (All-append (λ (y : ExternalEvents). y.done ≤ m.state.done) xs (new ∷ []) is.before
           (All-cons (λ (y : ExternalEvents). y.done ≤ m.state.done) new [] (omega arith) (All-nil (λ (y : ExternalEvents). y.done ≤ m.state.done))));
-      banks = λ going. if-same m.closing _ _ (sym (banks-same o xs new j when m.delays m.levels j (omega arith))) (is.banks going);
+      banks = if-same (closing m.phase) _ _ (sym (banks-same o xs new j when m.delays m.levels j (omega arith))) is.banks;
     }
 
 -- ---- a tick
 
-stands-passed_by : (m : Overlap) (j : ℕ) (o : Opening) (xs : List ExternalEvents) → m.owed ≡ false → StandsAt o xs j m
-    → StandsAt o xs j (record m { owed = true; closing = None })
+last-before : (owed : Bool) (now : ℕ) → (if owed then now else now - 1) ≤ now
+last-before true now = omega arith
+last-before false now = omega arith
+
+stands-passed_by : (m : Overlap) (j : ℕ) (o : Opening) (xs : List ExternalEvents) → m.phase ≡ Ready → StandsAt o xs j m
+    → StandsAt o xs j (record m { phase = Ticked })
 stands-passed_by m j o xs settled_is is = record {
   state = is.state;
   issue = is.issue;
   table = is.table;
-  done = λ some. omega (arith, is.done some, last-before m.owed m.now);
+  done = λ some. omega (arith, is.done some, last-before (is_owed m.phase) m.now);
   before = is.before;
-  banks = λ going. tt;
+  banks = tt;
 }
-  where
-    last-before : (owed : Bool) (now : ℕ) → (if owed then now else now - 1) ≤ now
-    last-before true now = omega arith
-    last-before false now = omega arith
 
 executed-step : (t : Option ℕ) (s : Machine) → t ≡ interrupt s → state_after_execution t s ≡ step s
 unfolding step
@@ -237,7 +210,7 @@ stands-completed : (m : Overlap) (made since j : ℕ) (o : Opening) (xs : List E
     → StandsAt o xs j m → StandsAt o xs (suc j) (machine_after_completion m)
 unfolding machine_after_completion state_after issue_at oldest_row
 stands-completed m made since j o xs from may done is =
-    let idle : IsIdle m = (idle-of m (kept from) may.settled).1 in
+    let idle : IsIdle m = idle-of m (kept from) may.ready in
     let seen_is : state_ahead m ≡ m.state = seen-idle m idle.going idle.right in
     let e = oldest_entry m in
     let e_is : e ≡ entry (table_behind j o.table) (state_after o xs j) = ap₂ entry is.table (seen_is ∙ is.state) in
@@ -255,7 +228,7 @@ stands-completed m made since j o xs from may done is =
       before =
           All-weaker (λ (x : ExternalEvents). x.done ≤ m.state.done) (λ (x : ExternalEvents). x.done ≤ (state_after_execution m.taken m.state).done)
           (λ x low. omega (arith, counted)) xs is.before;
-      banks = λ going. banks-are m j o xs due is seen_is;
+      banks = banks-are m j o xs due is seen_is;
     }
 
 pub stands-ticked : (m : Overlap) (made since j : ℕ) (o : Opening) (xs : List ExternalEvents) → IsReached m made since → MayTick m → StandsAt o xs j m
@@ -263,27 +236,27 @@ pub stands-ticked : (m : Overlap) (made since j : ℕ) (o : Opening) (xs : List 
 unfolding machine_after_tick
 stands-ticked m made since j o xs from may is = by-done (is_done m) refl
   where
-    by-done : (b : Bool) → is_done m ≡ b → StandsAt o xs (if b then suc j else j) (if b then machine_after_completion m else record m { owed = true; closing = None })
+    by-done : (b : Bool) → is_done m ≡ b → StandsAt o xs (if b then suc j else j) (if b then machine_after_completion m else record m { phase = Ticked })
     by-done true done = stands-completed m made since j o xs from may done is
-    by-done false done = stands-passed_by m j o xs may.settled is
+    by-done false done = stands-passed_by m j o xs may.ready is
 
 -- ---- a settle
 
-stands-passed : (m : Overlap) (j : ℕ) (o : Opening) (xs : List ExternalEvents) → m.owed ≡ true → StandsAt o xs j m → StandsAt o xs j (machine_after_pass m)
+stands-passed : (m : Overlap) (j : ℕ) (o : Opening) (xs : List ExternalEvents) → is_owed m.phase ≡ true → StandsAt o xs j m → StandsAt o xs j (machine_after_pass m)
 stands-passed m j o xs owed is = record {
   state = is.state;
   issue = is.issue;
   table = is.table;
-  done = λ some. omega (arith, is.done some, last-owed m.owed m.now owed);
+  done = λ some. omega (arith, is.done some, last-owed (is_owed m.phase) m.now owed);
   before = is.before;
-  banks = λ going. tt;
+  banks = tt;
 }
   where
     last-owed : (b : Bool) (now : ℕ) → b ≡ true → (if b then now else now - 1) ≡ now
     last-owed true now is_owed = refl
     last-owed false now is_owed = absurd (cc is_owed)
 
-pub stands-goes : (m : Overlap) (j : ℕ) (o : Opening) (xs : List ExternalEvents) → m.owed ≡ true → answer m ≡ Goes → StandsAt o xs j m
+pub stands-goes : (m : Overlap) (j : ℕ) (o : Opening) (xs : List ExternalEvents) → is_owed m.phase ≡ true → answer m ≡ Goes → StandsAt o xs j m
     → StandsAt o xs j (machine_after_settling m)
 unfolding answer
 stands-goes m j o xs owed is stands =
@@ -293,13 +266,13 @@ stands-goes m j o xs owed is stands =
 -- ---- the end of a segment
 
 opened : Overlap → Overlap
-opened m = record m { issue = opening_issue (banks_left m.closing) (m.now + 1 + length (levels_of m)); ended = true }
+opened m = record m { issue = opening_issue (banks_left (closing m.phase)) (m.now + 1 + length (levels_of m)); phase = Ended }
 
-ended-going : (m : Overlap) → m.ended ≡ false → machine_after_segment m ≡ opened m
+ended-going : (m : Overlap) → has_ended m.phase ≡ false → machine_after_segment m ≡ opened m
 unfolding machine_after_segment opened
 ended-going m going = ap (λ b. if b then m else opened m) going
 
-pub ended-again : (m : Overlap) → m.ended ≡ true → machine_after_segment m ≡ m
+pub ended-again : (m : Overlap) → has_ended m.phase ≡ true → machine_after_segment m ≡ m
 unfolding machine_after_segment opened
 ended-again m over = ap (λ b. if b then m else opened m) over
 
@@ -307,32 +280,39 @@ left-is : (c : Option LastAnswers) (b : LastAnswers) → IsSome c → IfSome c (
 left-is None b some is = absurd (cc some)
 left-is (Some x) b some is = is
 
-stands-opened : (m : Overlap) (made since j : ℕ) (o : Opening) (xs : List ExternalEvents) → IsReached m made since → MayServe m → m.ended ≡ false
+stands-opened : (m : Overlap) (made since j : ℕ) (o : Opening) (xs : List ExternalEvents) → IsReached m made since → MayServe m → has_ended m.phase ≡ false
     → StandsAt o xs j m → StandsAt (opening_behind m.delays m.levels (length (levels_of m)) o xs j) [] 0 (opened m)
 unfolding opened opening_behind state_after issue_at with_changes
 stands-opened m made since j o xs from may going is =
-    let fresh = fresh-of m (kept from) may.1 in
+    let fresh = fresh-of m (kept from) (served m.phase may) in
     let now : m.now ≡ (issue_at m.delays m.levels o xs j).c = sym (fresh.last going) ∙ ap (λ (f : IssueState). f.c) is.issue in
     record {
       state = is.state;
       issue =
           ap₂ (λ b c. opening_issue b (c + 1 + length (levels_of m)))
-          (left-is m.closing (banks_behind m.delays m.levels o xs j) may.1 (is.banks going)) now;
+          (left-is (closing m.phase) (banks_behind m.delays m.levels o xs j) (closing-some m.phase (served m.phase may) going) is.banks) now;
       table = fresh.none;
       done = λ some. absurd (omega (arith, some));
       before = All-nil (λ (x : ExternalEvents). x.done ≤ m.state.done);
-      banks = λ again. absurd (cc again);
+      banks = tt;
     }
 
-pub stands-ended : (m : Overlap) (made since j : ℕ) (o : Opening) (xs : List ExternalEvents) → IsReached m made since → MayServe m → m.ended ≡ false
+pub stands-ended : (m : Overlap) (made since j : ℕ) (o : Opening) (xs : List ExternalEvents) → IsReached m made since → MayServe m → has_ended m.phase ≡ false
     → StandsAt o xs j m → StandsAt (opening_behind m.delays m.levels (length (levels_of m)) o xs j) [] 0 (machine_after_segment m)
 stands-ended m made since j o xs from may going is =
     subst (StandsAt (opening_behind m.delays m.levels (length (levels_of m)) o xs j) [] 0) (sym (ended-going m going))
     (stands-opened m made since j o xs from may going is)
 
 -- the machine after the end of a run
-pub stands-stopped : (m : Overlap) (j : ℕ) (o : Opening) (xs : List ExternalEvents) → StandsAt o xs j m → StandsAt o xs j (record m { stopped = true })
-stands-stopped m j o xs is = assumption
+pub stands-stopped : (m : Overlap) (j : ℕ) (o : Opening) (xs : List ExternalEvents) → StandsAt o xs j m → StandsAt o xs j (record m { phase = Stopped })
+stands-stopped m j o xs is = record {
+  state = is.state;
+  issue = is.issue;
+  table = is.table;
+  done = λ some. omega (arith, is.done some, last-before (is_owed m.phase) m.now);
+  before = is.before;
+  banks = tt;
+}
 
 with-table : (o : Opening) (t : Option ℕ) (xs : List ExternalEvents) (m : Overlap) → StandsAt o xs 0 m
     → StandsAt (record o { table = t }) xs 0 (machine_after_pass (record m { taken = t }))
@@ -343,7 +323,7 @@ with-table o t xs m is = record {
   table = refl;
   done = λ some. absurd (omega (arith, some));
   before = is.before;
-  banks = λ going. tt;
+  banks = tt;
 }
 
 pub stands-interrupt : (m : Overlap) (i d ic k : ℕ) (o : Opening) (xs : List ExternalEvents) → answer m ≡ Interrupt i d ic k → StandsAt o xs 0 (machine_after_segment m)
@@ -353,13 +333,13 @@ stands-interrupt m i d ic k o xs is stands =
     let told = taken-by (interrupt_due m) m.mispredicted (rests m.state) m i d ic k is in
     subst (StandsAt (record o { table = Some i }) xs 0) (sym (settled-taken m i told.0)) (with-table o (Some i) xs (machine_after_segment m) stands)
 
-pub stands-mispredicted : (m : Overlap) (k : ℕ) (o : Opening) (xs : List ExternalEvents) → m.owed ≡ true → answer m ≡ Mispredicted k → StandsAt o xs 0 (machine_after_segment m)
+pub stands-mispredicted : (m : Overlap) (k : ℕ) (o : Opening) (xs : List ExternalEvents) → is_owed m.phase ≡ true → answer m ≡ Mispredicted k → StandsAt o xs 0 (machine_after_segment m)
     → StandsAt o xs 0 (machine_after_settling m)
 unfolding answer machine_after_settling
 stands-mispredicted m k o xs owed is stands =
     let told = mispredicted-by (interrupt_due m) m.mispredicted (rests m.state) m k is in
     subst (StandsAt o xs 0) (sym (settled-mispredicted m m.mispredicted told.0 told.1 told.2))
-    (stands-passed (machine_after_segment m) 0 o xs ((ended-rest m).owed ∙ owed) stands)
+    (stands-passed (machine_after_segment m) 0 o xs (ended-rest m).owed stands)
 
 pub waits-ended : (m : Overlap) → answer m ≡ Waits → machine_after_settling m ≡ machine_after_segment m
 unfolding answer machine_after_settling

@@ -1,31 +1,12 @@
 -- The reads of a segment, and those that are accepted before a tick.
-use Rattle.std.specs.Prelude.{All, IfSome, nat_lt, max, if◌then◌else◌}
-use Rattle.std.proofs.Common.{◌≡◌, ℕ, zero, suc, ◌<◌, ◌≤◌, Bool, true, false, List, [], ◌∷◌, ◌++◌, append_assoc, append-nil, inl, inr, Option, None, Some, refl, sym, subst, ◌∙◌, ap, arith}
-use Rattle.std.proofs.lemmas.List.Elements.{All-nil, All-cons, All-append}
-use Rattle.std.proofs.lemmas.Bool.{ltb-false}
-use Rattle.st_state.specs.Machine.{Machine}
-use Rattle.st_exec.specs.Completion.{prediction}
-use Rattle.st_banks.specs.declared.answers.LastAnswers.{LastAnswers}
-use Rattle.st_rows.specs.Asked.{fetches_asked, data_of, bus_after_reads, made_before}
-use Rattle.st_rows.specs.BusTimes.{accept_at, Read, after_one}
+use Rattle.st_refine.proofs.Common.{All, IfSome, nat_lt, max, if◌then◌else◌, ◌≡◌, ℕ, zero, suc, ◌<◌, ◌≤◌, Bool, true, false, List, [], ◌∷◌, ◌++◌, append_assoc, append-nil, inl, inr, Option, None, Some, refl, sym, subst, ◌∙◌, ap, arith, All-nil, All-cons, All-append, ltb-false, Machine, prediction, LastAnswers, fetches_asked, data_of, bus_after_reads, made_before, accept_at, Read, after_one, row_of_entry, issue_after_entry, wanted_from, address_tick, operands, tick_a, tick_p, reads_of_entry, Bus, Entry, IssueState, before-cases, free-one, made-more, entry, table_behind, ahead, reads_before, closing, Overlap, Opening, ExternalEvents, StandsAt, state_after, issue_at, reads_after, banks_behind, reads_of_segment, IsReached}
 use Rattle.st_rows.specs.Notes.{notes_of_reads, note}
-use Rattle.st_rows.specs.Rows.{row_of_entry, issue_after_entry, wanted_from, address_tick, operands, tick_a, tick_p, reads_of_entry}
-use Rattle.st_rows.specs.declared.bus.Bus.{Bus}
-use Rattle.st_rows.specs.declared.entry.Entry.{Entry}
-use Rattle.st_rows.specs.declared.issue.IssueState.{IssueState}
 use Rattle.st_rows.specs.declared.log.Made.{Made}
 use Rattle.st_rows.proofs.Each.{each-fetch, each-side, each-operand, each-following, each-of-data}
-use Rattle.st_rows.proofs.MadeLemmas.{before-cases, free-one, made-more}
 use Rattle.st_rows.proofs.Parts.{a-p, asked-parts}
-use Rattle.st_segment.specs.Entries.{entry}
-use Rattle.st_segment.specs.Predictions.{table_behind}
-use Rattle.st_segment.specs.Ahead.{ahead, reads_before}
 use Rattle.st_ahead.specs.Forecast.{asked_ahead}
-use Rattle.st_ahead.specs.Overlap.{Overlap}
 use Rattle.st_refine.specs.Laws.{AreFirstReads}
-use Rattle.st_refine.specs.Openings.{Opening, ExternalEvents, StandsAt, state_after, issue_at, reads_after, banks_behind, reads_of_segment}
-use Rattle.st_refine.specs.Reached.{IsReached}
-use Rattle.st_refine.proofs.Kept.{fresh-of, kept}
+use Rattle.st_refine.proofs.Kept.{fresh-of, closing-of, kept}
 
 -- ---- reads that are accepted before a tick are the first ones
 
@@ -173,18 +154,19 @@ banks-first ds n o xs j =
     (sym (append_assoc first (reads_of_entry ds n f e) (reads_before ds n c (ahead ds n (suc n) None (prediction t s) (issue_after_entry ds n f e)))))
     ∙ ap (λ (b : Bus). b.banks) (ahead-made ds n c (suc n) None (prediction t s) (issue_after_entry ds n f e) (first ++ reads_of_entry ds n f e) o.issue.bus)
 
-pub have-first : (m : Overlap) (made since j : ℕ) (o : Opening) (xs : List ExternalEvents) → IsReached m made since → StandsAt o xs (suc j) m → m.ended ≡ false
-    → IfSome m.closing (λ banks. (first : List Read) × AreFirstReads m.delays m.now (reads_of_segment m.delays m.levels o xs j) o.issue.bus first
+pub have-first : (m : Overlap) (made since j : ℕ) (o : Opening) (xs : List ExternalEvents) → IsReached m made since → StandsAt o xs (suc j) m
+    → IfSome (closing m.phase) (λ banks. (first : List Read) × AreFirstReads m.delays m.now (reads_of_segment m.delays m.levels o xs j) o.issue.bus first
     × (banks ≡ (bus_after_reads m.delays first o.issue.bus).banks))
-have-first m made since j o xs from is going = by m.closing refl (is.banks going)
+have-first m made since j o xs from is = by (closing m.phase) refl is.banks
   where
-    by : (c : Option LastAnswers) → m.closing ≡ c → IfSome c (λ b. b ≡ banks_behind m.delays m.levels o xs (suc j))
+    by : (c : Option LastAnswers) → closing m.phase ≡ c → IfSome c (λ b. b ≡ banks_behind m.delays m.levels o xs (suc j))
         → IfSome c (λ banks. (first : List Read) × AreFirstReads m.delays m.now (reads_of_segment m.delays m.levels o xs j) o.issue.bus first
         × (banks ≡ (bus_after_reads m.delays first o.issue.bus).banks))
     by None none same = tt
     by (Some banks) some same =
-        let fresh = fresh-of m (kept from) (rw some refl) in
-        let at : (issue_at m.delays m.levels o xs (suc j)).c ≡ m.now = ap (λ (f : IssueState). f.c) (sym is.issue) ∙ fresh.last going in
+        let at_end = closing-of m.phase banks some in
+        let fresh = fresh-of m (kept from) at_end.0 in
+        let at : (issue_at m.delays m.levels o xs (suc j)).c ≡ m.now = ap (λ (f : IssueState). f.c) (sym is.issue) ∙ fresh.last at_end.1 in
         let parts = split m.delays m.now (reads_of_segment m.delays m.levels o xs j) o.issue.bus in (
           parts.first,
           parts.are,

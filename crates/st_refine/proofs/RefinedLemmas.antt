@@ -1,29 +1,9 @@
 -- The effect of each call on the state and on the levels.
-use Rattle.std.specs.Prelude.{IsSome, if◌then◌else◌}
-use Rattle.std.proofs.Common.{◌≡◌, ℕ, ◌+◌, ◌≤◌, Bool, true, false, List, [], ◌∷◌, length, inl, inr, Option, None, Some, refl, sym, subst, ◌∙◌, ap, arith}
-use Rattle.std.proofs.lemmas.Bool.{eqb-true, cond_both}
-use Rattle.st_state.specs.Machine.{Machine}
-use Rattle.st_prep.specs.Fetch.{address_by}
-use Rattle.st_prep.specs.Plan.{plan}
-use Rattle.st_exec.specs.Completion.{state_after_execution, prediction, is_mispredicted}
-use Rattle.st_exec.specs.Step.{interrupt, rests, step, address}
-use Rattle.st_exec.specs.Transfer.{read_in}
-use Rattle.st_exec.proofs.StepLemmas.{step-done}
-use Rattle.st_rows.specs.Rows.{row_of_entry, opening_issue, issue_after_entry}
-use Rattle.st_segment.specs.Entries.{entry}
-use Rattle.st_segment.specs.Predictions.{predictions}
-use Rattle.st_segment.specs.Ahead.{next_ahead, ahead, prepared_before, issue_behind}
+use Rattle.st_refine.proofs.Common.{IsSome, if◌then◌else◌, ◌≡◌, ℕ, ◌+◌, ◌≤◌, Bool, true, false, List, [], ◌∷◌, length, inl, inr, Option, None, Some, refl, sym, subst, ◌∙◌, ap, arith, cases_Bool, eqb-true, cond_both, Machine, address_by, plan, state_after_execution, prediction, is_mispredicted, interrupt, rests, step, address, read_in, step-done, row_of_entry, opening_issue, issue_after_entry, entry, predictions, next_ahead, ahead, prepared_before, issue_behind, Ready, Ticked, Ended, Stopped, is_owed, has_ended, closing, Overlap, machine_at_start, state_ahead, with_counter, oldest_row, levels_of, interrupt_due, is_done, row_done, mispredicted_counter, machine_after_completion, machine_after_tick, drop_count, banks_left, machine_after_segment, run_ended, machine_after_pass, machine_after_settling, settled_by, answer, answer_by, read_in_by, dropped_by, MayServe, view_at_tick, Goes, Interrupt, Mispredicted, Waits, due-taken, IsReached, MayTick, row_before, IsUnwound, AddsOneAtMost}
 use Rattle.st_segment.proofs.StepLemmas.{prediction-right, prediction-mispredicted}
-use Rattle.st_ahead.specs.Overlap.{Overlap, machine_at_start, state_ahead, with_counter, oldest_row, levels_of, interrupt_due}
-use Rattle.st_ahead.specs.Calls.{is_done, row_done, mispredicted_counter, machine_after_completion, machine_after_tick, drop_count, banks_left, machine_after_segment, run_ended, machine_after_pass, machine_after_settling, settled_by, answer, answer_by, read_in_by, dropped_by, MayServe}
-use Rattle.st_ahead.specs.Shown.{view_at_tick}
-use Rattle.st_ahead.specs.declared.events.Settled.TheVariants.{Goes, Interrupt, Mispredicted, Waits}
-use Rattle.st_ahead.proofs.Settling.{due-taken}
 use Rattle.st_ahead.proofs.Standing.{prediction-seen}
-use Rattle.st_refine.specs.Reached.{IsReached, MayTick}
-use Rattle.st_refine.specs.Refined.{row_before, IsUnwound, AddsOneAtMost}
 use Rattle.st_refine.proofs.LevelLists.{none-before, one-more, done-levels}
-use Rattle.st_refine.proofs.Kept.{IsIdle, IsPhase, IsKept, idle-of, fresh-of, kept, kept-ended, seen-idle, ended-rest, quiet, closing-cases}
+use Rattle.st_refine.proofs.Kept.{IsIdle, IsKept, idle-none, idle-of, fresh-of, has_completed, served, kept, kept-ended, seen-idle, ended-rest, quiet}
 use Rattle.st_refine.proofs.SplitLemmas.{plan-address, shown-none}
 use Rattle.st_ahead.proofs.Idling.{late-ticked}
 
@@ -31,7 +11,7 @@ use Rattle.st_ahead.proofs.Idling.{late-ticked}
 
 ticked-done : (m : Overlap) → is_done m ≡ true → machine_after_tick m ≡ machine_after_completion m
 unfolding machine_after_tick
-ticked-done m done = ap (λ b. if b then machine_after_completion m else record m { owed = true; closing = None }) done
+ticked-done m done = ap (λ b. if b then machine_after_completion m else record m { phase = Ticked }) done
 
 completed-state : (m : Overlap) → (machine_after_completion m).state ≡ state_after_execution m.taken m.state
 unfolding machine_after_completion
@@ -45,14 +25,14 @@ completed-behind : (m : Overlap) → (machine_after_completion m).mispredicted �
 unfolding machine_after_completion
 completed-behind m = refl
 
-pub table-is : (m : Overlap) (made since : ℕ) → IsReached m made since → m.owed ≡ false → m.taken ≡ interrupt m.state
-table-is m made since from settled = (idle-of m (kept from) settled).1.table
+pub table-is : (m : Overlap) (made since : ℕ) → IsReached m made since → m.phase ≡ Ready → m.taken ≡ interrupt m.state
+table-is m made since from settled = (idle-of m (kept from) settled).table
 
 pub tick-state : (m : Overlap) (made since : ℕ) → IsReached m made since → MayTick m → is_done m ≡ true → (machine_after_tick m).state ≡ step m.state
 unfolding step
 tick-state m made since from may done =
     ap (λ (x : Overlap). x.state) (ticked-done m done) ∙ completed-state m
-    ∙ ap (λ t. state_after_execution t m.state) (table-is m made since from may.settled)
+    ∙ ap (λ t. state_after_execution t m.state) (table-is m made since from may.ready)
 
 -- the levels after the oldest one
 completed-levels : (m : Overlap) → IsKept m → IsIdle m → is_done m ≡ true
@@ -74,14 +54,12 @@ completed-levels m is idle done =
     ∙ done-levels ds n m.now t s m.issue is.machine is.indicator is.some is.few due
     ∙ ap (λ u. next_ahead ds n t s m.issue ∷ prepared_before m.now (ahead ds n n None u g)) (sym next)
     ∙ ap (λ u. next_ahead ds n t s m.issue ∷ prepared_before m.now (ahead ds n n None (with_counter (mispredicted_counter m) (state_after_execution t s)) (issue_after_entry ds n m.issue (entry t u)))) (sym same)
-    ∙ ap (λ b. next_ahead ds n t s m.issue ∷ prepared_before m.now (ahead ds n n None
-    (if b then state_after_execution t s else with_counter (mispredicted_counter m) (state_after_execution t s)) (issue_after_entry ds n m.issue (entry t (state_ahead m))))) (sym idle.going)
 
 pub tick-oldest : (m : Overlap) (made since : ℕ) → IsReached m made since → MayTick m → is_done m ≡ true
     → levels_of m ≡ next_ahead m.delays m.levels m.taken m.state m.issue ∷ levels_of (machine_after_tick m)
 tick-oldest m made since from may done =
     let is = kept from in
-    completed-levels m is (idle-of m is may.settled).1 done
+    completed-levels m is (idle-of m is may.ready) done
     ∙ ap (λ (x : Overlap). next_ahead m.delays m.levels m.taken m.state m.issue ∷ levels_of x) (sym (ticked-done m done))
 
 address-is : (t : Option ℕ) (s : Machine) → t ≡ interrupt s → (plan s t).place.address ≡ address s
@@ -92,7 +70,7 @@ pub tick-row : (m : Overlap) (made since : ℕ) → IsReached m made since → M
     → ((row_done m).number ≡ (step m.state).done) × ((row_done m).address ≡ address m.state) × ((row_done m).c ≡ (view_at_tick (machine_after_tick m)).tick)
 tick-row m made since from may done = (
   sym (step-done m.state),
-  address-is m.taken m.state (table-is m made since from may.settled),
+  address-is m.taken m.state (table-is m made since from may.ready),
   sym (completed-tick m) ∙ ap (λ (x : Overlap). (view_at_tick x).tick) (sym (ticked-done m done)),
 )
 
@@ -104,14 +82,14 @@ tick-times m done = (refl, refl, sym (eqb-true (oldest_row m).c m.now done))
 pub tick-mispredicted : (m : Overlap) → is_done m ≡ true → (machine_after_tick m).mispredicted ≡ mispredicted_counter m
 tick-mispredicted m done = ap (λ (x : Overlap). x.mispredicted) (ticked-done m done) ∙ completed-behind m
 
-passed-levels : (m : Overlap) → levels_of (record m { owed = true; closing = None }) ≡ levels_of m
+passed-levels : (m : Overlap) → has_ended m.phase ≡ false → levels_of (record m { phase = Ticked }) ≡ levels_of m
 unfolding levels_of state_ahead
-passed-levels m = refl
+passed-levels m going = rw going refl
 
-pub tick-passed : (m : Overlap) → is_done m ≡ false → ((machine_after_tick m).state ≡ m.state) × (levels_of (machine_after_tick m) ≡ levels_of m)
-tick-passed m later = (
+pub tick-passed : (m : Overlap) → has_ended m.phase ≡ false → is_done m ≡ false → ((machine_after_tick m).state ≡ m.state) × (levels_of (machine_after_tick m) ≡ levels_of m)
+tick-passed m going later = (
   ap (λ (x : Overlap). x.state) (late-ticked m later),
-  ap levels_of (late-ticked m later) ∙ passed-levels m,
+  ap levels_of (late-ticked m later) ∙ passed-levels m going,
 )
 
 -- ---- the result of a settle
@@ -159,7 +137,7 @@ passed-more : (m : Overlap) → m.mispredicted ≡ None → AddsOneAtMost (level
 unfolding levels_of state_ahead
 passed-more m right =
     let new = prepared_before (m.now + 1) (ahead m.delays m.levels m.levels m.taken m.state m.issue) in
-    subst (λ s. AddsOneAtMost (prepared_before m.now (ahead m.delays m.levels m.levels m.taken s m.issue)) new) (same m.ended m.mispredicted right)
+    subst (λ s. AddsOneAtMost (prepared_before m.now (ahead m.delays m.levels m.levels m.taken s m.issue)) new) (same (has_ended m.phase) m.mispredicted right)
     (one-more m.delays m.levels m.now m.levels m.taken m.state m.issue)
   where
     same : (b : Bool) (h : Option ℕ) → h ≡ None → m.state ≡ (if b then m.state else with_counter h m.state)
@@ -185,60 +163,60 @@ unwound-by m early =
     let none = empty-levels m early in
     record { levels = none; index = shown-none m (ap length none) }
 
-ended-late : (m : Overlap) → IsKept m → IsSome m.closing → m.now + 1 ≤ (machine_after_segment m).issue.p
+ended-late : (m : Overlap) → IsKept m → has_completed m.phase ≡ true → m.now + 1 ≤ (machine_after_segment m).issue.p
 ended-late m is some =
     let rest = ended-rest m in
-    let fresh = fresh-of (machine_after_segment m) (kept-ended m is some) (subst IsSome (sym rest.closing) some) in
+    let fresh = fresh-of (machine_after_segment m) (kept-ended m is some) (rest.done) in
     omega (arith, rest.now, (fresh.start rest.ended).0)
 
-unwound-ended : (m : Overlap) → IsKept m → IsSome m.closing → IsUnwound (machine_after_segment m)
+unwound-ended : (m : Overlap) → IsKept m → has_completed m.phase ≡ true → IsUnwound (machine_after_segment m)
 unwound-ended m is some = unwound-by (machine_after_segment m) (omega (arith, (ended-rest m).now, ended-late m is some))
 
-unwound-stopped : (m : Overlap) → IsKept m → IsSome m.closing → IsUnwound (run_ended m)
+unwound-stopped : (m : Overlap) → IsKept m → has_completed m.phase ≡ true → IsUnwound (run_ended m)
 unwound-stopped m is some = unwound-by (run_ended m) (omega (arith, (ended-rest m).now, ended-late m is some))
 
-unwound-passed : (m : Overlap) (t : Option ℕ) → IsKept m → IsSome m.closing → IsUnwound (machine_after_pass (record (machine_after_segment m) { taken = t }))
+unwound-passed : (m : Overlap) (t : Option ℕ) → IsKept m → has_completed m.phase ≡ true → IsUnwound (machine_after_pass (record (machine_after_segment m) { taken = t }))
 unwound-passed m t is some = unwound-by (machine_after_pass (record (machine_after_segment m) { taken = t })) (omega (arith, (ended-rest m).now, ended-late m is some))
 
-dropped-is : (m : Overlap) → IsKept m → IsSome m.closing → drop_count m ≡ length (levels_of m)
+dropped-is : (m : Overlap) → IsKept m → has_completed m.phase ≡ true → drop_count m ≡ length (levels_of m)
 unfolding drop_count
 dropped-is m is some =
     let fresh = fresh-of m is some in
-    by-end m.ended (λ over. let none = empty-levels m (omega (arith, (fresh.start over).0)) in ap length none)
+    by-end (has_ended m.phase) (λ over. let none = empty-levels m (omega (arith, (fresh.start over).0)) in ap length none)
   where
     by-end : (b : Bool) → (b ≡ true → length (levels_of m) ≡ 0) → (if b then 0 else length (levels_of m)) ≡ length (levels_of m)
     by-end true none = sym (none refl)
     by-end false none = refl
 
 -- if a settle takes an interrupt, an entry completed at this tick
-closing-due : (m : Overlap) (i : ℕ) → IsKept m → interrupt_due m ≡ Some i → IsSome m.closing
-closing-due m i is due = elim (closing-cases m.closing) [
-  | inl none ↦ let idle : IsIdle m = subst (λ c. IsPhase c m) none is.phase in absurd (cc (sym due ∙ quiet m idle))
-  | inr some ↦ some
+closing-due : (m : Overlap) (i : ℕ) → IsKept m → interrupt_due m ≡ Some i → has_completed m.phase ≡ true
+closing-due m i is due = elim (cases_Bool (has_completed m.phase)) [
+  | inr none ↦ let idle : IsIdle m = idle-none m is none in absurd (cc (sym due ∙ quiet m idle))
+  | inl some ↦ some
 ]
 
 none-some : (o : Option ℕ) → o ≡ None → IsSome o → ⊥
 none-some None none some = cc some
 none-some (Some h) none some = cc none
 
-closing-mispredicted : (m : Overlap) → IsKept m → IsSome m.mispredicted → IsSome m.closing
-closing-mispredicted m is mispredicted = elim (closing-cases m.closing) [
-  | inl none ↦ let idle : IsIdle m = subst (λ c. IsPhase c m) none is.phase in
+closing-mispredicted : (m : Overlap) → IsKept m → IsSome m.mispredicted → has_completed m.phase ≡ true
+closing-mispredicted m is mispredicted = elim (cases_Bool (has_completed m.phase)) [
+  | inr none ↦ let idle : IsIdle m = idle-none m is none in
       absurd (none-some m.mispredicted idle.right mispredicted)
-  | inr some ↦ some
+  | inl some ↦ some
 ]
 
-closing-rests : (m : Overlap) → IsKept m → rests m.state ≡ true → IsSome m.closing
-closing-rests m is resting = elim (closing-cases m.closing) [
-  | inl none ↦ let idle : IsIdle m = subst (λ c. IsPhase c m) none is.phase in absurd (cc (sym resting ∙ idle.awake))
-  | inr some ↦ some
+closing-rests : (m : Overlap) → IsKept m → rests m.state ≡ true → has_completed m.phase ≡ true
+closing-rests m is resting = elim (cases_Bool (has_completed m.phase)) [
+  | inr none ↦ let idle : IsIdle m = idle-none m is none in absurd (cc (sym resting ∙ idle.awake))
+  | inl some ↦ some
 ]
 
 pub settled-taken : (m : Overlap) (i : ℕ) → interrupt_due m ≡ Some i → machine_after_settling m ≡ machine_after_pass (record (machine_after_segment m) { taken = Some i })
 unfolding machine_after_settling
 settled-taken m i due = ap (λ t. settled_by t (rests m.state) m.mispredicted m) due
 
-pub interrupt-unwinds : (m : Overlap) (made since i d ic k : ℕ) → IsReached m made since → m.owed ≡ true → answer m ≡ Interrupt i d ic k
+pub interrupt-unwinds : (m : Overlap) (made since i d ic k : ℕ) → IsReached m made since → is_owed m.phase ≡ true → answer m ≡ Interrupt i d ic k
     → (interrupt m.state ≡ Some i) × (d ≡ m.state.done) × (ic ≡ m.state.ic) × (k ≡ length (levels_of m)) × ((machine_after_settling m).taken ≡ Some i)
     × IsUnwound (machine_after_settling m)
 unfolding answer
@@ -260,7 +238,7 @@ pub settled-mispredicted : (m : Overlap) (behind : Option ℕ) → interrupt_due
 settled-mispredicted m None due goes mispredicted = absurd (cc mispredicted)
 settled-mispredicted m (Some h) due goes mispredicted = rw (due, goes) refl
 
-pub mispredicted-unwinds : (m : Overlap) (made since k : ℕ) → IsReached m made since → m.owed ≡ true → answer m ≡ Mispredicted k
+pub mispredicted-unwinds : (m : Overlap) (made since k : ℕ) → IsReached m made since → is_owed m.phase ≡ true → answer m ≡ Mispredicted k
     → (k ≡ length (levels_of m)) × IsUnwound (machine_after_settling m)
 unfolding answer machine_after_settling
 mispredicted-unwinds m made since k from owed is =
@@ -272,7 +250,7 @@ mispredicted-unwinds m made since k from owed is =
       subst IsUnwound (sym after_it) (unwound-passed m (machine_after_segment m).taken kept_is some),
     )
 
-pub waits-unwinds : (m : Overlap) (made since : ℕ) → IsReached m made since → m.owed ≡ true → answer m ≡ Waits
+pub waits-unwinds : (m : Overlap) (made since : ℕ) → IsReached m made since → is_owed m.phase ≡ true → answer m ≡ Waits
     → (rests m.state ≡ true) × IsUnwound (machine_after_settling m)
 unfolding answer machine_after_settling
 waits-unwinds m made since from owed is =
@@ -283,33 +261,33 @@ waits-unwinds m made since from owed is =
     (told.1, subst IsUnwound (sym after_it) (unwound-ended m kept_is some))
 
 -- the number of levels to flush, if the segment has not ended before
-dropped-going : (m : Overlap) → m.ended ≡ false → drop_count m ≡ length (levels_of m)
+dropped-going : (m : Overlap) → has_ended m.phase ≡ false → drop_count m ≡ length (levels_of m)
 unfolding drop_count
 dropped-going m going =
-    cond_both m.ended 0 (length (levels_of m)) (λ k. k ≡ length (levels_of m)) (λ over. absurd (cc (sym over ∙ going))) (λ on. refl)
+    cond_both (has_ended m.phase) 0 (length (levels_of m)) (λ k. k ≡ length (levels_of m)) (λ over. absurd (cc (sym over ∙ going))) (λ on. refl)
 
-unwound-going : (m : Overlap) → m.ended ≡ false → IsUnwound (run_ended m)
+unwound-going : (m : Overlap) → has_ended m.phase ≡ false → IsUnwound (run_ended m)
 unfolding machine_after_segment
 unwound-going m going =
-    let m' = record m { issue = opening_issue (banks_left m.closing) (m.now + 1 + length (levels_of m)); ended = true } in
-    cond_both m.ended m m' (λ (x : Overlap). IsUnwound (record x { stopped = true })) (λ over. absurd (cc (sym over ∙ going))) (λ on. unwound-by (record m' { stopped = true }) (omega arith))
+    let m' = record m { issue = opening_issue (banks_left (closing m.phase)) (m.now + 1 + length (levels_of m)); phase = Ended } in
+    cond_both (has_ended m.phase) m m' (λ (x : Overlap). IsUnwound (record x { phase = Stopped })) (λ over. absurd (cc (sym over ∙ going))) (λ on. unwound-by (record m' { phase = Stopped }) (omega arith))
 
-pub stop-unwinds : (m : Overlap) (made since : ℕ) → IsReached m made since → m.owed ≡ true
+pub stop-unwinds : (m : Overlap) (made since : ℕ) → IsReached m made since → is_owed m.phase ≡ true
     → ((run_ended m).state ≡ m.state) × (drop_count m ≡ length (levels_of m)) × IsUnwound (run_ended m)
 stop-unwinds m made since from owed =
     let is = kept from in
-    elim (closing-cases m.closing) [
-      | inl none ↦ let idle : IsIdle m = subst (λ c. IsPhase c m) none is.phase in
+    elim (cases_Bool (has_completed m.phase)) [
+      | inr none ↦ let idle : IsIdle m = idle-none m is none in
           ((ended-rest m).state, dropped-going m idle.going, unwound-going m idle.going)
-      | inr some ↦ ((ended-rest m).state, dropped-is m is some, unwound-stopped m is some)
+      | inl some ↦ ((ended-rest m).state, dropped-is m is some, unwound-stopped m is some)
     ]
 
 pub card-unwinds : (m : Overlap) (made since w : ℕ) (card : List ℕ) → IsReached m made since → MayServe m
     → (dropped_by (Some card) m ≡ length (levels_of m)) × IsUnwound (read_in_by w (Some card) m)
 card-unwinds m made since w card from may =
     let is = kept from in (
-      dropped-is m is may.1,
-      unwound-by (record (machine_after_segment m) { state = read_in m.state w (Some card) }) (omega (arith, (ended-rest m).now, ended-late m is may.1)),
+      dropped-is m is (served m.phase may),
+      unwound-by (record (machine_after_segment m) { state = read_in m.state w (Some card) }) (omega (arith, (ended-rest m).now, ended-late m is (served m.phase may))),
     )
 
 pub start-unwound : (ds : List ℕ) (n : ℕ) (s : Machine) → IsUnwound (machine_at_start ds n s)

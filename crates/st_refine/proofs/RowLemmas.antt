@@ -1,20 +1,7 @@
 -- The rows of entries determine which have completed and which are levels.
-use Rattle.std.specs.Prelude.{if◌then◌else◌, ◌-◌}
-use Rattle.std.proofs.Common.{◌≡◌, ℕ, zero, suc, ◌+◌, ◌<◌, ◌≤◌, Bool, true, false, List, length, inl, inr, Option, refl, sym, subst, ◌∙◌, ap, ap₂, arith}
-use Rattle.st_state.specs.Machine.{Machine}
-use Rattle.st_rows.specs.Rows.{issue_after_entry, tick_c}
-use Rattle.st_rows.specs.declared.entry.Entry.{Entry}
-use Rattle.st_rows.specs.declared.issue.IssueState.{IssueState}
-use Rattle.st_segment.specs.Entries.{entry}
-use Rattle.st_segment.specs.Ahead.{ahead, prepared_before}
-use Rattle.st_segment.specs.Predictions.{table_behind}
-use Rattle.st_rows.proofs.MadeLemmas.{before-cases}
-use Rattle.st_ahead.specs.Overlap.{Overlap, state_ahead, oldest_row, levels_of, last_tick_made}
-use Rattle.st_refine.specs.Reached.{IsReached}
-use Rattle.st_refine.specs.Refined.{row_before}
-use Rattle.st_refine.specs.Openings.{Opening, ExternalEvents, state_after, issue_at, StandsAt}
+use Rattle.st_refine.proofs.Common.{if◌then◌else◌, ◌-◌, ◌≡◌, ℕ, zero, suc, ◌+◌, ◌<◌, ◌≤◌, Bool, true, false, List, length, inl, inr, Option, refl, sym, subst, ◌∙◌, ap, ap₂, arith, cases_Bool, Machine, issue_after_entry, tick_c, Entry, IssueState, entry, ahead, prepared_before, table_behind, before-cases, is_owed, has_ended, Overlap, state_ahead, oldest_row, levels_of, last_tick_made, IsReached, row_before, Opening, ExternalEvents, state_after, issue_at, StandsAt}
 use Rattle.st_refine.proofs.LevelLists.{done-behind, level-early, behind-late, level-later}
-use Rattle.st_refine.proofs.Kept.{IsIdle, IsPhase, IsKept, fresh-of, kept, row-idle, closing-cases, late-fresh}
+use Rattle.st_refine.proofs.Kept.{IsIdle, IsKept, idle-none, fresh-of, has_completed, kept, row-idle, late-fresh}
 use Rattle.st_refine.proofs.SplitLemmas.{seen-machine}
 use Rattle.st_refine.proofs.LentLemmas.{oldest-late}
 
@@ -65,10 +52,10 @@ oldest-behind : (m : Overlap) → IsKept m → last_tick_made m < (oldest_row m)
 unfolding oldest_row
 oldest-behind m is =
     let behind = done-behind m.delays m.levels m.taken (state_ahead m) m.issue (seen-machine m is) is.indicator in
-    elim (closing-cases m.closing) [
-      | inl none ↦ let idle : IsIdle m = subst (λ c. IsPhase c m) none is.phase in
-          last-idle m.owed m.now _ m.issue.c (omega (arith, row-idle m idle, idle.early)) behind
-      | inr some ↦ omega (arith, last-now m.owed m.now, late-fresh m (fresh-of m is some) m.ended refl, behind)
+    elim (cases_Bool (has_completed m.phase)) [
+      | inr none ↦ let idle : IsIdle m = idle-none m is none in
+          last-idle (is_owed m.phase) m.now _ m.issue.c (omega (arith, row-idle m idle, idle.early)) behind
+      | inl some ↦ omega (arith, last-now (is_owed m.phase) m.now, late-fresh m (fresh-of m is some) (has_ended m.phase) refl, behind)
     ]
 
 pub levels-told : (m : Overlap) (made since k : ℕ) → IsReached m made since → k < length (levels_of m)

@@ -1,32 +1,12 @@
 -- The view of the levels.
-use Rattle.std.specs.Prelude.{IfSome, option_map, unwrap_or, get_or, map, replicate, ◌-◌, ◌++◌, if◌then◌else◌}
-use Rattle.std.proofs.Common.{◌≡◌, ℕ, zero, suc, ◌+◌, ◌<◌, ◌≤◌, ◌^◌, Bool, true, false, List, [], ◌∷◌, length, Option, None, Some, refl, sym, ◌∙◌, ap, arith}
-use Rattle.std.proofs.lemmas.List.{length-append, length-map, length-replicate}
-use Rattle.st_bits.specs.declared.register.TheConstants.{FIRST_INDEX_WORD}
-use Rattle.st_state.specs.Machine.{Machine, IsMachine, word}
-use Rattle.st_prep.specs.Fetch.{address_by, index_words, place_of}
-use Rattle.st_prep.specs.Plan.{plan, resolved, decode_context, side_word, needs, prepared_entry, prepared_by, suppressed_entry, entry_at as entry_of}
+use Rattle.st_refine.proofs.Common.{IfSome, option_map, unwrap_or, get_or, map, replicate, ◌-◌, if◌then◌else◌, ◌≡◌, ℕ, zero, suc, ◌+◌, ◌<◌, ◌≤◌, ◌^◌, Bool, true, false, List, [], ◌∷◌, length, Option, None, Some, refl, sym, ◌∙◌, ap, arith, length-append, length-map, length-replicate, FIRST_INDEX_WORD, Machine, IsMachine, word, address_by, index_words, place_of, plan, resolved, decode_context, side_word, needs, prepared_entry, prepared_by, suppressed_entry, plan-prepared, prediction, issue_after_entry, IssueState, ChangeKeeps, entry, predictions, table_behind, split_words, Ahead, next_ahead, ahead, issue_behind, predictions-machine, behind-none, behind-indicator, plan-keeps, Ready, is_owed, has_ended, Overlap, state_ahead, with_counter, levels_of, last_tick_made, word_before_change, level_shown, view_at_tick, lent_index_words, LevelView, counted-index, IsReached, state_before, table_before, level_seen}
+use Rattle.std.specs.Prelude.{◌++◌}
+use Rattle.st_prep.specs.Plan.{entry_at as entry_of}
 use Rattle.st_prep.specs.Ranges.{IsChange}
 use Rattle.st_prep.specs.declared.entries.ResolvedEntry.{ResolvedEntry}
 use Rattle.st_prep.specs.declared.entries.Place.{Place}
 use Rattle.st_prep.specs.declared.entries.IndexChange.{IndexChange}
-use Rattle.st_prep.proofs.PlanLemmas.{plan-prepared}
-use Rattle.st_exec.specs.Completion.{prediction}
 use Rattle.st_exec.proofs.AheadLemmas.{index-at}
-use Rattle.st_rows.specs.Rows.{issue_after_entry}
-use Rattle.st_rows.specs.declared.issue.IssueState.{IssueState}
-use Rattle.st_ring.specs.Unwinding.{ChangeKeeps}
-use Rattle.st_segment.specs.Entries.{entry}
-use Rattle.st_segment.specs.Predictions.{predictions, table_behind, split_words}
-use Rattle.st_segment.specs.Ahead.{Ahead, next_ahead, ahead, issue_behind}
-use Rattle.st_segment.proofs.PredictionLemmas.{predictions-machine, behind-none, behind-indicator}
-use Rattle.st_ring.proofs.UndoLemmas.{plan-keeps}
-use Rattle.st_ahead.specs.Overlap.{Overlap, state_ahead, with_counter, levels_of, last_tick_made}
-use Rattle.st_ahead.specs.Shown.{word_before_change, level_shown, view_at_tick, lent_index_words}
-use Rattle.st_ahead.specs.declared.events.LevelView.{LevelView}
-use Rattle.st_ahead.proofs.Settling.{counted-index}
-use Rattle.st_refine.specs.Reached.{IsReached}
-use Rattle.st_refine.specs.Refined.{state_before, table_before, level_seen}
 use Rattle.st_refine.proofs.LevelLists.{first-ones}
 use Rattle.st_refine.proofs.Kept.{IsKept, kept, idle-of, seen-idle}
 use Rattle.st_refine.proofs.InTime.{levels-few, made-ticks}
@@ -39,7 +19,7 @@ counted-machine (Some h) s is below = assumption
 
 pub seen-machine : (m : Overlap) → IsKept m → IsMachine (state_ahead m)
 unfolding state_ahead
-seen-machine m is = by-end m.ended
+seen-machine m is = by-end (has_ended m.phase)
   where
     by-end : (b : Bool) → IsMachine (if b then m.state else with_counter m.mispredicted m.state)
     by-end true = is.machine
@@ -47,7 +27,7 @@ seen-machine m is = by-end m.ended
 
 pub seen-index : (m : Overlap) → index_words (state_ahead m) ≡ index_words m.state
 unfolding state_ahead
-seen-index m = by-end m.ended
+seen-index m = by-end (has_ended m.phase)
   where
     by-end : (b : Bool) → index_words (if b then m.state else with_counter m.mispredicted m.state) ≡ index_words m.state
     by-end true = refl
@@ -58,17 +38,17 @@ seen-by : (over : Bool) (behind : Option ℕ) (h : ℕ) (s : Machine) → over �
 seen-by true behind h s going mispredicted = absurd (cc going)
 seen-by false behind h s going mispredicted = ap (λ c. with_counter c s) mispredicted
 
-pub seen-mispredicted : (m : Overlap) (h : ℕ) → m.ended ≡ false → m.mispredicted ≡ Some h → state_ahead m ≡ record m.state { ic = h }
+pub seen-mispredicted : (m : Overlap) (h : ℕ) → has_ended m.phase ≡ false → m.mispredicted ≡ Some h → state_ahead m ≡ record m.state { ic = h }
 unfolding state_ahead
-seen-mispredicted m h going mispredicted = seen-by m.ended m.mispredicted h m.state going mispredicted
+seen-mispredicted m h going mispredicted = seen-by (has_ended m.phase) m.mispredicted h m.state going mispredicted
 
-pub seen-ended : (m : Overlap) → m.ended ≡ true → state_ahead m ≡ m.state
+pub seen-ended : (m : Overlap) → has_ended m.phase ≡ true → state_ahead m ≡ m.state
 unfolding state_ahead
 seen-ended m over = ap (λ b. if b then m.state else with_counter m.mispredicted m.state) over
 
-pub seen-settled : (m : Overlap) (made since : ℕ) → IsReached m made since → m.owed ≡ false → state_ahead m ≡ m.state
+pub seen-settled : (m : Overlap) (made since : ℕ) → IsReached m made since → m.phase ≡ Ready → state_ahead m ≡ m.state
 seen-settled m made since from settled =
-    let idle = (idle-of m (kept from) settled).1 in
+    let idle = idle-of m (kept from) settled in
     seen-idle m idle.going idle.right
 
 -- ---- the whole view
@@ -83,7 +63,7 @@ last-by false now = refl
 
 pub shown-tick : (m : Overlap) (made since : ℕ) → IsReached m made since → (view_at_tick m).tick ≡ made - 1
 unfolding view_at_tick
-shown-tick m made since from = last-by m.owed m.now ∙ ap (λ k. k - 1) (sym (made-ticks from))
+shown-tick m made since from = last-by (is_owed m.phase) m.now ∙ ap (λ k. k - 1) (sym (made-ticks from))
 
 pub shown-last : (m : Overlap) → (view_at_tick m).tick ≡ last_tick_made m
 unfolding view_at_tick

@@ -1,19 +1,10 @@
 -- Signals and orders keep the invariant of the state.
-use Rattle.std.specs.Prelude.{All, IfSome}
-use Rattle.std.proofs.Common.{ℕ, ◌≡◌, ◌+◌, ◌<◌, ◌≤◌, ◌^◌, List, [], ◌∷◌, length, Option, None, Some, subst, arith}
-use Rattle.std.proofs.lemmas.List.Elements.{All-head, All-tail}
+use Rattle.st_refine.proofs.Common.{All, IfSome, ℕ, ◌≡◌, ◌+◌, ◌<◌, ◌≤◌, ◌^◌, List, [], ◌∷◌, length, Option, None, Some, subst, arith, All-head, All-tail, Machine, IsMachine, HasArea, state_with_store, word, state_with_signal, indicator_word, Order, fixed-indicators, all_stored, read_in, printed_out, kept-stored, IsCard}
 use Rattle.st_bits.specs.Storage.{words_of_storage, words_of_storage_is}
 use Rattle.st_bits.proofs.RegisterLaws.{fixed_below}
 use Rattle.st_bits.specs.Indicators.{indicator}
-use Rattle.st_state.specs.Machine.{Machine, IsMachine, HasArea, state_with_store, word}
-use Rattle.st_state.specs.Interrupts.{state_with_signal, indicator_word}
-use Rattle.st_state.specs.declared.devices.Order.{Order}
 use Rattle.st_state.proofs.Kept.{is_machine-with_word}
 use Rattle.st_state.proofs.TurnedLemmas.{turned_below}
-use Rattle.st_prep.proofs.PlanLemmas.{fixed-indicators}
-use Rattle.st_exec.specs.Transfer.{all_stored, read_in, printed_out}
-use Rattle.st_exec.proofs.MachineKept.{kept-stored}
-use Rattle.st_refine.specs.Reached.{IsCard}
 
 pub signalled-machine : (s : Machine) (i : ℕ) → IsMachine s → IsMachine (state_with_signal s i)
 signalled-machine s i m =

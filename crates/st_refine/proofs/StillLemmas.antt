@@ -1,36 +1,13 @@
 -- Signals and orders without a card do not change the view of the levels.
-use Rattle.std.specs.Prelude.{IsSome, replicate, nat_lt, nat_le, option_map, ◌-◌, if◌then◌else◌}
-use Rattle.std.proofs.Common.{◌≡◌, ℕ, zero, suc, ◌<◌, ◌≤◌, Bool, true, false, List, [], ◌∷◌, ◌++◌, length, inl, inr, Option, None, Some, refl, sym, subst, ◌∙◌, ap, ap₂, arith}
-use Rattle.std.proofs.lemmas.Bool.{ltb-true, false_from_ne_true}
-use Rattle.std.proofs.lemmas.List.{length-map}
-use Rattle.st_state.specs.Machine.{Machine, IsMachine}
-use Rattle.st_state.specs.Interrupts.{state_with_signal}
-use Rattle.st_prep.specs.Fetch.{index_words}
-use Rattle.st_prep.specs.Plan.{plan}
+use Rattle.st_refine.proofs.Common.{replicate, nat_lt, nat_le, option_map, ◌-◌, if◌then◌else◌, ◌≡◌, ℕ, zero, suc, ◌<◌, ◌≤◌, Bool, true, false, List, [], ◌∷◌, ◌++◌, length, inl, inr, Option, None, Some, refl, sym, subst, ◌∙◌, ap, ap₂, arith, ltb-true, false_from_ne_true, length-map, Machine, IsMachine, state_with_signal, index_words, plan, Prepared, prediction, row_of_entry, issue_after_entry, tick_c, Entry, IssueState, entry, RunAhead, split_words, Ahead, next_ahead, ahead, prepared_before, prediction-machine, has_ended, Overlap, state_ahead, with_counter, levels_of, last_tick_made, signalled_by, MaySignal, word_before_change, level_shown, view_at_tick, LevelView, IsReached, IsStill}
 use Rattle.st_prep.specs.BesideOrders.{AreAlikeBesideOrders}
-use Rattle.st_prep.specs.declared.entries.Prepared.{Prepared}
 use Rattle.st_prep.proofs.BesideLemmas.{plan-beside_ahead}
-use Rattle.st_exec.specs.Completion.{prediction}
 use Rattle.st_exec.proofs.BesideEntries.{beside-signalled}
-use Rattle.st_rows.specs.Rows.{row_of_entry, issue_after_entry, tick_c}
-use Rattle.st_rows.specs.declared.entry.Entry.{Entry}
-use Rattle.st_rows.specs.declared.issue.IssueState.{IssueState}
 use Rattle.st_rows.specs.declared.issue.EntryTicks.{EntryTicks}
-use Rattle.st_segment.specs.Entries.{entry}
-use Rattle.st_segment.specs.Alone.{RunAhead}
-use Rattle.st_segment.specs.Predictions.{split_words}
-use Rattle.st_segment.specs.Ahead.{Ahead, next_ahead, ahead, prepared_before}
-use Rattle.st_segment.proofs.PredictionLemmas.{prediction-machine}
 use Rattle.st_segment.proofs.SameReading.{same-index}
 use Rattle.st_segment.proofs.PassedOver.{entry-same, passed-over}
-use Rattle.st_ahead.specs.Overlap.{Overlap, state_ahead, with_counter, levels_of, last_tick_made}
-use Rattle.st_ahead.specs.Calls.{signalled_by, MaySignal}
-use Rattle.st_ahead.specs.Shown.{word_before_change, level_shown, view_at_tick}
-use Rattle.st_ahead.specs.declared.events.LevelView.{LevelView}
-use Rattle.st_refine.specs.Reached.{IsReached}
-use Rattle.st_refine.specs.Refined.{IsStill}
 use Rattle.st_refine.proofs.LevelLists.{alone-before, entry-free}
-use Rattle.st_refine.proofs.Kept.{IsKept, fresh-of, kept}
+use Rattle.st_refine.proofs.Kept.{IsKept, fresh-of, has_completed, served, kept}
 use Rattle.st_refine.proofs.SplitLemmas.{seen-machine, shown-index, shown-none, shows}
 use Rattle.st_refine.proofs.RefinedLemmas.{empty-levels}
 use Rattle.st_ahead.proofs.Signals.{counted-alike}
@@ -129,7 +106,7 @@ still-empty m x tick old new same =
 
 seen-alike : (m : Overlap) (u : Machine) → AreAlikeBesideOrders m.state u → AreAlikeBesideOrders (state_ahead m) (state_ahead (record m { state = u }))
 unfolding state_ahead
-seen-alike m u is = by-end m.ended
+seen-alike m u is = by-end (has_ended m.phase)
   where
     by-end : (b : Bool) → AreAlikeBesideOrders (if b then m.state else with_counter m.mispredicted m.state) (if b then u else with_counter m.mispredicted u)
     by-end true = is
@@ -161,10 +138,10 @@ still-going m u is none late alike =
     ∙ ap (λ t. split_words (length (levels_of m)) t s) (sym none)
     ∙ sym (shown-index m))
 
-pub still-done : (m : Overlap) (u : Machine) → IsKept m → IsSome m.closing → AreAlikeBesideOrders m.state u → IsStill m (record m { state = u })
-still-done m u is some alike = by-end m.ended refl
+pub still-done : (m : Overlap) (u : Machine) → IsKept m → has_completed m.phase ≡ true → AreAlikeBesideOrders m.state u → IsStill m (record m { state = u })
+still-done m u is some alike = by-end (has_ended m.phase) refl
   where
-    by-end : (b : Bool) → m.ended ≡ b → IsStill m (record m { state = u })
+    by-end : (b : Bool) → has_ended m.phase ≡ b → IsStill m (record m { state = u })
     by-end true over =
         let early = ((fresh-of m is some).start over).0 in
         still-empty m (record m { state = u }) refl (empty-levels m (omega (arith, early))) (empty-levels (record m { state = u }) (omega (arith, early)))
@@ -180,7 +157,7 @@ still-first m u first alike =
     (same-index m.state u alike)
 
 pub still-signalled : (m : Overlap) (made since i : ℕ) → IsReached m made since → MaySignal m → IsStill m (signalled_by i m)
-still-signalled m made since i from may = elim may.0 [
+still-signalled m made since i from may = elim may [
   | inl first ↦ still-first m (state_with_signal m.state i) first.1 (beside-signalled m.state i)
-  | inr done ↦ still-done m (state_with_signal m.state i) (kept from) done.1 (beside-signalled m.state i)
+  | inr done ↦ still-done m (state_with_signal m.state i) (kept from) (served m.phase done) (beside-signalled m.state i)
 ]

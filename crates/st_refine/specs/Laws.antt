@@ -10,7 +10,7 @@ use Rattle.st_rows.specs.BusTimes.{Read}
 use Rattle.st_rows.specs.Notes.{AreEarly, notes_of_reads}
 use Rattle.st_rows.specs.declared.bus.Bus.{Bus}
 use Rattle.st_rows.specs.declared.log.Made.{Made}
-use Rattle.st_ahead.specs.Overlap.{Overlap, levels_of, machine_at_start, state_ahead, last_tick_made}
+use Rattle.st_ahead.specs.Overlap.{Ready, Stopped, is_owed, has_ended, closing, Overlap, levels_of, machine_at_start, state_ahead, last_tick_made}
 use Rattle.st_ahead.specs.RunTo.{RunsTo}
 use Rattle.st_ahead.specs.declared.events.Row.{Row}
 use Rattle.st_refine.specs.HeldReads.{held_of_reads}
@@ -80,8 +80,8 @@ pub record AreFirstReads (ds : List ℕ) (t : ℕ) (reads : List Read) (b : Bus)
 abbrev pub BanksHaveTheFirstReads : Type 0
 BanksHaveTheFirstReads = (m : Overlap) (made since j : ℕ) (o : Opening) (changes : List ExternalEvents) →
     IsReached m made since →
-    StandsAt o changes (suc j) m → m.ended ≡ false →
-    IfSome m.closing (λ banks. (first : List Read)
+    StandsAt o changes (suc j) m →
+    IfSome (closing m.phase) (λ banks. (first : List Read)
     × AreFirstReads m.delays m.now
     (reads_of_segment m.delays m.levels o changes j) o.issue.bus first
     × (banks ≡ (bus_after_reads m.delays first o.issue.bus).banks))
@@ -141,8 +141,8 @@ pub record OpeningsAreKept : Type 0 where
       IsReached m made since → MayTick m →
       StandsAt o changes j m → StandsAt o changes (if is_done m then suc j else j)
       (machine_after_tick m)
-  pub goes : (m : Overlap) (j : ℕ) (o : Opening) (changes : List ExternalEvents) → m.owed ≡ true → answer m
-      ≡ Goes →
+  pub goes : (m : Overlap) (j : ℕ) (o : Opening) (changes : List ExternalEvents) →
+      is_owed m.phase ≡ true → answer m ≡ Goes →
       StandsAt o changes j m → StandsAt o changes j (machine_after_settling m)
   pub signal : (m : Overlap) (i j : ℕ) (o : Opening) (changes : List ExternalEvents) →
       StandsAt o changes j m →
@@ -166,23 +166,24 @@ pub record OpeningsAreKept : Type 0 where
 pub record OpeningsFollow : Type 0 where
   pub end : (m : Overlap) (made since j : ℕ) (o : Opening) (changes : List ExternalEvents) →
       IsReached m made since → MayServe m →
-      m.ended ≡ false → StandsAt o changes j m →
+      has_ended m.phase ≡ false → StandsAt o changes j m →
       StandsAt (opening_behind m.delays m.levels (length (levels_of m)) o changes j) [] 0
       (machine_after_segment m)
-  pub again : (m : Overlap) → m.ended ≡ true → machine_after_segment m ≡ m
+  pub again : (m : Overlap) → has_ended m.phase ≡ true → machine_after_segment m ≡ m
   pub stop : (m : Overlap) (j : ℕ) (o : Opening) (changes : List ExternalEvents) →
       StandsAt o changes j (machine_after_segment m) →
       StandsAt o changes j (run_ended m)
-  pub last : (m : Overlap) (made since : ℕ) → IsReached m made since → m.stopped ≡ true →
+  pub last : (m : Overlap) (made since : ℕ) → IsReached m made since → m.phase ≡ Stopped →
       MayTick m → ⊥
   pub interrupt : (m : Overlap) (made since i d ic k : ℕ) (o : Opening) (changes : List ExternalEvents) →
       IsReached m made since →
-      m.owed ≡ true → answer m ≡ Interrupt i d ic k → StandsAt o changes 0
+      is_owed m.phase ≡ true → answer m ≡ Interrupt i d ic k → StandsAt o changes 0
       (machine_after_segment m) →
       StandsAt (record o { table = Some i }) changes 0 (machine_after_settling m)
   pub mispredicted : (m : Overlap) (made since k : ℕ) (o : Opening) (changes : List ExternalEvents) →
       IsReached m made since →
-      m.owed ≡ true → answer m ≡ Mispredicted k → StandsAt o changes 0 (machine_after_segment m) →
+      is_owed m.phase ≡ true → answer m ≡ Mispredicted k →
+      StandsAt o changes 0 (machine_after_segment m) →
       StandsAt o changes 0 (machine_after_settling m)
   pub waits : (m : Overlap) → answer m ≡ Waits → machine_after_settling m ≡ machine_after_segment m
   pub card : (m : Overlap) (w : ℕ) (card : List ℕ) (o : Opening) (changes : List ExternalEvents) →
@@ -214,10 +215,10 @@ pub record RowsTellTheLevels : Type 0 where
 -- taken (`table`). It removes the oldest level, which exists (`oldest`). The row has the new count
 -- of completed instructions, the address of the entry and the tick (`row`), and the P, R and C of
 -- the oldest entry (`times`). The mark of a mispredicted branch is set if and only if the entry is
--- mispredicted (`mispredicted`). Any other tick leaves the state and the levels unchanged
--- (`passed`).
+-- mispredicted (`mispredicted`). Any other tick, in a segment that has not ended, leaves the state
+-- and the levels unchanged (`passed`).
 pub record CompletionsAreSteps : Type 0 where
-  pub table : (m : Overlap) (made since : ℕ) → IsReached m made since → m.owed ≡ false →
+  pub table : (m : Overlap) (made since : ℕ) → IsReached m made since → m.phase ≡ Ready →
       m.taken ≡ interrupt m.state
   pub state : (m : Overlap) (made since : ℕ) (row : Row) → IsReached m made since → MayTick m →
       IsEvent m (Done row) →
@@ -235,7 +236,7 @@ pub record CompletionsAreSteps : Type 0 where
   pub mispredicted : (m : Overlap) (row : Row) → IsEvent m (Done row) → (machine_after_tick m).mispredicted
       ≡ (if is_mispredicted (plan m.state m.taken) m.state then Some (plan m.state m.taken).following
       else None)
-  pub passed : (m : Overlap) → IsEvent m Passed →
+  pub passed : (m : Overlap) → has_ended m.phase ≡ false → IsEvent m Passed →
       ((machine_after_tick m).state ≡ m.state) × (levels_of (machine_after_tick m) ≡ levels_of m)
 
 -- A settle and the end of a run do not change the state (`settle`, `stop`). If the machine
@@ -247,16 +248,17 @@ pub record LevelsAreUnwound : Type 0 where
   pub settle : (m : Overlap) → (machine_after_settling m).state ≡ m.state
   pub goes : (m : Overlap) → answer m ≡ Goes → AddsOneAtMost (levels_of m)
       (levels_of (machine_after_settling m))
-  pub interrupt : (m : Overlap) (made since i d ic k : ℕ) → IsReached m made since → m.owed ≡ true →
-      answer m ≡ Interrupt i d ic k → (interrupt m.state ≡ Some i) × (d ≡ m.state.done)
-      × (ic ≡ m.state.ic)
+  pub interrupt : (m : Overlap) (made since i d ic k : ℕ) → IsReached m made since →
+      is_owed m.phase ≡ true → answer m ≡ Interrupt i d ic k →
+      (interrupt m.state ≡ Some i) × (d ≡ m.state.done) × (ic ≡ m.state.ic)
       × (k ≡ length (levels_of m)) × ((machine_after_settling m).taken ≡ Some i)
       × IsUnwound (machine_after_settling m)
-  pub mispredicted : (m : Overlap) (made since k : ℕ) → IsReached m made since → m.owed ≡ true →
-      answer m ≡ Mispredicted k → (k ≡ length (levels_of m)) × IsUnwound (machine_after_settling m)
-  pub waits : (m : Overlap) (made since : ℕ) → IsReached m made since → m.owed ≡ true →
+  pub mispredicted : (m : Overlap) (made since k : ℕ) → IsReached m made since →
+      is_owed m.phase ≡ true → answer m ≡ Mispredicted k →
+      (k ≡ length (levels_of m)) × IsUnwound (machine_after_settling m)
+  pub waits : (m : Overlap) (made since : ℕ) → IsReached m made since → is_owed m.phase ≡ true →
       answer m ≡ Waits → (rests m.state ≡ true) × IsUnwound (machine_after_settling m)
-  pub stop : (m : Overlap) (made since : ℕ) → IsReached m made since → m.owed ≡ true →
+  pub stop : (m : Overlap) (made since : ℕ) → IsReached m made since → is_owed m.phase ≡ true →
       ((run_ended m).state ≡ m.state) × (drop_count m ≡ length (levels_of m))
       × IsUnwound (run_ended m)
   pub card : (m : Overlap) (made since w : ℕ) (card : List ℕ) → IsReached m made since →
@@ -290,11 +292,11 @@ pub record TheStateIsSplit : Type 0 where
       get_or (view_at_tick m).levels k None ≡ Some (level_seen (view_at_tick m).tick k m)
   pub behind : (m : Overlap) (k : ℕ) → length (levels_of m) ≤ k →
       get_or (view_at_tick m).levels k None ≡ None
-  pub state : (m : Overlap) (made since : ℕ) → IsReached m made since → m.owed ≡ false →
+  pub state : (m : Overlap) (made since : ℕ) → IsReached m made since → m.phase ≡ Ready →
       state_ahead m ≡ m.state
-  pub mispredicted : (m : Overlap) (h : ℕ) → m.ended ≡ false → m.mispredicted ≡ Some h →
+  pub mispredicted : (m : Overlap) (h : ℕ) → has_ended m.phase ≡ false → m.mispredicted ≡ Some h →
       state_ahead m ≡ record m.state { ic = h }
-  pub ended : (m : Overlap) → m.ended ≡ true → state_ahead m ≡ m.state
+  pub ended : (m : Overlap) → has_ended m.phase ≡ true → state_ahead m ≡ m.state
 
 -- A signal, a reader order without a card, and a printer order change the state, as the clause of
 -- each call says, but not the view of the levels and of the index words. Without a card no level is

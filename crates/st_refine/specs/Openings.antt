@@ -6,7 +6,7 @@
 -- Change: no page fixes these definitions, since no contract of a program unfolds to them; they
 -- change together with the clauses, definitions and laws that name them. docs/inside.md describes
 -- the subject.
-use Rattle.std.specs.Prelude.{ℕ, zero, suc, ◌≡◌, ◌≤◌, ◌==◌, false, if◌then◌else◌, List, [], ◌∷◌, ◌++◌, All, Option, None, IfSome}
+use Rattle.std.specs.Prelude.{ℕ, zero, suc, ◌≡◌, ◌≤◌, ◌==◌, if◌then◌else◌, List, [], ◌∷◌, ◌++◌, All, Option, None, IfSome}
 use Rattle.st_state.specs.Machine.{Machine}
 use Rattle.st_state.specs.Interrupts.{state_with_signal}
 use Rattle.st_exec.specs.Completion.{prediction}
@@ -21,7 +21,7 @@ use Rattle.st_segment.specs.Entries.{entry}
 use Rattle.st_segment.specs.Predictions.{table_behind}
 use Rattle.st_segment.specs.Ahead.{next_ahead, reads_to_end, banks_at_end, issue_behind_end}
 use Rattle.st_ahead.specs.Forecast.{asked_ahead}
-use Rattle.st_ahead.specs.Overlap.{Overlap, last_tick_made}
+use Rattle.st_ahead.specs.Overlap.{closing, Overlap, last_tick_made}
 
 -- ---- external changes
 
@@ -124,5 +124,5 @@ pub record StandsAt (o : Opening) (changes : List ExternalEvents) (j : ℕ) (m :
   pub table : m.taken ≡ table_behind j o.table
   pub done : 1 ≤ j → m.issue.c ≤ last_tick_made m
   pub before : All (λ x. x.done ≤ m.state.done) changes
-  pub banks : m.ended ≡ false → IfSome m.closing (λ b. b
+  pub banks : IfSome (closing m.phase) (λ b. b
       ≡ banks_behind m.delays m.levels o changes j)

@@ -9,13 +9,13 @@
 -- Change: no page fixes these definitions, since no contract of a program unfolds to them; they
 -- change together with the clauses, definitions and laws that name them. docs/inside.md describes
 -- the subject.
-use Rattle.std.specs.Prelude.{ℕ, ◌≡◌, ◌+◌, ◌≤◌, ◌<◌, ◌^◌, true, false, if◌then◌else◌, List, length, All, Option, Some, IsSome, IfSome}
+use Rattle.std.specs.Prelude.{ℕ, ◌≡◌, ◌+◌, ◌≤◌, ◌<◌, ◌^◌, false, if◌then◌else◌, List, length, All, Option, Some, IsSome, IfSome}
 use Rattle.st_bits.specs.declared.limits.TheConstants.{MOST_DELAY}
 use Rattle.st_state.specs.Machine.{Machine, IsMachine}
 use Rattle.st_state.specs.declared.devices.Order.{Order}
 use Rattle.st_rows.specs.Ranges.{AreDelaysUpTo}
-use Rattle.st_ahead.specs.Overlap.{Overlap, machine_at_start}
-use Rattle.st_ahead.specs.Calls.{is_done, machine_after_tick, machine_after_settling, run_ended, signalled_by, read_in_by, printed_by, MaySignal, MayServe}
+use Rattle.st_ahead.specs.Overlap.{Ready, Overlap, machine_at_start}
+use Rattle.st_ahead.specs.Calls.{is_done, machine_after_tick, machine_after_settling, run_ended, signalled_by, read_in_by, printed_by, MaySettle, MaySignal, MayServe}
 
 -- a machine can be created: n levels, 1 to 8, delays of 1 to 255 ticks, and a state with interrupts
 -- disabled that does not wait
@@ -30,7 +30,7 @@ pub record CanStart (ds : List ℕ) (n : ℕ) (s : Machine) : Type 0 where
 -- a tick may be made: no settle is owed, and the tick and the count of completed instructions are
 -- below 2^63
 pub record MayTick (m : Overlap) : Type 0 where
-  pub settled : m.owed ≡ false
+  pub ready : m.phase ≡ Ready
   pub tick : m.now < 2 ^ 63
   pub done : m.state.done < 2 ^ 63
 
@@ -48,8 +48,7 @@ pub data IsReached : Overlap → ℕ → ℕ → Type 0 where
       IsReached (machine_at_start ds n s) 0 0
   Ticks : (m : Overlap) (made since : ℕ) → IsReached m made since → MayTick m
       → IsReached (machine_after_tick m) (made + 1) (if is_done m then 0 else since + 1)
-  Settles : (m : Overlap) (made since : ℕ) → IsReached m made since → m.owed ≡ true → m.stopped
-      ≡ false
+  Settles : (m : Overlap) (made since : ℕ) → IsReached m made since → MaySettle m
       → IsReached (machine_after_settling m) made since
   Signals : (m : Overlap) (made since i : ℕ) → IsReached m made since → i ≤ 13 → MaySignal m
       → IsReached (signalled_by i m) made since
@@ -67,7 +66,7 @@ pub data IsReached : Overlap → ℕ → ℕ → Type 0 where
 abbrev pub start_of : {m : Overlap} {made since : ℕ} → IsReached m made since → Overlap
 start_of (Starts ds n s can) = machine_at_start ds n s
 start_of (Ticks m made since reached may) = start_of reached
-start_of (Settles m made since reached owed stands) = start_of reached
+start_of (Settles m made since reached may) = start_of reached
 start_of (Signals m made since i reached known may) = start_of reached
 start_of (Reads m made since order card reached given fits may) = start_of reached
 start_of (Prints m made since reached given may) = start_of reached

@@ -1,33 +1,12 @@
 -- The bound of the ticks of a run by the number of completed instructions.
-use Rattle.std.specs.Prelude.{All, nat_lt}
-use Rattle.std.proofs.Common.{◌≡◌, ℕ, zero, suc, ◌+◌, ◌*◌, ◌≤◌, List, [], ◌∷◌, length, Option, None, sym, subst, arith}
-use Rattle.std.proofs.Math.Nat.{mul-add}
-use Rattle.std.proofs.lemmas.List.Elements.{All-replicate, All-weaker}
-use Rattle.st_state.specs.Machine.{Machine}
-use Rattle.st_prep.proofs.Choices.{of_choice}
-use Rattle.st_exec.specs.Completion.{prediction}
-use Rattle.st_run.specs.Run.{Scene}
-use Rattle.st_banks.specs.Bank.{idle_banks}
+use Rattle.st_run.proofs.Common.{All, nat_lt, ◌≡◌, ℕ, zero, suc, ◌+◌, ◌*◌, ◌≤◌, List, [], ◌∷◌, length, Option, None, sym, subst, arith, mul-add, All-replicate, All-weaker, Machine, of_choice, prediction, Scene, idle_banks, AreDelaysUpTo, IsEntryInTime, IsTight, row_of_entry, tick_c, issue_after_entry, IssueState, entry, Ahead, ahead, prepared_before, reads_to_end, entry-ranges, Timed, IsScene, Moment, Standing, moment_at_start, next_scene, next_state, ends_segment, next_segment, next_issue, standing_at, next_row, issue_after, entries_behind, entry_of_moment, next_moment, timed_from, opening-tight, free-before_done, interrupt-below, interrupt}
 use Rattle.st_banks.specs.declared.answers.TheConstants.{BANKS}
-use Rattle.st_rows.specs.Ranges.{AreDelaysUpTo, IsEntryInTime, IsTight}
-use Rattle.st_rows.specs.Rows.{row_of_entry, tick_c, issue_after_entry}
 use Rattle.st_rows.specs.Asked.{made_before}
-use Rattle.st_rows.specs.declared.issue.IssueState.{IssueState}
 use Rattle.st_rows.proofs.Served.{made-bounds}
 use Rattle.st_rows.proofs.Stages.{c-within}
 use Rattle.st_rows.proofs.Tight.{tight-after}
-use Rattle.st_segment.specs.Entries.{entry}
-use Rattle.st_segment.specs.Ahead.{Ahead, ahead, prepared_before, reads_to_end}
-use Rattle.st_segment.proofs.EntryRanges.{entry-ranges}
-use Rattle.st_run.specs.Events.{Timed}
-use Rattle.st_run.specs.Scenes.{IsScene}
-use Rattle.st_run.specs.Moments.{Moment, Standing, moment_at_start, next_scene, next_state, ends_segment, next_segment, next_issue, standing_at, next_row, issue_after, entries_behind, entry_of_moment, next_moment}
-use Rattle.st_run.specs.TimedRun.{timed_from}
 use Rattle.st_run.proofs.SceneLemmas.{settled-scene, stepped-scene}
 use Rattle.st_run.proofs.EachEvent.{timed-each, next-more}
-use Rattle.st_refine.proofs.InTime.{opening-tight, free-before_done}
-use Rattle.st_refine.proofs.Kept.{interrupt-below}
-use Rattle.st_exec.specs.Step.{interrupt}
 
 -- ---- entries in flight
 

@@ -1,32 +1,10 @@
 -- The decision between two entries.
-use Rattle.std.specs.Prelude.{IfSome, is_none, is_some, if◌then◌else◌, option_map}
-use Rattle.std.proofs.Common.{◌≡◌, ◌≢◌, ℕ, ◌+◌, ◌<◌, ◌≤◌, Bool, true, false, ◌||◌, List, [], Option, None, Some, refl, sym, subst, ◌∙◌, ap, arith}
-use Rattle.st_state.specs.Machine.{Machine, IsMachine}
-use Rattle.st_prep.proofs.Choices.{of_choice}
-use Rattle.st_exec.specs.Step.{rests, interrupt}
-use Rattle.st_card.specs.declared.control_cards.Signal.{Signal}
-use Rattle.st_run.specs.Run.{Scene, interlude}
-use Rattle.st_rows.specs.Rows.{row_of_entry, tick_c}
-use Rattle.st_rows.specs.Ranges.{IsEntryInTime, AreDelaysUpTo}
-use Rattle.st_rows.specs.declared.entry.Entry.{Entry}
-use Rattle.st_rows.specs.declared.issue.IssueState.{IssueState}
-use Rattle.st_segment.specs.Entries.{entry}
-use Rattle.st_segment.proofs.EntryRanges.{entry-ranges}
-use Rattle.st_ahead.specs.Overlap.{Overlap, state_ahead, levels_of, interrupt_due, oldest_row, machine_between_ticks}
-use Rattle.st_ahead.specs.Calls.{machine_after_segment, run_ended, machine_after_settling as settled_of, settled_by, machine_after_pass, answer, answer_by}
+use Rattle.st_run.proofs.Common.{IfSome, is_none, is_some, if◌then◌else◌, option_map, ◌≡◌, ◌≢◌, ℕ, ◌+◌, ◌<◌, ◌≤◌, Bool, true, false, ◌||◌, List, [], Option, None, Some, refl, sym, subst, ◌∙◌, ap, arith, Machine, IsMachine, of_choice, rests, interrupt, Signal, Scene, interlude, row_of_entry, tick_c, IsEntryInTime, AreDelaysUpTo, Entry, IssueState, entry, entry-ranges, Ready, Stopped, Overlap, state_ahead, levels_of, interrupt_due, oldest_row, machine_between_ticks, machine_after_segment, run_ended, settled_by, machine_after_pass, answer, answer_by, Moment, standing_at, next_scene, next_state, ends_segment, next_issue, next_segment, has_card, has_waited, IsScene, Together, scene_of, moment_of, AreTexts, IsBehindEntry, IsBeforeEntry, IsChoice, choice_of, IsDecidedBy, IsDecided, RunGoesOn, RunPhase, Before, AtEnd, Over, Decided, interrupt-below}
+use Rattle.st_ahead.specs.Calls.{machine_after_settling as settled_of}
 use Rattle.st_ahead.specs.declared.events.Settled.{Settled}
-use Rattle.st_run.specs.Moments.{Moment, standing_at, next_scene, next_state, ends_segment, next_issue, next_segment, has_card, has_waited}
-use Rattle.st_run.specs.Scenes.{IsScene}
-use Rattle.st_run.specs.Together.{Together, scene_of, moment_of, AreTexts, IsBehindEntry, IsBeforeEntry}
-use Rattle.st_run.specs.Between.{IsChoice, choice_of, IsDecidedBy}
-use Rattle.st_run.specs.Leaving.{IsDecided, RunGoesOn}
-use Rattle.st_run.specs.declared.run_phase.RunPhase.{RunPhase}
-use Rattle.st_run.specs.declared.run_phase.RunPhase.TheVariants.{Before, AtEnd, Over}
-use Rattle.st_run.specs.declared.leaving.Decided.{Decided}
 use Rattle.st_run.proofs.SceneLemmas.{settled-scene}
 use Rattle.st_run.proofs.InterludeLemmas.{HasCome}
 use Rattle.st_run.proofs.EndedLemmas.{opened, stopped-none, by_now, ended-since, since-is}
-use Rattle.st_refine.proofs.Kept.{interrupt-below}
 
 -- ---- the result of a settle
 
@@ -66,17 +44,11 @@ row-later ds n now f e is late = omega (arith, is.costs.0)
 
 -- the machine before the next entry, with the issue state f
 abbrev going : Overlap → Machine → Option ℕ → IssueState → Overlap
-going o s t f = record o { state = s; taken = t; issue = f; owed = false; ended = false; mispredicted = None; closing = None; now = o.now + 1 }
+going o s t f = record o { state = s; taken = t; issue = f; phase = Ready; mispredicted = None; now = o.now + 1 }
 
 -- the machine between two ticks, with the pending interrupt taken
 abbrev between_by : Overlap → Overlap
 between_by m = machine_between_ticks m.delays m.levels m.state (interrupt m.state) m.issue m.now
-
-going-between : (o : Overlap) (s : Machine) (t : Option ℕ) (f : IssueState) → o.stopped ≡ false → t ≡ interrupt s
-    → going o s t f ≡ between_by (going o s t f)
-going-between o s t f stands table =
-    ap (λ (k : Option ℕ). going o s k f) table
-    ∙ ap (λ b. record (going o s (interrupt s) f) { stopped = b }) stands
 
 going-before : (b n : Together) (s : Machine) (t : Option ℕ) (f : IssueState) → IsBehindEntry b → n.machine ≡ going b.machine s t f
     → IsScene (scene_of n) → t ≡ interrupt s → rests s ≡ false → b.machine.now ≤ f.c → IsBeforeEntry n
@@ -92,7 +64,7 @@ going-before b n s t f is same scene table awake late =
         scene = scene;
       };
       ready = record {
-        between = subst (λ (m : Overlap). m ≡ between_by m) (sym same) (going-between o s t f is.stands table);
+        between = subst (λ (m : Overlap). m ≡ between_by m) (sym same) (ap (λ (k : Option ℕ). going o s k f) table);
         awake = ap rests state ∙ awake;
         early =
             subst (λ (m : Overlap). m.now ≤ (oldest_row m).c) (sym same)
@@ -210,8 +182,8 @@ module _ (b t : Together) (text : Option (List ℕ)) (over : Bool) (is : IsBehin
 
   stops : (n : Together) → n ≡ record t { machine = n.machine } → n.machine ≡ run_ended t.machine → (scene_of n ≡ next_scene m) × (levels_of n.machine ≡ [])
   stops n rest after =
-      let same : n.machine ≡ record (opened b.machine s) { stopped = true } =
-      after ∙ ap (λ (x : Overlap). record x { stopped = true }) (ended-since b t.machine over is came.since) in
+      let same : n.machine ≡ record (opened b.machine s) { phase = Stopped } =
+      after ∙ ap (λ (x : Overlap). record x { phase = Stopped }) (ended-since b t.machine over is came.since) in
       (scene-is n rest (ap (λ (x : Overlap). x.state) same), ap levels_of same ∙ stopped-none b.machine s)
 
   way-is : (turn : RunPhase) (left : ℕ) (d : Decided) (n : Together) → n ≡ record t { machine = n.machine }

@@ -1,17 +1,6 @@
 -- The events of a timed run: those of its first moment, followed by the rest.
-use Rattle.std.specs.List.{flat_map}
-use Rattle.std.proofs.Common.{◌≡◌, ℕ, zero, suc, ◌+◌, ◌≤◌, ◌<◌, ◌⊎◌, Bool, true, false, if◌then◌else◌, List, [], ◌∷◌, ◌++◌, inl, inr, refl, sym, ap, ◌∙◌, append_assoc, arith, map}
-use Rattle.std.specs.Prelude.{nat_lt}
-use Rattle.std.proofs.lemmas.Bool.{cases_Bool, ltb-true, ltb-false, lt-ltb}
-use Rattle.st_prep.proofs.Choices.{of_choice}
-use Rattle.st_exec.specs.Step.{rests}
-use Rattle.st_run.specs.Course.{Course, course}
-use Rattle.st_run.specs.Run.{Scene, interlude, state_next, scenes, run}
-use Rattle.st_run.specs.Events.{Timed}
-use Rattle.st_run.specs.Order.{AreRising}
-use Rattle.st_rows.specs.Rows.{row_of_entry, tick_c, issue_after_entry}
-use Rattle.st_run.specs.Moments.{Moment, Standing, next_state, ends_segment, next_segment, next_issue, standing_at, next_row, next_moment, moments}
-use Rattle.st_run.specs.TimedRun.{snapshots_from, events_between, until_done, last_events, told_from, timed_from}
+use Rattle.st_run.proofs.Common.{flat_map, ◌≡◌, ℕ, zero, suc, ◌≤◌, ◌<◌, ◌⊎◌, Bool, true, false, List, [], ◌∷◌, ◌++◌, inl, inr, refl, sym, ap, ◌∙◌, append_assoc, arith, nat_lt, cases_Bool, ltb-true, ltb-false, lt-ltb, of_choice, rests, Course, course, Scene, interlude, state_next, scenes, run, Timed, AreRising, row_of_entry, tick_c, issue_after_entry, Moment, Standing, next_state, ends_segment, next_segment, next_issue, standing_at, next_row, next_moment, moments, snapshots_from, events_between, until_done, last_events, told_from, timed_from}
+use Rattle.std.proofs.Common.{if◌then◌else◌, map}
 
 -- ---- the ticks of moments
 

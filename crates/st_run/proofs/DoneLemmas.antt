@@ -1,17 +1,7 @@
 -- The transition between two steps does not change the count of completed instructions, and a step
 -- adds one.
-use Rattle.std.specs.Prelude.{slice_get}
-use Rattle.std.proofs.Common.{◌≡◌, ℕ, List, Bool, true, false, nat_le, Option, None, Some, refl, ◌∙◌, if◌then◌else◌}
-use Rattle.st_state.specs.Machine.{Machine}
-use Rattle.st_state.specs.Orders.{next_device}
-use Rattle.st_state.specs.declared.devices.Order.{Order}
-use Rattle.st_state.specs.declared.devices.Device.{Device}
-use Rattle.st_state.specs.declared.devices.Device.TheVariants.{Reader, Printer}
-use Rattle.st_exec.specs.Step.{rests}
-use Rattle.st_exec.specs.Transfer.{read_in}
-use Rattle.st_card.specs.declared.control_cards.Signal.{Signal}
-use Rattle.st_run.specs.Run.{Scene, with_due_signals, with_signals_while, if_due, with_due_orders, with_device, with_order_at_rest, with_wait, interlude, uneventful, with_order}
-use Rattle.st_refine.proofs.InTime.{all_stored-done}
+use Rattle.st_run.proofs.Common.{slice_get, ◌≡◌, ℕ, List, Bool, true, false, Option, None, Some, refl, ◌∙◌, Machine, next_device, Order, Device, Reader, Printer, rests, read_in, Signal, Scene, with_due_signals, with_signals_while, if_due, with_due_orders, with_device, with_order_at_rest, with_wait, interlude, uneventful, with_order, all_stored-done}
+use Rattle.std.proofs.Common.{nat_le, if◌then◌else◌}
 use Rattle.st_run.proofs.SignalLemmas.{kept-while}
 
 either : {A : Type 0} (f : A → ℕ) (n : ℕ) (b : Bool) (x y : A) → f x ≡ n → f y ≡ n → f (if b then x else y) ≡ n

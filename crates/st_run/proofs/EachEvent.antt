@@ -1,15 +1,5 @@
 -- Properties of each event of a run, by the count of completed instructions and the tick.
-use Rattle.std.specs.Prelude.{All, map, reverse}
-use Rattle.std.proofs.Common.{◌≡◌, ℕ, zero, suc, ◌+◌, List, [], ◌∷◌, ◌++◌, sym, subst, ◌∙◌, ap}
-use Rattle.std.proofs.lemmas.List.Elements.{All-nil, All-cons, All-append}
-use Rattle.st_prep.proofs.Choices.{of_choice}
-use Rattle.st_exec.specs.Step.{interrupt, rests}
-use Rattle.st_exec.proofs.StepLemmas.{step-done}
-use Rattle.st_segment.specs.Ahead.{Ahead}
-use Rattle.st_run.specs.Run.{Ends, interlude, interrupts_by}
-use Rattle.st_run.specs.Events.{Timed, drop_of}
-use Rattle.st_run.specs.Moments.{Moment, Standing, next_state, ends_segment, standing_at, next_moment}
-use Rattle.st_run.specs.TimedRun.{event_at, ticks_before, snapshots_from, snapshot_at, last_snapshot_at, drops, drops_if_ends, happening_at, events_between, completion, until_done, last_events, timed_from}
+use Rattle.st_run.proofs.Common.{All, map, reverse, ◌≡◌, ℕ, zero, suc, ◌+◌, List, [], ◌∷◌, ◌++◌, sym, subst, ◌∙◌, ap, All-nil, All-cons, All-append, of_choice, interrupt, rests, step-done, Ahead, Ends, interlude, interrupts_by, Timed, drop_of, Moment, Standing, next_state, ends_segment, standing_at, next_moment, event_at, ticks_before, snapshots_from, snapshot_at, last_snapshot_at, drops, drops_if_ends, happening_at, events_between, completion, until_done, last_events, timed_from}
 use Rattle.st_run.proofs.CourseLemmas.{timed-none, timed-step}
 use Rattle.st_run.proofs.DoneLemmas.{settled-done}
 

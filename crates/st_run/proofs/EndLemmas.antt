@@ -1,16 +1,8 @@
 -- The bound of the end of a run.
-use Rattle.std.proofs.Common.{◌≡◌, ℕ, zero, suc, ◌+◌, ◌*◌, ◌≤◌, Bool, true, false, if◌then◌else◌, List, ◌++◌, sym, subst, arith}
-use Rattle.std.proofs.Math.Nat.{mul-add}
-use Rattle.st_exec.specs.Step.{rests}
-use Rattle.st_run.specs.Run.{Scene, Transition, interlude, scene_after_step, run}
+use Rattle.st_run.proofs.Common.{◌≡◌, ℕ, zero, suc, ◌+◌, ◌*◌, ◌≤◌, Bool, true, false, List, ◌++◌, sym, subst, arith, mul-add, rests, Scene, Transition, interlude, scene_after_step, run, AreDelaysUpTo, Timed, Moment, moment_at_start, next_scene, next_state, standing_at, next_moment, IsScene, snapshots_from, events_between, until_done, last_events, timed_from, last_completion}
+use Rattle.std.proofs.Common.{if◌then◌else◌}
 use Rattle.st_run.proofs.Runs.{transition_at_end, goes_on, run-none, run-step}
 use Rattle.st_run.proofs.CourseLemmas.{timed-none, timed-step}
-use Rattle.st_rows.specs.Ranges.{AreDelaysUpTo}
-use Rattle.st_run.specs.Events.{Timed}
-use Rattle.st_run.specs.Moments.{Moment, moment_at_start, next_scene, next_state, standing_at, next_moment}
-use Rattle.st_run.specs.Scenes.{IsScene}
-use Rattle.st_run.specs.TimedRun.{snapshots_from, events_between, until_done, last_events, timed_from}
-use Rattle.st_run.specs.Order.{last_completion}
 use Rattle.st_run.proofs.Bounds.{IsMoment, HasTime, next-is, next-time, start-is}
 use Rattle.st_run.proofs.DoneLemmas.{settled-done}
 use Rattle.st_run.proofs.ShownLemmas.{last-append, last_events-tick}

@@ -1,25 +1,9 @@
 -- The end of a segment does not depend on signals and orders without a card.
-use Rattle.std.specs.Prelude.{if◌then◌else◌, nat_lt}
-use Rattle.std.proofs.Common.{◌≡◌, ℕ, zero, suc, ◌+◌, ◌<◌, ◌≤◌, Bool, true, false, List, [], ◌∷◌, length, Option, None, refl, sym, ◌∙◌, ap, arith}
-use Rattle.std.proofs.lemmas.Bool.{ltb-true, le-ltb, false_from_ne_true}
-use Rattle.st_state.specs.Machine.{Machine, IsMachine}
-use Rattle.st_prep.specs.BesideOrders.{AreAlikeBesideOrders}
-use Rattle.st_exec.specs.Completion.{prediction}
-use Rattle.st_banks.specs.declared.answers.LastAnswers.{LastAnswers}
-use Rattle.st_rows.specs.Rows.{opening_issue, row_of_entry, issue_after_entry, address_tick, preparation_tick, tick_a, tick_p}
-use Rattle.st_rows.specs.declared.entry.Entry.{Entry}
-use Rattle.st_rows.specs.declared.issue.IssueState.{IssueState}
-use Rattle.st_segment.specs.Entries.{entry}
-use Rattle.st_segment.specs.Predictions.{predictions}
+use Rattle.st_run.proofs.Common.{if◌then◌else◌, nat_lt, ◌≡◌, ℕ, zero, suc, ◌+◌, ◌<◌, ◌≤◌, Bool, true, false, List, [], ◌∷◌, length, Option, None, refl, sym, ◌∙◌, ap, arith, ltb-true, le-ltb, false_from_ne_true, Machine, IsMachine, AreAlikeBesideOrders, prediction, LastAnswers, opening_issue, row_of_entry, issue_after_entry, address_tick, preparation_tick, tick_a, tick_p, Entry, IssueState, entry, predictions, Ahead, ahead, prepared_before, Ended, Stopped, has_ended, closing, Overlap, state_ahead, with_counter, levels_of, machine_after_segment, banks_left, MayServe, Together, IsBehindEntry, IsSince, counted-machine}
 use Rattle.st_segment.specs.Alone.{RunAhead}
-use Rattle.st_segment.specs.Ahead.{Ahead, ahead, prepared_before}
 use Rattle.st_segment.proofs.PredictionLemmas.{prediction-machine}
 use Rattle.st_segment.proofs.PassedOver.{entry-same, passed-over}
-use Rattle.st_ahead.specs.Overlap.{Overlap, state_ahead, with_counter, levels_of}
-use Rattle.st_ahead.specs.Calls.{machine_after_segment, banks_left, MayServe}
-use Rattle.st_run.specs.Together.{Together, IsBehindEntry, IsSince}
 use Rattle.st_ahead.proofs.Signals.{counted-alike}
-use Rattle.st_refine.proofs.SplitLemmas.{counted-machine}
 use Rattle.st_refine.proofs.StillLemmas.{behind-later}
 use Rattle.st_refine.proofs.OpeningLemmas.{ended-again}
 
@@ -66,8 +50,8 @@ count-alike ds n now (suc k) s u f m alike late =
 abbrev pub opened : Overlap → Machine → Overlap
 opened o s = record o {
   state = s;
-  issue = opening_issue (banks_left o.closing) (o.now + 1 + length (levels_of o));
-  ended = true;
+  issue = opening_issue (banks_left (closing o.phase)) (o.now + 1 + length (levels_of o));
+  phase = Ended;
 }
 
 levels-alike : (t : Together) (u : Machine) → IsBehindEntry t → AreAlikeBesideOrders t.machine.state u
@@ -75,7 +59,7 @@ levels-alike : (t : Together) (u : Machine) → IsBehindEntry t → AreAlikeBesi
 unfolding levels_of state_ahead
 levels-alike t u is alike =
     let o = t.machine in
-    rw (is.going, is.table)
+    rw (is.phase, is.table)
     (sym (count-alike o.delays o.levels o.now o.levels (with_counter o.mispredicted o.state) (with_counter o.mispredicted u) o.issue
     (counted-machine o.mispredicted o.state is.kept.scene.machine is.counter) (counted-alike o.mispredicted o.state u alike) (omega (arith, is.last))))
 
@@ -85,19 +69,19 @@ unfolding machine_after_segment
 ended-first t u is alike =
     let o = t.machine in
     let v = record o { state = u } in
-    ap (λ b. if b then v else opened v u) is.going
-    ∙ ap (λ k. record o { state = u; issue = opening_issue (banks_left o.closing) (o.now + 1 + k); ended = true }) (levels-alike t u is alike)
+    ap (λ p. if has_ended p then v else opened v u) is.phase
+    ∙ ap (λ k. record o { state = u; issue = opening_issue (banks_left (closing o.phase)) (o.now + 1 + k); phase = Ended }) (levels-alike t u is alike)
 
 pub ended-behind : (t : Together) → IsBehindEntry t → machine_after_segment t.machine ≡ opened t.machine t.machine.state
 unfolding machine_after_segment
-ended-behind t is = ap (λ b. if b then t.machine else opened t.machine t.machine.state) is.going
+ended-behind t is = ap (λ p. if has_ended p then t.machine else opened t.machine t.machine.state) is.phase
 
 -- the machine after the end of the segment, if only signals and orders occurred
 pub ended-since : (b : Together) (m : Overlap) (over : Bool) → IsBehindEntry b → IsSince b.machine over m
     → machine_after_segment m ≡ opened b.machine m.state
 ended-since b m true is since =
     let same : m ≡ opened b.machine m.state = since.machine ∙ ap (λ (o : Overlap). record o { state = m.state }) (ended-behind b is) in
-    ended-again m (ap (λ (o : Overlap). o.ended) same) ∙ same
+    ended-again m (ap (λ (o : Overlap). has_ended o.phase) same) ∙ same
 ended-since b m false is since = ap machine_after_segment since.machine ∙ ended-first b m.state is (since.alike refl)
 
 -- the current machine, by whether the segment has ended
@@ -113,7 +97,7 @@ since-is b m false is since = since.machine
 
 pub ended-state : (m : Overlap) → (machine_after_segment m).state ≡ m.state
 unfolding machine_after_segment
-ended-state m = kept m.ended
+ended-state m = kept (has_ended m.phase)
   where
     kept : (b : Bool) → (if b then m else opened m m.state).state ≡ m.state
     kept true = refl
@@ -121,11 +105,11 @@ ended-state m = kept m.ended
 
 pub ended-serves : (m : Overlap) → MayServe m → MayServe (machine_after_segment m)
 unfolding machine_after_segment
-ended-serves m may = kept m.ended
+ended-serves m may = kept (has_ended m.phase)
   where
     kept : (b : Bool) → MayServe (if b then m else opened m m.state)
     kept true = may
-    kept false = may
+    kept false = refl
 
 -- no entry is in flight right after the end of a segment
 pub opening-none : (ds : List ℕ) (n k : ℕ) (t : Option ℕ) (s : Machine) (banks : LastAnswers) (start now : ℕ) → now ≤ start
@@ -137,6 +121,6 @@ opening-none ds n (suc k) t s banks start now early =
     let late : now ≤ p = omega arith in
     rw (le-ltb p now late) refl
 
-pub stopped-none : (o : Overlap) (s : Machine) → levels_of (record (opened o s) { stopped = true }) ≡ []
+pub stopped-none : (o : Overlap) (s : Machine) → levels_of (record (opened o s) { phase = Stopped }) ≡ []
 unfolding levels_of state_ahead
-stopped-none o s = opening-none o.delays o.levels o.levels o.taken s (banks_left o.closing) (o.now + 1 + length (levels_of o)) o.now (omega arith)
+stopped-none o s = opening-none o.delays o.levels o.levels o.taken s (banks_left (closing o.phase)) (o.now + 1 + length (levels_of o)) o.now (omega arith)

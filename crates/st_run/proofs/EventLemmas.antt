@@ -1,18 +1,5 @@
 -- Successive external events of a machine.
-use Rattle.std.specs.Prelude.{nat_lt, option_map, map, if◌then◌else◌}
-use Rattle.std.specs.Option.{option_or}
-use Rattle.std.proofs.lemmas.Bool.Decides.{nat_tests}
-use Rattle.std.proofs.Common.{◌≡◌, ◌≤◌, ◌||◌, ◌++◌, ℕ, Bool, true, false, List, [], ◌∷◌, length, Option, None, Some, refl, ap, sym, subst, ◌∙◌, arith, length-append}
-use Rattle.st_state.specs.Machine.{Machine}
-use Rattle.st_state.specs.Orders.{next_device}
-use Rattle.st_state.specs.declared.devices.Device.{Device}
-use Rattle.st_exch.specs.Printer.{line_of_words}
-use Rattle.st_exec.specs.Step.{rests}
-use Rattle.st_run.specs.Run.{Scene, Transition, PlainEvent, and_then, uneventful, with_device, with_order_at_rest, with_wait}
-use Rattle.st_run.specs.Together.{AreTexts}
-use Rattle.st_run.specs.ReportedEvents.{reported_plain_event}
-use Rattle.st_run.specs.ExternalEvents.{PendingEvents, ArePrinted, HasHappened, scene_at, joined_of, ends_by}
-use Rattle.st_run.specs.declared.between.Interlude.{Interlude}
+use Rattle.st_run.proofs.Common.{nat_lt, option_map, map, if◌then◌else◌, option_or, nat_tests, ◌≡◌, ◌≤◌, ◌||◌, ◌++◌, ℕ, Bool, true, false, List, [], ◌∷◌, length, Option, None, Some, refl, ap, sym, subst, ◌∙◌, arith, length-append, Machine, next_device, Device, line_of_words, rests, Scene, Transition, PlainEvent, and_then, uneventful, with_device, with_order_at_rest, with_wait, AreTexts, reported_plain_event, PendingEvents, ArePrinted, HasHappened, scene_at, joined_of, ends_by, Interlude}
 use Rattle.st_run.proofs.SignalLemmas.{wait-none}
 
 abbrev pub nothing : Interlude

@@ -1,26 +1,11 @@
 -- Before the next entry: a snapshot, or the completion of that entry.
-use Rattle.std.specs.Prelude.{slice_get, IfSome}
-use Rattle.std.proofs.Common.{◌≡◌, ℕ, ◌+◌, ◌-◌, ◌<◌, ◌≤◌, ◌^◌, List, [], ◌∷◌, Option, None, Some, refl, sym, ◌∙◌, ap, subst, arith}
-use Rattle.std.proofs.lemmas.List.Elements.{All-tail}
-use Rattle.st_prep.specs.Plan.{plan}
-use Rattle.st_exec.specs.Step.{interrupt, address}
+use Rattle.st_run.proofs.Common.{slice_get, IfSome, ◌≡◌, ℕ, ◌+◌, ◌-◌, ◌<◌, ◌≤◌, ◌^◌, List, [], ◌∷◌, Option, None, Some, refl, sym, ◌∙◌, ap, subst, arith, All-tail, plan, interrupt, address, Overlap, oldest_row, machine_between_ticks, machine_after_completion, row_done, Row, Moment, Standing, next_row, next_moment, completion, timed_from, timed_behind, AreRising, Done, TimedReportedEvent, timed_reported_event, reported_events, Together, IsBeforeEntry, standing_of, moment_of, AreInTime, IsShown, IsLeft, AreMade, AreTicked, at_completion, plan-address}
 use Rattle.st_rows.specs.declared.issue.EntryTicks.{EntryTicks as IssueRow}
-use Rattle.st_ahead.specs.Overlap.{Overlap, oldest_row, machine_between_ticks}
-use Rattle.st_ahead.specs.Calls.{machine_after_completion, row_done}
-use Rattle.st_ahead.specs.declared.events.Row.{Row}
-use Rattle.st_run.specs.Moments.{Moment, Standing, next_row, next_moment}
-use Rattle.st_run.specs.TimedRun.{completion, timed_from, timed_behind}
-use Rattle.st_run.specs.Order.{AreRising}
-use Rattle.st_run.specs.ReportedEvents.{Done, TimedReportedEvent, timed_reported_event, reported_events}
-use Rattle.st_run.specs.Together.{Together, IsBeforeEntry, standing_of, moment_of}
-use Rattle.st_run.specs.Telling.{AreInTime, IsShown, IsLeft}
-use Rattle.st_run.specs.Ticking.{AreMade, AreTicked, at_completion}
 use Rattle.st_run.proofs.Turns.{behind-done, behind-none}
 use Rattle.st_run.proofs.ReportedLemmas.{once}
 use Rattle.st_run.proofs.TickLemmas.{ready-table, row-same}
 use Rattle.st_run.proofs.MomentLemmas.{moment-next, behind-next, row-before}
 use Rattle.st_run.proofs.LeftLemmas.{next-done, next-tick, oldest-in_time}
-use Rattle.st_refine.proofs.SplitLemmas.{plan-address}
 
 -- the machine after a number of ticks without a completion
 abbrev pub at_tick : ℕ → Together → Together

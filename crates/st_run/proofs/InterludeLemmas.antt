@@ -1,16 +1,6 @@
 -- The external events of an overlapped machine between two entries, combined.
-use Rattle.std.proofs.Common.{◌≡◌, ℕ, Bool, true, false, ◌||◌, List, Option, refl, sym, subst, ◌∙◌, ap}
-use Rattle.std.specs.Prelude.{length, nat_lt, option_map}
-use Rattle.st_exch.specs.Printer.{line_of_words}
-use Rattle.st_exec.specs.Step.{rests}
-use Rattle.st_exec.proofs.BesideEntries.{beside-same}
-use Rattle.st_ahead.specs.Overlap.{Overlap}
-use Rattle.st_run.specs.Run.{Scene, interlude, with_due_orders, with_due_signals}
-use Rattle.st_run.specs.Moments.{has_card, has_waited}
-use Rattle.st_run.specs.Together.{Together, scene_of, moment_of, AreTexts, IsBehindEntry, IsSince}
-use Rattle.st_run.specs.ExternalEvents.{PendingEvents, HasHappened, scene_at, ends_by}
-use Rattle.st_run.specs.Overlapped.{IsChanged}
-use Rattle.st_run.specs.declared.between.Interlude.{Interlude}
+use Rattle.st_run.proofs.Common.{◌≡◌, ℕ, Bool, true, false, ◌||◌, List, Option, refl, sym, subst, ◌∙◌, ap, nat_lt, option_map, line_of_words, rests, beside-same, Overlap, Scene, interlude, with_due_orders, with_due_signals, has_card, has_waited, Together, scene_of, moment_of, AreTexts, IsBehindEntry, IsSince, PendingEvents, HasHappened, scene_at, ends_by, IsChanged, Interlude}
+use Rattle.std.specs.Prelude.{length}
 use Rattle.st_run.proofs.EventLemmas.{printed-texts}
 use Rattle.st_run.proofs.PrintLemmas.{settled-one}
 

@@ -1,13 +1,8 @@
 -- The last event of a run is its end.
-use Rattle.std.proofs.Common.{◌≡◌, ℕ, zero, suc, Bool, true, false, if◌then◌else◌, List, [], ◌∷◌, ◌++◌, ◌+◌, refl, sym, ◌∙◌, map}
-use Rattle.st_exec.specs.Step.{rests}
-use Rattle.st_run.specs.Run.{Scene, Transition, Ends, interlude, scene_after_step, run}
+use Rattle.st_run.proofs.Common.{◌≡◌, ℕ, zero, suc, Bool, true, false, List, [], ◌∷◌, ◌++◌, ◌+◌, refl, sym, ◌∙◌, rests, Scene, Transition, Ends, interlude, scene_after_step, run, Timed, Moment, moment_at_start, next_scene, next_state, standing_at, next_moment, ticks_before, snapshots_from, drops, happening_at, last_snapshot_at, events_between, until_done, last_events, timed_from, last_completion}
+use Rattle.std.proofs.Common.{if◌then◌else◌, map}
 use Rattle.st_run.proofs.Runs.{transition_at_end, goes_on, run-none, run-step}
 use Rattle.st_run.proofs.CourseLemmas.{timed-none, timed-step}
-use Rattle.st_run.specs.Events.{Timed}
-use Rattle.st_run.specs.Moments.{Moment, moment_at_start, next_scene, next_state, standing_at, next_moment}
-use Rattle.st_run.specs.TimedRun.{ticks_before, snapshots_from, drops, happening_at, last_snapshot_at, events_between, until_done, last_events, timed_from}
-use Rattle.st_run.specs.Order.{last_completion}
 use Rattle.st_run.proofs.DoneLemmas.{settled-done}
 use Rattle.st_run.proofs.ShownLemmas.{last-append, last_events-tick}
 

@@ -1,25 +1,7 @@
 -- A run uses its machine only by calls within the protocol.
-use Rattle.std.specs.Prelude.{IfSome, IsSome, nat_le}
-use Rattle.std.specs.List.{AllPass}
-use Rattle.std.proofs.Common.{◌≡◌, ℕ, zero, suc, ◌+◌, ◌-◌, ◌<◌, ◌≤◌, ◌^◌, true, false, List, [], ◌∷◌, Option, None, Some, refl, sym, subst, arith}
-use Rattle.std.proofs.lemmas.Bool.{and_parts, leb-true}
-use Rattle.std.proofs.lemmas.List.Elements.{All-head, All-tail}
-use Rattle.st_card.specs.Limits.{is_signal}
-use Rattle.st_card.specs.declared.control_cards.Signal.{Signal}
-use Rattle.st_state.specs.Machine.{Machine}
-use Rattle.st_state.specs.Interrupts.{state_with_signal}
-use Rattle.st_state.specs.declared.devices.Order.{Order}
-use Rattle.st_prep.proofs.Choices.{of_choice}
-use Rattle.st_ahead.specs.Overlap.{Overlap, machine_at_start}
-use Rattle.st_ahead.specs.Calls.{run_ended, machine_after_settling, signalled_by, read_in_by, printed_by, MaySignal, MayServe}
-use Rattle.st_ahead.specs.RunTo.{after_ticks, ArePassed, RunsTo}
-use Rattle.st_ahead.specs.declared.events.Row.{Row}
+use Rattle.st_run.proofs.Common.{IfSome, IsSome, nat_le, AllPass, ◌≡◌, ℕ, zero, suc, ◌+◌, ◌-◌, ◌<◌, ◌≤◌, ◌^◌, true, List, [], ◌∷◌, Option, None, Some, refl, sym, subst, arith, and_parts, leb-true, All-head, All-tail, is_signal, Signal, Machine, state_with_signal, Order, of_choice, Ready, Overlap, machine_at_start, run_ended, machine_after_settling, signalled_by, read_in_by, printed_by, MaySettle, MaySignal, MayServe, after_ticks, ArePassed, RunsTo, Row, CanStart, MayTick, IsLed, Starts, Settles, Signals, Reads, Prints, Stops, Scene, with_due_signals, IsCard, last_for}
 use Rattle.st_ahead.proofs.Passing.{passed-now}
-use Rattle.st_refine.specs.Reached.{CanStart, MayTick, IsLed, Starts, Settles, Signals, Reads, Prints, Stops}
 use Rattle.st_refine.proofs.Laws.{runs_are_reached}
-use Rattle.st_run.specs.Run.{Scene, with_due_signals}
-use Rattle.st_refine.specs.Reached.{IsCard}
-use Rattle.st_run.specs.Ticking.{last_for}
 
 -- ---- single calls
 
@@ -30,8 +12,8 @@ signal-led m i known may led = record {
   from = record { reached = Signals m led.made led.since i led.from.reached known may; begun = led.from.begun };
 }
 
-pub settle-led : {b : Overlap} (m : Overlap) → m.owed ≡ true → m.stopped ≡ false → IsLed b m → IsLed b (machine_after_settling m)
-settle-led m owed stands led = record { made = led.made; since = led.since; from = record { reached = Settles m led.made led.since led.from.reached owed stands; begun = led.from.begun } }
+pub settle-led : {b : Overlap} (m : Overlap) → MaySettle m → IsLed b m → IsLed b (machine_after_settling m)
+settle-led m may led = record { made = led.made; since = led.since; from = record { reached = Settles m led.made led.since led.from.reached may; begun = led.from.begun } }
 
 pub stop-led : {b : Overlap} (m : Overlap) → MayServe m → IsLed b m → IsLed b (run_ended m)
 stop-led m may led = record { made = led.made; since = led.since; from = record { reached = Stops m led.made led.since led.from.reached may; begun = led.from.begun } }
@@ -48,23 +30,23 @@ read-led m order card given is may led = record {
 }
 
 -- the calls that make ticks up to a completion or up to a tick are within the protocol
-passed-led : {b : Overlap} (k count last : ℕ) (m new : Overlap) → last + 1 - m.now ≡ k → m.owed ≡ false → m.state.done < 2 ^ 63 → count ≤ 2 ^ 63 → last < 2 ^ 63
+passed-led : {b : Overlap} (k count last : ℕ) (m new : Overlap) → last + 1 - m.now ≡ k → m.phase ≡ Ready → m.state.done < 2 ^ 63 → count ≤ 2 ^ 63 → last < 2 ^ 63
     → ArePassed count k m new → IsLed b m → IsLed b new
 unfolding after_ticks
-passed-led zero count last m new is owes few most soon ran led = subst {A = Overlap} (IsLed _) (sym ran.after) led
-passed-led (suc k) count last m new is owes few most soon ran led =
-    let may : MayTick m = record { settled = owes; tick = omega (arith, is, soon); done = few } in
+passed-led zero count last m new is ready few most soon ran led = subst {A = Overlap} (IsLed _) (sym ran.after) led
+passed-led (suc k) count last m new is ready few most soon ran led =
+    let may : MayTick m = record { ready = ready; tick = omega (arith, is, soon); done = few } in
     let all : RunsTo count last None m new = subst {A = ℕ} (λ j. ArePassed count j m new) (sym is) ran in
     let there = runs_are_reached.passed _ m new led.made led.since count last led.from may most soon all in
     record { made = led.made + (last + 1 - m.now); since = there.since; from = there.from }
 
-pub run-led : {b : Overlap} (count last : ℕ) (row : Option Row) (m new : Overlap) → m.owed ≡ false → m.state.done < 2 ^ 63 → count ≤ 2 ^ 63 → last < 2 ^ 63
+pub run-led : {b : Overlap} (count last : ℕ) (row : Option Row) (m new : Overlap) → m.phase ≡ Ready → m.state.done < 2 ^ 63 → count ≤ 2 ^ 63 → last < 2 ^ 63
     → RunsTo count last row m new → IsLed b m → IsLed b new
-run-led count last (Some row) m new owes few most soon ran led =
+run-led count last (Some row) m new ready few most soon ran led =
     let at : ran.before.now ≡ m.now + ran.ticks = passed-now ran.ticks count m ran.before ran.passed in
-    let may : MayTick m = record { settled = owes; tick = omega (arith, at, ran.soon, soon); done = few } in
+    let may : MayTick m = record { ready = ready; tick = omega (arith, at, ran.soon, soon); done = few } in
     record { made = row.c + 1; since = 0; from = runs_are_reached.done _ m new led.made led.since count last row led.from may most soon ran }
-run-led count last None m new owes few most soon ran led = passed-led (last + 1 - m.now) count last m new refl owes few most soon ran led
+run-led count last None m new ready few most soon ran led = passed-led (last + 1 - m.now) count last m new refl ready few most soon ran led
 
 -- the last tick that may be made is below 2 ^ 63
 pub last-soon : (snap : Option ℕ) (last : ℕ) → last ≡ last_for snap → last < 2 ^ 63

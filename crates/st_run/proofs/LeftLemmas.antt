@@ -1,28 +1,12 @@
 -- The events after the completion of an entry, and the continuation of the run.
-use Rattle.std.specs.Prelude.{map, is_some, if◌then◌else◌, ◌||◌, IsSome, option_map, ◌≢◌}
-use Rattle.std.proofs.Common.{◌≡◌, ℕ, ◌+◌, ◌-◌, ◌<◌, ◌^◌, Bool, true, false, List, [], ◌∷◌, ◌++◌, Option, None, refl, sym, ◌∙◌, ap, subst, arith}
-use Rattle.st_state.specs.Machine.{Machine}
-use Rattle.st_exec.specs.Step.{interrupt, rests}
-use Rattle.st_run.specs.Run.{Scene, interlude}
-use Rattle.st_exec.proofs.StepLemmas.{step-done}
-use Rattle.st_rows.specs.declared.issue.IssueState.{IssueState}
-use Rattle.st_segment.specs.Ahead.{prepared_before}
-use Rattle.st_ahead.specs.Overlap.{state_ahead, oldest_row, levels_of}
-use Rattle.st_run.specs.Moments.{Moment, Standing, next_scene, next_state, ends_segment, has_card, has_waited, standing_at, entries_at_moment, next_moment}
-use Rattle.st_run.specs.TimedRun.{snapshots_from, events_between, last_events, timed_from, timed_behind}
-use Rattle.st_run.specs.Order.{AreRising}
-use Rattle.st_run.specs.ReportedEvents.{TimedReportedEvent, reported_events}
-use Rattle.st_run.specs.Together.{Together, scene_of, IsBeforeEntry, standing_of, moment_of, AreTexts}
-use Rattle.st_run.specs.Telling.{OutputQueue, queued_events, at_once, told_at_end, rest_of, IsTurn, IsRun, AreInTime, IsLeft}
-use Rattle.st_run.specs.Leaving.{IsDecided, RunGoesOn}
-use Rattle.st_run.specs.declared.leaving.Decided.{Decided}
-use Rattle.st_run.specs.declared.run_phase.RunPhase.{RunPhase}
-use Rattle.st_run.specs.declared.run_phase.RunPhase.TheVariants as turns
+use Rattle.st_run.proofs.Common.{map, is_some, if◌then◌else◌, IsSome, option_map, ◌≡◌, ℕ, ◌+◌, ◌-◌, ◌<◌, ◌^◌, Bool, true, false, List, [], ◌∷◌, ◌++◌, Option, None, refl, sym, ◌∙◌, ap, subst, arith, Machine, interrupt, rests, Scene, interlude, step-done, IssueState, prepared_before, state_ahead, oldest_row, levels_of, Moment, Standing, next_scene, next_state, ends_segment, has_card, has_waited, standing_at, entries_at_moment, next_moment, snapshots_from, events_between, last_events, timed_from, timed_behind, AreRising, TimedReportedEvent, reported_events, Together, scene_of, IsBeforeEntry, standing_of, moment_of, AreTexts, OutputQueue, queued_events, at_once, told_at_end, rest_of, IsTurn, IsRun, AreInTime, IsLeft, IsDecided, RunGoesOn, Decided, RunPhase}
+use Rattle.std.specs.Prelude.{◌||◌, ◌≢◌}
 use Rattle.st_run.proofs.CourseLemmas.{rising-to-come}
 use Rattle.st_run.proofs.Turns.{timed-rests, timed-budget, timed-goes_on, nothing-ahead}
 use Rattle.st_run.proofs.ReportedLemmas.{told-append, dropped_at, told-between, told-last, told-completion}
 use Rattle.st_run.proofs.MomentLemmas.{still, ready-still, row-before}
 use Rattle.st_run.proofs.ChoiceLemmas.{IsWay}
+use Rattle.st_run.specs.declared.run_phase.RunPhase.TheVariants as turns
 
 -- ---- the run ends or continues
 

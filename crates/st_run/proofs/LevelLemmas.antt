@@ -1,12 +1,7 @@
 -- The levels of the ring buffer, and the entries in flight.
-use Rattle.std.specs.Prelude.{map}
-use Rattle.std.specs.List.{AllZip}
-use Rattle.std.proofs.Common.{◌≡◌, ℕ, List, [], ◌∷◌, refl, ◌∙◌, ap}
+use Rattle.st_run.proofs.Common.{map, AllZip, ◌≡◌, ℕ, List, [], ◌∷◌, refl, ◌∙◌, ap, Ahead, IsLevelOf, address_ahead}
 use Rattle.st_prep.specs.declared.entries.Prepared.{Prepared}
 use Rattle.st_ring.specs.declared.level.Level.{Level}
-use Rattle.st_segment.specs.Ahead.{Ahead}
-use Rattle.st_ahead.specs.Shown.{IsLevelOf}
-use Rattle.st_run.specs.Events.{address_ahead}
 
 abbrev pub level_row : Level → ℕ × ℕ
 level_row v = (v.prepared.place.address, v.p)

@@ -1,27 +1,7 @@
 -- The moment at which the next entry of a machine completes.
-use Rattle.std.specs.Prelude.{is_some, if◌then◌else◌, IfSome}
-use Rattle.std.proofs.Common.{◌≡◌, ℕ, ◌<◌, ◌≤◌, ◌^◌, Bool, true, false, List, Option, None, Some, refl, sym, ◌∙◌, ap, subst}
-use Rattle.st_state.specs.Machine.{Machine}
-use Rattle.st_prep.specs.Plan.{plan}
-use Rattle.st_prep.proofs.Choices.{of_choice}
-use Rattle.st_prep.proofs.PlanLemmas.{plan-prepared}
-use Rattle.st_exec.specs.Completion.{state_after_execution, is_mispredicted}
-use Rattle.st_exec.specs.Step.{interrupt, step}
-use Rattle.st_run.specs.Run.{Scene}
-use Rattle.st_rows.specs.Ranges.{AreDelaysUpTo}
-use Rattle.st_rows.specs.Rows.{row_of_entry, issue_after_entry}
-use Rattle.st_rows.specs.declared.issue.IssueState.{IssueState}
-use Rattle.st_segment.specs.Ahead.{Ahead, ahead, prepared_before}
-use Rattle.st_segment.specs.Entries.{entry}
-use Rattle.st_ahead.specs.Overlap.{Overlap, state_ahead, oldest_row, with_counter, levels_of, banks_at_its_end, machine_between_ticks}
-use Rattle.st_ahead.specs.Calls.{machine_after_completion}
-use Rattle.st_run.specs.Scenes.{IsScene}
-use Rattle.st_run.specs.Moments.{Moment, Standing, next_row, issue_after, entries_behind, next_moment}
-use Rattle.st_run.specs.Together.{Together, scene_of, IsBeforeEntry, IsBehindEntry, standing_of, moment_of, IsMachineReady}
-use Rattle.st_run.specs.Ticking.{at_completion}
+use Rattle.st_run.proofs.Common.{is_some, if◌then◌else◌, IfSome, ◌≡◌, ℕ, ◌<◌, ◌≤◌, ◌^◌, Bool, true, false, List, Option, None, Some, refl, sym, ◌∙◌, ap, subst, Machine, plan, of_choice, plan-prepared, state_after_execution, is_mispredicted, interrupt, step, Scene, AreDelaysUpTo, row_of_entry, issue_after_entry, IssueState, Ahead, ahead, prepared_before, entry, Overlap, state_ahead, oldest_row, with_counter, levels_of, banks_at_its_end, machine_between_ticks, machine_after_completion, IsScene, Moment, Standing, next_row, issue_after, entries_behind, next_moment, Together, scene_of, IsBeforeEntry, IsBehindEntry, standing_of, moment_of, IsMachineReady, at_completion, interrupt-below}
 use Rattle.st_run.proofs.SceneLemmas.{stepped-scene}
 use Rattle.st_run.proofs.PredictionLemmas.{behind-right, behind-mispredicted}
-use Rattle.st_refine.proofs.Kept.{interrupt-below}
 
 -- a machine between two ticks
 abbrev pub still : List ℕ → ℕ → Machine → IssueState → ℕ → Overlap
@@ -90,10 +70,8 @@ behind-done : (t : Together) (f : IssueState) (now : ℕ) → 1 ≤ t.machine.le
 unfolding machine_after_completion oldest_row state_ahead step row_of_entry issue_after_entry
 behind-done t f now some few delays is = record {
   kept = record { some = some; few = few; delays = delays; scene = stepped-scene (scene_of t) is };
-  owed = refl;
-  going = refl;
-  stands = refl;
-  done = refl;
+  banks = banks_at_its_end (at_completion (still t.machine.delays t.machine.levels t.machine.state f now));
+  phase = refl;
   table = refl;
   counter =
       let s = t.machine.state in

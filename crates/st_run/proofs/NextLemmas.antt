@@ -1,14 +1,7 @@
 -- Pending events precede the continuation of the run.
-use Rattle.std.specs.Prelude.{map, IsSome}
-use Rattle.std.proofs.Common.{◌≡◌, ℕ, ◌<◌, ◌^◌, Bool, List, [], ◌∷◌, ◌++◌, sym, ◌∙◌, ap, subst}
-use Rattle.std.proofs.lemmas.List.Elements.{All-tail}
-use Rattle.st_ahead.specs.Overlap.{levels_of}
-use Rattle.st_run.specs.ReportedEvents.{ReportedEvent, TimedReportedEvent}
-use Rattle.st_run.specs.Together.{Together}
-use Rattle.st_run.specs.Telling.{OutputQueue, queued_events, at_once, rest_of, rest_by, told_at_end, IsRun, AreInTime}
-use Rattle.st_run.specs.declared.run_phase.RunPhase.{RunPhase}
-use Rattle.st_run.specs.declared.run_phase.RunPhase.TheVariants as turns
+use Rattle.st_run.proofs.Common.{map, IsSome, ◌≡◌, ℕ, ◌<◌, ◌^◌, Bool, List, [], ◌∷◌, ◌++◌, sym, ◌∙◌, ap, subst, All-tail, levels_of, ReportedEvent, TimedReportedEvent, Together, OutputQueue, queued_events, at_once, rest_of, rest_by, told_at_end, IsRun, AreInTime, RunPhase}
 use Rattle.st_run.proofs.ProgressLemmas.{Quiet, rest-quiet}
+use Rattle.st_run.specs.declared.run_phase.RunPhase.TheVariants as turns
 
 module _ (turn : RunPhase) (left tick : ℕ) (snaps : List ℕ) (w v : OutputQueue) (t : Together) (x y : ReportedEvent)
     (first : queued_events w t.machine.state ≡ x ∷ queued_events v t.machine.state) (same : x ≡ y) where

@@ -1,13 +1,5 @@
 -- The events of a run are in order of their ticks.
-use Rattle.std.specs.Prelude.{map, reverse}
-use Rattle.std.proofs.Common.{◌≡◌, ℕ, zero, suc, ◌+◌, ◌≤◌, inl, inr, List, [], ◌∷◌, ◌++◌, refl, sym, subst, arith, append_assoc}
-use Rattle.st_prep.proofs.Choices.{of_choice}
-use Rattle.st_exec.specs.Step.{interrupt, rests}
-use Rattle.st_run.specs.Run.{PlainEvent, Ends, interlude, interrupts_by}
-use Rattle.st_run.specs.Events.{Timed, drop_of, snapshot}
-use Rattle.st_run.specs.Moments.{Moment, Standing, next_state, ends_segment, standing_at, next_moment}
-use Rattle.st_run.specs.TimedRun.{event_at, ticks_before, snapshots_from, snapshot_at, last_snapshot_at, drops, drops_if_ends, happening_at, events_between, completion, until_done, last_events, timed_from}
-use Rattle.st_run.specs.Order.{told_at, AreEventsInOrder, AreRising}
+use Rattle.st_run.proofs.Common.{map, reverse, ◌≡◌, ℕ, zero, suc, ◌+◌, ◌≤◌, inl, inr, List, [], ◌∷◌, ◌++◌, refl, sym, subst, arith, append_assoc, of_choice, interrupt, rests, PlainEvent, Ends, interlude, interrupts_by, Timed, drop_of, snapshot, Moment, Standing, next_state, ends_segment, standing_at, next_moment, event_at, ticks_before, snapshots_from, snapshot_at, last_snapshot_at, drops, drops_if_ends, happening_at, events_between, completion, until_done, last_events, timed_from, told_at, AreEventsInOrder, AreRising}
 use Rattle.st_run.proofs.CourseLemmas.{test-lt, next-later, next-same, timed-none, timed-step}
 
 -- ---- lists of ticks

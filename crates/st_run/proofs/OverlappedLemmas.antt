@@ -1,19 +1,6 @@
 -- The changes of an overlapped machine by external events.
-use Rattle.std.specs.Prelude.{IfSome, IsSome, is_none, is_some, if◌then◌else◌}
-use Rattle.std.proofs.Common.{◌≡◌, ℕ, ◌≤◌, Bool, true, false, ◌||◌, ◌&&◌, List, Option, None, Some, refl, sym, subst, ◌∙◌, ap, inr}
-use Rattle.st_state.specs.Machine.{Machine}
-use Rattle.st_state.specs.Interrupts.{pending, state_with_signal}
-use Rattle.st_state.specs.declared.devices.Order.{Order}
-use Rattle.st_prep.specs.BesideOrders.{AreAlikeBesideOrders}
-use Rattle.st_exec.specs.Step.{rests}
-use Rattle.st_exec.specs.Transfer.{read_in, printed_out}
-use Rattle.st_exec.proofs.BesideEntries.{beside-printed, beside-no_card, beside-signalled, beside-then}
-use Rattle.st_ahead.specs.Overlap.{Overlap, interrupt_due}
-use Rattle.st_ahead.specs.Calls.{machine_after_segment, machine_after_settling as settled_of, signalled_by, read_in_by, printed_by, MayServe}
-use Rattle.st_ahead.proofs.Settling.{settled-waits}
-use Rattle.st_refine.specs.Reached.{IsLed, IsLedOn, IsCard}
-use Rattle.st_run.specs.Together.{IsSince}
-use Rattle.st_run.specs.Overlapped.{IsChanged}
+use Rattle.st_run.proofs.Common.{IfSome, IsSome, is_none, is_some, if◌then◌else◌, ◌≡◌, ℕ, ◌≤◌, Bool, true, false, ◌||◌, ◌&&◌, List, Option, None, Some, refl, sym, subst, ◌∙◌, ap, inr, Machine, pending, state_with_signal, Order, AreAlikeBesideOrders, rests, read_in, printed_out, beside-printed, beside-no_card, beside-signalled, beside-then, Overlap, interrupt_due, machine_after_segment, signalled_by, read_in_by, printed_by, MayServe, serve-settles, settled-waits, IsLed, IsLedOn, IsCard, IsSince, IsChanged}
+use Rattle.st_ahead.specs.Calls.{machine_after_settling as settled_of}
 use Rattle.st_run.specs.OverlappedLaws.{or-none}
 use Rattle.st_run.proofs.EndedLemmas.{ended-behind, ended-since, ended-state, ended-serves}
 use Rattle.st_run.proofs.LedLemmas.{signal-led, settle-led, print-led, read-led}
@@ -61,7 +48,7 @@ changed-ended m s led = record {
 pub signal-changed : (m k : Overlap) (i : ℕ) → i ≤ 13 → MayServe m → k ≡ signalled_by i m → IsChanged false m k
 signal-changed m k i known may same =
     subst {A = Overlap} (IsChanged false m) (sym same)
-    (changed-state m (state_with_signal m.state i) (beside-signalled m.state i) (λ start. signal-led m i known (inr (may.0, may.1), may.2)))
+    (changed-state m (state_with_signal m.state i) (beside-signalled m.state i) (λ start. signal-led m i known (inr may)))
 
 pub print-changed : (m k : Overlap) → IsSome m.state.printer → MayServe m → k ≡ printed_by m → IsChanged false m k
 print-changed m k some may same =
@@ -109,7 +96,7 @@ rest-ends m waits = sym (settled-waits m (rests-quiet m waits) waits)
 pub rest-changed : (m k : Overlap) → rests m.state ≡ true → MayServe m → k ≡ settled_of m → IsChanged true m k
 rest-changed m k waits may same =
     subst {A = Overlap} (IsChanged true m) (sym (same ∙ rest-ends m waits))
-    (changed-ended m (machine_after_segment m).state (λ start led. subst {A = Overlap} (IsLed start) (rest-ends m waits) (settle-led m may.0 may.2 led)))
+    (changed-ended m (machine_after_segment m).state (λ start led. subst {A = Overlap} (IsLed start) (rest-ends m waits) (settle-led m (serve-settles m.phase may) led)))
 
 pub rest-state : (m k : Overlap) → rests m.state ≡ true → k ≡ settled_of m → k.state ≡ m.state
 rest-state m k waits same = ap (λ (x : Overlap). x.state) (same ∙ rest-ends m waits) ∙ ended-state m

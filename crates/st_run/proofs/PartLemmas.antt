@@ -1,16 +1,6 @@
 -- External events between two entries do not change the delays and the number of levels.
-use Rattle.std.specs.Prelude.{if◌then◌else◌}
-use Rattle.std.proofs.Common.{◌≡◌, ℕ, ◌+◌, Bool, true, false, length, Option, None, Some, refl, sym, ◌∙◌, subst}
-use Rattle.st_prep.proofs.Choices.{of_choice}
-use Rattle.st_exec.specs.Step.{rests}
-use Rattle.st_rows.specs.Rows.{opening_issue}
-use Rattle.st_ahead.specs.Overlap.{Overlap, levels_of, interrupt_due}
-use Rattle.st_ahead.specs.Calls.{banks_left, machine_after_segment, machine_after_settling as settled_of, settled_by}
-use Rattle.st_run.specs.Together.{IsSince}
-use Rattle.st_run.specs.Between.{IsChoice}
-use Rattle.st_run.specs.declared.run_phase.RunPhase.{RunPhase}
-use Rattle.st_run.specs.declared.run_phase.RunPhase.TheVariants.{Before, AtEnd, Over}
-use Rattle.st_run.specs.declared.leaving.Decided.{Decided}
+use Rattle.st_run.proofs.Common.{if◌then◌else◌, ◌≡◌, ℕ, ◌+◌, Bool, true, false, length, Option, None, Some, refl, sym, ◌∙◌, subst, of_choice, rests, opening_issue, Ended, has_ended, closing, Overlap, levels_of, interrupt_due, banks_left, machine_after_segment, settled_by, IsSince, IsChoice, RunPhase, Before, AtEnd, Over, Decided}
+use Rattle.st_ahead.specs.Calls.{machine_after_settling as settled_of}
 
 -- two machines have equal delays and levels
 pub record HasParts (o p : Overlap) : Type 0 where
@@ -23,8 +13,8 @@ parts-then o p q first second = record { delays = second.delays ∙ first.delays
 ended-parts : (o : Overlap) → HasParts o (machine_after_segment o)
 unfolding machine_after_segment
 ended-parts o =
-    of_choice (λ (q : Overlap). HasParts o q) o.ended o
-    (record o { issue = opening_issue (banks_left o.closing) (o.now + 1 + length (levels_of o)); ended = true })
+    of_choice (λ (q : Overlap). HasParts o q) (has_ended o.phase) o
+    (record o { issue = opening_issue (banks_left (closing o.phase)) (o.now + 1 + length (levels_of o)); phase = Ended })
     (record { delays = refl; levels = refl }) (record { delays = refl; levels = refl })
 
 settled-parts : (due : Option ℕ) (waits : Bool) (behind : Option ℕ) (o : Overlap) → HasParts o (settled_by due waits behind o)

@@ -1,27 +1,7 @@
 -- Successive completions without external events between them.
-use Rattle.std.specs.Prelude.{is_some, nat_le, length, MatchOption}
-use Rattle.std.proofs.Common.{◌≡◌, ◌≢◌, ℕ, zero, suc, ◌+◌, ◌-◌, ◌<◌, ◌≤◌, ◌||◌, Bool, true, false, List, [], ◌∷◌, ◌++◌, Option, None, Some, refl, sym, ◌∙◌, ap, subst, arith, length-append}
-use Rattle.std.proofs.lemmas.Bool.Decides.{nat_tests}
-use Rattle.st_state.specs.Machine.{Machine}
-use Rattle.st_state.specs.Orders.{is_due}
-use Rattle.st_exec.specs.Step.{rests}
-use Rattle.st_ahead.specs.Overlap.{Overlap, interrupt_due}
-use Rattle.st_ahead.specs.Calls.{is_done, row_done, machine_after_completion, machine_after_tick, machine_after_pass, machine_after_settling, answer, answer_by}
-use Rattle.st_ahead.specs.RunTo.{after_ticks, may_come_from_outside, IsPassed, ArePassed, RunsTo}
-use Rattle.st_ahead.specs.RowsDone.{Queue, queue_with, rows_in_ticks}
-use Rattle.st_ahead.specs.declared.events.Row.{Row}
+use Rattle.st_run.proofs.Common.{is_some, nat_le, MatchOption, ◌≡◌, ◌≢◌, ℕ, zero, suc, ◌+◌, ◌-◌, ◌<◌, ◌≤◌, ◌||◌, Bool, true, false, List, [], ◌∷◌, ◌++◌, Option, None, Some, refl, sym, ◌∙◌, ap, subst, arith, length-append, nat_tests, Machine, is_due, rests, Overlap, interrupt_due, is_done, row_done, machine_after_completion, machine_after_tick, machine_after_pass, machine_after_settling, answer, answer_by, after_ticks, may_come_from_outside, IsPassed, ArePassed, RunsTo, Queue, queue_with, rows_in_ticks, Row, queue-shut, row-one, row-late, rows-first, no-rows, queue-all, Moment, timed_from, timed_behind, AreRising, TimedReportedEvent, reported_events, IsQuiet, IsDecided, nothing_decided, Together, IsBeforeEntry, standing_of, moment_of, OutputQueue, queued_events, row_told, rows_then, AreLeftOut, HasGoneFar, IsLeft, IsRun, AreInTime, rest_of, AreMade, AreTicked, at_completion, last_for, signal_due}
+use Rattle.std.specs.Prelude.{length}
 use Rattle.st_ahead.specs.declared.events.Settled.TheVariants.{Goes}
-use Rattle.st_ahead.proofs.NotedRows.{queue-shut, row-one, row-late, rows-first, no-rows, queue-all}
-use Rattle.st_run.specs.Moments.{Moment}
-use Rattle.st_run.specs.TimedRun.{timed_from, timed_behind}
-use Rattle.st_run.specs.Order.{AreRising}
-use Rattle.st_run.specs.ReportedEvents.{TimedReportedEvent, reported_events}
-use Rattle.st_run.specs.Between.{IsQuiet}
-use Rattle.st_run.specs.Leaving.{IsDecided, nothing_decided}
-use Rattle.st_run.specs.Together.{Together, IsBeforeEntry, standing_of, moment_of}
-use Rattle.st_run.specs.Telling.{OutputQueue, queued_events, row_told, rows_then, AreLeftOut, HasGoneFar, IsLeft, IsRun, AreInTime, rest_of}
-use Rattle.st_run.specs.Ticking.{AreMade, AreTicked, at_completion, last_for}
-use Rattle.st_run.specs.declared.run_phase.RunPhase.TheVariants as turns
 use Rattle.st_run.proofs.TickLemmas.{tick-passes, tick-early, tick-done, done-completed}
 use Rattle.st_run.proofs.MomentLemmas.{moment-next}
 use Rattle.st_run.proofs.PartLemmas.{HasParts}
@@ -29,7 +9,7 @@ use Rattle.st_run.proofs.LeftLemmas.{waits, left-told, left-keeps, oldest-in_tim
 use Rattle.st_run.proofs.ProgressLemmas.{rest-quiet}
 use Rattle.st_run.proofs.QuietLemmas.{none-quiet, quiet-settled, passed-decided, passed-parts}
 use Rattle.st_run.proofs.GoLemmas.{tick-before, go-leaves, go-tells}
-use Rattle.st_run.specs.ExternalEvents.{signal_due}
+use Rattle.st_run.specs.declared.run_phase.RunPhase.TheVariants as turns
 
 -- the remaining events before the next entry
 abbrev rest_told : ℕ → ℕ → Together → List TimedReportedEvent

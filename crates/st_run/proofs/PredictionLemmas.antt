@@ -1,12 +1,6 @@
 -- The entries in flight after the prediction of an entry, by its completed state.
-use Rattle.std.proofs.Common.{◌≡◌, ℕ, true, false, List, None, ap}
-use Rattle.st_prep.specs.Plan.{plan}
-use Rattle.st_exec.specs.Step.{step, interrupt}
-use Rattle.st_segment.specs.Ahead.{ahead}
+use Rattle.st_run.proofs.Common.{◌≡◌, ℕ, true, false, List, None, ap, plan, step, interrupt, ahead, Standing, issue_after, entries_behind, next_moment, IsScene, interrupt-below}
 use Rattle.st_segment.proofs.StepLemmas.{prediction-right, prediction-mispredicted}
-use Rattle.st_run.specs.Moments.{Standing, issue_after, entries_behind, next_moment}
-use Rattle.st_run.specs.Scenes.{IsScene}
-use Rattle.st_refine.proofs.Kept.{interrupt-below}
 
 module _ (ds : List ℕ) (n k : ℕ) (p : Standing) (is : IsScene p.scene) where
   pub behind-right : (next_moment ds n p).mispredicted ≡ false

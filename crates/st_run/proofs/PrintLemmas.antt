@@ -1,16 +1,6 @@
 -- At most one print occurs between two steps: the printer has at most one order, and gets none in
 -- between.
-use Rattle.std.specs.Prelude.{slice_get}
-use Rattle.std.proofs.Common.{◌≡◌, ℕ, ◌+◌, ◌≤◌, List, [], ◌∷◌, length, length-append, Option, None, Some, refl, ap, arith}
-use Rattle.st_state.specs.Machine.{Machine, state_with_store}
-use Rattle.st_state.specs.Orders.{is_due, next_device}
-use Rattle.st_state.specs.declared.devices.Order.{Order}
-use Rattle.st_state.specs.declared.devices.Device.{Device}
-use Rattle.st_state.specs.declared.devices.Device.TheVariants.{Reader, Printer}
-use Rattle.st_prep.proofs.Choices.{of_choice}
-use Rattle.st_exec.specs.Step.{rests}
-use Rattle.st_exec.specs.Transfer.{all_stored, read_in}
-use Rattle.st_run.specs.Run.{Scene, Transition, with_due_signals, with_signals_at_rest, if_due, with_due_orders, with_device, with_order_at_rest, with_wait, interlude, uneventful, and_then, with_order}
+use Rattle.st_run.proofs.Common.{slice_get, ◌≡◌, ℕ, ◌+◌, ◌≤◌, List, [], ◌∷◌, length, length-append, Option, None, Some, refl, ap, arith, Machine, state_with_store, is_due, next_device, Order, Device, Reader, Printer, of_choice, rests, all_stored, read_in, Scene, Transition, with_due_signals, with_signals_at_rest, if_due, with_due_orders, with_device, with_order_at_rest, with_wait, interlude, uneventful, and_then, with_order}
 use Rattle.st_run.proofs.SignalLemmas.{kept-while}
 
 -- the number of orders of the printer

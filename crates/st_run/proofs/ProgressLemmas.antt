@@ -1,32 +1,10 @@
 -- The progress of a run from one event to the next.
-use Rattle.std.specs.Prelude.{slice_get, map, reverse, if◌then◌else◌, IsSome, IfSome}
-use Rattle.std.proofs.Common.{◌≡◌, ℕ, ◌+◌, ◌-◌, ◌<◌, ◌≤◌, ◌^◌, Bool, true, false, List, [], ◌∷◌, ◌++◌, Option, None, Some, refl, sym, ◌∙◌, ap, subst, length, arith}
-use Rattle.std.proofs.lemmas.Bool.{lt-ltb, le-ltb}
-use Rattle.std.proofs.lemmas.List.Elements.{All-nil, All-tail}
-use Rattle.st_state.specs.Machine.{Machine}
-use Rattle.st_prep.specs.Fetch.{index_words}
-use Rattle.st_exec.specs.Step.{interrupt, rests}
-use Rattle.st_run.specs.Run.{Scene}
-use Rattle.st_rows.specs.declared.issue.IssueState.{IssueState}
-use Rattle.st_segment.specs.Ahead.{Ahead, prepared_before}
-use Rattle.st_segment.specs.Predictions.{split_words}
-use Rattle.st_ahead.specs.Overlap.{Overlap, state_ahead, oldest_row, levels_of, with_counter, last_tick_made}
-use Rattle.st_ahead.specs.Shown.{lent_index_words}
-use Rattle.st_run.specs.Events.{Level, snapshot, level_at, with_index_words}
-use Rattle.st_run.specs.Moments.{next_row, entries_at_moment, next_moment}
-use Rattle.st_run.specs.TimedRun.{ticks_before, snapshot_at, timed_behind}
-use Rattle.st_run.specs.Order.{AreRising}
-use Rattle.st_run.specs.ReportedEvents.{ReportedEvent, Dropped, Interrupted, Shown, Ended, TimedReportedEvent, timed_reported_event, reported_events, Printed}
-use Rattle.st_run.specs.Together.{Together, scene_of, IsBeforeEntry, standing_of}
-use Rattle.st_run.specs.ReportedEvents.{reported_plain_event}
-use Rattle.st_run.specs.Run.{interrupts_by}
-use Rattle.st_run.specs.Telling.{OutputQueue, queued_events, at_once, told_at_end, rest_of, rest_by, state_told, ahead_of, IsRun, AreInTime, IsShown}
-use Rattle.st_run.specs.declared.run_phase.RunPhase.{RunPhase}
-use Rattle.st_run.specs.declared.run_phase.RunPhase.TheVariants as turns
+use Rattle.st_run.proofs.Common.{slice_get, map, reverse, if◌then◌else◌, IsSome, IfSome, ◌≡◌, ℕ, ◌+◌, ◌-◌, ◌<◌, ◌≤◌, ◌^◌, Bool, true, false, List, [], ◌∷◌, ◌++◌, Option, None, Some, refl, sym, ◌∙◌, ap, subst, length, arith, lt-ltb, le-ltb, All-nil, All-tail, Machine, index_words, interrupt, rests, Scene, IssueState, Ahead, prepared_before, split_words, has_ended, Overlap, state_ahead, oldest_row, levels_of, with_counter, last_tick_made, lent_index_words, Level, snapshot, level_at, with_index_words, next_row, entries_at_moment, next_moment, ticks_before, snapshot_at, timed_behind, AreRising, ReportedEvent, Dropped, Interrupted, Shown, TimedReportedEvent, timed_reported_event, reported_events, Printed, Together, scene_of, IsBeforeEntry, standing_of, reported_plain_event, interrupts_by, OutputQueue, queued_events, at_once, told_at_end, rest_of, rest_by, state_told, ahead_of, IsRun, AreInTime, IsShown, RunPhase, option_to_list}
+use Rattle.st_run.specs.ReportedEvents.{Ended}
 use Rattle.st_run.proofs.Turns.{behind-snapshot, same-words}
 use Rattle.st_run.proofs.ReportedLemmas.{once}
 use Rattle.st_run.proofs.MomentLemmas.{still, ready-still, row-before}
-use Rattle.std.specs.Option.{option_to_list}
+use Rattle.st_run.specs.declared.run_phase.RunPhase.TheVariants as turns
 
 -- ---- no pending events
 
@@ -71,7 +49,7 @@ pub seen-none : (o : Overlap) → levels_of o ≡ [] → state_told o ≡ o.stat
 unfolding lent_index_words split_words state_ahead
 seen-none o none =
     ap (λ (xs : List Ahead). with_index_words (split_words (length xs) o.taken (state_ahead o)) o.state) none
-    ∙ ap (λ (xs : List ℕ). with_index_words xs o.state) (index-seen o.ended o.mispredicted o.state)
+    ∙ ap (λ (xs : List ℕ). with_index_words xs o.state) (index-seen (has_ended o.phase) o.mispredicted o.state)
     ∙ same-words o.state
 
 pub ahead-none : (o : Overlap) → levels_of o ≡ [] → ahead_of o ≡ []

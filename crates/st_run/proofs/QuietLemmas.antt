@@ -1,21 +1,6 @@
 -- The transition between two entries without external events.
-use Rattle.std.specs.Prelude.{nat_lt, is_some, map}
-use Rattle.std.proofs.Common.{◌≡◌, ◌≢◌, ℕ, Bool, true, false, ◌||◌, List, [], length, Option, None, Some, refl, sym, subst, ◌∙◌, ap, arith}
-use Rattle.std.proofs.lemmas.Bool.{le-ltb}
-use Rattle.st_state.specs.Orders.{is_due}
-use Rattle.st_ahead.specs.Overlap.{Overlap, interrupt_due}
-use Rattle.st_ahead.specs.Calls.{machine_after_settling as settled_of, machine_after_pass}
-use Rattle.st_card.specs.declared.control_cards.Signal.{Signal}
-use Rattle.st_run.specs.Run.{Scene, Transition, with_due_signals, with_due_orders, with_wait, interlude, uneventful, and_then}
-use Rattle.st_run.specs.Together.{Together, scene_of, moment_of, IsBehindEntry}
-use Rattle.st_run.specs.Between.{IsChoice, IsQuiet}
-use Rattle.st_run.specs.Leaving.{IsDecided, nothing_decided}
-use Rattle.st_run.specs.Telling.{OutputQueue, queued_events, rest_of, IsRun, AreInTime}
-use Rattle.st_run.specs.ReportedEvents.{TimedReportedEvent, reported_plain_event}
-use Rattle.st_run.specs.Moments.{has_waited}
-use Rattle.st_exec.specs.Step.{rests}
-use Rattle.st_run.specs.declared.run_phase.RunPhase.{RunPhase}
-use Rattle.st_run.specs.declared.run_phase.RunPhase.TheVariants.{Before}
+use Rattle.st_run.proofs.Common.{nat_lt, is_some, map, ◌≡◌, ◌≢◌, ℕ, Bool, true, false, ◌||◌, List, [], length, Option, None, Some, refl, sym, subst, ◌∙◌, ap, arith, le-ltb, is_due, Overlap, interrupt_due, machine_after_pass, Signal, Scene, Transition, with_due_signals, with_due_orders, with_wait, interlude, uneventful, and_then, Together, scene_of, moment_of, IsBehindEntry, IsChoice, IsQuiet, IsDecided, nothing_decided, OutputQueue, queued_events, rest_of, IsRun, AreInTime, TimedReportedEvent, reported_plain_event, has_waited, rests, RunPhase, Before, signal_due}
+use Rattle.st_ahead.specs.Calls.{machine_after_settling as settled_of}
 use Rattle.st_run.proofs.SignalLemmas.{due-over, wait-none}
 use Rattle.st_run.proofs.InterludeLemmas.{HasCome, since-none}
 use Rattle.st_run.proofs.ChoiceLemmas.{decided}
@@ -23,7 +8,6 @@ use Rattle.st_run.proofs.PartLemmas.{HasParts, left-parts}
 use Rattle.st_run.proofs.LeftLemmas.{waits}
 use Rattle.st_run.proofs.TickLemmas.{still-settled}
 use Rattle.st_run.proofs.ProgressLemmas.{Quiet, rest-quiet, quiet-taken}
-use Rattle.st_run.specs.ExternalEvents.{signal_due}
 
 -- ---- the tests
 

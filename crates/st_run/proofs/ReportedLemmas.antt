@@ -1,21 +1,7 @@
 -- The reported events between two entries and at the end.
-use Rattle.std.specs.Prelude.{map, reverse, if◌then◌else◌}
-use Rattle.std.proofs.Common.{◌≡◌, ℕ, ◌+◌, Bool, true, false, List, [], ◌∷◌, ◌++◌, Option, None, refl, sym, ◌∙◌, ap, append_assoc}
-use Rattle.std.specs.Prelude.{All}
-use Rattle.std.proofs.lemmas.List.{reverse-append, map-append}
-use Rattle.std.proofs.lemmas.List.Elements.{All-head, All-tail}
-use Rattle.std.proofs.lemmas.Simd.{map-map}
-use Rattle.st_exec.specs.Step.{interrupt, rests}
-use Rattle.st_run.specs.Run.{PlainEvent, Ends, interlude, interrupts_by}
-use Rattle.st_segment.specs.Ahead.{Ahead}
-use Rattle.st_run.specs.Events.{Timed, address_ahead, drop_of}
-use Rattle.st_run.specs.Moments.{Moment, Standing, next_state, ends_segment, next_moment}
-use Rattle.st_run.specs.TimedRun.{event_at, ticks_before, last_snapshot_at, snapshot_at, drops, drops_if_ends, happening_at, events_between, completion, until_done, last_events, timed_from, timed_behind}
-use Rattle.st_run.specs.ReportedEvents.{ReportedEvent, Dropped, Shown, Ended, TimedReportedEvent, reported_plain_event, timed_reported_event, reported_events, Printed}
-use Rattle.st_run.specs.Together.{AreTexts}
-use Rattle.st_run.specs.Telling.{queued_events, at_once, told_at_end}
+use Rattle.st_run.proofs.Common.{map, reverse, if◌then◌else◌, ◌≡◌, ℕ, ◌+◌, Bool, true, false, List, [], ◌∷◌, ◌++◌, Option, None, refl, sym, ◌∙◌, ap, append_assoc, All, reverse-append, map-append, All-head, All-tail, map-map, interrupt, rests, PlainEvent, Ends, interlude, interrupts_by, Ahead, Timed, address_ahead, drop_of, Moment, Standing, next_state, ends_segment, next_moment, event_at, ticks_before, last_snapshot_at, snapshot_at, drops, drops_if_ends, happening_at, events_between, completion, until_done, last_events, timed_from, timed_behind, ReportedEvent, Dropped, Shown, TimedReportedEvent, reported_plain_event, timed_reported_event, reported_events, Printed, AreTexts, queued_events, at_once, told_at_end, option_to_list}
+use Rattle.st_run.specs.ReportedEvents.{Ended}
 use Rattle.st_run.proofs.DoneLemmas.{settled-done}
-use Rattle.std.specs.Option.{option_to_list}
 
 -- a reported event with this count and tick
 abbrev pub once : ℕ → ℕ → ReportedEvent → TimedReportedEvent

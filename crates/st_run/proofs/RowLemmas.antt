@@ -1,11 +1,6 @@
 -- Queued rows, and the events after them.
-use Rattle.std.specs.Prelude.{MatchOption, Bool, true, ◌==◌}
-use Rattle.std.proofs.lemmas.Bool.{eqb-true}
-use Rattle.std.proofs.Common.{◌≡◌, length, arith, List, [], ◌∷◌, Option, None, Some, refl, sym, ◌∙◌, ap}
-use Rattle.st_ahead.specs.RowsDone.{Queue}
-use Rattle.st_ahead.specs.declared.events.Row.{Row}
-use Rattle.st_run.specs.ReportedEvents.{TimedReportedEvent}
-use Rattle.st_run.specs.Telling.{row_told, rows_then, AreLeftOut}
+use Rattle.st_run.proofs.Common.{MatchOption, eqb-true, ◌≡◌, length, arith, List, [], ◌∷◌, Option, None, Some, refl, sym, ◌∙◌, ap, Queue, Row, TimedReportedEvent, row_told, rows_then, AreLeftOut}
+use Rattle.std.specs.Prelude.{Bool, true, ◌==◌}
 
 -- no row is queued
 pub none-waits : (rows : List Row) (b : Bool) → b ≡ (length rows == 0) → b ≡ true → rows ≡ []

@@ -1,9 +1,6 @@
 -- The recursion of a run: it ends, or a step is made.
-use Rattle.std.specs.List.{flat_map}
-use Rattle.std.proofs.Common.{◌≡◌, ◌≢◌, ℕ, zero, suc, ◌-◌, arith, Bool, true, false, List, [], ◌∷◌, ◌++◌, refl, ◌∙◌, ap, append_assoc, if◌then◌else◌}
-use Rattle.st_exec.specs.Step.{rests}
-use Rattle.st_run.specs.Course.{Course, course}
-use Rattle.st_run.specs.Run.{Scene, Transition, PlainEvent, Ends, interlude, happens, scene_after_step, state_next, scenes, happens_from, happens_last, run}
+use Rattle.st_run.proofs.Common.{flat_map, ◌≡◌, ◌≢◌, ℕ, zero, suc, ◌-◌, arith, Bool, true, false, List, [], ◌∷◌, ◌++◌, refl, ◌∙◌, ap, append_assoc, rests, Course, course, Scene, Transition, PlainEvent, Ends, interlude, happens, scene_after_step, state_next, scenes, happens_from, happens_last, run}
+use Rattle.std.proofs.Common.{if◌then◌else◌}
 
 -- ---- one step
 

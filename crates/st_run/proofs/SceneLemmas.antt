@@ -1,23 +1,8 @@
 -- The transition between two steps and a step keep the invariant of a scene.
-use Rattle.std.specs.Prelude.{IfSome, drop, slice_get}
-use Rattle.std.proofs.Common.{ℕ, nat_le, Bool, List, [], ◌∷◌, Option, None, Some}
-use Rattle.std.specs.Prelude.{All}
-use Rattle.std.proofs.lemmas.List.Elements.{All-head, All-tail}
-use Rattle.st_state.specs.Machine.{Machine, HasArea}
-use Rattle.st_state.specs.Orders.{is_due, next_device}
-use Rattle.st_state.specs.declared.devices.Order.{Order}
-use Rattle.st_state.specs.declared.devices.Device.{Device}
-use Rattle.st_state.specs.declared.devices.Device.TheVariants.{Reader, Printer}
-use Rattle.st_prep.specs.Plan.{plan}
-use Rattle.st_prep.proofs.Choices.{of_choice}
-use Rattle.st_prep.proofs.PlanLemmas.{plan-prepared}
-use Rattle.st_exec.specs.Step.{rests, interrupt, step}
-use Rattle.st_card.specs.declared.control_cards.Signal.{Signal}
-use Rattle.st_run.specs.Run.{Scene, with_due_signals, with_signals_while, if_due, with_due_orders, with_device, with_order_at_rest, with_wait, interlude, scene_after_step, uneventful, with_order}
+use Rattle.st_run.proofs.Common.{IfSome, slice_get, ℕ, Bool, List, [], ◌∷◌, Option, None, Some, All, All-head, All-tail, Machine, HasArea, is_due, next_device, Order, Device, Reader, Printer, plan, of_choice, plan-prepared, rests, interrupt, step, Signal, Scene, with_due_signals, with_signals_while, if_due, with_due_orders, with_device, with_order_at_rest, with_wait, interlude, scene_after_step, uneventful, with_order, IsCard, IsScene, interrupt-below}
+use Rattle.std.specs.Prelude.{drop}
+use Rattle.std.proofs.Common.{nat_le}
 use Rattle.st_exec.proofs.MachineKept.{kept-completed}
-use Rattle.st_refine.specs.Reached.{IsCard}
-use Rattle.st_run.specs.Scenes.{IsScene}
-use Rattle.st_refine.proofs.Kept.{interrupt-below}
 use Rattle.st_run.proofs.SignalLemmas.{kept-while}
 use Rattle.st_refine.proofs.StateLemmas.{signalled-machine, read-machine, printed-machine}
 

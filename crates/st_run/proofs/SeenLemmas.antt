@@ -1,9 +1,5 @@
 -- A state with its index words replaced.
-use Rattle.std.specs.Option.{option_map_or}
-use Rattle.std.proofs.Common.{◌≡◌, ℕ, ◌+◌, ◌-◌, ◌<◌, ◌≤◌, List, ◌++◌, length, take, drop, get_or, Option, None, Some, refl, sym, ◌∙◌, ap, arith, length-append, length-take}
-use Rattle.std.proofs.lemmas.List.{get_or_append_left, get_or-append_right, get_or-take, get_or-drop}
-use Rattle.st_state.specs.Machine.{Machine, word}
-use Rattle.st_run.specs.Events.{with_index_words}
+use Rattle.st_run.proofs.Common.{option_map_or, ◌≡◌, ℕ, ◌+◌, ◌-◌, ◌<◌, ◌≤◌, List, ◌++◌, length, take, drop, get_or, Option, None, Some, refl, sym, ◌∙◌, ap, arith, length-append, length-take, get_or_append_left, get_or-append_right, get_or-take, get_or-drop, Machine, word, with_index_words}
 
 taken : (ws : List ℕ) → 32 ≤ length ws → length (take 16 ws) ≡ 16
 taken ws long = omega (arith, length-take 16 ws)

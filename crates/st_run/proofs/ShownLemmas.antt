@@ -1,14 +1,6 @@
 -- The snapshots that are shown.
-use Rattle.std.specs.Prelude.{map, reverse}
-use Rattle.std.proofs.Common.{◌≡◌, ℕ, zero, suc, ◌+◌, ◌≤◌, ◌<◌, inl, inr, Bool, true, false, if◌then◌else◌, List, [], ◌∷◌, ◌++◌, refl, sym, ◌∙◌, ap, subst, arith, append_assoc, append-nil}
-use Rattle.std.proofs.lemmas.Bool.{lt-ltb}
-use Rattle.st_exec.specs.Step.{interrupt, rests}
-use Rattle.st_run.specs.Run.{Ends, interlude, interrupts_by}
-use Rattle.st_run.specs.Course.{Course, course}
-use Rattle.st_run.specs.Events.{Timed, drop_of, snapshot}
-use Rattle.st_run.specs.Moments.{Moment, Standing, next_state, ends_segment, standing_at, next_moment, moments}
-use Rattle.st_run.specs.TimedRun.{event_at, ticks_before, snapshots_from, snapshot_at, last_snapshot_at, drops, drops_if_ends, happening_at, events_between, completion, until_done, last_events, timed_from}
-use Rattle.st_run.specs.Order.{asked_by, shown_ticks, last_completion}
+use Rattle.st_run.proofs.Common.{map, reverse, ◌≡◌, ℕ, zero, suc, ◌+◌, ◌≤◌, ◌<◌, inl, inr, Bool, true, false, List, [], ◌∷◌, ◌++◌, refl, sym, ◌∙◌, ap, subst, arith, append_assoc, append-nil, lt-ltb, interrupt, rests, Ends, interlude, interrupts_by, Course, course, Timed, drop_of, snapshot, Moment, Standing, next_state, ends_segment, standing_at, next_moment, moments, event_at, ticks_before, snapshots_from, snapshot_at, last_snapshot_at, drops, drops_if_ends, happening_at, events_between, completion, until_done, last_events, timed_from, asked_by, shown_ticks, last_completion}
+use Rattle.std.proofs.Common.{if◌then◌else◌}
 use Rattle.st_run.proofs.CourseLemmas.{test-lt, next-later, next-same, again, all-to-come, timed-none, timed-step}
 
 -- ---- lists

@@ -1,13 +1,6 @@
 -- Signals that are taken one at a time.
-use Rattle.std.specs.Prelude.{nat_le, drop, slice_get, option_map}
-use Rattle.std.proofs.Common.{◌≡◌, ℕ, Bool, true, false, List, [], ◌∷◌, Some, refl, ap, subst, rules}
-use Rattle.st_card.specs.declared.control_cards.Signal.{Signal}
-use Rattle.st_state.specs.Machine.{Machine}
-use Rattle.st_state.specs.Interrupts.{state_with_signal}
-use Rattle.st_prep.proofs.Choices.{of_choice}
-use Rattle.st_exec.specs.Step.{rests}
-use Rattle.st_run.specs.Run.{Scene, uneventful, with_signals_while, with_due_signals, with_signals_at_rest, with_wait, with_order_at_rest}
-use Rattle.st_run.specs.ExternalEvents.{PendingEvents, scene_at, signal_due}
+use Rattle.st_run.proofs.Common.{nat_le, slice_get, option_map, ◌≡◌, ℕ, Bool, true, false, List, [], ◌∷◌, Some, refl, ap, subst, rules, Signal, Machine, state_with_signal, of_choice, rests, Scene, uneventful, with_signals_while, with_due_signals, with_signals_at_rest, with_wait, with_order_at_rest, PendingEvents, scene_at, signal_due}
+use Rattle.std.specs.Prelude.{drop}
 
 -- the scene after a signal is taken
 abbrev pub with_signal : Signal → List Signal → Scene → Scene

@@ -1,37 +1,15 @@
 -- The start of a run: interrupts are disabled, no event is pending and there are no orders.
-use Rattle.std.specs.Prelude.{map, slice_index, is_some, nat_lt, nat_le, if◌then◌else◌, All}
+use Rattle.st_run.proofs.Common.{map, slice_index, is_some, nat_lt, nat_le, if◌then◌else◌, All, ◌≡◌, ◌≢◌, ℕ, suc, ◌+◌, ◌-◌, ◌<◌, ◌≤◌, ◌^◌, Bool, false, ◌||◌, List, [], ◌∷◌, ◌++◌, length, Option, None, refl, sym, ◌∙◌, ap, subst, arith, le-ltb, All-nil, All-cons, All-head, All-tail, Machine, Order, interrupt, rests, Signal, Scene, with_due_signals, with_due_orders, with_wait, interlude, interrupts_by, if_due, Transition, uneventful, and_then, with_order, Reader, Printer, AreDelaysUpTo, opening_issue, idle_banks, Overlap, machine_at_start, machine_between_ticks, Timed, IsScene, Standing, moment_at_start, next_state, has_card, has_waited, ends_segment, next_segment, next_issue, standing_at, drops, happening_at, events_between, timed_behind, timed_run, AreRising, TimedReportedEvent, timed_reported_event, reported_events, Together, IsBeforeEntry, OutputQueue, queued_events, rest_of, IsRun, AreInTime, PendingEvents}
 use Rattle.std.specs.List.Sorted.{IsStrictlyIncreasing}
-use Rattle.std.proofs.Common.{◌≡◌, ◌≢◌, ℕ, suc, ◌+◌, ◌-◌, ◌<◌, ◌≤◌, ◌^◌, Bool, false, ◌||◌, List, [], ◌∷◌, ◌++◌, length, Option, None, refl, sym, ◌∙◌, ap, subst, arith}
-use Rattle.std.proofs.lemmas.Bool.{le-ltb}
-use Rattle.std.proofs.lemmas.List.Elements.{All-nil, All-cons, All-head, All-tail}
-use Rattle.st_state.specs.Machine.{Machine}
-use Rattle.st_state.specs.declared.devices.Order.{Order}
-use Rattle.st_exec.specs.Step.{interrupt, rests}
-use Rattle.st_card.specs.declared.control_cards.Signal.{Signal}
-use Rattle.st_run.specs.Run.{Scene, with_due_signals, with_due_orders, with_wait, interlude, interrupts_by, if_due, Transition, uneventful, and_then, with_order}
-use Rattle.st_state.specs.declared.devices.Device.TheVariants.{Reader, Printer}
-use Rattle.st_rows.specs.Ranges.{AreDelaysUpTo}
-use Rattle.st_rows.specs.Rows.{opening_issue}
-use Rattle.st_banks.specs.Bank.{idle_banks}
-use Rattle.st_ahead.specs.Overlap.{Overlap, machine_at_start, machine_between_ticks}
-use Rattle.st_run.specs.Events.{Timed}
-use Rattle.st_run.specs.Scenes.{IsScene}
-use Rattle.st_run.specs.Moments.{Standing, moment_at_start, next_state, has_card, has_waited, ends_segment, next_segment, next_issue, standing_at}
-use Rattle.st_run.specs.TimedRun.{drops, happening_at, events_between, timed_behind, timed_run}
-use Rattle.st_run.specs.Order.{AreRising}
-use Rattle.st_run.specs.ReportedEvents.{TimedReportedEvent, timed_reported_event, reported_events}
-use Rattle.st_run.specs.Together.{Together, IsBeforeEntry}
-use Rattle.st_run.specs.Telling.{OutputQueue, queued_events, rest_of, IsRun, AreInTime}
-use Rattle.st_run.specs.declared.run_phase.RunPhase.TheVariants as turns
 use Rattle.st_run.proofs.CourseLemmas.{all-to-come}
 use Rattle.st_run.proofs.ProgressLemmas.{Quiet, rest-quiet}
 use Rattle.st_run.proofs.Turns.{timed-goes_on}
 use Rattle.st_run.proofs.Bounds.{run-time}
 use Rattle.st_run.proofs.RunLaws.{timed-done}
-use Rattle.st_run.specs.ExternalEvents.{PendingEvents}
 use Rattle.st_run.proofs.InterludeLemmas.{with_pending}
 use Rattle.st_run.proofs.SignalLemmas.{wait-none, kept-while}
 use Rattle.st_run.proofs.SceneLemmas.{signals-scene}
+use Rattle.st_run.specs.declared.run_phase.RunPhase.TheVariants as turns
 
 -- the machine with another scene
 abbrev pub with_scene : Together → Scene → Together

@@ -1,19 +1,7 @@
 -- Ticks before the next completion, and the tick of the completion.
-use Rattle.std.specs.Prelude.{is_none, IfSome}
-use Rattle.std.proofs.Common.{◌≡◌, ℕ, zero, suc, ◌+◌, ◌-◌, ◌<◌, ◌≤◌, ◌==◌, ◌^◌, true, false, if◌then◌else◌, List, Option, None, Some, refl, sym, ◌∙◌, ap, subst, arith}
-use Rattle.std.proofs.lemmas.Bool.Decides.{nat_tests}
-use Rattle.std.proofs.lemmas.Bool.{false_from_ne_true}
-use Rattle.st_state.specs.Machine.{Machine}
-use Rattle.st_exec.specs.Step.{interrupt, rests}
-use Rattle.st_rows.specs.declared.issue.IssueState.{IssueState}
-use Rattle.st_ahead.specs.Overlap.{Overlap, state_ahead, oldest_row, interrupt_due, machine_between_ticks}
-use Rattle.st_ahead.specs.Calls.{is_done, machine_after_completion, row_done, machine_after_tick, machine_after_settling, machine_after_pass}
-use Rattle.st_ahead.specs.RunTo.{after_ticks, IsPassed, ArePassed, RunsTo}
-use Rattle.st_ahead.specs.declared.events.Row.{Row}
+use Rattle.st_run.proofs.Common.{is_none, IfSome, ◌≡◌, ℕ, zero, suc, ◌+◌, ◌-◌, ◌<◌, ◌≤◌, ◌==◌, ◌^◌, true, false, List, Option, None, Some, refl, sym, ◌∙◌, ap, subst, arith, nat_tests, false_from_ne_true, Machine, interrupt, rests, IssueState, Overlap, state_ahead, oldest_row, interrupt_due, machine_between_ticks, is_done, machine_after_completion, row_done, machine_after_tick, machine_after_settling, machine_after_pass, after_ticks, IsPassed, ArePassed, RunsTo, Row, Signal, Together, IsBeforeEntry, IsMachineReady, at_completion, AreTicked, AreMade, last_for}
+use Rattle.std.proofs.Common.{if◌then◌else◌}
 use Rattle.st_ahead.proofs.Idling.{zero-comes}
-use Rattle.st_card.specs.declared.control_cards.Signal.{Signal}
-use Rattle.st_run.specs.Together.{Together, IsBeforeEntry, IsMachineReady}
-use Rattle.st_run.specs.Ticking.{at_completion, AreTicked, AreMade, last_for}
 
 -- the pending interrupt has been taken
 pub ready-table : (o : Overlap) → IsMachineReady o → o.taken ≡ interrupt o.state

@@ -1,18 +1,5 @@
 -- The recursion of a timed run: it ends, or an entry completes, with snapshots before it.
-use Rattle.std.proofs.Common.{◌≡◌, ◌≢◌, ℕ, zero, suc, ◌+◌, ◌-◌, ◌<◌, ◌≤◌, true, false, List, [], ◌∷◌, ◌++◌, Option, refl, sym, ◌∙◌, ap, arith, append_assoc, take, drop, length}
-use Rattle.std.proofs.lemmas.List.{take-append-drop, drop-drop}
-use Rattle.std.proofs.lemmas.Bool.{lt-ltb, le-ltb}
-use Rattle.st_state.specs.Machine.{Machine}
-use Rattle.st_prep.specs.Fetch.{index_words}
-use Rattle.st_exec.specs.Step.{rests, interrupt}
-use Rattle.st_banks.specs.declared.answers.LastAnswers.{LastAnswers}
-use Rattle.st_rows.specs.Rows.{opening_issue, row_of_entry, address_tick, preparation_tick, tick_a, tick_p}
-use Rattle.st_segment.specs.Entries.{entry}
-use Rattle.st_segment.specs.Ahead.{ahead, prepared_before}
-use Rattle.st_segment.specs.Predictions.{split_words}
-use Rattle.st_run.specs.Events.{Timed, Shows, with_index_words, snapshot}
-use Rattle.st_run.specs.Moments.{Moment, Standing, next_state, ends_segment, next_segment, next_issue, standing_at, entries_at_moment, next_moment}
-use Rattle.st_run.specs.TimedRun.{ticks_before, snapshots_from, snapshot_at, events_between, completion, until_done, last_events, timed_from, timed_behind}
+use Rattle.st_run.proofs.Common.{◌≡◌, ◌≢◌, ℕ, zero, suc, ◌+◌, ◌-◌, ◌<◌, ◌≤◌, true, false, List, [], ◌∷◌, ◌++◌, Option, refl, sym, ◌∙◌, ap, arith, append_assoc, take, drop, length, take-append-drop, drop-drop, lt-ltb, le-ltb, Machine, index_words, rests, interrupt, LastAnswers, opening_issue, row_of_entry, address_tick, preparation_tick, tick_a, tick_p, entry, ahead, prepared_before, split_words, Timed, Shows, with_index_words, snapshot, Moment, Standing, next_state, ends_segment, next_segment, next_issue, standing_at, entries_at_moment, next_moment, ticks_before, snapshots_from, snapshot_at, events_between, completion, until_done, last_events, timed_from, timed_behind}
 use Rattle.st_run.proofs.CourseLemmas.{next-same, timed-none, timed-step, timed-later}
 
 -- ---- one entry

@@ -1,13 +1,8 @@
 -- A timed run without its timing is the plain run.
-use Rattle.std.specs.Prelude.{map, reverse}
-use Rattle.std.proofs.Common.{◌≡◌, ℕ, zero, suc, ◌+◌, Bool, true, false, if◌then◌else◌, List, [], ◌∷◌, ◌++◌, refl, sym, ◌∙◌, ap, append_assoc, append-nil}
-use Rattle.st_exec.specs.Step.{step, rests, address, interrupt}
-use Rattle.st_run.specs.Run.{PlainEvent, Executes, Ends, interlude, interrupts_by, Transition, scene_after_step, happens, run}
+use Rattle.st_run.proofs.Common.{map, reverse, ◌≡◌, ℕ, zero, suc, ◌+◌, Bool, true, false, List, [], ◌∷◌, ◌++◌, refl, sym, ◌∙◌, ap, append_assoc, append-nil, step, rests, address, interrupt, PlainEvent, Executes, Ends, interlude, interrupts_by, Transition, scene_after_step, happens, run, Timed, plain_events_of, plain_run, drop_of, snapshot, Moment, Standing, next_scene, next_state, ends_segment, standing_at, next_moment, event_at, ticks_before, snapshots_from, snapshot_at, last_snapshot_at, drops, drops_if_ends, happening_at, events_between, completion, until_done, last_events, timed_from}
+use Rattle.std.proofs.Common.{if◌then◌else◌}
 use Rattle.st_run.proofs.Runs.{transition_at_end, goes_on, run-none, run-step}
 use Rattle.st_run.proofs.CourseLemmas.{timed-none, timed-step}
-use Rattle.st_run.specs.Events.{Timed, plain_events_of, plain_run, drop_of, snapshot}
-use Rattle.st_run.specs.Moments.{Moment, Standing, next_scene, next_state, ends_segment, standing_at, next_moment}
-use Rattle.st_run.specs.TimedRun.{event_at, ticks_before, snapshots_from, snapshot_at, last_snapshot_at, drops, drops_if_ends, happening_at, events_between, completion, until_done, last_events, timed_from}
 
 -- ---- lists of events
 

@@ -1,38 +1,19 @@
 -- The views of the levels agree with the levels.
-use Rattle.std.specs.Prelude.{map, slice_index, IfSome, option_map, nat_lt, replicate}
-use Rattle.std.proofs.Common.{◌≡◌, ℕ, zero, suc, ◌+◌, ◌-◌, ◌<◌, false, List, [], ◌∷◌, ◌++◌, length, drop, Option, None, Some, refl, sym, ◌∙◌, ap, subst}
-use Rattle.std.proofs.lemmas.List.{get_or-take, get_or-drop, length-map}
-use Rattle.std.proofs.lemmas.Simd.{map-map}
+use Rattle.st_run.proofs.Common.{map, slice_index, IfSome, option_map, nat_lt, replicate, ◌≡◌, ℕ, zero, suc, ◌+◌, ◌-◌, ◌<◌, List, [], ◌∷◌, ◌++◌, length, drop, Option, None, Some, refl, sym, ◌∙◌, ap, subst, get_or-take, get_or-drop, length-map, map-map, Machine, IsMachine, word, index_words, plan, prepared_entry, prepared_by, suppressed_entry, decode_context, of_choice, plan-prepared, prediction, row_of_entry, issue_after_entry, IssueState, entry, Ahead, ahead, prepared_before, plan_of, Ready, Overlap, state_ahead, levels_of, last_tick_made, word_before_change, level_shown, view_at_tick, level_at, Level, OutputQueue, AreLevelsShown, IsRun, ahead_of, level_of, RunPhase, Together, IsBeforeEntry, interrupt-below}
 use Rattle.st_bits.specs.declared.operations.HalfOp.{HalfOp}
 use Rattle.st_bits.specs.declared.operations.HalfOp.TheVariants.{Lx, Lv, Lc, Lr, Sx, Sv, Sc, Sr, Sva, VPlus, VPlusC, Kv, Lvs, Lvi, Lci, Lri, VPlusI, VMinusI, VPlusIC, VPlusICR, Kvi, Kc, Kci, Cb, Cbr, R, Ex}
 use Rattle.st_format.specs.declared.instruction.Instr.{Instr}
 use Rattle.st_format.specs.declared.instruction.Instr.TheVariants.{Half, Branch, Floating, Vfl, Connect, Move, BitBranch, IndBranch, StoreCounter, Transfer, Invalid}
-use Rattle.st_state.specs.Machine.{Machine, IsMachine, word}
 use Rattle.st_prep.specs.declared.entries.IndexChange.{IndexChange}
 use Rattle.st_prep.specs.declared.entries.Place.{Place}
 use Rattle.st_prep.specs.declared.entries.ResolvedEntry.{ResolvedEntry}
 use Rattle.st_prep.specs.SpeculativeChanges.{without_change, change_of_comparison, change_of_index, half_change, progressive_change, change}
-use Rattle.st_prep.specs.Fetch.{index_words}
-use Rattle.st_prep.specs.Plan.{plan, prepared_entry, prepared_by, suppressed_entry, entry_at as entry_of, decode_context}
+use Rattle.st_prep.specs.Plan.{entry_at as entry_of}
 use Rattle.st_prep.specs.Ranges.{IsChange}
-use Rattle.st_prep.proofs.Choices.{of_choice}
-use Rattle.st_prep.proofs.PlanLemmas.{plan-prepared}
-use Rattle.st_exec.specs.Completion.{prediction}
 use Rattle.st_exec.proofs.UnwrittenLemmas.{predicted-machine}
-use Rattle.st_rows.specs.Rows.{row_of_entry, issue_after_entry}
-use Rattle.st_rows.specs.declared.issue.IssueState.{IssueState}
-use Rattle.st_segment.specs.Entries.{entry}
-use Rattle.st_segment.specs.Ahead.{Ahead, ahead, prepared_before, plan_of}
-use Rattle.st_ahead.specs.Overlap.{Overlap, state_ahead, levels_of, last_tick_made}
-use Rattle.st_ahead.specs.Shown.{word_before_change, level_shown, view_at_tick}
 use Rattle.st_ahead.specs.declared.events.LevelView.{LevelView}
-use Rattle.st_run.specs.Events.{level_at, Level}
-use Rattle.st_run.specs.Telling.{OutputQueue, AreLevelsShown, IsRun, ahead_of, level_of}
-use Rattle.st_run.specs.declared.run_phase.RunPhase.{RunPhase}
-use Rattle.st_run.specs.declared.run_phase.RunPhase.TheVariants as turns
-use Rattle.st_run.specs.Together.{Together, IsBeforeEntry}
-use Rattle.st_refine.proofs.Kept.{interrupt-below}
 use Rattle.st_run.proofs.TickLemmas.{ready-table}
+use Rattle.st_run.specs.declared.run_phase.RunPhase.TheVariants as turns
 
 -- ---- the word that a speculative change replaces
 
@@ -139,16 +120,16 @@ room-is tick xs =
     ap {A = List (Option LevelView)} (λ ys. ys ++ replicate (8 - length xs) None) (sym (map-map (λ (v : LevelView). Some v) (level_shown tick) xs))
     ∙ ap {A = ℕ} (λ k. map (λ (v : LevelView). Some v) (map (level_shown tick) xs) ++ replicate (8 - k) None) (sym (length-map xs (level_shown tick)))
 
-seen-plain : (o : Overlap) → o.ended ≡ false → o.mispredicted ≡ None → o.state ≡ state_ahead o
+seen-plain : (o : Overlap) → o.phase ≡ Ready → o.mispredicted ≡ None → o.state ≡ state_ahead o
 unfolding state_ahead
-seen-plain o going predicted = rw (going, predicted) refl
+seen-plain o ready predicted = rw (ready, predicted) refl
 
-same-levels : (o : Overlap) (m : IsMachine o.state) → o.ended ≡ false → o.mispredicted ≡ None → IfSome o.taken (λ i. i < 64)
+same-levels : (o : Overlap) (m : IsMachine o.state) → o.phase ≡ Ready → o.mispredicted ≡ None → IfSome o.taken (λ i. i < 64)
     → map level_of (map (level_shown (last_tick_made o)) (levels_of o)) ≡ ahead_of o
 unfolding levels_of
-same-levels o m going predicted some =
+same-levels o m ready predicted some =
     levels-are (last_tick_made o) o.now o.delays o.levels o.levels o.taken (state_ahead o) o.issue
-    (subst IsMachine (seen-plain o going predicted) m) some
+    (subst IsMachine (seen-plain o ready predicted) m) some
 
 pub view-before : (t : Together) → IsBeforeEntry t → AreLevelsShown (view_at_tick t.machine).levels (ahead_of t.machine)
 unfolding view_at_tick
@@ -158,7 +139,7 @@ view-before t h =
     record {
       views = map (level_shown (last_tick_made o)) (levels_of o);
       room = room-is (last_tick_made o) (levels_of o);
-      same = same-levels o h.kept.scene.machine (ap {A = Overlap} (λ x. x.ended) h.ready.between) (ap {A = Overlap} (λ x. x.mispredicted) h.ready.between) some;
+      same = same-levels o h.kept.scene.machine (ap {A = Overlap} (λ x. x.phase) h.ready.between) (ap {A = Overlap} (λ x. x.mispredicted) h.ready.between) some;
     }
 
 pub view-none : (o : Overlap) → levels_of o ≡ [] → AreLevelsShown (view_at_tick o).levels (ahead_of o)

@@ -1,13 +1,5 @@
 -- The order of the pending events.
-use Rattle.std.specs.Prelude.{map, reverse, is_some, option_map}
-use Rattle.std.proofs.Common.{◌≡◌, ℕ, ◌<◌, ◌≤◌, false, true, length, arith, List, [], ◌∷◌, ◌++◌, Option, None, Some, refl, ◌∙◌, ap}
-use Rattle.std.proofs.lemmas.List.{reverse-append}
-use Rattle.st_state.specs.Machine.{Machine}
-use Rattle.st_run.specs.ReportedEvents.{Dropped, Printed, Interrupted}
-use Rattle.std.specs.Option.{option_to_list}
-use Rattle.st_run.specs.ReportedEvents.{reported_plain_event}
-use Rattle.st_run.specs.Run.{interrupts_by}
-use Rattle.st_run.specs.Telling.{OutputQueue, queued_events}
+use Rattle.st_run.proofs.Common.{map, reverse, is_some, option_map, ◌≡◌, ℕ, ◌<◌, ◌≤◌, false, true, length, arith, List, [], ◌∷◌, ◌++◌, Option, None, Some, refl, ◌∙◌, ap, reverse-append, Machine, Dropped, Printed, Interrupted, option_to_list, reported_plain_event, interrupts_by, OutputQueue, queued_events}
 
 reverse-push : (drops : List (ℕ × ℕ)) (d : ℕ × ℕ) → reverse (drops ++ d ∷ []) ≡ d ∷ reverse drops
 reverse-push drops d = reverse-append drops (d ∷ [])

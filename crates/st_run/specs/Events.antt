@@ -1,8 +1,7 @@
 -- The events of a timed run, and the parts of the machine that snapshots show.
 --
 -- Proved: by their `ensures` clauses these calls do what definitions here say: `levels_ahead`
--- (leaving.rt), `next` (output_queue.rt), `with_index` (seen.rt), `word_with` (seen.rt), and
--- others.
+-- (leaving.rt), `next` (output_queue.rt), `with_index` (seen.rt), `word_with` (seen.rt).
 -- Read by: definitions in TimedRun, ReportedEvents, Telling, Order, and others.
 -- Laws: DelaysChangeNothingButTicks (specs/Laws.antt), NothingIsAheadBehindAnEnd (specs/Laws.antt),
 -- RunsAreInTime (specs/Laws.antt), TheTimedRunIsTheRun (specs/Laws.antt), and others.

@@ -3,7 +3,7 @@
 -- Proved: by their `ensures` clauses these calls do what definitions here say: `between`
 -- (between.rt), `end_wait` (between.rt), `print_line` (between.rt), `read_card` (between.rt), and
 -- others.
--- Read by: definitions in Standing of st_account.
+-- Read by: definitions in Standing of st_account, Rounds of st_account.
 -- Laws: none names a definition of this file itself.
 -- Change: no page fixes these definitions, since no contract of a program unfolds to them; they
 -- change together with the clauses, definitions and laws that name them. docs/machine.md describes

@@ -1,9 +1,9 @@
 -- The points of a timed run: right after an entry completes, and right before the next one. The
 -- machine has the delays ds and n levels.
 --
--- Proved: by their `ensures` clauses these calls do what definitions here say: `skip_to_next`
--- (account.rt of st_account), `step` (account.rt of st_account), `write_to_next` (account.rt of
--- st_account), `pass_to_next` (passing.rt of st_account), and others.
+-- Proved: by their `ensures` clauses these calls do what definitions here say: `step` (account.rt
+-- of st_account), `take_events` (account.rt of st_account), `add_run` (running.rt of st_account),
+-- `write_run` (running.rt of st_account).
 -- Read by: definitions in TimedRun, Leaving, Together, Text of st_account, and others.
 -- Laws: NothingIsAheadBehindAnEnd (specs/Laws.antt), ScenesAreKept (specs/Laws.antt),
 -- DroppedEntriesFollowThePrediction (specs/Laws.antt), TheLastMomentEndsTheRun (specs/Laws.antt),

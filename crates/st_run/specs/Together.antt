@@ -7,7 +7,7 @@
 -- Change: no page fixes these definitions, since no contract of a program unfolds to them; they
 -- change together with the clauses, definitions and laws that name them. docs/timetable.md
 -- describes the subject.
-use Rattle.std.specs.Prelude.{ℕ, ◌≡◌, ◌≤◌, Bool, true, false, if◌then◌else◌, is_some, List, map, Option, None, IsSome, IfSome, ◌<◌, ◌^◌}
+use Rattle.std.specs.Prelude.{ℕ, ◌≡◌, ◌≤◌, Bool, false, if◌then◌else◌, is_some, List, map, Option, None, IfSome, ◌<◌, ◌^◌}
 use Rattle.std.specs.Option.{option_to_list}
 use Rattle.st_bits.specs.declared.limits.TheConstants.{MOST_DELAY}
 use Rattle.st_card.specs.declared.control_cards.Signal.{Signal}
@@ -15,7 +15,8 @@ use Rattle.st_prep.specs.BesideOrders.{AreAlikeBesideOrders}
 use Rattle.st_exec.specs.Step.{interrupt, rests}
 use Rattle.st_run.specs.Run.{Scene, PlainEvent}
 use Rattle.st_rows.specs.Ranges.{AreDelaysUpTo}
-use Rattle.st_ahead.specs.Overlap.{Overlap, oldest_row, levels_of, machine_between_ticks}
+use Rattle.st_banks.specs.declared.answers.LastAnswers.{LastAnswers}
+use Rattle.st_ahead.specs.Overlap.{Completed, closing, Overlap, oldest_row, levels_of, machine_between_ticks}
 use Rattle.st_ahead.specs.Calls.{machine_after_segment, banks_left}
 use Rattle.st_run.specs.Moments.{Moment, Standing}
 use Rattle.st_run.specs.Scenes.{IsScene}
@@ -62,10 +63,8 @@ standing_of tick t = record { scene = scene_of t; tick = tick; issue = t.machine
 -- the point after a completion: the tick is not settled yet
 pub record IsBehindEntry (t : Together) : Type 0 where
   pub kept : IsTogether t
-  pub owed : t.machine.owed ≡ true
-  pub going : t.machine.ended ≡ false
-  pub stands : t.machine.stopped ≡ false
-  pub done : IsSome t.machine.closing
+  pub banks : LastAnswers
+  pub phase : t.machine.phase ≡ Completed banks
   pub table : t.machine.taken ≡ None
   pub counter : IfSome t.machine.mispredicted (λ h. h < 2 ^ 19)
   pub last : t.machine.issue.c ≡ t.machine.now
@@ -78,7 +77,7 @@ moment_of t = record {
   issue = t.machine.issue;
   mispredicted = is_some t.machine.mispredicted;
   dropped = levels_of t.machine;
-  banks = banks_left t.machine.closing;
+  banks = banks_left (closing t.machine.phase);
 }
 
 -- ---- after some of the external events between two entries

@@ -1,11 +1,6 @@
 -- The recursion of hazard-freedom along a run.
-use Rattle.std.specs.Prelude.{◌&&◌, ◌||◌}
-use Rattle.std.proofs.Common.{◌≡◌, ℕ, zero, suc, List, ◌∷◌, arith}
-use Rattle.st_exec.specs.Step.{rests}
-use Rattle.st_rows.specs.declared.entry.WordRuns.{WordRuns}
+use Rattle.st_sweep.proofs.Common.{◌&&◌, ◌||◌, ◌≡◌, ℕ, zero, suc, List, ◌∷◌, arith, rests, WordRuns, Scene, interlude, scene_after_step, is_hazard_free_entry, is_hazard_free_interlude, are_hazard_free_entries, next_writes, is_hazard_free_behind}
 use Rattle.st_run.specs.Course.{course}
-use Rattle.st_run.specs.Run.{Scene, interlude, scene_after_step}
-use Rattle.st_sweep.specs.HazardFree.{is_hazard_free_entry, is_hazard_free_interlude, are_hazard_free_entries, next_writes, is_hazard_free_behind}
 
 pub hazard_free-none : (earlier : List WordRuns) (c : Scene) → is_hazard_free_behind earlier zero c ≡ is_hazard_free_interlude c
 unfolding is_hazard_free_behind course are_hazard_free_entries

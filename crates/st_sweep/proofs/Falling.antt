@@ -1,9 +1,5 @@
 -- The ticks of a hazard-free run are non-increasing in the number of levels.
-use Rattle.std.specs.Prelude.{IfOk, Result, Ok, Err}
-use Rattle.std.proofs.Common.{◌≡◌, ℕ, zero, suc, ◌+◌, ◌≤◌, ◌<◌, true, List, [], ◌∷◌, length, slice_index, sym, ◌∙◌, ap, subst, arith}
-use Rattle.st_run.specs.Run.{Scene}
-use Rattle.st_sweep.specs.HazardFree.{is_hazard_free}
-use Rattle.st_sweep.specs.Sweep.{ticks}
+use Rattle.st_sweep.proofs.Common.{IfOk, Result, Ok, Err, ◌≡◌, ℕ, zero, suc, ◌+◌, ◌≤◌, ◌<◌, true, List, [], ◌∷◌, length, slice_index, sym, ◌∙◌, ap, subst, arith, Scene, is_hazard_free, ticks}
 use Rattle.st_sweep.specs.SideBySide.{side_by_side, AreNotRising}
 use Rattle.st_sweep.specs.declared.sweeping.Swept.{Swept}
 use Rattle.st_sweep.proofs.Segment.{hazard_free-ticks}

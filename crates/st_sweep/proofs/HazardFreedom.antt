@@ -1,21 +1,8 @@
 -- Consequences of the tests for hazard-freedom.
-use Rattle.std.specs.Prelude.{◌==◌, ◌&&◌, ◌||◌, not, nat_lt, nat_le, if◌then◌else◌, is_none, IfSome}
-use Rattle.std.specs.List.{list_all, list_any}
-use Rattle.std.proofs.Common.{◌≡◌, ℕ, zero, suc, ◌+◌, ◌-◌, ◌<◌, ◌≤◌, inl, inr, Bool, true, false, List, [], ◌∷◌, length, All, Option, None, Some, refl, sym, ◌∙◌, subst, arith}
-use Rattle.std.proofs.lemmas.Bool.{and_parts, or_parts, not-true, eqb-true, leb-false, cases_lt}
+use Rattle.st_sweep.proofs.Common.{◌==◌, ◌&&◌, ◌||◌, not, nat_lt, nat_le, if◌then◌else◌, is_none, IfSome, list_all, list_any, ◌≡◌, ℕ, zero, suc, ◌+◌, ◌-◌, ◌<◌, ◌≤◌, inl, inr, Bool, true, false, List, [], ◌∷◌, length, All, Option, None, Some, refl, sym, ◌∙◌, subst, arith, and_parts, or_parts, not-true, eqb-true, leb-false, cases_lt, Machine, plan, is_mispredicted, interrupt, rests, Scene, with_due_signals, with_due_orders, interlude, scene_after_step, is_among, AreEqual, IsUnwritten, IsRunUnwritten, IsHazardFree, WordRuns, above_registers, words_to_read, side_to_read, entry, are_equal, is_among_written, are_written, one_is_written, side_is_written, next_writes, next_side, is_hazard_free_entry, is_hazard_free_interlude, is_hazard_free_behind}
 use Rattle.std.proofs.lemmas.List.Elements.{All-nil, All-cons}
-use Rattle.st_state.specs.Machine.{Machine}
-use Rattle.st_prep.specs.Plan.{plan}
-use Rattle.st_exec.specs.Completion.{is_mispredicted}
-use Rattle.st_exec.specs.Step.{interrupt, rests}
-use Rattle.st_run.specs.Run.{Scene, with_due_signals, with_due_orders, interlude, scene_after_step}
-use Rattle.st_rows.specs.Entries.{is_among}
-use Rattle.st_rows.specs.Levels.{AreEqual, IsUnwritten, IsRunUnwritten, IsHazardFree}
 use Rattle.st_rows.specs.declared.entry.WordRun.{WordRun}
-use Rattle.st_rows.specs.declared.entry.WordRuns.{WordRuns}
-use Rattle.st_segment.specs.Entries.{above_registers, words_to_read, side_to_read, entry}
 use Rattle.st_sweep.proofs.CourseLemmas.{hazard_free-step}
-use Rattle.st_sweep.specs.HazardFree.{are_equal, is_among_written, are_written, one_is_written, side_is_written, next_writes, next_side, is_hazard_free_entry, is_hazard_free_interlude, is_hazard_free_behind}
 
 -- ---- delays
 

@@ -1,3 +1,4 @@
+pub mod Common
 pub mod CourseLemmas
 pub mod HazardFreedom
 pub mod Segment

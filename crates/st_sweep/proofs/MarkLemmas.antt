@@ -1,16 +1,7 @@
 -- The marks are the words that entries wrote.
-use Rattle.std.specs.Prelude.{◌||◌}
-use Rattle.std.specs.List.{list_any}
-use Rattle.std.proofs.Common.{◌≡◌, ◌≢◌, ℕ, zero, suc, ◌+◌, ◌-◌, ◌<◌, ◌≤◌, inl, inr, Bool, true, false, List, [], ◌∷◌, length, get_or, set, replicate, refl, sym, ◌∙◌, ap, arith}
-use Rattle.std.proofs.lemmas.Bool.{cases_eq}
+use Rattle.st_sweep.proofs.Common.{◌||◌, list_any, ◌≡◌, ◌≢◌, ℕ, zero, suc, ◌+◌, ◌-◌, ◌<◌, ◌≤◌, inl, inr, Bool, true, false, List, [], ◌∷◌, length, get_or, set, replicate, refl, sym, ◌∙◌, ap, arith, cases_eq, length-set, get_or-set_same, get_or-set_other, is_in, is_among, WordRuns, words_to_write, is_among_written, are_written, AreMarks, marks_with}
 use Rattle.std.proofs.lemmas.Bool.Decides.{nat_tests}
-use Rattle.std.proofs.lemmas.List.{length-set, get_or-set_same, get_or-set_other}
 use Rattle.st_prep.specs.declared.entries.Words.{Words}
-use Rattle.st_rows.specs.Entries.{is_in, is_among}
-use Rattle.st_rows.specs.declared.entry.WordRuns.{WordRuns}
-use Rattle.st_segment.specs.Entries.{words_to_write}
-use Rattle.st_sweep.specs.HazardFree.{is_among_written, are_written}
-use Rattle.st_sweep.specs.Marks.{AreMarks, marks_with}
 
 -- ---- the words of a range, one at a time
 

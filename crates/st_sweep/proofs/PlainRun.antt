@@ -1,23 +1,11 @@
 -- The progress of a plain run.
-use Rattle.std.specs.Prelude.{◌&&◌, not, is_none}
-use Rattle.std.proofs.Common.{◌≡◌, ◌≢◌, ℕ, Option, zero, suc, ◌+◌, ◌-◌, ◌≤◌, ◌⊎◌, inl, inr, Bool, true, false, List, ◌∷◌, refl, sym, ◌∙◌, ap, subst, arith}
+use Rattle.st_sweep.proofs.Common.{◌&&◌, not, is_none, ◌≡◌, ◌≢◌, ℕ, Option, zero, suc, ◌+◌, ◌-◌, ◌≤◌, ◌⊎◌, inl, inr, Bool, true, false, List, ◌∷◌, refl, sym, ◌∙◌, ap, subst, arith, Machine, Prepared, plan, needs, decode_context, is_mispredicted, state_after_execution, interrupt, step, rests, Signal, Scene, interlude, scene_after_step, state_next, scenes, run, WordRuns, side_is_written, one_is_written, next_writes, is_hazard_free_entry, is_hazard_free_interlude, is_hazard_free_behind, AreMarks, without_cards}
 use Rattle.st_bits.specs.declared.limits.TheConstants.{MOST_INSTRUCTIONS}
-use Rattle.st_state.specs.Machine.{Machine}
-use Rattle.st_prep.specs.declared.entries.Prepared.{Prepared}
 use Rattle.st_prep.specs.Fetch.{place_of}
-use Rattle.st_prep.specs.Plan.{plan, needs, decode_context}
-use Rattle.st_exec.specs.Completion.{is_mispredicted, state_after_execution}
-use Rattle.st_exec.specs.Step.{interrupt, step, rests}
-use Rattle.st_card.specs.declared.control_cards.Signal.{Signal}
-use Rattle.st_run.specs.Run.{Scene, interlude, scene_after_step, state_next, scenes, run}
 use Rattle.st_exec.proofs.StepLemmas.{step-done}
 use Rattle.st_run.proofs.Runs.{run-rests, run-budget, run-goes_on}
-use Rattle.st_rows.specs.declared.entry.WordRuns.{WordRuns}
 use Rattle.st_run.proofs.DoneLemmas.{settled-done}
-use Rattle.st_sweep.specs.HazardFree.{side_is_written, one_is_written, next_writes, is_hazard_free_entry, is_hazard_free_interlude, is_hazard_free_behind}
-use Rattle.st_sweep.specs.Marks.{AreMarks}
 use Rattle.st_sweep.proofs.CourseLemmas.{hazard_free-none, hazard_free-step}
-use Rattle.st_sweep.specs.Sweep.{without_cards}
 
 -- ---- one step
 

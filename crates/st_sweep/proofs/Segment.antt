@@ -1,24 +1,12 @@
 -- A hazard-free run is a single segment, and with more levels no entry completes later.
-use Rattle.std.proofs.Common.{◌≡◌, ℕ, zero, suc, ◌-◌, ◌≤◌, inl, inr, true, false, List, [], ◌∷◌, ◌++◌, length, refl, ◌∙◌, ap, arith}
-use Rattle.std.proofs.lemmas.Bool.{cases_Bool, and_parts}
-use Rattle.st_exec.specs.Step.{interrupt, rests}
-use Rattle.st_run.specs.Run.{Scene, interlude, scene_after_step}
+use Rattle.st_sweep.proofs.Common.{◌≡◌, ℕ, zero, suc, ◌-◌, ◌≤◌, inl, inr, true, false, List, [], ◌∷◌, ◌++◌, length, refl, ◌∙◌, ap, arith, cases_Bool, and_parts, interrupt, rests, Scene, interlude, scene_after_step, AreEqual, IsIssueSooner, AreInOrder, AreCovered, WordRuns, entry, Moment, moment_at_start, next_state, ends_segment, next_issue, standing_at, next_row, next_moment, snapshots_from, events_between, completion, timed_from, timed_behind, last_completion, last-append, last_events-tick, tick-same, are_equal, is_hazard_free, is_hazard_free_behind, ticks}
 use Rattle.st_banks.specs.declared.answers.LastAnswers.{LastAnswers}
-use Rattle.st_rows.specs.Levels.{AreEqual, IsIssueSooner, AreInOrder, AreCovered}
 use Rattle.st_rows.specs.Rows.{opening_issue, row_of_entry, issue_after_entry}
-use Rattle.st_rows.specs.declared.entry.WordRuns.{WordRuns}
 use Rattle.st_rows.specs.declared.issue.IssueState.{IssueState}
 use Rattle.st_rows.proofs.Sooner.{row-sooner, after-sooner, order-after, covered-after, hazard_free-behind, opening-sooner, opening-order, opening-covered}
 use Rattle.st_segment.specs.Ahead.{Ahead}
-use Rattle.st_segment.specs.Entries.{entry}
 use Rattle.st_banks.specs.Bank.{idle_banks}
-use Rattle.st_run.specs.Moments.{Moment, moment_at_start, next_state, ends_segment, next_issue, standing_at, next_row, next_moment}
-use Rattle.st_run.specs.TimedRun.{snapshots_from, events_between, completion, timed_from, timed_behind}
-use Rattle.st_run.specs.Order.{last_completion}
-use Rattle.st_run.proofs.ShownLemmas.{last-append, last_events-tick, tick-same}
 use Rattle.st_run.proofs.Turns.{timed-rests, timed-budget, timed-goes_on, behind-none}
-use Rattle.st_sweep.specs.HazardFree.{are_equal, is_hazard_free, is_hazard_free_behind}
-use Rattle.st_sweep.specs.Sweep.{ticks}
 use Rattle.st_sweep.proofs.HazardFreedom.{same-delays, GoesOn, hazard_free-goes_on}
 
 -- a moment without misprediction

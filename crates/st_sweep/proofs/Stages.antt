@@ -1,13 +1,5 @@
 -- The transition between two entries of a run without cards.
-use Rattle.std.specs.Prelude.{◌||◌, ◌&&◌, not, nat_lt}
-use Rattle.std.proofs.Common.{◌≡◌, ◌≤◌, ℕ, Bool, List, [], ◌∷◌, length, refl, sym, subst, ◌∙◌, ap, arith}
-use Rattle.st_state.specs.Machine.{Machine}
-use Rattle.st_exec.specs.Step.{rests}
-use Rattle.st_card.specs.declared.control_cards.Signal.{Signal}
-use Rattle.st_run.specs.Run.{Scene, with_due_signals, with_due_orders, interlude}
-use Rattle.st_run.specs.ExternalEvents.{PendingEvents, scene_at}
-use Rattle.st_sweep.specs.HazardFree.{is_hazard_free_interlude}
-use Rattle.st_sweep.specs.Sweep.{without_cards}
+use Rattle.st_sweep.proofs.Common.{◌||◌, ◌&&◌, not, nat_lt, ◌≡◌, ◌≤◌, ℕ, Bool, List, [], ◌∷◌, length, refl, sym, subst, ◌∙◌, ap, arith, Machine, rests, Signal, Scene, with_due_signals, with_due_orders, interlude, PendingEvents, scene_at, is_hazard_free_interlude, without_cards}
 
 none-left : (cards : List (List ℕ)) → length cards ≤ 0 → cards ≡ []
 none-left [] few = refl

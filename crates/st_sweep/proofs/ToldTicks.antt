@@ -1,17 +1,8 @@
 -- The tick of the last event.
-use Rattle.st_card.specs.declared.control_cards.Signal.{Signal}
-use Rattle.std.proofs.Common.{◌≡◌, ℕ, ◌<◌, List, [], ◌∷◌, ◌++◌, length, refl, ◌∙◌, ap, arith}
-use Rattle.st_state.specs.Machine.{Machine}
+use Rattle.st_sweep.proofs.Common.{Signal, ◌≡◌, ℕ, ◌<◌, List, [], ◌∷◌, ◌++◌, length, refl, ◌∙◌, ap, arith, Machine, last_completion, timed_run, moment_at_start, tick-same, last_told, without_cards, ticks, map}
 use Rattle.st_run.specs.Events.{Timed}
-use Rattle.st_run.specs.Order.{last_completion}
-use Rattle.st_run.specs.TimedRun.{timed_run}
-use Rattle.st_run.specs.Moments.{moment_at_start}
-use Rattle.st_run.proofs.ShownLemmas.{tick-same}
 use Rattle.st_run.specs.ReportedEvents.{TimedReportedEvent, reported_events}
 use Rattle.st_run.specs.Telling.{AreLeftOut, row_told}
-use Rattle.st_sweep.specs.Starts.{last_told}
-use Rattle.st_sweep.specs.Sweep.{without_cards, ticks}
-use Rattle.std.specs.Prelude.{map}
 
 pub told-last : (t : ℕ) (xs : List Timed) → last_told t (reported_events xs) ≡ last_completion t xs
 unfolding last_told reported_events last_completion

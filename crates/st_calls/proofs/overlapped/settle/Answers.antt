@@ -3,9 +3,9 @@ use Rattle.st_ahead.specs.Overlap.{Overlap}
 use Rattle.st_ahead.proofs.Idling.{goes-passed}
 use Rattle.st_calls.proofs.overlapped.settle.Goals as goal
 
-pub returns-clause-settled : goal.returns-clause-settled
-returns-clause-settled g c =
-    ap (λ (m : Overlap). m.owed) (c.settle.ensures.after ∙ goes-passed c.args.machine.now (sym c.in-Goes.ensures.answer))
+pub returns-clause-ready : goal.returns-clause-ready
+returns-clause-ready g c =
+    ap (λ (m : Overlap). m.phase) (c.settle.ensures.after ∙ goes-passed c.args.machine.now (sym c.in-Goes.ensures.answer))
 
 pub returns-clause-now : goal.returns-clause-now
 returns-clause-now g c =
@@ -14,7 +14,3 @@ returns-clause-now g c =
 pub returns-clause-done : goal.returns-clause-done
 returns-clause-done g c =
     ap (λ (m : Overlap). m.state.done) (c.settle.ensures.after ∙ goes-passed c.args.machine.now (sym c.in-Goes.ensures.answer)) ∙ c.requires.done
-
-pub returns-clause-stands : goal.returns-clause-stands
-returns-clause-stands g c =
-    ap (λ (m : Overlap). m.stopped) (c.settle.ensures.after ∙ goes-passed c.args.machine.now (sym c.in-Goes.ensures.answer)) ∙ c.requires.stands

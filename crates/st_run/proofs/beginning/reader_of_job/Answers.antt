@@ -1,5 +1,4 @@
-use Rattle.std.proofs.Common.{◌<◌, arith}
-use Rattle.std.proofs.lemmas.List.Elements.{All-from_get_or}
+use Rattle.st_run.proofs.Common.{◌<◌, arith, All-from_get_or}
 use Rattle.st_run.proofs.ReaderLemmas.{read_cards}
 use Rattle.st_run.proofs.beginning.reader_of_job.Goals as goal
 

@@ -1,6 +1,4 @@
-use Rattle.std.proofs.Common.{ap, sym, ◌∙◌, false}
-use Rattle.st_exec.specs.Step.{rests}
-use Rattle.st_run.specs.Run.{interlude, with_due_orders}
+use Rattle.st_run.proofs.Common.{ap, sym, ◌∙◌, false, rests, interlude, with_due_orders}
 use Rattle.st_run.proofs.EventLemmas.{came-behind, came-awake, came-waiting}
 use Rattle.st_run.proofs.between.between.Goals as goal
 

@@ -1,5 +1,4 @@
-use Rattle.std.proofs.Common.{false}
-use Rattle.st_run.specs.Run.{with_wait, with_order_at_rest, with_signals_at_rest}
+use Rattle.st_run.proofs.Common.{false, with_wait, with_order_at_rest, with_signals_at_rest}
 use Rattle.st_run.proofs.EventLemmas.{came-then, came-signals}
 use Rattle.st_run.proofs.between.end_wait.Goals as goal
 

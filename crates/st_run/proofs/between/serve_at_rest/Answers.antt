@@ -1,7 +1,5 @@
+use Rattle.st_run.proofs.Common.{ap, sym, ◌∙◌, next_device, rests}
 use Rattle.std.specs.Prelude.{None, Some}
-use Rattle.std.proofs.Common.{ap, sym, ◌∙◌}
-use Rattle.st_state.specs.Orders.{next_device}
-use Rattle.st_exec.specs.Step.{rests}
 use Rattle.st_run.proofs.EventLemmas.{came-is, came-none, order-awake, order-at_rest}
 use Rattle.st_run.proofs.between.serve_at_rest.Goals as goal
 

@@ -1,6 +1,4 @@
-use Rattle.std.proofs.Common.{false}
-use Rattle.st_state.specs.declared.devices.Device.TheVariants.{Printer}
-use Rattle.st_run.specs.Run.{Scene, with_due_order, with_due_orders}
+use Rattle.st_run.proofs.Common.{false, Printer, Scene, with_due_order, with_due_orders}
 use Rattle.st_run.proofs.EventLemmas.{came-then}
 use Rattle.st_run.proofs.between.serve_due.Goals as goal
 

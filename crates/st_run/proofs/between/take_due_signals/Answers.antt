@@ -1,6 +1,4 @@
-use Rattle.std.proofs.Common.{ap, sym, ◌∙◌, false, refl}
-use Rattle.st_state.specs.Machine.{Machine}
-use Rattle.st_run.specs.ExternalEvents.{PendingEvents}
+use Rattle.st_run.proofs.Common.{ap, sym, ◌∙◌, false, refl, Machine, PendingEvents}
 use Rattle.st_run.proofs.SignalLemmas.{due-came, due-over}
 use Rattle.st_run.proofs.between.take_due_signals.Goals as goal
 

@@ -1,6 +1,4 @@
-use Rattle.std.proofs.Common.{ap, sym, ◌∙◌, false, refl}
-use Rattle.st_exec.specs.Step.{rests}
-use Rattle.st_run.specs.ExternalEvents.{PendingEvents}
+use Rattle.st_run.proofs.Common.{ap, sym, ◌∙◌, false, refl, rests, PendingEvents}
 use Rattle.st_run.proofs.SignalLemmas.{rest-came, rest-over}
 use Rattle.st_run.proofs.between.take_signals_at_rest.Goals as goal
 

@@ -1,6 +1,4 @@
-use Rattle.std.proofs.Common.{◌≡◌, false, length}
-use Rattle.st_run.specs.Run.{with_signals_at_rest}
-use Rattle.st_run.specs.ExternalEvents.{scene_at}
+use Rattle.st_run.proofs.Common.{◌≡◌, false, length, with_signals_at_rest, scene_at}
 use Rattle.st_run.proofs.between.take_signals_at_rest.Given as goal
 
 abbrev pub invariant-signals : goal.invariant-signals

@@ -1,8 +1,4 @@
-use Rattle.std.proofs.Common.{◌≡◌, ℕ, List, length}
-use Rattle.std.specs.List.{AllPass}
-use Rattle.st_card.specs.Limits.{is_signal}
-use Rattle.st_run.specs.Run.{with_due_signals}
-use Rattle.st_ahead.specs.Calls.{MaySignal}
+use Rattle.st_run.proofs.Common.{◌≡◌, ℕ, List, length, AllPass, is_signal, with_due_signals, MaySignal}
 use Rattle.st_run.proofs.driven.due_signals.Given as goal
 
 abbrev pub invariant-signals : goal.invariant-signals

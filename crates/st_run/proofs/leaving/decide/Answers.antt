@@ -1,9 +1,4 @@
-use Rattle.std.proofs.Common.{sym, subst, ◌∙◌, ap}
-use Rattle.st_exec.specs.Step.{rests}
-use Rattle.st_ahead.specs.Overlap.{Overlap}
-use Rattle.st_ahead.specs.Calls.{MayServe}
-use Rattle.st_refine.specs.Reached.{IsLed, IsLedOn}
-use Rattle.st_run.specs.Together.{Together}
+use Rattle.st_run.proofs.Common.{sym, subst, ◌∙◌, ap, rests, Overlap, MayServe, serve-settles, IsLed, IsLedOn, Together}
 use Rattle.st_run.proofs.LedLemmas.{settle-led, stop-led}
 use Rattle.st_run.proofs.ChoiceLemmas.{chosen}
 use Rattle.st_run.proofs.leaving.decide.Goals as goal
@@ -25,4 +20,4 @@ pub returns-clause-led : goal.returns-clause-led
 returns-clause-led g c =
     let may = subst (λ (t : Together). MayServe t.machine) (sym c.driven.view_is) c.requires in
     subst {A = Together} (λ t. IsLedOn t.machine c.settle.new.self) c.driven.view_is (λ start led.
-    subst {A = Overlap} (IsLed start) (sym c.settle.ensures.after) (settle-led c.driven.inside.machine may.0 may.2 led))
+    subst {A = Overlap} (IsLed start) (sym c.settle.ensures.after) (settle-led c.driven.inside.machine (serve-settles c.driven.inside.machine.phase may) led))

@@ -1,7 +1,4 @@
-use Rattle.std.proofs.Common.{ap, arith, sym, subst, ◌∙◌}
-use Rattle.std.specs.Prelude.{option_map}
-use Rattle.st_refine.specs.Reached.{IsLedOn}
-use Rattle.st_run.specs.Together.{Together, IsBehindEntry}
+use Rattle.st_run.proofs.Common.{ap, arith, sym, subst, ◌∙◌, option_map, may_serve, IsLedOn, Together, IsBehindEntry}
 use Rattle.st_run.proofs.ChoiceLemmas.{decided}
 use Rattle.st_run.proofs.InterludeLemmas.{come-between, with_pending}
 use Rattle.st_run.proofs.PartLemmas.{left-parts}
@@ -10,12 +7,12 @@ use Rattle.st_run.proofs.leaving.leave.Goals as goal
 pub between-came-requires : goal.between-came-requires
 between-came-requires g c =
     let is = subst {A = Together} IsBehindEntry (sym c.driven.view_is) c.requires in
-    (is.owed, is.done, is.stands)
+    ap may_serve is.phase
 
 pub decide-requires : goal.decide-requires
 decide-requires g c =
     let is = subst {A = Together} IsBehindEntry (sym c.driven.view_is) c.requires in
-    (omega arith, c.between-came.ensures.rest.serves (is.owed, is.done, is.stands))
+    (omega arith, c.between-came.ensures.rest.serves (ap may_serve is.phase))
 
 pub returns-clause-decided : goal.returns-clause-decided
 returns-clause-decided g c =

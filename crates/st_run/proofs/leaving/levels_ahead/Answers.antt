@@ -1,7 +1,4 @@
-use Rattle.std.proofs.Common.{◌∙◌, ap}
-use Rattle.std.specs.Prelude.{map}
-use Rattle.st_ahead.specs.Overlap.{levels_of}
-use Rattle.st_run.specs.Together.{Together}
+use Rattle.st_run.proofs.Common.{◌∙◌, ap, map, levels_of, Together}
 use Rattle.st_run.proofs.LevelLemmas.{ahead_row, same-levels}
 use Rattle.st_run.proofs.leaving.levels_ahead.Goals as goal
 

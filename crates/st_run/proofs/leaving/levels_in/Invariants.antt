@@ -1,5 +1,4 @@
-use Rattle.std.specs.Prelude.{map}
-use Rattle.std.proofs.Common.{◌≡◌, ◌≤◌, length, take}
+use Rattle.st_run.proofs.Common.{map, ◌≡◌, ◌≤◌, length, take}
 use Rattle.st_run.proofs.leaving.levels_in.Given as goal
 
 abbrev pub invariant-levels : goal.invariant-levels

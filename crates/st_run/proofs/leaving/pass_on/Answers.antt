@@ -1,9 +1,4 @@
-use Rattle.std.proofs.Common.{◌≡◌, true, false, sym, subst, ◌∙◌, ap}
-use Rattle.st_state.specs.Machine.{Machine}
-use Rattle.st_run.specs.ExternalEvents.{signal_due}
-use Rattle.st_run.specs.Together.{Together}
-use Rattle.st_ahead.specs.Overlap.{Overlap}
-use Rattle.st_refine.specs.Reached.{IsLed, IsLedOn}
+use Rattle.st_run.proofs.Common.{sym, subst, ◌∙◌, ap, Machine, signal_due, Together, Overlap, may_settle, MaySettle, IsLed, IsLedOn}
 use Rattle.st_run.proofs.LedLemmas.{settle-led}
 use Rattle.st_run.proofs.QuietLemmas.{passed-decided, passed-parts, quiet-settled}
 use Rattle.st_run.proofs.leaving.pass_on.Goals as goal
@@ -34,5 +29,4 @@ returns-clause-led g c =
     let m = c.driven.inside.machine in
     subst {A = Together} (λ t. IsLedOn t.machine c.go_on.new.self) c.driven.view_is (λ start led.
     subst {A = Overlap} (IsLed start) (sym (c.go_on.ensures ∙ quiet-settled m (c.is_quiet.ensures c.if-not-is_quiet.false)))
-    (settle-led m (subst (λ (t : Together). t.machine.owed ≡ true) (sym c.driven.view_is) c.requires.owed)
-    (subst (λ (t : Together). t.machine.stopped ≡ false) (sym c.driven.view_is) c.requires.stands) led))
+    (settle-led m (subst (λ (t : Together). MaySettle t.machine) (sym c.driven.view_is) (ap may_settle c.requires.phase)) led))

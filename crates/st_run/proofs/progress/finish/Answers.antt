@@ -1,8 +1,6 @@
-use Rattle.std.proofs.Common.{◌∷◌, ◌∙◌, sym, ap}
-use Rattle.st_run.specs.Telling.{state_told, ahead_of, told_as, rest_of}
-use Rattle.st_run.specs.declared.run_events.TimedRunEvent.{TimedRunEvent}
-use Rattle.st_run.specs.declared.run_phase.RunPhase.TheVariants as turns
+use Rattle.st_run.proofs.Common.{◌∷◌, ◌∙◌, sym, ap, state_told, ahead_of, told_as, rest_of, TimedRunEvent}
 use Rattle.st_run.proofs.ProgressLemmas.{end-tells, end-keeps, last-tells, last-keeps}
+use Rattle.st_run.specs.declared.run_phase.RunPhase.TheVariants as turns
 use Rattle.st_run.proofs.progress.finish.Goals as goal
 
 pub returns-in_default-clause-kept : goal.returns-in_default-clause-kept

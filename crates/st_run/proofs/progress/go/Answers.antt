@@ -1,12 +1,8 @@
-use Rattle.std.specs.Prelude.{IfSome}
-use Rattle.std.proofs.Common.{◌≤◌, ◌-◌, ◌∷◌, ◌∙◌, ap, ℕ, Option, List, sym, subst, arith}
-use Rattle.st_run.specs.ReportedEvents.{TimedReportedEvent}
-use Rattle.st_run.specs.Telling.{rest_of, state_told, ahead_of, told_as, AreInTime}
-use Rattle.st_run.specs.declared.run_events.TimedRunEvent.{TimedRunEvent}
-use Rattle.st_run.specs.declared.run_phase.RunPhase.TheVariants as turns
+use Rattle.st_run.proofs.Common.{IfSome, ◌≤◌, ◌-◌, ◌∷◌, ◌∙◌, ap, ℕ, Option, List, sym, subst, arith, TimedReportedEvent, rest_of, state_told, ahead_of, told_as, AreInTime, TimedRunEvent}
 use Rattle.st_run.proofs.ProgressLemmas.{rest-quiet}
 use Rattle.st_run.proofs.LeftLemmas.{oldest-in_time, done-in_time}
 use Rattle.st_run.proofs.GoLemmas.{first-late, go-shows, go-leaves, go-tells}
+use Rattle.st_run.specs.declared.run_phase.RunPhase.TheVariants as turns
 use Rattle.st_run.proofs.progress.go.Goals as goal
 
 pub run_until-requires : goal.run_until-requires

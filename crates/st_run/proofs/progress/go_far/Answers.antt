@@ -1,5 +1,4 @@
-use Rattle.std.proofs.Common.{◌≡◌, ◌-◌, [], arith}
-use Rattle.st_run.specs.Telling.{rest_of}
+use Rattle.st_run.proofs.Common.{◌≡◌, ◌-◌, [], arith, rest_of}
 use Rattle.st_run.proofs.LeftLemmas.{done-in_time}
 use Rattle.st_run.proofs.PassLemmas.{ahead-is, far-row, far-none, far-left, far-told}
 use Rattle.st_run.proofs.progress.go_far.Goals as goal

@@ -1,10 +1,7 @@
-use Rattle.std.proofs.Common.{ℕ, ◌-◌, [], refl, sym, ◌∙◌, ap, subst}
-use Rattle.st_run.specs.Telling.{rest_of, IsRun}
-use Rattle.st_run.specs.Leaving.{nothing_decided}
-use Rattle.st_run.specs.declared.run_phase.RunPhase.{RunPhase}
-use Rattle.st_run.specs.declared.run_phase.RunPhase.TheVariants as turns
+use Rattle.st_run.proofs.Common.{ℕ, ◌-◌, [], refl, sym, ◌∙◌, ap, subst, rest_of, IsRun, nothing_decided, RunPhase}
 use Rattle.st_run.proofs.QuietLemmas.{quiet-rest, quiet-run}
 use Rattle.st_run.proofs.LeftLemmas.{left-told, left-keeps}
+use Rattle.st_run.specs.declared.run_phase.RunPhase.TheVariants as turns
 use Rattle.st_run.proofs.progress.leave_entry.Goals as goal
 
 pub returns-clause-kept : goal.returns-clause-kept

@@ -1,6 +1,4 @@
-use Rattle.std.proofs.Common.{ℕ, List, [], sym, ◌∙◌, ap, subst}
-use Rattle.std.specs.Prelude.{if◌then◌else◌}
-use Rattle.st_run.specs.Telling.{rest_of, IsRun}
+use Rattle.st_run.proofs.Common.{ℕ, List, [], sym, ◌∙◌, ap, subst, if◌then◌else◌, rest_of, IsRun}
 use Rattle.st_run.proofs.LeftLemmas.{waits_by, left-told, left-keeps}
 use Rattle.st_run.proofs.progress.leave_fully.Goals as goal
 

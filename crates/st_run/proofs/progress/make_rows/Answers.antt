@@ -1,11 +1,8 @@
-use Rattle.std.proofs.Common.{◌≡◌, [], ◌∷◌, List, refl, sym, ap, ◌∙◌, arith}
-use Rattle.st_ahead.specs.RowsDone.{Queue, queue_with}
-use Rattle.st_ahead.specs.declared.events.Row.{Row}
-use Rattle.st_run.specs.Telling.{rest_of, rows_then}
-use Rattle.st_run.specs.declared.run_phase.RunPhase.TheVariants as turns
+use Rattle.st_run.proofs.Common.{◌≡◌, [], ◌∷◌, List, refl, sym, ap, ◌∙◌, arith, Queue, queue_with, Row, rest_of, rows_then}
 use Rattle.st_run.proofs.LeftLemmas.{done-in_time}
 use Rattle.st_run.proofs.NextLemmas.{turn-run, turn-rest}
 use Rattle.st_run.proofs.PassLemmas.{ahead-is, far-waits}
+use Rattle.st_run.specs.declared.run_phase.RunPhase.TheVariants as turns
 use Rattle.st_run.proofs.progress.make_rows.Goals as goal
 
 pub overflow_add-done : goal.overflow_add-done

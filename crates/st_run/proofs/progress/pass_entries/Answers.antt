@@ -1,7 +1,7 @@
-use Rattle.std.proofs.Common.{refl}
-use Rattle.st_run.specs.declared.run_phase.RunPhase.TheVariants as turns
+use Rattle.st_run.proofs.Common.{refl}
 use Rattle.st_run.proofs.NextLemmas.{turn-rest}
 use Rattle.st_run.proofs.PassLemmas.{far-passed}
+use Rattle.st_run.specs.declared.run_phase.RunPhase.TheVariants as turns
 use Rattle.st_run.proofs.progress.pass_entries.Goals as goal
 
 pub returns-clause-rows : goal.returns-clause-rows

@@ -1,6 +1,4 @@
-use Rattle.std.proofs.Common.{◌∷◌, ◌∙◌, sym, ap}
-use Rattle.st_run.specs.Telling.{state_told, ahead_of, told_as, rest_of}
-use Rattle.st_run.specs.declared.run_events.TimedRunEvent.{TimedRunEvent}
+use Rattle.st_run.proofs.Common.{◌∷◌, ◌∙◌, sym, ap, state_told, ahead_of, told_as, rest_of, TimedRunEvent}
 use Rattle.st_run.proofs.ProgressLemmas.{show-tells, show-keeps}
 use Rattle.st_run.proofs.progress.show.Goals as goal
 

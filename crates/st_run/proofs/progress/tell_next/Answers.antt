@@ -1,9 +1,7 @@
-use Rattle.std.proofs.Common.{◌∷◌, sym, ◌∙◌, ap, arith}
-use Rattle.st_run.specs.Telling.{reported_answer, state_told, ahead_of, rest_of, state_told, ahead_of, told_as}
-use Rattle.st_run.specs.declared.run_events.TimedRunEvent.{TimedRunEvent}
-use Rattle.st_run.specs.declared.run_phase.RunPhase.TheVariants as turns
+use Rattle.st_run.proofs.Common.{◌∷◌, sym, ◌∙◌, ap, arith, reported_answer, state_told, ahead_of, rest_of, told_as, TimedRunEvent}
 use Rattle.st_run.proofs.ProgressLemmas.{seen-none}
 use Rattle.st_run.proofs.NextLemmas.{next-tells, next-keeps, still-quiet, still-run, turn-run, turn-rest, end-levels, end-in_time}
+use Rattle.st_run.specs.declared.run_phase.RunPhase.TheVariants as turns
 use Rattle.st_run.proofs.progress.tell_next.Goals as goal
 
 pub returns-in-Some-clause-kept : goal.returns-in-Some-clause-kept

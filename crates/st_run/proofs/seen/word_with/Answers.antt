@@ -1,5 +1,4 @@
-use Rattle.std.specs.Prelude.{slice_index}
-use Rattle.std.proofs.Common.{ℕ, List, ◌∙◌, ◌≤◌, length, ap, arith}
+use Rattle.st_run.proofs.Common.{slice_index, ℕ, List, ◌∙◌, ◌≤◌, length, ap, arith}
 use Rattle.st_bits.specs.Storage.{words_of_storage_is}
 use Rattle.st_run.proofs.SeenLemmas.{word-low, word-index, word-high}
 use Rattle.st_run.proofs.seen.word_with.Goals as goal

@@ -1,6 +1,4 @@
-use Rattle.std.proofs.Common.{List, ap, ◌∙◌, arith}
-use Rattle.st_ahead.specs.declared.events.Row.{Row}
-use Rattle.st_run.specs.Telling.{rest_of, rows_then}
+use Rattle.st_run.proofs.Common.{List, ap, ◌∙◌, arith, Row, rest_of, rows_then}
 use Rattle.st_run.proofs.RowLemmas.{none-waits}
 use Rattle.st_run.proofs.teller.make_ready.Goals as goal
 

@@ -1,8 +1,4 @@
-use Rattle.std.proofs.Common.{◌∷◌, List, sym, ap, ◌∙◌}
-use Rattle.st_ahead.specs.RowsDone.{Queue}
-use Rattle.st_ahead.specs.declared.events.Row.{Row}
-use Rattle.st_run.specs.Telling.{rest_of, rows_then, state_told, ahead_of, told_as}
-use Rattle.st_run.specs.declared.run_events.TimedRunEvent.{TimedRunEvent}
+use Rattle.st_run.proofs.Common.{◌∷◌, List, sym, ap, ◌∙◌, Queue, Row, rest_of, rows_then, state_told, ahead_of, told_as, TimedRunEvent}
 use Rattle.st_run.proofs.RowLemmas.{told-behind}
 use Rattle.st_run.proofs.teller.next_of.Goals as goal
 

@@ -1,5 +1,4 @@
-use Rattle.std.proofs.Common.{◌∙◌}
-use Rattle.st_run.specs.Telling.{rest_of, rows_then}
+use Rattle.st_run.proofs.Common.{◌∙◌, rest_of, rows_then}
 use Rattle.st_run.proofs.RowLemmas.{row-next, row-room}
 use Rattle.st_run.proofs.teller.next_row_of.Goals as goal
 

@@ -1,6 +1,4 @@
-use Rattle.std.proofs.Common.{ap}
-use Rattle.st_ahead.specs.RowsDone.{Queue}
-use Rattle.st_run.specs.Telling.{rest_of}
+use Rattle.st_run.proofs.Common.{ap, Queue, rest_of}
 use Rattle.st_run.proofs.RowLemmas.{none-waits, passed-behind}
 use Rattle.st_run.proofs.teller.pass_over.Goals as goal
 

@@ -1,18 +1,11 @@
-use Rattle.std.proofs.Common.{ap, ◌≡◌, ◌-◌, ◌<◌, ◌^◌, false, None, sym, subst, arith}
-use Rattle.std.specs.Prelude.{option_map}
-use Rattle.st_ahead.specs.declared.events.Row.{Row}
-use Rattle.st_ahead.specs.RowsDone.{queue_with, rows_in_ticks, ticks_passed}
-use Rattle.st_ahead.specs.Overlap.{Overlap}
-use Rattle.st_refine.specs.Reached.{IsLedOn}
-use Rattle.st_run.specs.Together.{Together}
-use Rattle.st_run.specs.Ticking.{last_for}
+use Rattle.st_run.proofs.Common.{ap, ◌≡◌, ◌-◌, ◌<◌, ◌^◌, None, sym, subst, arith, option_map, Row, queue_with, rows_in_ticks, ticks_passed, Ready, Overlap, IsLedOn, Together, last_for}
 use Rattle.st_run.proofs.LedLemmas.{run-led}
 use Rattle.st_run.proofs.ticking.run_many.Goals as goal
 
 pub returns-clause-led : goal.returns-clause-led
 returns-clause-led g c = subst {A = Together} (λ t. IsLedOn t.machine c.run_to.new.self) c.driven.view_is (λ start led.
     run-led c.args.count (2 ^ 63 - 1) c.run_to.result c.driven.inside.machine c.run_to.new.self
-    (subst (λ (t : Together). t.machine.owed ≡ false) (sym c.driven.view_is) (ap {A = Overlap} (λ o. o.owed) c.requires.before.ready.between))
+    (subst (λ (t : Together). t.machine.phase ≡ Ready) (sym c.driven.view_is) (ap {A = Overlap} (λ o. o.phase) c.requires.before.ready.between))
     (subst (λ (t : Together). t.machine.state.done < 2 ^ 63) (sym c.driven.view_is) c.requires.few) c.requires.count (omega arith) c.run_to.ensures.runs led)
 
 pub returns-clause-rows : goal.returns-clause-rows

@@ -1,9 +1,5 @@
-use Rattle.st_ahead.proofs.NotedRows.{queue-shut}
+use Rattle.st_run.proofs.Common.{queue-shut, ap, ◌≡◌, ◌<◌, ◌^◌, sym, subst, ◌∙◌, arith, Ready, Overlap, IsLedOn, Together}
 use Rattle.st_run.proofs.TickLemmas.{made-until}
-use Rattle.std.proofs.Common.{ap, ◌≡◌, ◌<◌, ◌^◌, false, sym, subst, ◌∙◌, arith}
-use Rattle.st_ahead.specs.Overlap.{Overlap}
-use Rattle.st_refine.specs.Reached.{IsLedOn}
-use Rattle.st_run.specs.Together.{Together}
 use Rattle.st_run.proofs.LedLemmas.{run-led, last-soon}
 use Rattle.st_run.proofs.ticking.run_until.Goals as goal
 
@@ -15,7 +11,7 @@ returns-clause-made g c =
 pub returns-clause-led : goal.returns-clause-led
 returns-clause-led g c = subst {A = Together} (λ t. IsLedOn t.machine c.run_to.new.self) c.driven.view_is (λ start led.
     run-led 0 c.last_of.result c.run_to.result c.driven.inside.machine c.run_to.new.self
-    (subst (λ (t : Together). t.machine.owed ≡ false) (sym c.driven.view_is) (ap {A = Overlap} (λ o. o.owed) c.requires.before.ready.between))
+    (subst (λ (t : Together). t.machine.phase ≡ Ready) (sym c.driven.view_is) (ap {A = Overlap} (λ o. o.phase) c.requires.before.ready.between))
     (subst (λ (t : Together). t.machine.state.done < 2 ^ 63) (sym c.driven.view_is) c.requires.few) (omega arith)
     (last-soon c.args.snap c.last_of.result c.last_of.ensures) c.run_to.ensures.runs led)
 

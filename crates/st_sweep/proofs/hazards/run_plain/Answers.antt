@@ -1,5 +1,4 @@
-use Rattle.std.proofs.Common.{inl, inr, sym, ◌∙◌, ap, arith}
-use Rattle.std.specs.Prelude.{◌&&◌}
+use Rattle.st_sweep.proofs.Common.{inl, inr, sym, ◌∙◌, ap, arith, ◌&&◌}
 use Rattle.st_sweep.proofs.PlainRun.{ends-hazard_free, ends-done, few-now, next-so_far}
 use Rattle.st_sweep.proofs.hazards.run_plain.Goals as goal
 

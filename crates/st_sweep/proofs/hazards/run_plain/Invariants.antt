@@ -1,9 +1,5 @@
-use Rattle.std.proofs.Common.{[]}
-use Rattle.std.specs.List.{AllPass}
+use Rattle.st_sweep.proofs.Common.{[], AllPass, state_next, scenes, is_hazard_free_behind, without_cards}
 use Rattle.st_card.specs.Limits.{is_signal}
-use Rattle.st_run.specs.Run.{state_next, scenes}
-use Rattle.st_sweep.specs.HazardFree.{is_hazard_free_behind}
-use Rattle.st_sweep.specs.Sweep.{without_cards}
 use Rattle.st_sweep.proofs.PlainRun.{IsSoFar}
 use Rattle.st_sweep.proofs.hazards.run_plain.Given as goal
 

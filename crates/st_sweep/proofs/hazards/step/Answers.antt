@@ -1,8 +1,4 @@
-use Rattle.std.proofs.Common.{ℕ, Option, ◌∷◌, ◌∙◌, ap, subst}
-use Rattle.st_prep.specs.declared.entries.Prepared.{Prepared}
-use Rattle.st_prep.specs.Plan.{plan}
-use Rattle.st_segment.specs.Entries.{words_to_write}
-use Rattle.st_sweep.specs.Marks.{AreMarks}
+use Rattle.st_sweep.proofs.Common.{ℕ, Option, ◌∷◌, ◌∙◌, ap, subst, Prepared, plan, words_to_write, AreMarks}
 use Rattle.st_sweep.proofs.PlainRun.{entry-step, entry-hazard_free}
 use Rattle.st_sweep.proofs.hazards.step.Goals as goal
 

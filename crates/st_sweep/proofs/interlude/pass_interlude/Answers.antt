@@ -1,6 +1,4 @@
-use Rattle.std.proofs.Common.{ℕ, List, sym, ◌∙◌, ap}
-use Rattle.std.specs.Prelude.{◌||◌, not}
-use Rattle.st_run.specs.ExternalEvents.{PendingEvents}
+use Rattle.st_sweep.proofs.Common.{ℕ, List, sym, ◌∙◌, ap, ◌||◌, not, PendingEvents}
 use Rattle.st_sweep.proofs.Stages.{settled-scene, settled-quiet}
 use Rattle.st_sweep.proofs.interlude.pass_interlude.Goals as goal
 

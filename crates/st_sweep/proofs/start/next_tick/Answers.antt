@@ -1,5 +1,4 @@
-use Rattle.std.proofs.Common.{sym, ◌∙◌, ap}
-use Rattle.st_sweep.specs.Starts.{last_told}
+use Rattle.st_sweep.proofs.Common.{sym, ◌∙◌, ap, last_told}
 use Rattle.st_sweep.proofs.ToldTicks.{last_told-next, last_told-left_out}
 use Rattle.st_sweep.proofs.start.next_tick.Goals as goal
 

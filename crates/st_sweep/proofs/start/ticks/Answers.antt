@@ -1,5 +1,4 @@
-use Rattle.std.proofs.Common.{sym, ◌∙◌, ap}
-use Rattle.st_sweep.specs.Starts.{ticks_from}
+use Rattle.st_sweep.proofs.Common.{sym, ◌∙◌, ap, ticks_from}
 use Rattle.st_sweep.proofs.ToldTicks.{told-whole, last_told-end}
 use Rattle.st_sweep.proofs.start.ticks.Goals as goal
 

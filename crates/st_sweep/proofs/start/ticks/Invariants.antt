@@ -1,5 +1,4 @@
-use Rattle.std.proofs.Common.{◌≡◌, length}
-use Rattle.st_sweep.specs.Starts.{ticks_from, last_told}
+use Rattle.st_sweep.proofs.Common.{◌≡◌, length, ticks_from, last_told}
 use Rattle.st_sweep.proofs.start.ticks.Given as goal
 
 abbrev pub invariant-run : goal.invariant-run

@@ -1,4 +1,4 @@
-use Rattle.std.proofs.Common.{◌≡◌, sym, ◌∙◌, arith}
+use Rattle.st_sweep.proofs.Common.{◌≡◌, sym, ◌∙◌, arith}
 use Rattle.st_sweep.proofs.MarkLemmas.{found-mark, passed-mark, none-left}
 use Rattle.st_sweep.proofs.written.has_mark.Goals as goal
 

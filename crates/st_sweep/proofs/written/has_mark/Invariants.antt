@@ -1,7 +1,4 @@
-use Rattle.std.proofs.Common.{◌≡◌, ◌+◌, List}
-use Rattle.st_rows.specs.declared.entry.WordRuns.{WordRuns}
-use Rattle.st_sweep.specs.HazardFree.{are_written}
-use Rattle.st_sweep.specs.Marks.{AreMarks}
+use Rattle.st_sweep.proofs.Common.{◌≡◌, ◌+◌, List, WordRuns, are_written, AreMarks}
 use Rattle.st_sweep.proofs.written.has_mark.Given as goal
 
 abbrev pub invariant-words : goal.invariant-words

@@ -1,5 +1,4 @@
-use Rattle.std.proofs.Common.{◌≡◌, ◌+◌, ◌≤◌, true, length, sym, ◌∙◌, arith}
-use Rattle.std.proofs.lemmas.List.{length-set}
+use Rattle.st_sweep.proofs.Common.{◌≡◌, ◌+◌, ◌≤◌, true, length, sym, ◌∙◌, arith, length-set}
 use Rattle.st_sweep.proofs.MarkLemmas.{marked-next, none-marked-left}
 use Rattle.st_sweep.proofs.written.mark.Goals as goal
 

@@ -1,5 +1,4 @@
-use Rattle.std.proofs.Common.{◌≡◌, ◌+◌, ◌≤◌, length}
-use Rattle.st_sweep.specs.Marks.{marks_with}
+use Rattle.st_sweep.proofs.Common.{◌≡◌, ◌+◌, ◌≤◌, length, marks_with}
 use Rattle.st_sweep.proofs.written.mark.Given as goal
 
 abbrev pub invariant-words : goal.invariant-words

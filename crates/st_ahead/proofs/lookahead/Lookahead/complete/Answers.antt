@@ -1,11 +1,4 @@
-use Rattle.std.proofs.Common.{◌≡◌, length, true, false, None, refl, sym, subst, ◌∙◌}
-use Rattle.std.specs.Prelude.{◌==◌}
-use Rattle.std.proofs.lemmas.Bool.{eq-eqb, ne_eqb, and_left}
-use Rattle.st_exec.specs.Completion.{prediction}
-use Rattle.st_prep.specs.declared.entries.Place.{Place}
-use Rattle.st_rows.specs.Rows.{issue_after_entry}
-use Rattle.st_segment.specs.Entries.{entry}
-use Rattle.st_ahead.specs.Forecast.{LookaheadView, IsOutlook}
+use Rattle.st_ahead.proofs.Common.{◌≡◌, length, true, false, None, refl, sym, subst, ◌∙◌, ◌==◌, eq-eqb, ne_eqb, and_left, prediction, Place, issue_after_entry, entry, LookaheadView, IsOutlook}
 use Rattle.st_ahead.proofs.DoneLookahead.{all-done, is_alone, ahead-through, alone-if}
 use Rattle.st_ahead.proofs.lookahead.Lookahead.complete.Goals.{else-len-eq0-via-then-len-eq0+else-self, else-len-eq0-via-else-len-eq0}
 use Rattle.st_ahead.proofs.lookahead.Lookahead.complete.Goals as goal

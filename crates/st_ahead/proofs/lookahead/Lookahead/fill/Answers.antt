@@ -1,8 +1,5 @@
-use Rattle.std.proofs.Common.{◌<◌, ◌≤◌, All, sym, subst, arith}
-use Rattle.std.proofs.lemmas.List.Elements.{All-weaker}
-use Rattle.st_ring.specs.declared.level.Level.{Level}
-use Rattle.st_ring.specs.Levels.{AreNotDone}
-use Rattle.st_ahead.specs.Forecast.{LookaheadView}
+use Rattle.st_ahead.proofs.Common.{◌<◌, ◌≤◌, sym, subst, arith, All-weaker, Level, AreNotDone, LookaheadView}
+use Rattle.std.proofs.Common.{All}
 use Rattle.st_ahead.proofs.DoneLookahead.{all-filled, ahead-through}
 use Rattle.st_ahead.proofs.lookahead.Lookahead.fill.Goals as goal
 

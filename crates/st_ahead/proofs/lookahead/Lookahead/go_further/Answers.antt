@@ -1,9 +1,8 @@
-use Rattle.std.proofs.Common.{◌+◌, refl, arith}
-use Rattle.st_rows.proofs.Within.{delays-are}
+use Rattle.st_ahead.proofs.Common.{◌+◌, refl, arith, delays-are}
 use Rattle.st_ahead.proofs.Gone.{gone-on, oldest-late}
 use Rattle.st_ahead.proofs.Settling.{lookahead-goes}
-use Rattle.st_ahead.proofs.lookahead.Lookahead.go_further.Goals as goal
 use Rattle.st_ahead.proofs.Laws.{lookaheads_are_levels}
+use Rattle.st_ahead.proofs.lookahead.Lookahead.go_further.Goals as goal
 
 pub returns : goal.returns
 returns g c = λ t f h.

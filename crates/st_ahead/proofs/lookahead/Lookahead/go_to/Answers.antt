@@ -1,6 +1,4 @@
-use Rattle.std.proofs.Common.{◌≡◌, ◌+◌, ◌≤◌, length, refl, sym, ◌∙◌, ap, arith}
-use Rattle.std.specs.Prelude.{nat_le}
-use Rattle.st_ring.specs.Levels.{LevelsView, due_of}
+use Rattle.st_ahead.proofs.Common.{◌≡◌, ◌+◌, ◌≤◌, length, refl, sym, ◌∙◌, ap, arith, nat_le, LevelsView, due_of}
 use Rattle.st_ahead.proofs.Gone.{going-at, gone-by}
 use Rattle.st_ahead.proofs.lookahead.Lookahead.go_to.Goals as goal
 

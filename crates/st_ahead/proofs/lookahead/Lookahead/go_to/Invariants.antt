@@ -1,7 +1,4 @@
-use Rattle.std.proofs.Common.{ℕ, ◌-◌, ◌≤◌, Option}
-use Rattle.st_rows.specs.declared.issue.IssueState.{IssueState}
-use Rattle.st_ahead.specs.Forecast.{count}
-use Rattle.st_ahead.specs.Going.{GoesUpTo, Reaches}
+use Rattle.st_ahead.proofs.Common.{ℕ, ◌-◌, ◌≤◌, Option, IssueState, count, GoesUpTo, Reaches}
 use Rattle.st_ahead.proofs.lookahead.Lookahead.go_to.Given as goal
 
 -- the look-ahead advances as before, and no level is removed

@@ -1,10 +1,4 @@
-use Rattle.std.specs.Prelude.{get_or, map, slice_get, nat_le, option_map}
-use Rattle.std.proofs.Common.{◌≡◌, ◌≤◌, List, None, Some, sym, subst, ◌∙◌, arith}
-use Rattle.st_segment.specs.Ahead.{Ahead, ahead}
-use Rattle.st_ring.specs.Levels.{AreLevels}
-use Rattle.st_ring.specs.declared.level.Level.{Level}
-use Rattle.st_ahead.specs.Forecast.{LookaheadView, count}
-use Rattle.st_ahead.specs.Shown.{level_shown, word_before_change}
+use Rattle.st_ahead.proofs.Common.{get_or, map, slice_get, nat_le, option_map, ◌≡◌, ◌≤◌, List, None, Some, sym, subst, ◌∙◌, arith, Ahead, ahead, AreLevels, Level, LookaheadView, count, level_shown, word_before_change}
 use Rattle.st_ahead.proofs.Views.{none-shown, some-shown, level-of, some-kept}
 use Rattle.st_ahead.proofs.lookahead.Lookahead.level.Goals as goal
 

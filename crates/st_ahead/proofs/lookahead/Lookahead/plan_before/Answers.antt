@@ -1,15 +1,8 @@
-use Rattle.std.proofs.Common.{◌≡◌, ℕ, ◌-◌, ◌≤◌, true, false, List, inl, inr, sym, subst, ◌∙◌, ap, arith}
-use Rattle.std.specs.Prelude.{◌==◌}
-use Rattle.std.proofs.lemmas.Bool.{cases_Bool}
-use Rattle.st_next.specs.Progress.{IsKnown}
-use Rattle.st_next.specs.Going.{GoesOnTo}
-use Rattle.st_ring.specs.Levels.{due_of}
-use Rattle.st_ahead.specs.Forecast.{LookaheadView, is_open, count}
-use Rattle.st_ahead.specs.Going.{IsGoing}
+use Rattle.st_ahead.proofs.Common.{◌≡◌, ℕ, ◌-◌, ◌≤◌, true, false, List, inl, inr, sym, subst, ◌∙◌, ap, arith, ◌==◌, cases_Bool, IsKnown, GoesOnTo, due_of, LookaheadView, is_open, count, IsGoing}
 use Rattle.st_ahead.proofs.Further.{going-planned, going-still, going-issue, open-waits, closed-waits, some-by, known, known-further}
 use Rattle.st_ahead.proofs.Gone.{before-due, due-last, due-first}
-use Rattle.st_ahead.proofs.lookahead.Lookahead.plan_before.Goals as goal
 use Rattle.st_ahead.proofs.Laws.{next_entries_are_known, open_levels_run_ahead}
+use Rattle.st_ahead.proofs.lookahead.Lookahead.plan_before.Goals as goal
 
 pub returns-then-self-clause-going : goal.returns-then-self-clause-going
 returns-then-self-clause-going g c = λ t f tick given.

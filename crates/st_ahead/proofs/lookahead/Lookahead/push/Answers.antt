@@ -1,31 +1,11 @@
-use Rattle.std.proofs.Common.{◌≡◌, ℕ, ◌+◌, ◌<◌, ◌≤◌, true, List, [], ◌∷◌, ◌++◌, length, length-append, refl, sym, subst, ◌∙◌, ap, arith}
-use Rattle.st_prep.specs.Plan.{plan}
-use Rattle.st_rows.specs.Asked.{prepared_asked}
-use Rattle.st_rows.specs.Notes.{log_after_reads}
-use Rattle.st_rows.specs.Ranges.{IsEntryInTime, IsTight}
-use Rattle.st_rows.specs.Rows.{row_of_entry, issue_after_entry, tick_a, bus_a, tick_p}
-use Rattle.st_rows.specs.Words.{fills}
-use Rattle.st_rows.specs.declared.bus.Bus.{Bus}
-use Rattle.st_rows.specs.declared.entry.Entry.{Entry}
-use Rattle.st_rows.specs.declared.fetching.Fetching.{Fetching}
-use Rattle.st_rows.specs.declared.issue.IssueState.{IssueState}
+use Rattle.st_ahead.proofs.Common.{rules, ◌≡◌, ℕ, ◌+◌, ◌<◌, ◌≤◌, true, List, [], ◌∷◌, ◌++◌, length, length-append, refl, sym, subst, ◌∙◌, ap, arith, plan, prepared_asked, log_after_reads, IsEntryInTime, IsTight, row_of_entry, issue_after_entry, tick_a, bus_a, tick_p, fills, Bus, Entry, Fetching, IssueState, delays-are, entry, predictions, table_behind, AreAhead, IsStateBefore, FetchUnit, LookaheadView, count, IsGoing, Level, predictions_leave_the_rest}
 use Rattle.st_rows.specs.declared.issue.EntryTicks.{EntryTicks}
 use Rattle.st_rows.specs.declared.issue.Formed.{Formed}
-use Rattle.st_rows.proofs.Within.{delays-are}
-use Rattle.st_segment.specs.Entries.{entry}
-use Rattle.st_segment.specs.Predictions.{predictions, table_behind}
-use Rattle.st_ring.specs.Levels.{AreAhead}
-use Rattle.st_next.specs.Known.{IsStateBefore}
-use Rattle.st_next.specs.declared.fetch_unit.FetchUnit.{FetchUnit}
-use Rattle.st_ahead.specs.Forecast.{LookaheadView, count}
-use Rattle.st_ahead.specs.Going.{IsGoing}
-use Rattle.st_ring.specs.declared.level.Level.{Level}
 use Rattle.st_ahead.proofs.Due.{row-p}
 use Rattle.st_ahead.proofs.Pushed.{going-pushed}
-use Rattle.st_ahead.proofs.lookahead.Lookahead.push.Goals as goal
 use Rattle.st_ahead.proofs.Laws.{planned_entries_become_levels}
 use Rattle.st_rows.proofs.Laws.{completions_are_bounded, rows_are_in_order}
-use Rattle.st_segment.proofs.Laws.{predictions_leave_the_rest}
+use Rattle.st_ahead.proofs.lookahead.Lookahead.push.Goals as goal
 
 -- no word is fetched yet
 abbrev begun : Bus → Fetching
@@ -86,6 +66,8 @@ fill-filled-requires g c =
       address = ap (λ (x : Formed). x.a) formed_is ∙ (becomes.is_next.planned planned).address ∙ ap (tick_a ds view.issue) (sym same);
       bus = ap (λ (x : Fetching). x.bus) words_are ∙ (becomes.is_next.planned planned).bus ∙ ap (bus_a ds view.issue) (sym same);
       tick = ap (λ (x : Formed). x.p) formed_is ∙ (becomes.is_next.planned planned).tick ∙ ap (tick_p ds n view.issue) (sym same);
+      one = search rules;
+      two = search rules;
     }
 
 pub push-requires : goal.push-requires

@@ -1,31 +1,13 @@
-use Rattle.std.proofs.Common.{◌≡◌, ◌+◌, ◌-◌, ◌<◌, ◌≤◌, All, List, None, refl, sym, subst, ◌∙◌, ap, arith}
-use Rattle.std.specs.Prelude.{nat_le}
-use Rattle.std.proofs.lemmas.Bool.{or_parts}
-use Rattle.st_state.specs.Machine.{Machine, word}
-use Rattle.st_banks.specs.declared.answers.LastAnswers.{LastAnswers}
-use Rattle.st_prep.specs.Plan.{plan}
-use Rattle.st_exec.specs.Completion.{prediction}
-use Rattle.st_exec.specs.Step.{interrupt, rests}
-use Rattle.st_rows.specs.Rows.{row_of_entry, issue_after_entry}
-use Rattle.st_rows.proofs.Within.{delays-are}
-use Rattle.st_segment.specs.Entries.{entry}
-use Rattle.st_segment.proofs.PredictionLemmas.{prediction-machine}
-use Rattle.st_next.specs.declared.fetch_unit.FetchUnit.{FetchUnit}
-use Rattle.st_ahead.specs.RunTo.{may_come_from_outside}
-use Rattle.st_ahead.specs.Inside.{answers_before}
+use Rattle.st_ahead.proofs.Common.{◌≡◌, ◌+◌, ◌-◌, ◌<◌, ◌≤◌, List, None, refl, sym, subst, ◌∙◌, ap, arith, nat_le, or_parts, Machine, word, LastAnswers, plan, prediction, interrupt, rests, row_of_entry, issue_after_entry, delays-are, entry, prediction-machine, FetchUnit, may_come_from_outside, answers_before, queue_with, Row, steps_are_predictions, entries_count_as_one, after-c}
+use Rattle.std.proofs.Common.{All}
 use Rattle.st_ahead.proofs.Gone.{oldest-late}
 use Rattle.st_ahead.proofs.Idling.{less-than}
 use Rattle.st_ahead.proofs.LevelTicks.{done-after, done-later}
-use Rattle.st_ahead.specs.RowsDone.{queue_with}
-use Rattle.st_ahead.specs.declared.events.Row.{Row}
 use Rattle.st_ahead.proofs.Runs.{noting-starts, noting-on, running-idle, rows-idle, running-ends, banks-between, stopped-comes}
 use Rattle.st_ahead.proofs.Standing.{answers-same}
 use Rattle.st_ahead.proofs.TickCases.{prediction-words}
-use Rattle.st_ahead.proofs.lookahead.Lookahead.run_to.Goals as goal
 use Rattle.st_ahead.proofs.Laws.{lookaheads_are_levels, the_banks_are_left}
-use Rattle.st_segment.proofs.Laws.{steps_are_predictions}
-use Rattle.st_exec.proofs.Laws.{entries_count_as_one}
-use Rattle.st_ring.proofs.OrderLemmas.{after-c}
+use Rattle.st_ahead.proofs.lookahead.Lookahead.run_to.Goals as goal
 
 pub entries-init : goal.entries-init
 entries-init g c = record {

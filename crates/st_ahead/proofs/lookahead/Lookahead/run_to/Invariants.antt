@@ -1,6 +1,4 @@
-use Rattle.std.proofs.Common.{ℕ, ◌-◌, ◌<◌, ◌^◌}
-use Rattle.st_rows.specs.declared.issue.IssueState.{IssueState}
-use Rattle.st_ahead.specs.Running.{GoesFrom}
+use Rattle.st_ahead.proofs.Common.{ℕ, ◌-◌, ◌<◌, ◌^◌, IssueState, GoesFrom}
 use Rattle.st_ahead.proofs.Runs.{IsNoting}
 use Rattle.st_ahead.proofs.lookahead.Lookahead.run_to.Given as goal
 

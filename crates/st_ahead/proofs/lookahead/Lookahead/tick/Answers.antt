@@ -1,19 +1,10 @@
-use Rattle.std.proofs.Common.{◌≡◌, ◌<◌, ◌≤◌, None, refl, sym, subst, ◌∙◌, ap, arith}
-use Rattle.st_state.specs.Machine.{Machine, word}
-use Rattle.st_exec.specs.Completion.{prediction}
-use Rattle.st_rows.specs.Rows.{row_of_entry, issue_after_entry}
-use Rattle.st_segment.specs.Entries.{entry}
-use Rattle.st_segment.proofs.EntryRanges.{entry-ranges}
-use Rattle.st_segment.proofs.PredictionLemmas.{prediction-machine}
-use Rattle.st_ring.proofs.OrderLemmas.{due-row}
-use Rattle.st_ahead.specs.Forecast.{LookaheadView, IsLookahead, count}
-use Rattle.st_next.specs.declared.fetch_unit.FetchUnit.{FetchUnit}
+use Rattle.st_ahead.proofs.Common.{◌≡◌, ◌<◌, ◌≤◌, None, refl, sym, subst, ◌∙◌, ap, arith, Machine, word, prediction, row_of_entry, issue_after_entry, entry, entry-ranges, prediction-machine, due-row, LookaheadView, IsLookahead, count, FetchUnit}
 use Rattle.st_ahead.proofs.Gone.{outlook-of}
 use Rattle.st_ahead.proofs.LevelTicks.{done-later, done-after}
 use Rattle.st_ahead.proofs.DoneLookahead.{lookahead-without}
 use Rattle.st_ahead.proofs.TickCases.{due-later, unprepared, prediction-words}
-use Rattle.st_ahead.proofs.lookahead.Lookahead.tick.Goals as goal
 use Rattle.st_ahead.proofs.Laws.{lookaheads_are_levels}
+use Rattle.st_ahead.proofs.lookahead.Lookahead.tick.Goals as goal
 
 pub returns-then-is_due-clause-ticked : goal.returns-then-is_due-clause-ticked
 returns-then-is_due-clause-ticked g c = λ ds tick t f one most are h next.

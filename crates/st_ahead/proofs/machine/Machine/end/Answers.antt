@@ -1,90 +1,63 @@
-use Rattle.std.specs.Prelude.{IsSome}
-use Rattle.std.proofs.Common.{◌≡◌, ◌<◌, ◌≤◌, ◌^◌, true, sym, subst, ◌∙◌, arith}
-use Rattle.st_rows.proofs.Within.{delays-are}
-use Rattle.st_ring.specs.Levels.{oldest_issue}
-use Rattle.st_ahead.specs.Overlap.{Overlap, with_counter}
-use Rattle.st_ahead.specs.Calls.{drop_count, machine_after_segment}
-use Rattle.st_ahead.specs.Forecast.{count}
-use Rattle.st_ahead.specs.Inside.{overlap_of}
-use Rattle.st_ahead.proofs.Settling.{end-again, end-first, ending, fresh-closing, counted-index}
-use Rattle.st_ahead.proofs.machine.Machine.end.Goals as goal
+use Rattle.st_ahead.proofs.Common.{◌≡◌, ◌≤◌, None, sym, subst, ◌∙◌, arith, delays-are, oldest_issue, Overlap, with_counter, drop_count, machine_after_segment, count, overlap_of}
+use Rattle.st_ahead.proofs.Settling.{end-again, end-first, completed, completed-lookahead, counted-index}
 use Rattle.st_ahead.proofs.Laws.{lookaheads_are_levels}
+use Rattle.st_ahead.specs.declared.phase.Phase.TheVariants as fields
+use Rattle.st_ahead.proofs.machine.Machine.end.Goals as goal
 
-pub returns-then-self-clause-dropped : goal.returns-then-self-clause-dropped
-returns-then-self-clause-dropped g c =
-    let i = c.self.inside in
-    subst (λ (m : Overlap). 0 ≡ drop_count m) c.self.view_is
-    (end-again i.stopped g.row.N i.delays.list i.committed.state i.committed.taken i.mispredicted i.now i.owed i.ended i.fresh i.lookahead c.if-self.true).0
+pub returns-then-has_ended-clause-dropped : goal.returns-then-has_ended-clause-dropped
+returns-then-has_ended-clause-dropped g c = (end-again c.args.self.now (sym c.has_ended.ensures ∙ c.if-has_ended.true)).0
 
-pub returns-then-self-clause-after : goal.returns-then-self-clause-after
-returns-then-self-clause-after g c =
-    let i = c.self.inside in
-    subst (λ (m : Overlap). m ≡ machine_after_segment m) c.self.view_is
-    (end-again i.stopped g.row.N i.delays.list i.committed.state i.committed.taken i.mispredicted i.now i.owed i.ended i.fresh i.lookahead c.if-self.true).1
+pub returns-then-has_ended-clause-after : goal.returns-then-has_ended-clause-after
+returns-then-has_ended-clause-after g c = (end-again c.args.self.now (sym c.has_ended.ensures ∙ c.if-has_ended.true)).1
 
 pub end-dropped-requires : goal.end-dropped-requires
 end-dropped-requires g c =
+    let n = g.row.N in
     let i = c.self.inside in
-    let owes = subst (λ (m : Overlap). m.owed ≡ true) (sym c.self.view_is) c.requires.owed in
-    let done = subst (λ (m : Overlap). IsSome m.closing) (sym c.self.view_is) c.requires.done in
-    let e = ending i.stopped g.row.N i.delays.list i.committed.state i.committed.taken i.mispredicted i.now i.owed i.ended i.fresh i.lookahead c.self.invariant owes c.if-self.false
-    (fresh-closing i.stopped g.row.N i.delays.list i.committed.state i.committed.taken i.mispredicted i.now i.owed i.ended i.fresh i.lookahead done) in
-    let early : i.now < 2 ^ 63 = e.early in (
-      omega arith,
-      (
-        tt,
-        (
-          omega (arith, early),
-          (c.self.invariant.done (fresh-closing i.stopped g.row.N i.delays.list i.committed.state i.committed.taken i.mispredicted i.now i.owed i.ended i.fresh i.lookahead done)).1,
-        ),
-      ),
-    )
+    let is = completed n i.delays.list i.committed.state i.committed.taken i.mispredicted i.now i.phase i.lookahead c.args.self.now c.self.invariant c.self.view_is c.requires.turn (sym c.has_ended.ensures ∙ c.if-has_ended.false) in
+    (omega arith, (tt, (omega (arith, is.inside.in_time), is.inside.in_phase.2)))
 
 pub invariant_of-self : goal.invariant_of-self
 invariant_of-self g c =
     let n = g.row.N in
     let i = c.self.inside in
-    let owes = subst (λ (m : Overlap). m.owed ≡ true) (sym c.self.view_is) c.requires.owed in
-    let done = subst (λ (m : Overlap). IsSome m.closing) (sym c.self.view_is) c.requires.done in
-    let fresh = fresh-closing i.stopped n i.delays.list i.committed.state i.committed.taken i.mispredicted i.now i.owed i.ended i.fresh i.lookahead done in
-    let most : count i.lookahead ≤ n = c.end-dropped.ensures.few in
-    (end-first i.stopped n i.delays.list i.committed.state i.committed.taken i.mispredicted i.now i.owed i.ended i.fresh i.lookahead c.end-dropped.new.self c.self.invariant c.end-dropped.ensures.machine owes c.if-self.false fresh most
-    (λ lookahead. lookaheads_are_levels i.delays.list n i.now i.now i.committed.taken (with_counter i.mispredicted i.committed.state) (oldest_issue i.lookahead.levels.plans i.lookahead.issue) i.lookahead
-    c.self.invariant.some c.self.invariant.few (delays-are i.delays) (omega arith) most lookahead)
-    (λ lookahead. c.end-dropped.ensures.opened i.delays.list i.now i.committed.taken (with_counter i.mispredicted i.committed.state) (oldest_issue i.lookahead.levels.plans i.lookahead.issue) lookahead
-    (counted-index i.mispredicted i.committed.state))
-    c.end-dropped.ensures.banks).0
+    let v = i.lookahead in
+    let f = oldest_issue v.levels.plans v.issue in
+    let is = completed n i.delays.list i.committed.state i.committed.taken i.mispredicted i.now i.phase i.lookahead c.args.self.now c.self.invariant c.self.view_is c.requires.turn (sym c.has_ended.ensures ∙ c.if-has_ended.false) in
+    let most : count v ≤ n = c.end-dropped.ensures.few in
+    let u = with_counter i.mispredicted i.committed.state in
+    let all = end-first n i.delays.list i.committed.state i.mispredicted i.now v c.end-dropped.new.self is.inside c.end-dropped.ensures.machine most
+    (lookaheads_are_levels i.delays.list n i.now i.now None u f v is.inside.some is.inside.few (delays-are i.delays) (omega arith) most (completed-lookahead n i.delays.list i.committed.state i.mispredicted i.now v is.inside))
+    (c.end-dropped.ensures.opened i.delays.list i.now None u f (completed-lookahead n i.delays.list i.committed.state i.mispredicted i.now v is.inside) (counted-index i.mispredicted i.committed.state))
+    c.end-dropped.ensures.banks in
+    rw is.none all.0
 
 pub returns-clause-dropped : goal.returns-clause-dropped
 returns-clause-dropped g c =
     let n = g.row.N in
     let i = c.self.inside in
-    let owes = subst (λ (m : Overlap). m.owed ≡ true) (sym c.self.view_is) c.requires.owed in
-    let done = subst (λ (m : Overlap). IsSome m.closing) (sym c.self.view_is) c.requires.done in
-    let fresh = fresh-closing i.stopped n i.delays.list i.committed.state i.committed.taken i.mispredicted i.now i.owed i.ended i.fresh i.lookahead done in
-    let most : count i.lookahead ≤ n = c.end-dropped.ensures.few in
-    subst (λ (m : Overlap). c.end-dropped.result ≡ drop_count m) c.self.view_is
-    (c.end-dropped.ensures.dropped ∙
-    (end-first i.stopped n i.delays.list i.committed.state i.committed.taken i.mispredicted i.now i.owed i.ended i.fresh i.lookahead c.end-dropped.new.self c.self.invariant c.end-dropped.ensures.machine owes c.if-self.false fresh most
-    (λ lookahead. lookaheads_are_levels i.delays.list n i.now i.now i.committed.taken (with_counter i.mispredicted i.committed.state) (oldest_issue i.lookahead.levels.plans i.lookahead.issue) i.lookahead
-    c.self.invariant.some c.self.invariant.few (delays-are i.delays) (omega arith) most lookahead)
-    (λ lookahead. c.end-dropped.ensures.opened i.delays.list i.now i.committed.taken (with_counter i.mispredicted i.committed.state) (oldest_issue i.lookahead.levels.plans i.lookahead.issue) lookahead
-    (counted-index i.mispredicted i.committed.state))
-    c.end-dropped.ensures.banks).1)
+    let v = i.lookahead in
+    let f = oldest_issue v.levels.plans v.issue in
+    let is = completed n i.delays.list i.committed.state i.committed.taken i.mispredicted i.now i.phase i.lookahead c.args.self.now c.self.invariant c.self.view_is c.requires.turn (sym c.has_ended.ensures ∙ c.if-has_ended.false) in
+    let most : count v ≤ n = c.end-dropped.ensures.few in
+    let u = with_counter i.mispredicted i.committed.state in
+    let all = end-first n i.delays.list i.committed.state i.mispredicted i.now v c.end-dropped.new.self is.inside c.end-dropped.ensures.machine most
+    (lookaheads_are_levels i.delays.list n i.now i.now None u f v is.inside.some is.inside.few (delays-are i.delays) (omega arith) most (completed-lookahead n i.delays.list i.committed.state i.mispredicted i.now v is.inside))
+    (c.end-dropped.ensures.opened i.delays.list i.now None u f (completed-lookahead n i.delays.list i.committed.state i.mispredicted i.now v is.inside) (counted-index i.mispredicted i.committed.state))
+    c.end-dropped.ensures.banks in
+    subst (λ (m : Overlap). c.end-dropped.result ≡ drop_count m) is.view (c.end-dropped.ensures.dropped ∙ all.1)
 
 pub returns-clause-after : goal.returns-clause-after
 returns-clause-after g c =
     let n = g.row.N in
     let i = c.self.inside in
-    let owes = subst (λ (m : Overlap). m.owed ≡ true) (sym c.self.view_is) c.requires.owed in
-    let done = subst (λ (m : Overlap). IsSome m.closing) (sym c.self.view_is) c.requires.done in
-    let fresh = fresh-closing i.stopped n i.delays.list i.committed.state i.committed.taken i.mispredicted i.now i.owed i.ended i.fresh i.lookahead done in
-    let most : count i.lookahead ≤ n = c.end-dropped.ensures.few in
-    let w = c.end-dropped.new.self in
-    subst (λ (m : Overlap). overlap_of n i.delays.list i.committed.state i.committed.taken i.mispredicted i.now i.owed true i.stopped i.fresh w ≡ machine_after_segment m) c.self.view_is
-    (end-first i.stopped n i.delays.list i.committed.state i.committed.taken i.mispredicted i.now i.owed i.ended i.fresh i.lookahead w c.self.invariant c.end-dropped.ensures.machine owes c.if-self.false fresh most
-    (λ lookahead. lookaheads_are_levels i.delays.list n i.now i.now i.committed.taken (with_counter i.mispredicted i.committed.state) (oldest_issue i.lookahead.levels.plans i.lookahead.issue) i.lookahead
-    c.self.invariant.some c.self.invariant.few (delays-are i.delays) (omega arith) most lookahead)
-    (λ lookahead. c.end-dropped.ensures.opened i.delays.list i.now i.committed.taken (with_counter i.mispredicted i.committed.state) (oldest_issue i.lookahead.levels.plans i.lookahead.issue) lookahead
-    (counted-index i.mispredicted i.committed.state))
-    c.end-dropped.ensures.banks).2
+    let v = i.lookahead in
+    let f = oldest_issue v.levels.plans v.issue in
+    let is = completed n i.delays.list i.committed.state i.committed.taken i.mispredicted i.now i.phase i.lookahead c.args.self.now c.self.invariant c.self.view_is c.requires.turn (sym c.has_ended.ensures ∙ c.if-has_ended.false) in
+    let most : count v ≤ n = c.end-dropped.ensures.few in
+    let u = with_counter i.mispredicted i.committed.state in
+    let all = end-first n i.delays.list i.committed.state i.mispredicted i.now v c.end-dropped.new.self is.inside c.end-dropped.ensures.machine most
+    (lookaheads_are_levels i.delays.list n i.now i.now None u f v is.inside.some is.inside.few (delays-are i.delays) (omega arith) most (completed-lookahead n i.delays.list i.committed.state i.mispredicted i.now v is.inside))
+    (c.end-dropped.ensures.opened i.delays.list i.now None u f (completed-lookahead n i.delays.list i.committed.state i.mispredicted i.now v is.inside) (counted-index i.mispredicted i.committed.state))
+    c.end-dropped.ensures.banks in
+    rw is.none (subst (λ (m : Overlap). overlap_of n i.delays.list i.committed.state None i.mispredicted i.now fields.Ended c.end-dropped.new.self ≡ machine_after_segment m) is.view all.2)

@@ -1,6 +1,4 @@
-use Rattle.std.proofs.Common.{ℕ, List, None, subst}
-use Rattle.st_rows.specs.Rows.{opening_issue}
-use Rattle.st_ahead.specs.Forecast.{IsOpened}
+use Rattle.st_ahead.proofs.Common.{ℕ, List, None, subst, opening_issue, IsOpened}
 use Rattle.st_ahead.proofs.Standing.{started-inside}
 use Rattle.st_ahead.proofs.machine.Machine.new.Goals as goal
 

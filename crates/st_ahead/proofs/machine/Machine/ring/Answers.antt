@@ -1,22 +1,17 @@
-use Rattle.std.proofs.Common.{length, subst, sym, ap, arith}
-use Rattle.st_rows.proofs.Within.{delays-are}
-use Rattle.st_ring.specs.declared.level.Level.{Level}
+use Rattle.st_ahead.proofs.Common.{length, subst, sym, ap, arith, delays-are, Level, Overlap, state_ahead, last_tick_made, AreLevelsOf, overlap_of}
 use Rattle.std.specs.Prelude.{List}
-use Rattle.st_ahead.specs.Overlap.{Overlap, state_ahead, last_tick_made}
-use Rattle.st_ahead.specs.Shown.{AreLevelsOf}
-use Rattle.st_ahead.specs.Inside.{overlap_of}
 use Rattle.st_ahead.proofs.Showing.{lookahead-inside, soon-last, showing, showing-ring}
-use Rattle.st_ahead.proofs.machine.Machine.ring.Goals as goal
 use Rattle.st_ahead.proofs.Laws.{lookaheads_are_levels}
+use Rattle.st_ahead.proofs.machine.Machine.ring.Goals as goal
 
 pub returns-clause-levels : goal.returns-clause-levels
 returns-clause-levels g c =
     let n = g.row.N in
     let i = c.self.inside in
-    let m = overlap_of n i.delays.list i.committed.state i.committed.taken i.mispredicted i.now i.owed i.ended i.stopped i.fresh i.lookahead in
-    let lookahead = lookahead-inside i.stopped n i.delays.list i.committed.state i.committed.taken i.mispredicted i.now i.owed i.ended i.fresh i.lookahead c.self.invariant in
+    let m = overlap_of n i.delays.list i.committed.state i.committed.taken i.mispredicted i.now i.phase i.lookahead in
+    let lookahead = lookahead-inside n i.delays.list i.committed.state i.committed.taken i.mispredicted i.now i.phase i.lookahead c.self.invariant in
     let is = showing m i.lookahead lookahead (lookaheads_are_levels i.delays.list n (last_tick_made m) i.now i.committed.taken (state_ahead m) m.issue i.lookahead
-    c.self.invariant.some c.self.invariant.few (delays-are i.delays) (soon-last i.owed i.now) c.ring.ensures.few lookahead) in
+    c.self.invariant.some c.self.invariant.few (delays-are i.delays) (soon-last m) c.ring.ensures.few lookahead) in
     subst (λ (x : Overlap). AreLevelsOf x c.ring.result.now) c.self.view_is
     (subst (λ (levels : List Level). AreLevelsOf m levels) (sym c.ring.ensures.levels) (showing-ring m i.lookahead is))
 

@@ -1,4 +1,4 @@
-use Rattle.st_ahead.specs.Shown.{view_at_tick}
+use Rattle.st_ahead.proofs.Common.{view_at_tick}
 use Rattle.st_ahead.proofs.Views.{view-shown, eight-shown}
 use Rattle.st_ahead.proofs.machine.Machine.view.Goals as goal
 

@@ -1,5 +1,4 @@
-use Rattle.std.proofs.Common.{ap, arith}
-use Rattle.st_ahead.specs.RowsDone.{Queue}
+use Rattle.st_ahead.proofs.Common.{ap, arith, Queue}
 use Rattle.st_ahead.proofs.NotedRows.{none-left}
 use Rattle.st_ahead.proofs.row_queue.RowQueue.is_empty.Goals as goal
 

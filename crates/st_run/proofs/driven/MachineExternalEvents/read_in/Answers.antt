@@ -1,4 +1,4 @@
-use Rattle.std.proofs.Common.{refl}
+use Rattle.st_run.proofs.Common.{refl}
 use Rattle.st_run.proofs.OverlappedLemmas.{read-changed, read-state}
 use Rattle.st_run.proofs.driven.MachineExternalEvents.read_in.Goals as goal
 

@@ -1,5 +1,4 @@
-use Rattle.std.proofs.Common.{sym, ◌∙◌, ap, arith}
-use Rattle.st_run.specs.Telling.{OutputQueue, queued_events}
+use Rattle.st_run.proofs.Common.{sym, ◌∙◌, ap, arith, OutputQueue, queued_events}
 use Rattle.st_run.proofs.WaitingLemmas.{waiting_events-none, without-items, none-mapped, none-there}
 use Rattle.st_run.proofs.output_queue.OutputQueue.is_empty.Goals as goal
 

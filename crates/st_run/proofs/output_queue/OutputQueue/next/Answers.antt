@@ -1,5 +1,4 @@
-use Rattle.std.proofs.Common.{refl, sym, ◌∙◌, ap}
-use Rattle.st_run.specs.Telling.{OutputQueue, queued_events}
+use Rattle.st_run.proofs.Common.{refl, sym, ◌∙◌, ap, OutputQueue, queued_events}
 use Rattle.st_run.proofs.WaitingLemmas.{waiting_events-drop, waiting_events-text, waiting_events-taken, waiting_events-none, no-items, waiting-same}
 use Rattle.st_run.proofs.output_queue.OutputQueue.next.Goals as goal
 

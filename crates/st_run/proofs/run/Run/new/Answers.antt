@@ -1,17 +1,9 @@
-use Rattle.std.proofs.Common.{◌-◌, sym, ◌∙◌, ap, subst, refl, [], inl}
-use Rattle.st_run.specs.Run.{Scene, with_due_signals}
+use Rattle.st_run.proofs.Common.{◌-◌, sym, ◌∙◌, ap, subst, refl, [], inl, Scene, with_due_signals, Overlap, machine_at_start, MaySignal, IsScene, Together, Queue, OutputQueue, IsRun, rest_of, rows_then, CanStart, IsLed}
 use Rattle.st_rows.proofs.Within.{delays-are}
-use Rattle.st_ahead.specs.Overlap.{Overlap, machine_at_start}
-use Rattle.st_ahead.specs.Calls.{MaySignal}
-use Rattle.st_run.specs.Scenes.{IsScene}
-use Rattle.st_run.specs.Together.{Together}
-use Rattle.st_ahead.specs.RowsDone.{Queue}
-use Rattle.st_run.specs.Telling.{OutputQueue, IsRun, rest_of, rows_then}
-use Rattle.st_run.specs.declared.run_phase.RunPhase.TheVariants as turns
-use Rattle.st_refine.specs.Reached.{CanStart, IsLed}
 use Rattle.st_run.proofs.LedLemmas.{start-led, due-led}
 use Rattle.st_run.proofs.StartLemmas.{IsIdle, started, start-run, start-told, none, with_scene}
 use Rattle.st_run.proofs.InterludeLemmas.{with_pending}
+use Rattle.st_run.specs.declared.run_phase.RunPhase.TheVariants as turns
 use Rattle.st_run.proofs.run.Run.new.Goals as goal
 
 pub invariant_of-result : goal.invariant_of-result
@@ -60,4 +52,4 @@ returns-clause-led g c =
     let start = machine_at_start c.args.delays.list g.row.N c.args.state in
     subst {A = Overlap} (IsLed start) (sym (c.due_signals-rest.ensures.machine ∙ sym (ap (λ (d : Scene). record m { state = d.machine }) (c.due_signals-rest.ensures.came []))))
     (due-led c.args.controls.now.signals.now m [] r.signals
-    (subst {A = Overlap} MaySignal (sym c.new-machine.ensures.value) (inl (refl, refl), refl)) (start-led c.args.delays.list g.row.N c.args.state m can c.new-machine.ensures.value))
+    (subst {A = Overlap} MaySignal (sym c.new-machine.ensures.value) (inl (refl, refl))) (start-led c.args.delays.list g.row.N c.args.state m can c.new-machine.ensures.value))

@@ -1,7 +1,5 @@
-use Rattle.std.proofs.Common.{◌∙◌, sym, subst, ap}
-use Rattle.st_ahead.specs.Shown.{view_at_tick}
+use Rattle.st_run.proofs.Common.{◌∙◌, sym, subst, ap, view_at_tick, Telling, AreLevelsShown, ahead_of}
 use Rattle.st_ahead.specs.declared.events.View.{View}
-use Rattle.st_run.specs.Telling.{Telling, AreLevelsShown, ahead_of}
 use Rattle.st_run.proofs.ViewLemmas.{view-run}
 use Rattle.st_run.proofs.run.Run.view.Goals as goal
 

@@ -1,5 +1,4 @@
-use Rattle.std.proofs.Common.{◌∙◌, ap}
-use Rattle.st_state.specs.Machine.{Machine}
+use Rattle.st_run.proofs.Common.{◌∙◌, ap, Machine}
 use Rattle.st_run.proofs.SeenLemmas.{counter-seen}
 use Rattle.st_run.proofs.seen.StateView.ic.Goals as goal
 

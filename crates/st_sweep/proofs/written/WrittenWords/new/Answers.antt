@@ -1,5 +1,4 @@
-use Rattle.std.proofs.Common.{[], sym, subst}
-use Rattle.st_sweep.specs.Marks.{AreMarks}
+use Rattle.st_sweep.proofs.Common.{[], sym, subst, AreMarks}
 use Rattle.st_sweep.proofs.MarkLemmas.{marks-none}
 use Rattle.st_sweep.proofs.written.WrittenWords.new.Goals as goal
 

@@ -1,5 +1,4 @@
-use Rattle.std.proofs.Common.{◌≡◌, sym, ◌∙◌, ap, subst, arith}
-use Rattle.st_sweep.specs.Marks.{AreMarks, marks_with}
+use Rattle.st_sweep.proofs.Common.{◌≡◌, sym, ◌∙◌, ap, subst, arith, AreMarks, marks_with}
 use Rattle.st_sweep.proofs.MarkLemmas.{marks-put}
 use Rattle.st_sweep.proofs.written.WrittenWords.put.Goals as goal
 
