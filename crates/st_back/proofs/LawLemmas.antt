@@ -1,23 +1,7 @@
 -- A step back right after a step forth, and changes in between.
-use Rattle.std.proofs.Common.{◌≡◌, ◌≢◌, ℕ, zero, suc, ◌+◌, ◌-◌, ◌<◌, ◌≤◌, inl, inr, true, false, List, [], ◌∷◌, ◌++◌, length, drop, Option, None, Some, refl, sym, ◌∙◌, ap, subst, arith, get_or-set_other, length-append}
-use Rattle.std.specs.Prelude.{slice_index}
-use Rattle.std.proofs.lemmas.Bool.Decides.{leb_tells}
-use Rattle.std.proofs.lemmas.List.{length-set, ext_get_or, drop-append-le}
-use Rattle.circular_buffer.specs.Buffer.{keep_last}
-use Rattle.st_bits.specs.Registers.{register_word}
-use Rattle.st_bits.specs.Storage.{words_of_storage_is}
-use Rattle.st_state.specs.Machine.{Machine, IsMachine, word, with_word, state_with_store}
-use Rattle.st_state.specs.Interrupts.{state_with_signal}
-use Rattle.st_state.specs.declared.devices.Order.{Order}
+use Rattle.st_back.proofs.Common.{◌≡◌, ◌≢◌, ℕ, zero, suc, ◌+◌, ◌-◌, ◌<◌, ◌≤◌, inl, inr, true, false, List, [], ◌∷◌, ◌++◌, length, drop, Option, None, Some, refl, sym, ◌∙◌, ap, subst, arith, get_or-set_other, length-append, slice_index, leb_tells, length-set, ext_get_or, drop-append-le, keep_last, register_word, words_of_storage_is, Machine, IsMachine, word, with_word, state_with_store, state_with_signal, Order, IsStep, Step, Plain, Interrupt, Waits, KeptStep, AreAlikeAbove, Steps, IsStepKept, IsForth, IsUndone, state_with_words, restored_words, unput, with_rest, state_undone}
 use Rattle.st_exec.specs.Transfer.{read_in, printed_out}
-use Rattle.st_exec.specs.Step.{IsStep}
-use Rattle.st_exec.specs.declared.step.Step.{Step}
-use Rattle.st_exec.specs.declared.step.Step.TheVariants.{Plain, Interrupt, Waits}
 use Rattle.st_exec.proofs.AlikeStates.{same-set}
-use Rattle.st_back.specs.declared.kept.KeptStep.{KeptStep}
-use Rattle.st_back.specs.Between.{AreAlikeAbove}
-use Rattle.st_back.specs.Steps.{Steps, IsStepKept, IsForth, IsUndone}
-use Rattle.st_back.specs.Undone.{state_with_words, restored_words, unput, with_rest, state_undone}
 use Rattle.st_back.proofs.UndoneLemmas.{restored-other, restored-size, restored-in}
 
 -- ---- a step forth and a step back

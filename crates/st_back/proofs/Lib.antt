@@ -1,3 +1,4 @@
+pub mod Common
 pub mod UndoneLemmas
 pub mod StepLemmas
 pub mod RingLemmas

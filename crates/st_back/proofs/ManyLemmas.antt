@@ -1,14 +1,5 @@
 -- The undoing of several steps.
-use Rattle.std.proofs.Common.{◌≡◌, ◌≢◌, ℕ, zero, suc, ◌-◌, List, [], ◌∷◌, ◌++◌, length, drop, refl, sym, ◌∙◌, ap}
-use Rattle.circular_buffer.specs.Buffer.{keep_last}
-use Rattle.st_state.specs.Machine.{Machine, IsMachine}
-use Rattle.st_exec.specs.declared.step.Step.{Step}
-use Rattle.st_exec.specs.declared.step.Step.TheVariants.{Plain, Interrupt, Waits}
-use Rattle.st_back.specs.declared.kept.KeptStep.{KeptStep}
-use Rattle.st_back.specs.Between.{AreAlikeAbove}
-use Rattle.st_back.specs.Undone.{state_undone, step_with_word}
-use Rattle.st_state.specs.Machine.{word}
-use Rattle.st_back.specs.Steps.{Steps, IsStepKept, IsForth, IsPut, IsUndone, all_undone, states_before}
+use Rattle.st_back.proofs.Common.{◌≡◌, ◌≢◌, ℕ, zero, suc, ◌-◌, List, [], ◌∷◌, ◌++◌, length, drop, refl, sym, ◌∙◌, ap, keep_last, Machine, IsMachine, Step, Plain, Interrupt, Waits, KeptStep, AreAlikeAbove, state_undone, step_with_word, word, Steps, IsStepKept, IsForth, IsPut, IsUndone, all_undone, states_before}
 use Rattle.st_back.proofs.LawLemmas.{above-undone}
 
 -- ---- one more step

@@ -1,22 +1,8 @@
 -- Changes of the ring buffer of steps.
-use Rattle.std.proofs.Common.{◌≡◌, ◌≢◌, ℕ, zero, suc, ◌+◌, ◌-◌, ◌<◌, ◌≤◌, inl, inr, List, [], ◌∷◌, ◌++◌, length, take, drop, true, Option, Some, refl, sym, ◌∙◌, ap, subst, arith, get_or, get_or-set_other, length-append}
-use Rattle.std.specs.Prelude.{All, slice_index, slice_set, replicate}
+use Rattle.st_back.proofs.Common.{◌≡◌, ◌≢◌, ℕ, zero, suc, ◌+◌, ◌-◌, ◌<◌, ◌≤◌, inl, inr, List, [], ◌∷◌, ◌++◌, length, take, drop, true, Option, Some, refl, sym, ◌∙◌, ap, subst, arith, get_or, get_or-set_other, length-append, All, slice_index, slice_set, replicate, eqb_tells, take_more, take_all, length-set, get_or-set_same, length-take, length-drop, length-replicate, get_or-append_right, Buffer, buffer, keep_last, last_item, words_of_storage, Machine, IsMachine, word, state_with_store, step, IsStep, IsTrail, CanBePutBack, IsKeptStep, Trail, Step, Plain, Interrupt, Waits, KeptStep, state_undone, step_with_word, Steps, steps, IsStepSound, AreStepsSound, step_at, steps_with, IsStepKept, IsForth, has_room, IsPut, IsUndone}
 use Rattle.std.proofs.lemmas.Bool.{leb-true}
-use Rattle.std.proofs.lemmas.Bool.Decides.{eqb_tells}
-use Rattle.std.proofs.lemmas.List.{take_more, take_all, length-set, get_or-set_same, length-take, length-drop, length-replicate, get_or-append_right}
 use Rattle.std.proofs.lemmas.List.Elements.{All-append, All-drop, All-take}
 use Rattle.std.proofs.lemmas.Option.{slice_get_within, get_or_from_slice_get}
-use Rattle.circular_buffer.specs.Buffer.{Buffer, buffer, keep_last, last_item}
-use Rattle.st_bits.specs.Storage.{words_of_storage}
-use Rattle.st_state.specs.Machine.{Machine, IsMachine, word, state_with_store}
-use Rattle.st_exec.specs.Step.{step, IsStep}
-use Rattle.st_exec.specs.Trails.{IsTrail, CanBePutBack, IsKeptStep}
-use Rattle.st_exec.specs.declared.kept.Trail.{Trail}
-use Rattle.st_exec.specs.declared.step.Step.{Step}
-use Rattle.st_exec.specs.declared.step.Step.TheVariants.{Plain, Interrupt, Waits}
-use Rattle.st_back.specs.declared.kept.KeptStep.{KeptStep}
-use Rattle.st_back.specs.Undone.{state_undone, step_with_word}
-use Rattle.st_back.specs.Steps.{Steps, steps, IsStepSound, AreStepsSound, step_at, steps_with, IsStepKept, IsForth, has_room, IsPut, IsUndone}
 use Rattle.st_back.proofs.StepLemmas.{step-undone, put-undone}
 
 -- ---- lists

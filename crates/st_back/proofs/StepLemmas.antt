@@ -1,28 +1,13 @@
 -- Undoing a step restores the state before it, for all puts since.
-use Rattle.std.proofs.Common.{◌≡◌, ◌≢◌, ℕ, zero, suc, ◌+◌, ◌<◌, ◌≤◌, inl, inr, Bool, true, false, if◌then◌else◌, Option, None, Some, List, length, refl, sym, ◌∙◌, ap, subst, arith, get_or-set_other}
-use Rattle.std.specs.Prelude.{IfSome, slice_index, slice_set}
-use Rattle.std.proofs.lemmas.List.{get_or-set_same, set-set, set-get_or, ext_get_or}
-use Rattle.st_bits.specs.Registers.{register_word}
-use Rattle.st_bits.specs.Storage.{words_of_storage, words_of_storage_is}
-use Rattle.st_state.specs.Machine.{Machine, IsMachine, word, state_with_store}
-use Rattle.st_state.specs.Interrupts.{is_pending, first_from, pending}
-use Rattle.st_state.specs.declared.devices.Order.{Order}
+use Rattle.st_back.proofs.Common.{◌≡◌, ◌≢◌, ℕ, zero, suc, ◌+◌, ◌<◌, ◌≤◌, inl, inr, Bool, true, false, if◌then◌else◌, Option, None, Some, List, length, refl, sym, ◌∙◌, ap, subst, arith, get_or-set_other, IfSome, slice_index, slice_set, get_or-set_same, set-set, set-get_or, ext_get_or, register_word, words_of_storage, words_of_storage_is, Machine, IsMachine, word, state_with_store, is_pending, first_from, pending, Order, fixed-word, interrupt, step, TrailKeeps, IsTrail, CanBePutBack, Trail, IsBeside, completed-unwritten, KeptStep, state_with_words, restored_words, unput, with_rest, state_undone, step_with_word, IsStepSound}
 use Rattle.st_state.proofs.Leftmost.{first_from-is}
-use Rattle.st_state.proofs.Placed.{fixed-word}
 use Rattle.st_prep.specs.Plan.{plan}
 use Rattle.st_prep.specs.Ranges.{IsPrepared}
 use Rattle.st_prep.proofs.PlanLemmas.{plan-prepared}
 use Rattle.st_exec.specs.Ahead.{IsNotAmong}
 use Rattle.st_exec.specs.Completion.{state_after_completion}
-use Rattle.st_exec.specs.Step.{interrupt, step}
-use Rattle.st_exec.specs.Trails.{TrailKeeps, IsTrail, CanBePutBack}
-use Rattle.st_exec.specs.declared.kept.Trail.{Trail}
 use Rattle.st_exec.proofs.MachineKept.{kept-completed}
-use Rattle.st_exec.proofs.UnwrittenLemmas.{IsBeside, completed-unwritten}
-use Rattle.st_back.specs.declared.kept.KeptStep.{KeptStep}
 use Rattle.st_prep.specs.declared.entries.Prepared.{Prepared}
-use Rattle.st_back.specs.Undone.{state_with_words, restored_words, unput, with_rest, state_undone, step_with_word}
-use Rattle.st_back.specs.Steps.{IsStepSound}
 use Rattle.st_back.proofs.UndoneLemmas.{unput-none, restored-size, restored-back}
 
 -- ---- a step

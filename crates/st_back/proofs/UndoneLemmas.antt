@@ -1,14 +1,6 @@
 -- Words that are restored one at a time.
-use Rattle.std.proofs.Common.{◌≡◌, ℕ, zero, suc, ◌+◌, ◌-◌, ◌<◌, ◌≤◌, inl, inr, List, length, refl, sym, ◌∙◌, ap, arith}
-use Rattle.std.specs.Prelude.{slice_index}
-use Rattle.std.proofs.lemmas.Bool.Decides.{leb_tells}
-use Rattle.std.proofs.lemmas.List.{length-set, get_or-set_same}
-use Rattle.st_bits.specs.Registers.{register_word}
-use Rattle.st_state.specs.Machine.{Machine, IsMachine, word, state_with_store}
-use Rattle.st_state.proofs.Placed.{fixed-word}
+use Rattle.st_back.proofs.Common.{◌≡◌, ℕ, zero, suc, ◌+◌, ◌-◌, ◌<◌, ◌≤◌, inl, inr, List, length, refl, sym, ◌∙◌, ap, arith, slice_index, leb_tells, length-set, get_or-set_same, register_word, Machine, IsMachine, word, state_with_store, fixed-word, IsBeside, beside-rest, beside-first, state_with_words, unput}
 use Rattle.st_exec.proofs.Unchanged.{stored-other}
-use Rattle.st_exec.proofs.UnwrittenLemmas.{IsBeside, beside-rest, beside-first}
-use Rattle.st_back.specs.Undone.{state_with_words, unput}
 
 -- ---- the remaining words
 

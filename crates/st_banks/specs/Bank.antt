@@ -2,7 +2,7 @@
 --
 -- Proved: by their `ensures` clauses these calls do what definitions here say: `accept` (banks.rt),
 -- `accept_tick` (answers.rt), `after` (answers.rt), `answer` (answers.rt), and others.
--- Read by: definitions in BusTimes of st_rows, Notes of st_rows, Served of st_reasons, Supplies of
+-- Read by: definitions in BusTimes of st_rows, Notes of st_rows, Served of st_ledger, Supplies of
 -- st_rows, and others.
 -- Laws: ReadsKeepTheirBankBusy (specs/Laws.antt), ReadsAreAcceptedAtTheirTick (specs/Laws.antt),
 -- WordsLieInBanks (specs/Laws.antt).

@@ -12,6 +12,6 @@ mod answers;
 mod banks;
 mod delays;
 
-pub use answers::{BANKS, LOW_WORDS, LastAnswers, bank_of};
+pub use answers::{BANKS, LastAnswers, bank_of};
 pub use banks::Banks;
 pub use delays::{DelayError, Delays};

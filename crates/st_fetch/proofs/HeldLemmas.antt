@@ -1,11 +1,6 @@
 -- Lookups among held words after one of them has changed.
-use Rattle.std.specs.Prelude.{◌==◌, option_and_then}
-use Rattle.std.specs.Option.{option_map}
-use Rattle.std.proofs.Common.{◌≡◌, ◌≢◌, ℕ, true, false, List, [], ◌∷◌, map, Option, None, Some, refl, sym, ◌∙◌, inl, inr}
-use Rattle.std.proofs.lemmas.Bool.{cases_Bool}
+use Rattle.st_fetch.proofs.Common.{◌==◌, option_and_then, option_map, ◌≡◌, ◌≢◌, ℕ, true, false, List, [], ◌∷◌, map, Option, None, Some, refl, sym, ◌∙◌, inl, inr, cases_Bool, is_held, found, changed_at, with_content, answer_of, words_after_answer, words_after_store, Held}
 use Rattle.std.proofs.lemmas.Bool.Decides.{eqb_tells}
-use Rattle.st_fetch.specs.HeldWords.{is_held, found, changed_at, with_content, answer_of, words_after_answer, words_after_store}
-use Rattle.st_fetch.specs.declared.held.Held.{Held}
 
 module _ (w : ℕ) (f : Held → Held) (keeps : (h : Held) → (f h).w ≡ h.w) where
   -- a change keeps the address of a held word

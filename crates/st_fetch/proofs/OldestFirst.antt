@@ -1,11 +1,6 @@
 -- The held words combined with their contents, as a list with the oldest request first.
-use Rattle.std.specs.Prelude.{◌==◌, if◌then◌else◌, min, is_some, zip}
-use Rattle.std.proofs.Common.{◌≡◌, ℕ, zero, suc, ◌+◌, ◌<◌, ◌≤◌, List, [], ◌∷◌, length, get_or, take, map, Option, None, Some, refl, ap, add-one, inl, inr, arith}
-use Rattle.std.proofs.lemmas.Bool.{cases_Bool}
-use Rattle.st_fetch.specs.HeldWords.{is_held, found, words_after_request, changed_at, with_answer, with_content, words_after_answer, words_after_store}
-use Rattle.st_fetch.specs.Planned.{no_word, word_with_answer, asked_for, content_answered, content_patched, with_its_content, oldest_first}
-use Rattle.st_fetch.specs.declared.fetched.AskedWord.{AskedWord}
-use Rattle.st_fetch.specs.declared.held.Held.{Held}
+use Rattle.st_fetch.proofs.Common.{◌==◌, if◌then◌else◌, min, zip, ◌≡◌, ℕ, zero, suc, ◌+◌, ◌<◌, ◌≤◌, List, [], ◌∷◌, length, get_or, take, map, Option, None, Some, refl, ap, add-one, inl, inr, arith, cases_Bool, is_held, found, words_after_request, changed_at, with_answer, with_content, words_after_answer, words_after_store, no_word, word_with_answer, asked_for, content_answered, content_patched, with_its_content, oldest_first, AskedWord, Held}
+use Rattle.std.specs.Prelude.{is_some}
 
 -- a property of any four items is a property of a list of four
 at_four : {A : Type 0} (P : List A → Type 0) → ((a b c d : A) → P (a ∷ b ∷ c ∷ d ∷ [])) → (xs : List A) → length xs ≡ 4 → P xs

@@ -1,7 +1,5 @@
 -- Four held words, shifted by one place.
-use Rattle.std.specs.Prelude.{slice_set, slice_index_or}
-use Rattle.std.proofs.Common.{◌≡◌, ℕ, ◌+◌, List, [], ◌∷◌, length, take, refl, arith}
-use Rattle.st_fetch.specs.declared.fetched.AskedWord.{AskedWord}
+use Rattle.st_fetch.proofs.Common.{slice_set, slice_index_or, ◌≡◌, ℕ, ◌+◌, List, [], ◌∷◌, length, take, refl, arith, AskedWord}
 
 -- the word at a place after the shift, which is the one before it
 abbrev pub moved : ℕ → List AskedWord → List AskedWord

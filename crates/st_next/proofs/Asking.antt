@@ -1,41 +1,7 @@
 -- The requests of one step and their premises, by a state before the entry that agrees with the known part.
-use Rattle.std.specs.Prelude.{All}
-use Rattle.std.proofs.Common.{◌≡◌, ℕ, ◌+◌, ◌*◌, ◌-◌, ◌^◌, ◌≤◌, max, true, false, if◌then◌else◌, List, [], ◌∷◌, ◌++◌, map, Option, None, Some, refl, sym, ◌∙◌, ap, arith, append_assoc}
-use Rattle.std.proofs.lemmas.List.{append-nil}
-use Rattle.std.proofs.lemmas.List.Elements.{All-cons, All-nil}
-use Rattle.st_fetch.specs.Planned.{tick_of}
-use Rattle.st_state.specs.Machine.{Machine, word}
+use Rattle.st_next.proofs.Common.{All, ◌≡◌, ℕ, ◌+◌, ◌*◌, ◌-◌, ◌^◌, ◌≤◌, max, true, false, if◌then◌else◌, List, [], ◌∷◌, ◌++◌, map, Option, None, Some, refl, sym, ◌∙◌, ap, arith, append_assoc, append-nil, All-cons, All-nil, tick_of, Machine, word, decode_context_of, decode_context, IsPlace, decode_context-fits, side_asked, bus_after_reads, bus_after_request, answer_tick_on, log_after_reads, IsEntryInTime, AreDelaysUpTo, words_tick, wanted_from, tick_a, bus_a, index_uses, fetch_word, bus_after_index_read, fetch_words, told, behind_use, read_made, forwarded_at, Use, Entry, WordRun, Past, Fetching, IssueState, Made, served-append, served-side, served-word, wanted-early, fetched-within, past-weaker, fetching-weaker, words_of_run, entry, entry-ranges, words_alone, words_so_far, asked_so_far, IsKnown, reads_so_far, IsIssueInTime, IsEarly, IsReadFurther, prepared_as, words_told, IsToldFurther, FetchUnit}
 use Rattle.st_prep.specs.declared.entries.Fetching.TheVariants.{Next as GivenWord, Found as GivenAll}
-use Rattle.st_prep.specs.Plan.{decode_context_of, decode_context}
-use Rattle.st_prep.specs.Ranges.{IsPlace}
-use Rattle.st_prep.proofs.PlanLemmas.{decode_context-fits}
-use Rattle.st_rows.specs.Asked.{side_asked, bus_after_reads}
-use Rattle.st_rows.specs.BusTimes.{bus_after_request, answer_tick_on}
-use Rattle.st_rows.specs.Notes.{log_after_reads}
-use Rattle.st_rows.specs.Ranges.{IsEntryInTime, AreDelaysUpTo}
-use Rattle.st_rows.specs.Rows.{words_tick, wanted_from, tick_a, bus_a, index_uses}
-use Rattle.st_rows.specs.Words.{fetch_word, bus_after_index_read, fetch_words}
-use Rattle.st_rows.specs.Supplies.{told}
-use Rattle.st_rows.specs.Uses.{behind_use, read_made, forwarded_at}
-use Rattle.st_rows.specs.declared.uses.Use.{Use}
-use Rattle.st_rows.specs.declared.entry.Entry.{Entry}
-use Rattle.st_rows.specs.declared.entry.WordRun.{WordRun}
-use Rattle.st_rows.specs.declared.past.Past.{Past}
-use Rattle.st_rows.specs.declared.fetching.Fetching.{Fetching}
-use Rattle.st_rows.specs.declared.issue.IssueState.{IssueState}
-use Rattle.st_rows.specs.declared.log.Made.{Made}
 use Rattle.st_rows.proofs.Noted.{noted-two}
-use Rattle.st_rows.proofs.Served.{served-append, served-side, served-word}
-use Rattle.st_rows.proofs.Stages.{wanted-early, fetched-within}
-use Rattle.st_rows.proofs.Within.{past-weaker, fetching-weaker}
-use Rattle.st_segment.specs.Alone.{words_of_run}
-use Rattle.st_segment.specs.Entries.{entry}
-use Rattle.st_segment.proofs.EntryRanges.{entry-ranges}
-use Rattle.st_next.specs.Words.{words_alone, words_so_far, asked_so_far}
-use Rattle.st_next.specs.Progress.{IsKnown, reads_so_far}
-use Rattle.st_next.specs.Going.{IsIssueInTime, IsEarly, IsReadFurther, prepared_as}
-use Rattle.st_next.specs.Told.{words_told, IsToldFurther}
-use Rattle.st_next.specs.declared.fetch_unit.FetchUnit.{FetchUnit}
 use Rattle.st_next.proofs.Starts.{IsNextOwn, IsNextTarget, word-behind}
 use Rattle.st_next.proofs.Contents.{words-entry}
 use Rattle.st_next.proofs.WordByWord.{want_of, read_of, own-asked, target-asked}

@@ -1,21 +1,6 @@
 -- The contents of the words so far are those of the state before the entry, once their writers have completed.
-use Rattle.std.proofs.Common.{◌≡◌, ℕ, zero, suc, ◌+◌, ◌≤◌, ◌<◌, List, ◌++◌, map, Option, refl, sym, ◌∙◌, ap, arith}
-use Rattle.std.proofs.Math.Nat.{add-zero}
-use Rattle.std.proofs.lemmas.List.{map-append}
-use Rattle.st_state.specs.Machine.{Machine, word}
-use Rattle.st_prep.specs.declared.entries.Place.{Place}
-use Rattle.st_prep.specs.Fetch.{index_words, place_of}
-use Rattle.st_prep.specs.Reading.{Reading, reading_at_place, left_after, fetching_of}
-use Rattle.st_rows.specs.Ranges.{IsEntryInTime, IsReadable}
-use Rattle.st_rows.specs.declared.entry.WordRun.{WordRun}
-use Rattle.st_rows.specs.declared.entry.Entry.{Entry}
-use Rattle.st_rows.specs.declared.issue.IssueState.{IssueState}
-use Rattle.st_rows.specs.declared.past.Past.{Past}
+use Rattle.st_next.proofs.Common.{◌≡◌, ℕ, zero, suc, ◌+◌, ◌≤◌, ◌<◌, List, ◌++◌, map, Option, refl, sym, ◌∙◌, ap, arith, add-zero, map-append, Machine, word, Place, index_words, place_of, Reading, reading_at_place, left_after, fetching_of, IsEntryInTime, IsReadable, WordRun, Entry, IssueState, Past, word_list_from, words_of_run, reading_at, IsStart, AreFirstWords, words_alone, words_so_far, IsStateBefore}
 use Rattle.st_rows.proofs.Awaited.{awaited-own, awaited-target}
-use Rattle.st_segment.specs.Alone.{word_list_from, words_of_run}
-use Rattle.st_segment.specs.Entries.{reading_at}
-use Rattle.st_next.specs.Words.{IsStart, AreFirstWords, words_alone, words_so_far}
-use Rattle.st_next.specs.Known.{IsStateBefore}
 
 -- ---- the words so far are in the ranges of an entry
 

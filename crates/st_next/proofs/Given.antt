@@ -1,18 +1,6 @@
 -- The next word or the fetched instruction, by the contents of the words so far of the next entry of a state.
-use Rattle.std.proofs.Common.{◌≡◌, ℕ, ◌+◌, ◌≤◌, Bool, true, false, ◌||◌, List, ◌++◌, length, map, Option, inl, inr, refl, sym, ◌∙◌, ap, arith}
+use Rattle.st_next.proofs.Common.{◌≡◌, ℕ, ◌+◌, ◌≤◌, Bool, true, false, ◌||◌, List, ◌++◌, length, map, Option, inl, inr, refl, sym, ◌∙◌, ap, arith, Machine, word, Fetched, Next, Found, index_words, place_of, words_fetched, plan, decode_context, left_after, fetching_of, words_read, own_words, is_execute, alone-serial, WordRun, words_of_run, reading_at, instruction_words, own_count, entry, entry-words, entry-own, AreFirstWords}
 use Rattle.std.specs.Prelude.{is_some}
-use Rattle.st_state.specs.Machine.{Machine, word}
-use Rattle.st_prep.specs.declared.entries.Fetched.{Fetched}
-use Rattle.st_prep.specs.declared.entries.Fetching.TheVariants.{Next, Found}
-use Rattle.st_prep.specs.Fetch.{index_words, place_of, words_fetched}
-use Rattle.st_prep.specs.Plan.{plan, decode_context}
-use Rattle.st_prep.specs.Reading.{left_after, fetching_of, words_read, own_words, is_execute}
-use Rattle.st_prep.proofs.PreparedLemmas.{alone-serial}
-use Rattle.st_rows.specs.declared.entry.WordRun.{WordRun}
-use Rattle.st_segment.specs.Alone.{words_of_run}
-use Rattle.st_segment.specs.Entries.{reading_at, instruction_words, own_count, entry}
-use Rattle.st_segment.proofs.EntryRanges.{entry-words, entry-own}
-use Rattle.st_next.specs.Words.{AreFirstWords}
 use Rattle.st_next.proofs.Issues.{IsRest, rest-left, given-word, given-own, given-target, given-found}
 use Rattle.st_next.proofs.Readings.{own-first, targets-execute}
 use Rattle.st_next.proofs.Starts.{left_of, first-left, length-first, run_of-none, IsNextOwn, next-own, IsNextTarget, next-target, IsAll, next-none}

@@ -1,11 +1,6 @@
 -- Steps in sequence.
+use Rattle.st_next.proofs.Common.{◌≡◌, ℕ, ◌≤◌, max, Bool, true, false, List, inl, arith, Machine, IssueState, wanted_next, IsKnown, GoesOnTo, FetchUnit}
 use Rattle.std.specs.Prelude.{if◌then◌else◌}
-use Rattle.std.proofs.Common.{◌≡◌, ℕ, ◌≤◌, max, Bool, true, false, List, inl, arith}
-use Rattle.st_state.specs.Machine.{Machine}
-use Rattle.st_rows.specs.declared.issue.IssueState.{IssueState}
-use Rattle.st_next.specs.Progress.{wanted_next, IsKnown}
-use Rattle.st_next.specs.Going.{GoesOnTo}
-use Rattle.st_next.specs.declared.fetch_unit.FetchUnit.{FetchUnit}
 
 -- the request tick after a serializing entry is not before its completion
 alone-wanted : (b : Bool) (p c : ℕ) → (if b then c else 0) ≤ (if b then max p c else p)

@@ -1,8 +1,5 @@
 -- The next word or the fetched instruction of a reading, by the contents of its first words.
-use Rattle.std.proofs.Common.{◌≡◌, ℕ, ◌-◌, ◌≤◌, Bool, true, false, List, [], ◌∷◌, ◌++◌, length, map, refl, sym, ap, arith}
-use Rattle.st_prep.specs.declared.entries.Fetched.{Fetched}
-use Rattle.st_prep.specs.declared.entries.Fetching.TheVariants.{Next, Found}
-use Rattle.st_prep.specs.Reading.{Reading, Finds, Reads, outcome, words_read, own_words, left_after, fetching_of}
+use Rattle.st_next.proofs.Common.{◌≡◌, ℕ, ◌-◌, ◌≤◌, Bool, true, false, List, [], ◌∷◌, ◌++◌, length, map, refl, sym, ap, arith, Fetched, Next, Found, Reading, Finds, Reads, outcome, words_read, own_words, left_after, fetching_of}
 
 -- no own word follows a word of the target
 unfoldable pub OwnFirst : Reading → (ℕ → ℕ) → Type 0

@@ -1,22 +1,6 @@
 -- Each further word is requested no earlier than the words so far.
-use Rattle.std.specs.Prelude.{All}
-use Rattle.std.proofs.Common.{◌≡◌, ℕ, zero, suc, ◌+◌, ◌-◌, ◌≤◌, max, Bool, true, false, ◌==◌, if◌then◌else◌, List, [], ◌++◌, append_assoc, Option, None, Some, refl, sym, ◌∙◌, ap, arith}
-use Rattle.std.proofs.lemmas.List.{append-nil}
-use Rattle.std.proofs.lemmas.List.Elements.{All-append, All-cons, All-nil}
-use Rattle.st_fetch.specs.Planned.{tick_of}
-use Rattle.st_rows.specs.Rows.{wanted_from, words_tick}
-use Rattle.st_rows.specs.Words.{fetch_word, fetch_words}
-use Rattle.st_rows.specs.Asked.{word_asked, words_asked, fetches_asked}
-use Rattle.st_rows.specs.BusTimes.{Read, answer_tick_on, bus_after_request}
-use Rattle.st_rows.specs.declared.entry.WordRun.{WordRun}
-use Rattle.st_rows.specs.declared.entry.Entry.{Entry}
-use Rattle.st_rows.specs.declared.past.Past.{Past}
-use Rattle.st_rows.specs.declared.fetching.Fetching.{Fetching}
-use Rattle.st_rows.specs.declared.issue.IssueState.{IssueState}
-use Rattle.st_prep.proofs.GivenLemmas.{differs}
-use Rattle.st_next.specs.Words.{IsStart, AreFirstWords, words_so_far, asked_so_far}
+use Rattle.st_next.proofs.Common.{All, ◌≡◌, ℕ, zero, suc, ◌+◌, ◌-◌, ◌≤◌, max, Bool, true, false, ◌==◌, if◌then◌else◌, List, [], ◌++◌, append_assoc, Option, None, Some, refl, sym, ◌∙◌, ap, arith, append-nil, All-append, All-cons, All-nil, tick_of, wanted_from, words_tick, fetch_word, fetch_words, word_asked, words_asked, fetches_asked, Read, answer_tick_on, bus_after_request, WordRun, Entry, Past, Fetching, IssueState, differs, IsStart, AreFirstWords, words_so_far, asked_so_far, behind, behind_use, reads_of, uses, wishes}
 use Rattle.st_next.proofs.WordByWord.{want_of, fetch-more, asked-more, fetch-none, asked-none}
-use Rattle.st_rows.specs.Uses.{behind, behind_use, reads_of, uses, wishes}
 
 -- a read is requested at a tick or later
 abbrev pub IsLate : ℕ → Read → Type 0

@@ -1,3 +1,4 @@
+pub mod Common
 pub mod Issues
 pub mod WordByWord
 pub mod Starts

@@ -1,30 +1,6 @@
 -- The next entry of a state is planned from nothing.
-use Rattle.std.proofs.Common.{◌≡◌, ℕ, ◌+◌, ◌≤◌, Bool, true, false, List, [], ◌++◌, Option, refl, sym, ◌∙◌, ap, arith}
+use Rattle.st_next.proofs.Common.{◌≡◌, ℕ, ◌+◌, ◌≤◌, Bool, true, false, List, [], ◌++◌, Option, refl, sym, ◌∙◌, ap, arith, Machine, IsMachine, index_words, place_of, needs, decode_context, formed_asked, log_after_reads, AreDelaysUpTo, tick_a, index_uses, told, uses, wishes, Entry, WordRun, Fetching, IssueState, Made, Past, Use, a-within, entry, side_to_read, entry-ranges, IsStateBefore, IsUnread, IsNext, IsPlanned, IsKnown, IsNextReady, reads_so_far, GoesOnTo, IsReadFurther, IsIssueInTime, words_told, told_so_far, formed_told, IsToldFurther, FetchUnit}
 use Rattle.st_bits.specs.Indicators.{IsIndicatorIfAny}
-use Rattle.st_state.specs.Machine.{Machine, IsMachine}
-use Rattle.st_prep.specs.Fetch.{index_words, place_of}
-use Rattle.st_prep.specs.Plan.{needs, decode_context}
-use Rattle.st_rows.specs.Asked.{formed_asked}
-use Rattle.st_rows.specs.Notes.{log_after_reads}
-use Rattle.st_rows.specs.Ranges.{AreDelaysUpTo}
-use Rattle.st_rows.specs.Rows.{tick_a, index_uses}
-use Rattle.st_rows.specs.Supplies.{told}
-use Rattle.st_rows.specs.Uses.{uses, wishes}
-use Rattle.st_rows.specs.declared.entry.Entry.{Entry}
-use Rattle.st_rows.specs.declared.entry.WordRun.{WordRun}
-use Rattle.st_rows.specs.declared.fetching.Fetching.{Fetching}
-use Rattle.st_rows.specs.declared.issue.IssueState.{IssueState}
-use Rattle.st_rows.specs.declared.log.Made.{Made}
-use Rattle.st_rows.specs.declared.past.Past.{Past}
-use Rattle.st_rows.specs.declared.uses.Use.{Use}
-use Rattle.st_rows.proofs.Stages.{a-within}
-use Rattle.st_segment.specs.Entries.{entry, side_to_read}
-use Rattle.st_segment.proofs.EntryRanges.{entry-ranges}
-use Rattle.st_next.specs.Known.{IsStateBefore}
-use Rattle.st_next.specs.Progress.{IsUnread, IsNext, IsPlanned, IsKnown, IsNextReady, reads_so_far}
-use Rattle.st_next.specs.Going.{GoesOnTo, IsReadFurther, IsIssueInTime}
-use Rattle.st_next.specs.Told.{words_told, told_so_far, formed_told, IsToldFurther}
-use Rattle.st_next.specs.declared.fetch_unit.FetchUnit.{FetchUnit}
 use Rattle.st_next.proofs.Resting.{address-late}
 use Rattle.st_next.proofs.Starting.{new-next, new-reads}
 use Rattle.st_next.proofs.Telling.{told-fetches, told-planned}

@@ -1,30 +1,11 @@
 -- The final preparation of the entry, at its P.
-use Rattle.std.specs.Prelude.{IfSome, option_map, is_some, not, nat_lt}
-use Rattle.std.proofs.Common.{◌≡◌, ℕ, ◌^◌, ◌≤◌, ◌<◌, max, Bool, true, false, if◌then◌else◌, List, Option, None, Some, refl, sym, subst, ◌∙◌, ap, arith}
+use Rattle.st_next.proofs.Common.{IfSome, option_map, not, nat_lt, ◌≡◌, ℕ, ◌^◌, ◌≤◌, ◌<◌, max, Bool, true, false, if◌then◌else◌, List, Option, None, Some, refl, sym, subst, ◌∙◌, ap, arith, Machine, word, Needs, Place, Prepared, place_of, DecodeContext, decode_context, needs, asks, prepared_entry, plan, state_at_entry, side_word, IsPrepared, is_prepared, is_needs, alone-serial, same_serial, decode_context-fits, plan-prepared, answer_if, tick_a, index_arrival, tick_p, side_there, is_forwarded, behind, behind_use, uses, Entry, Past, IssueState, entry, side_to_read, IsStateBefore, IsPlanned, IsNext, IsNextReady, FetchUnit}
+use Rattle.std.specs.Prelude.{is_some}
 use Rattle.std.proofs.lemmas.Bool.{ltb-false, le-leb}
 use Rattle.st_bits.specs.Storage.{words_of_storage}
-use Rattle.st_state.specs.Machine.{Machine, word}
-use Rattle.st_prep.specs.declared.entries.Needs.{Needs}
-use Rattle.st_prep.specs.declared.entries.Place.{Place}
-use Rattle.st_prep.specs.declared.entries.Prepared.{Prepared}
-use Rattle.st_prep.specs.Fetch.{place_of}
-use Rattle.st_prep.specs.Plan.{DecodeContext, decode_context, needs, asks, prepared_entry, plan, state_at_entry, side_word}
-use Rattle.st_prep.specs.Ranges.{IsPrepared}
-use Rattle.st_prep.proofs.PreparedLemmas.{is_prepared, is_needs, alone-serial, same_serial}
-use Rattle.st_prep.proofs.PlanLemmas.{decode_context-fits, plan-prepared}
-use Rattle.st_rows.specs.BusTimes.{answer_if}
 use Rattle.st_rows.specs.Entries.{latest_done}
-use Rattle.st_rows.specs.Rows.{words_tick as fetched_words, preparation_tick as prepared_at, tick_a, index_arrival, tick_p}
-use Rattle.st_rows.specs.Words.{side_there, is_forwarded}
-use Rattle.st_rows.specs.Uses.{behind, behind_use, uses}
+use Rattle.st_rows.specs.Rows.{words_tick as fetched_words, preparation_tick as prepared_at}
 use Rattle.st_rows.specs.declared.bus.Bus.{Bus}
-use Rattle.st_rows.specs.declared.entry.Entry.{Entry}
-use Rattle.st_rows.specs.declared.past.Past.{Past}
-use Rattle.st_rows.specs.declared.issue.IssueState.{IssueState}
-use Rattle.st_segment.specs.Entries.{entry, side_to_read}
-use Rattle.st_next.specs.Known.{IsStateBefore}
-use Rattle.st_next.specs.Progress.{IsPlanned, IsNext, IsNextReady}
-use Rattle.st_next.specs.declared.fetch_unit.FetchUnit.{FetchUnit}
 
 -- ---- the writers of the index-side word have completed
 

@@ -1,13 +1,10 @@
 -- An entry reads its own words first, and words of a target only after EX.
-use Rattle.std.proofs.Common.{◌≡◌, ℕ, ◌+◌, ◌/◌, ◌≤◌, ◌⊎◌, inl, inr, Bool, true, false, ◌==◌, if◌then◌else◌, List, length, Option, None, Some, refl, ◌∙◌, ap, arith}
+use Rattle.st_next.proofs.Common.{◌≡◌, ℕ, ◌+◌, ◌/◌, ◌≤◌, ◌⊎◌, inl, inr, Bool, true, false, ◌==◌, if◌then◌else◌, List, length, Option, None, Some, refl, ◌∙◌, ap, arith, decoded_entry, Place, Reading, Finds, Reads, outcome, words_read, own_words, half_of, Continuation, with_second, with_first, read_after, instruction_at, is_execute, with_target, fetched_alone, own_use, reading_at_place}
 use Rattle.st_format.specs.declared.instruction.Decoded.{Decoded}
-use Rattle.st_format.specs.Formats.{decoded_entry}
 use Rattle.st_state.specs.Boundary.{forbidden_by}
 use Rattle.st_state.specs.declared.protection.Access.TheVariants.{Fetch}
-use Rattle.st_prep.specs.declared.entries.Place.{Place}
 use Rattle.st_prep.specs.declared.fetching.FoundInstruction.{FoundInstruction}
 use Rattle.st_prep.specs.SpeculativeChanges.{effective}
-use Rattle.st_prep.specs.Reading.{Reading, Finds, Reads, outcome, words_read, own_words, half_of, Continuation, with_second, with_first, read_after, instruction_at, is_execute, with_target, fetched_alone, own_use, reading_at_place}
 use Rattle.st_prep.proofs.Choices.{of_choice}
 use Rattle.st_next.proofs.Issues.{OwnFirst, none-first}
 

@@ -1,16 +1,5 @@
 -- While the entry rests, its remaining reads are requested later.
-use Rattle.std.proofs.Common.{◌≡◌, ℕ, zero, suc, ◌≤◌, ◌<◌, ◌||◌, max, Bool, true, false, ◌==◌, if◌then◌else◌, List, inl, inr, Option, refl, ◌∙◌, ap, arith}
-use Rattle.st_state.specs.Machine.{Machine}
-use Rattle.st_rows.specs.Rows.{wanted_from, words_tick, address_tick, tick_a}
-use Rattle.st_rows.specs.Words.{fetch_words}
-use Rattle.st_rows.specs.declared.entry.WordRun.{WordRun}
-use Rattle.st_rows.specs.declared.entry.Entry.{Entry}
-use Rattle.st_rows.specs.declared.fetching.Fetching.{Fetching}
-use Rattle.st_rows.specs.declared.issue.IssueState.{IssueState}
-use Rattle.st_segment.specs.Entries.{entry}
-use Rattle.st_next.specs.Words.{words_so_far}
-use Rattle.st_next.specs.Progress.{IsReadOn, Rests, wanted_next}
-use Rattle.st_next.specs.declared.fetch_unit.FetchUnit.{FetchUnit}
+use Rattle.st_next.proofs.Common.{◌≡◌, ℕ, zero, suc, ◌≤◌, ◌<◌, ◌||◌, max, Bool, true, false, ◌==◌, if◌then◌else◌, List, inl, inr, Option, refl, ◌∙◌, ap, arith, Machine, wanted_from, words_tick, address_tick, tick_a, fetch_words, WordRun, Entry, Fetching, IssueState, entry, words_so_far, IsReadOn, Rests, wanted_next, FetchUnit}
 use Rattle.st_next.proofs.Given.{target-serial}
 use Rattle.st_next.proofs.WordByWord.{fetch-none}
 use Rattle.st_next.proofs.Late.{waits-most, words-later, AreLeft, left_none, left_target}

@@ -1,13 +1,6 @@
 -- An instruction whose words are all known.
-use Rattle.std.proofs.Common.{◌≡◌, ℕ, false, List, Option, None, Some, sym, ◌∙◌, ap}
+use Rattle.st_next.proofs.Common.{◌≡◌, ℕ, false, List, Option, None, Some, sym, ◌∙◌, ap, decoded_entry, instruction_of, Machine, word, Fetched, Found, Continuation, Finds, left_after, fetching_of, fetched_plain, instruction_at, is_execute, reading_at_place, allowed_found, known-found, Place}
 use Rattle.std.specs.Option.{IfSome}
-use Rattle.st_format.specs.Formats.{decoded_entry, instruction_of}
-use Rattle.st_state.specs.Machine.{Machine, word}
-use Rattle.st_prep.specs.declared.entries.Fetched.{Fetched}
-use Rattle.st_prep.specs.declared.entries.Fetching.TheVariants.{Found}
-use Rattle.st_prep.specs.Reading.{Continuation, Finds, left_after, fetching_of, fetched_plain, instruction_at, is_execute, reading_at_place, allowed_found}
-use Rattle.st_prep.proofs.GivenLemmas.{known-found}
-use Rattle.st_prep.specs.declared.entries.Place.{Place}
 
 -- if all words of an instruction other than EX are known, it is all that is fetched
 pub halves-found : (o : Option (ℕ × ℕ)) (s : Machine) (place : Place) (contents words : List ℕ) → contents ≡ words

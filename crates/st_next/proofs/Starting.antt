@@ -1,20 +1,7 @@
 -- An entry with no word requested.
-use Rattle.std.proofs.Common.{◌≡◌, ℕ, ◌≤◌, false, List, [], inl, Option, refl, sym, ◌∙◌, ap, arith}
-use Rattle.st_state.specs.Machine.{Machine}
-use Rattle.st_prep.specs.Fetch.{place_of}
-use Rattle.st_rows.specs.Rows.{words_tick, wanted_from}
-use Rattle.st_rows.specs.Words.{fetch_words, fetch_word}
-use Rattle.st_rows.specs.Asked.{words_asked, fetches_asked}
-use Rattle.st_rows.specs.declared.entry.WordRun.{WordRun}
-use Rattle.st_rows.specs.declared.fetching.Fetching.{Fetching}
-use Rattle.st_rows.specs.declared.issue.IssueState.{IssueState}
-use Rattle.st_segment.specs.Entries.{entry}
-use Rattle.st_next.specs.Words.{IsStart, words_so_far, asked_so_far}
-use Rattle.st_next.specs.Progress.{IsNext, Rests, reads_so_far}
-use Rattle.st_next.specs.declared.fetch_unit.FetchUnit.{FetchUnit}
+use Rattle.st_next.proofs.Common.{◌≡◌, ℕ, ◌≤◌, false, List, [], inl, Option, refl, sym, ◌∙◌, ap, arith, Machine, place_of, words_tick, wanted_from, fetch_words, fetch_word, words_asked, fetches_asked, WordRun, Fetching, IssueState, entry, IsStart, words_so_far, asked_so_far, IsNext, Rests, reads_so_far, FetchUnit, behind, reads_of, uses, wishes}
 use Rattle.st_next.proofs.Steps.{planned-none}
 use Rattle.st_next.proofs.Asking.{reads-none}
-use Rattle.st_rows.specs.Uses.{behind, reads_of, uses, wishes}
 
 abbrev nothing : WordRun
 nothing = record { first = 0; len = 0 }

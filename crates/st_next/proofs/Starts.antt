@@ -1,14 +1,6 @@
 -- The words so far, and the remaining words.
-use Rattle.std.proofs.Common.{◌≡◌, ℕ, zero, suc, ◌+◌, ◌-◌, ◌≤◌, ◌<◌, List, [], ◌∷◌, ◌++◌, length, get_or, take, map, append_assoc, refl, sym, ◌∙◌, ap, arith, length-append}
+use Rattle.st_next.proofs.Common.{◌≡◌, ℕ, zero, suc, ◌+◌, ◌-◌, ◌≤◌, ◌<◌, List, [], ◌∷◌, ◌++◌, length, get_or, take, map, append_assoc, refl, sym, ◌∙◌, ap, arith, length-append, add-zero, zero-add, suc-add, append-nil, get_or_append_left, get_or-append_right, is_none, is_some, WordRun, Entry, run_of, word_list_from, words_of_run, IsStart, AreFirstWords, run_with_word}
 use Rattle.std.specs.Prelude.{◌==◌, if◌then◌else◌, Bool, true, false}
-use Rattle.std.proofs.Math.Nat.{add-zero, zero-add, suc-add}
-use Rattle.std.proofs.lemmas.List.{append-nil, get_or_append_left, get_or-append_right}
-use Rattle.st_prep.proofs.GivenLemmas.{is_none, is_some}
-use Rattle.st_rows.specs.declared.entry.WordRun.{WordRun}
-use Rattle.st_rows.specs.declared.entry.Entry.{Entry}
-use Rattle.st_segment.specs.Entries.{run_of}
-use Rattle.st_segment.specs.Alone.{word_list_from, words_of_run}
-use Rattle.st_next.specs.Words.{IsStart, AreFirstWords, run_with_word}
 
 pub length-words : (w n : ℕ) → length (word_list_from w n) ≡ n
 unfolding word_list_from

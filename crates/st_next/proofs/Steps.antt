@@ -1,30 +1,9 @@
 -- One step of the fetch unit, for every state before the entry.
-use Rattle.std.proofs.Common.{◌≡◌, ℕ, zero, suc, ◌≤◌, ◌<◌, max, Bool, true, false, List, ◌++◌, map, inl, inr, Option, refl, sym, subst, ◌∙◌, ap, arith}
-use Rattle.std.specs.Prelude.{IfSome}
-use Rattle.st_state.specs.Machine.{Machine, word}
-use Rattle.st_prep.specs.declared.entries.Fetched.{Fetched}
+use Rattle.st_next.proofs.Common.{◌≡◌, ℕ, zero, suc, ◌≤◌, ◌<◌, max, Bool, true, false, List, ◌++◌, map, inl, inr, Option, refl, sym, subst, ◌∙◌, ap, arith, IfSome, Machine, word, Fetched, Place, Needs, Prepared, index_words, place_of, DecodeContext, decode_context_of, decode_context, needs, reading_at_place, left_after, fetching_of, wanted_from, tick_a, bus_a, tick_p, fetch_word, WordRun, Fetching, IssueState, words_of_run, reading_at, entry, entry_with, entry-ranges, run_with_word, IsStateBefore, IsReadOn, IsPlanned, preparation_without_side, Rests, GoesOnTo, as_entry, prepared_as, FetchUnit}
 use Rattle.st_prep.specs.declared.entries.Fetching.{Fetching as Giving}
 use Rattle.st_prep.specs.declared.entries.Fetching.TheVariants.{Next as GivenWord, Found as GivenAll}
-use Rattle.st_prep.specs.declared.entries.Place.{Place}
-use Rattle.st_prep.specs.declared.entries.Needs.{Needs}
-use Rattle.st_prep.specs.declared.entries.Prepared.{Prepared}
-use Rattle.st_prep.specs.Fetch.{index_words, place_of, words_fetched as fetched_at}
-use Rattle.st_prep.specs.Plan.{DecodeContext, decode_context_of, decode_context, needs}
-use Rattle.st_prep.specs.Reading.{reading_at_place, left_after, fetching_of}
-use Rattle.st_rows.specs.Rows.{wanted_from, tick_a, bus_a, tick_p}
-use Rattle.st_rows.specs.Words.{fetch_word}
-use Rattle.st_rows.specs.declared.entry.WordRun.{WordRun}
-use Rattle.st_rows.specs.declared.fetching.Fetching.{Fetching}
-use Rattle.st_rows.specs.declared.issue.IssueState.{IssueState}
-use Rattle.st_segment.specs.Alone.{words_of_run}
-use Rattle.st_segment.specs.Entries.{reading_at, entry, entry_with}
-use Rattle.st_segment.proofs.EntryRanges.{entry-ranges}
+use Rattle.st_prep.specs.Fetch.{words_fetched as fetched_at}
 use Rattle.st_segment.proofs.KnownEarly.{entry-seen}
-use Rattle.st_next.specs.Words.{run_with_word}
-use Rattle.st_next.specs.Known.{IsStateBefore}
-use Rattle.st_next.specs.Progress.{IsReadOn, IsPlanned, preparation_without_side, Rests}
-use Rattle.st_next.specs.Going.{GoesOnTo, as_entry, prepared_as}
-use Rattle.st_next.specs.declared.fetch_unit.FetchUnit.{FetchUnit}
 use Rattle.st_next.proofs.Starts.{IsNextOwn, own-more, IsNextTarget, target-more, word-behind, IsAll}
 use Rattle.st_next.proofs.Given.{contents_of, gives-own, gives-target, gives-all}
 use Rattle.st_next.proofs.Contents.{words-entry, contents-same, reading-same, given-same}

@@ -1,26 +1,9 @@
 -- An observer is notified of the words of the entry that is prepared next, in order.
+use Rattle.st_next.proofs.Common.{◌≡◌, ℕ, zero, suc, ◌+◌, ◌≤◌, max, Bool, true, false, List, [], ◌∷◌, ◌++◌, map, append_assoc, refl, sym, subst, ◌∙◌, ap, arith, add-zero, zero-add, suc-add, append-nil, map-append, is_none, is_some, wanted_from, words_tick, tick_a, index_uses, told, use_told, use_of, uses, behind, wishes, unused, wish_of, fetch_word, fetch_words, WordRun, Fetching, IssueState, Past, Use, Machine, Fetched, prepared_as, run_with_word, words_so_far, words_alone, words_told, told_so_far, IsToldFurther, FetchUnit}
 use Rattle.std.specs.Prelude.{if◌then◌else◌, ◌==◌}
-use Rattle.std.proofs.Common.{◌≡◌, ℕ, zero, suc, ◌+◌, ◌≤◌, max, Bool, true, false, List, [], ◌∷◌, ◌++◌, map, append_assoc, refl, sym, subst, ◌∙◌, ap, arith}
-use Rattle.std.proofs.Math.Nat.{add-zero, zero-add, suc-add}
-use Rattle.std.proofs.lemmas.List.{append-nil, map-append}
-use Rattle.st_prep.proofs.GivenLemmas.{is_none, is_some}
-use Rattle.st_rows.specs.Rows.{wanted_from, words_tick, tick_a, index_uses}
-use Rattle.st_rows.specs.Supplies.{told, use_told}
-use Rattle.st_rows.specs.Uses.{Use as WordUse, use_of, uses, behind, wishes, unused, wish_of}
-use Rattle.st_rows.specs.Words.{fetch_word, fetch_words}
-use Rattle.st_rows.specs.declared.entry.WordRun.{WordRun}
-use Rattle.st_rows.specs.declared.fetching.Fetching.{Fetching}
-use Rattle.st_rows.specs.declared.issue.IssueState.{IssueState}
-use Rattle.st_rows.specs.declared.past.Past.{Past}
+use Rattle.st_rows.specs.Uses.{Use as WordUse}
 use Rattle.st_rows.specs.declared.uses.Role.TheVariants.{Instruction}
-use Rattle.st_rows.specs.declared.uses.Use.{Use}
 use Rattle.st_rows.proofs.Telling.{Joins, Rests}
-use Rattle.st_state.specs.Machine.{Machine}
-use Rattle.st_prep.specs.declared.entries.Fetched.{Fetched}
-use Rattle.st_next.specs.Going.{prepared_as}
-use Rattle.st_next.specs.Words.{run_with_word, words_so_far, words_alone}
-use Rattle.st_next.specs.Told.{words_told, told_so_far, IsToldFurther}
-use Rattle.st_next.specs.declared.fetch_unit.FetchUnit.{FetchUnit}
 use Rattle.st_next.proofs.WordByWord.{fetch-none}
 
 -- ---- the words of a run

@@ -1,26 +1,10 @@
 -- The reads so far are the first ones of the entry.
-use Rattle.std.specs.Prelude.{All}
-use Rattle.std.proofs.Common.{◌≡◌, ℕ, ◌≤◌, ◌<◌, Bool, true, false, List, ◌++◌, append_assoc, Option, refl, sym, ◌∙◌, ap, arith}
-use Rattle.std.proofs.lemmas.List.Elements.{All-append}
-use Rattle.st_state.specs.Machine.{Machine}
-use Rattle.st_rows.specs.Asked.{bus_after_reads, side_asked, runs_asked, following_asked, fetches_asked, prepared_asked, data_of, words_asked}
-use Rattle.st_rows.specs.BusTimes.{Read}
-use Rattle.st_rows.specs.Rows.{words_tick, tick_a, bus_a, tick_p, operands, reads_of_entry}
-use Rattle.st_rows.specs.declared.entry.Entry.{Entry}
-use Rattle.st_rows.specs.declared.fetching.Fetching.{Fetching}
-use Rattle.st_rows.specs.declared.issue.IssueState.{IssueState}
-use Rattle.st_rows.proofs.Served.{served-append, served-fetches, served-side}
+use Rattle.st_next.proofs.Common.{All, ◌≡◌, ℕ, ◌≤◌, ◌<◌, Bool, true, false, List, ◌++◌, append_assoc, Option, refl, sym, ◌∙◌, ap, arith, All-append, Machine, bus_after_reads, side_asked, runs_asked, following_asked, fetches_asked, prepared_asked, data_of, words_asked, Read, words_tick, tick_a, bus_a, tick_p, operands, reads_of_entry, Entry, Fetching, IssueState, served-append, served-fetches, served-side, entry, words_alone, asked_so_far, IsPlanned, IsNext, Rests, reads_so_far, AreLeft, FetchUnit, bus_after_index_read, fetch_words}
 use Rattle.st_rows.proofs.Each.{each-operand, each-following, each-of-data}
 use Rattle.st_rows.proofs.Parts.{asked-parts, a-p}
-use Rattle.st_segment.specs.Entries.{entry}
-use Rattle.st_next.specs.Words.{words_alone, asked_so_far}
-use Rattle.st_next.specs.Progress.{IsPlanned, IsNext, Rests, reads_so_far}
-use Rattle.st_next.specs.Going.{AreLeft}
-use Rattle.st_next.specs.declared.fetch_unit.FetchUnit.{FetchUnit}
 use Rattle.st_next.proofs.Late.{IsLate}
 use Rattle.st_next.proofs.Resting.{address-late, rest-left}
 use Rattle.st_next.proofs.Asking.{reads-none, reads-planned, side-late}
-use Rattle.st_rows.specs.Words.{bus_after_index_read, fetch_words}
 
 -- all data are requested when the address is formed or later
 data-late : (ds : List ℕ) (n m : ℕ) (f : IssueState) (e : Entry) → m ≤ tick_a ds f e → All (IsLate m) (data_of ds n f e)

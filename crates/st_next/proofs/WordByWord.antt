@@ -1,19 +1,5 @@
 -- Instruction words are requested in order.
-use Rattle.std.proofs.Common.{◌≡◌, ℕ, zero, suc, ◌+◌, ◌≤◌, max, Bool, true, false, ◌==◌, if◌then◌else◌, List, [], ◌++◌, append_assoc, refl, sym, ◌∙◌, ap, arith}
-use Rattle.std.proofs.Math.Nat.{add-zero, zero-add, suc-add}
-use Rattle.std.proofs.lemmas.List.{append-nil}
-use Rattle.st_fetch.specs.Planned.{tick_of}
-use Rattle.st_prep.proofs.GivenLemmas.{is_none, is_some}
-use Rattle.st_rows.specs.Rows.{wanted_from, words_tick}
-use Rattle.st_rows.specs.Words.{fetch_word, fetch_words}
-use Rattle.st_rows.specs.Asked.{word_asked, words_asked, fetches_asked}
-use Rattle.st_rows.specs.BusTimes.{Read}
-use Rattle.st_rows.specs.declared.entry.WordRun.{WordRun}
-use Rattle.st_rows.specs.declared.past.Past.{Past}
-use Rattle.st_rows.specs.declared.fetching.Fetching.{Fetching}
-use Rattle.st_rows.specs.declared.issue.IssueState.{IssueState}
-use Rattle.st_next.specs.Words.{run_with_word, words_so_far, asked_so_far}
-use Rattle.st_rows.specs.Uses.{behind, reads_of, uses, wishes}
+use Rattle.st_next.proofs.Common.{◌≡◌, ℕ, zero, suc, ◌+◌, ◌≤◌, max, Bool, true, false, ◌==◌, if◌then◌else◌, List, [], ◌++◌, append_assoc, refl, sym, ◌∙◌, ap, arith, add-zero, zero-add, suc-add, append-nil, tick_of, is_none, is_some, wanted_from, words_tick, fetch_word, fetch_words, word_asked, words_asked, fetches_asked, Read, WordRun, Past, Fetching, IssueState, run_with_word, words_so_far, asked_so_far, behind, reads_of, uses, wishes}
 
 module _ (ds : List ℕ) (past : List Past) (from : ℕ) where
   -- the request tick of the next word

@@ -1,31 +1,18 @@
 -- What is known of an entry that is planned, where it asks for following words.
-use Rattle.std.specs.Prelude.{if◌then◌else◌, is_none, nat_lt}
-use Rattle.std.proofs.Common.{◌≡◌, ℕ, ◌+◌, ◌-◌, ◌/◌, ◌≤◌, Bool, true, false, ◌==◌, List, [], ◌∷◌, length, Option, None, Some, refl, sym, ◌∙◌, ap, arith}
-use Rattle.std.proofs.lemmas.Bool.{and_parts}
-use Rattle.std.proofs.lemmas.Bool.Decides.{nat_tests}
-use Rattle.std.proofs.lemmas.List.{length-drop}
+use Rattle.st_plain.proofs.Common.{if◌then◌else◌, is_none, nat_lt, ◌≡◌, ℕ, ◌+◌, ◌-◌, ◌/◌, ◌≤◌, true, false, ◌==◌, List, [], ◌∷◌, length, Option, None, Some, refl, sym, ◌∙◌, ap, arith, and_parts, nat_tests, length-drop, Machine, word, place_of, index_words, reading_by, words_fetched, needs, decode_context, resolved, resolved_at, entry_at, suppressed_entry, prepared_by, prepared_entry, plan, Needs, Prepared, Entry, run_of, reading_at, instruction_words, own_count, entry, code_of, code_found, side_at, executes_at, executed_code, known_at, Code, Known}
+use Rattle.std.proofs.Common.{Bool}
 use Rattle.st_format.specs.declared.instruction.Decoded.{Decoded}
 use Rattle.st_format.specs.Formats.{decoded_entry}
-use Rattle.st_state.specs.Machine.{Machine, word}
 use Rattle.st_state.specs.Boundary.{forbidden_by}
 use Rattle.st_state.specs.declared.protection.Access.TheVariants.{Fetch}
 use Rattle.st_prep.specs.Checks.{effective_instr}
-use Rattle.st_prep.specs.Fetch.{place_of, index_words, reading_by, words_fetched}
-use Rattle.st_prep.specs.Plan.{needs, decode_context, resolved, resolved_at, entry_at, suppressed_entry, prepared_by, prepared_entry, plan}
 use Rattle.st_prep.specs.Reading.{Reading, Finds, Reads, Continuation, outcome, words_read, own_words, half_of, with_second, with_first, read_after, instruction_at, is_execute, with_target, fetched_alone, own_use, reading_at_place}
 use Rattle.st_prep.specs.SpeculativeChanges.{effective}
 use Rattle.st_prep.specs.declared.entries.Place.{Place}
 use Rattle.st_prep.specs.declared.entries.Fetched.{Fetched}
-use Rattle.st_prep.specs.declared.entries.Needs.{Needs}
-use Rattle.st_prep.specs.declared.entries.Prepared.{Prepared}
 use Rattle.st_prep.specs.declared.entries.ResolvedEntry.{ResolvedEntry}
 use Rattle.st_prep.specs.declared.fetching.FoundInstruction.{FoundInstruction}
 use Rattle.st_prep.proofs.Choices.{of_choice}
-use Rattle.st_rows.specs.declared.entry.Entry.{Entry}
-use Rattle.st_segment.specs.Entries.{run_of, reading_at, instruction_words, own_count, entry}
-use Rattle.st_plain.specs.Looking.{code_of, code_found, side_at, executes_at, executed_code, known_at}
-use Rattle.st_plain.specs.declared.known.Code.{Code}
-use Rattle.st_plain.specs.declared.known.Known.{Known}
 
 -- ---- what holds of what each reading goes on with holds of the reading of an instruction
 

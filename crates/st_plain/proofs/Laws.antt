@@ -19,8 +19,8 @@ use Rattle.st_rows.specs.declared.past.Past.{Past}
 use Rattle.st_rows.proofs.Parts.{a-p}
 use Rattle.st_segment.specs.Entries.{side_to_read}
 use Rattle.st_plain.specs.Laws.{IsReadFrom, IsInTurn, want_behind, turn_behind, AreInTurn, ReadsOfAnEntryComeInTurn}
-use Rattle.st_plain.specs.Uses.{instruction_uses, fetch_uses, side_uses, register_uses, operand_uses, data_uses, inside_uses, following_uses, uses_of_entry}
-use Rattle.st_rows.specs.Supplies.{read_ticks, fetch_supply, writer_back}
+use Rattle.st_plain.specs.Uses.{instruction_uses, fetch_uses, side_uses, operand_uses, data_uses, inside_uses, following_uses, uses_of_entry}
+use Rattle.st_rows.specs.Supplies.{read_ticks, fetch_supply, writer_back, register_uses}
 use Rattle.st_rows.specs.declared.uses.Role.TheVariants.{Following}
 use Rattle.st_rows.specs.declared.uses.Supply.{Supply}
 use Rattle.st_rows.specs.declared.uses.Supply.TheVariants.{Read, Held, Forwarded, Register}

@@ -1,3 +1,4 @@
+pub mod Common
 pub mod KnownLemmas
 pub mod RowLemmas
 pub mod LookLemmas

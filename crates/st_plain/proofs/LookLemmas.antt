@@ -1,29 +1,8 @@
 -- The search for predicted entries, step by step.
-use Rattle.std.specs.Prelude.{Bool, if◌then◌else◌, map}
-use Rattle.std.proofs.Common.{◌≡◌, ℕ, zero, suc, ◌+◌, ◌-◌, ◌≤◌, ◌<◌, true, false, List, [], ◌∷◌, ◌++◌, None, get_or, take, refl, sym, subst, ap, ◌∙◌, append_assoc, arith}
-use Rattle.std.proofs.lemmas.List.{append-nil}
-use Rattle.std.proofs.lemmas.Bool.{lt-ltb, le-ltb}
-use Rattle.st_state.specs.Machine.{Machine}
-use Rattle.st_prep.specs.declared.entries.Prepared.{Prepared}
-use Rattle.st_exec.specs.Completion.{state_after_completion, predicted_state, prediction}
-use Rattle.st_rows.specs.Asked.{formed_asked, bus_after_reads}
-use Rattle.st_rows.specs.BusTimes.{Read}
-use Rattle.st_rows.specs.Entries.{no_runs}
-use Rattle.st_rows.specs.Notes.{log_after_reads}
-use Rattle.st_rows.specs.Rows.{row_of_entry, issue_after_entry, bus_a, tick_p, tick_c, preparation_tick, done_before, reads_of_entry}
-use Rattle.st_rows.specs.declared.entry.Entry.{Entry}
-use Rattle.st_rows.specs.declared.log.Made.{Made}
-use Rattle.st_rows.specs.declared.past.Past.{Past}
-use Rattle.st_rows.proofs.Noted.{noted-two}
-use Rattle.st_rows.proofs.Served.{served-append, served-asked, served-formed}
-use Rattle.st_rows.specs.declared.issue.IssueState.{IssueState}
-use Rattle.st_rows.specs.declared.issue.EntryTicks.{EntryTicks}
-use Rattle.st_segment.specs.Entries.{entry}
-use Rattle.st_rows.specs.declared.bus.Bus.{Bus}
+use Rattle.st_plain.proofs.Common.{Bool, if◌then◌else◌, map, ◌≡◌, ℕ, zero, suc, ◌+◌, ◌-◌, ◌≤◌, ◌<◌, true, false, List, [], ◌∷◌, ◌++◌, None, get_or, take, refl, sym, subst, ap, ◌∙◌, append_assoc, arith, append-nil, lt-ltb, le-ltb, Machine, Prepared, state_after_completion, predicted_state, prediction, formed_asked, bus_after_reads, Read, no_runs, log_after_reads, row_of_entry, issue_after_entry, bus_a, tick_p, tick_c, preparation_tick, done_before, reads_of_entry, Entry, Made, Past, noted-two, served-append, served-asked, served-formed, IssueState, EntryTicks, entry, Bus, seen_ahead, first_late, reads_up_to}
 use Rattle.st_segment.specs.Ahead.{Ahead, ahead, next_ahead, prepared_before}
 use Rattle.st_exec.proofs.Unchanged.{completed-done}
 use Rattle.st_plain.specs.declared.looking.Ahead.{Ahead as SeenAhead}
-use Rattle.st_plain.specs.Looking.{seen_ahead, first_late, reads_up_to}
 
 -- a predicted step is a completion with a new counter
 pub record IsCounted (p : Prepared) (s : Machine) : Type 0 where

@@ -1,17 +1,8 @@
 -- The arrival tick of the index-side word, by the last answers of the banks.
-use Rattle.std.specs.Prelude.{nat_lt}
-use Rattle.std.proofs.Common.{◌≡◌, ℕ, ◌<◌, ◌≤◌, false, List, length, length-set, Option, Some, refl, sym, ap, ◌∙◌, arith}
-use Rattle.std.proofs.lemmas.Bool.{le-ltb}
-use Rattle.std.proofs.lemmas.List.{get_or-set_same}
+use Rattle.st_plain.proofs.Common.{nat_lt, ◌≡◌, ℕ, ◌<◌, ◌≤◌, false, List, length, length-set, Option, Some, refl, sym, ap, ◌∙◌, arith, le-ltb, get_or-set_same, answer_at, bus_after_read, latest_done, bus_after_index_read, side_there, Bus, Past, behind, behind_use, uses}
 use Rattle.st_banks.specs.Bank.{bank_of, last_of}
 use Rattle.st_banks.specs.declared.answers.TheConstants.{BANKS}
 use Rattle.st_banks.proofs.BankLemmas.{bank_of-below}
-use Rattle.st_rows.specs.BusTimes.{answer_at, bus_after_read}
-use Rattle.st_rows.specs.Entries.{latest_done}
-use Rattle.st_rows.specs.Words.{bus_after_index_read, side_there}
-use Rattle.st_rows.specs.declared.bus.Bus.{Bus}
-use Rattle.st_rows.specs.declared.past.Past.{Past}
-use Rattle.st_rows.specs.Uses.{behind, behind_use, uses}
 
 -- the answer of the read is the last one of its bank
 last-answer : (ds : List ℕ) (b : Bus) (w a : ℕ) → length (bus_after_read ds b w a).banks.ticks ≡ BANKS

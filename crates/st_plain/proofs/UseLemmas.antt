@@ -1,56 +1,19 @@
 -- Words are noted in sequence.
-use Rattle.std.specs.Prelude.{Bool, None, Some, map, if◌then◌else◌, nat_lt, nat_le, false, length}
-use Rattle.std.proofs.Common.{◌≡◌, ℕ, zero, suc, true, ◌+◌, ◌-◌, ◌≤◌, max, List, [], ◌∷◌, ◌++◌, Option, inl, inr, refl, sym, ◌∙◌, ap, append_assoc, length-append, arith}
-use Rattle.std.proofs.lemmas.Bool.{cases_Bool}
-use Rattle.std.proofs.lemmas.Bool.Decides.{nat_tests}
-use Rattle.std.proofs.lemmas.List.{append-nil, take_all}
-use Rattle.arrayvec.specs.ArrayVec.{ArrayVec}
+use Rattle.st_plain.proofs.Common.{Bool, map, if◌then◌else◌, nat_lt, nat_le, ◌≡◌, ℕ, zero, suc, true, ◌+◌, ◌-◌, ◌<◌, ◌≤◌, max, List, [], ◌∷◌, ◌++◌, Option, inl, inr, refl, sym, ◌∙◌, ap, append_assoc, length-append, arith, cases_Bool, lt-ltb, nat_tests, append-nil, take_all, ArrayVec, IsEntryInTime, wanted_from, own_uses, own_fetched, target_uses, words_tick, tick_a, bus_a, tick_p, index_uses, first_uses, first_read, second_uses, operands, followings, operands_read, read_words, request_inside, Bus, Entry, WordRuns, IssueState, Past, registers_among, fetch_uses, side_uses, operand_uses, data_uses, inside_uses, following_uses, formed_uses, prepared_uses, side_register, uses_of_entry, Use, uses, words_of, wish_of, use_of, unused, behind_use, bus_after_request, wishes-length, followings-length, side_to_read}
+use Rattle.std.specs.Prelude.{None, Some, false, length}
 use Rattle.st_bits.specs.declared.register.TheConstants.{FIRST_STORAGE_WORD}
 use Rattle.st_bits.specs.Storage.{words_of_storage}
 use Rattle.st_fetch.specs.Planned.{tick_of}
 use Rattle.st_rows.specs.KeptUses.{uses_with}
-use Rattle.st_rows.specs.Ranges.{IsEntryInTime}
-use Rattle.st_rows.specs.Rows.{wanted_from, own_uses, own_fetched, target_uses, words_tick, tick_a, bus_a, tick_p, index_uses, operands, followings}
+use Rattle.st_rows.specs.Rows.{following_uses as following_wishes}
 use Rattle.st_next.specs.Told.{formed_told}
-use Rattle.st_rows.specs.Words.{operands_read, read_words, request_inside}
-use Rattle.st_rows.specs.declared.bus.Bus.{Bus}
-use Rattle.st_rows.specs.declared.entry.Entry.{Entry}
-use Rattle.st_rows.specs.declared.entry.WordRun.{WordRun}
-use Rattle.st_rows.specs.declared.issue.IssueState.{IssueState}
+use Rattle.st_prep.specs.Ranges.{IsRuns}
 use Rattle.st_prep.specs.declared.entries.Words.{Words}
 use Rattle.st_rows.specs.declared.fetching.Fetching.{Fetching}
-use Rattle.st_rows.specs.declared.past.Past.{Past}
-use Rattle.st_plain.specs.Uses.{fetch_uses, side_uses, register_uses, operand_uses, data_uses, inside_uses, following_uses, formed_uses, prepared_uses, side_register, uses_of_entry}
-use Rattle.st_rows.specs.Supplies.{fetch_supply, use_told, told}
-use Rattle.st_rows.specs.declared.uses.Role.TheVariants.{Instruction, Operand, Following}
+use Rattle.st_rows.specs.Supplies.{fetch_supply, use_told, told, register_uses}
+use Rattle.st_rows.specs.declared.uses.Role.TheVariants.{Instruction, Index, Operand, Following}
 use Rattle.st_rows.specs.declared.uses.Supply.TheVariants.{Register}
-use Rattle.st_rows.specs.declared.uses.Use.{Use}
-use Rattle.st_rows.specs.Uses.{uses, words_of, wish_of, use_of, unused, behind_use}
 use Rattle.st_rows.specs.declared.uses.Wish.{Wish}
-use Rattle.st_rows.specs.BusTimes.{bus_after_request}
-use Rattle.st_rows.proofs.Served.{wishes-length, followings-length}
-use Rattle.st_segment.specs.Entries.{side_to_read}
-
--- one word is noted, and the others remain
-turned : (us vs rest all : List Use) (u : Use) → vs ≡ us ++ u ∷ [] → all ≡ u ∷ rest → vs ++ rest ≡ us ++ all
-turned us vs rest all u one is = rw (one, is) (append_assoc us (u ∷ []) rest)
-
--- no word remains
-ended : (us rest all : List Use) → rest ≡ [] → us ++ rest ≡ all → us ≡ all
-ended us rest all none h = sym (append-nil us) ∙ ap (λ r. us ++ r) (sym none) ∙ h
-
-pub register-turn : (w n : ℕ) (us vs : List Use) → vs ≡ us ++ record { role = Operand; word = w; supply = Register } ∷ [] → 1 ≤ n
-    → vs ++ register_uses (w + 1) (n - 1) ≡ us ++ register_uses w n
-unfolding register_uses
-register-turn w zero us vs one some = let no : ⊥ = omega arith in absurd no
-register-turn w (suc n) us vs one some =
-    let e : suc n - 1 ≡ n = omega arith in
-    turned us vs _ _ _ one (rw e refl)
-
-pub register-end : (w n : ℕ) (us all : List Use) → n ≡ 0 → us ++ register_uses w n ≡ all → us ≡ all
-unfolding register_uses
-register-end w zero us all none h = ended us [] all refl h
-register-end w (suc n) us all none h = let no : ⊥ = omega arith in absurd no
 
 -- ---- words that are noted in two parts
 
@@ -91,11 +54,6 @@ module _ (ds : List ℕ) (past : List Past) (s : Fetching) where
       let all : new.items ≡ kept.items ++ us = ap (λ (k : Items). k.items) is ∙ put-all us kept (omega (arith, counted, most, few)) in
       (all, omega (arith, ap length all, length-append kept.items us, counted, most))
 
-  pub put-operands : (p : ℕ) (run : WordRun) (kept new : Items) → new ≡ uses_with (told ds past (uses ds past s (words_of Operand p run))) kept → length kept.items + run.len ≤ 48
-      → (new.items ≡ kept.items ++ operand_uses ds past s p run.first run.len) × (length new.items ≤ length kept.items + run.len)
-  unfolding operand_uses
-  put-operands p run kept new is few = put-uses (words_of Operand p run) run.len kept new (omega (arith, wishes-length Operand p run.first run.len)) is few
-
 -- its instruction words and its index-side word
 pub put-formed : (ds : List ℕ) (f : IssueState) (e d : Entry) (kept new : Items) → e ≡ d → IsEntryInTime e → new ≡ uses_with (formed_told ds f d) kept → length kept.items + 5 ≤ 48
     → (new.items ≡ kept.items ++ formed_told ds f e) × (length new.items ≤ length kept.items + 5)
@@ -128,12 +86,51 @@ put-formed ds f e d kept new same range is few =
     one-side None = omega arith
     one-side (Some w) = omega arith
 
-pub put-following : (ds : List ℕ) (b : Bus) (e : Entry) (p : ℕ) (kept new : Items) → new ≡ uses_with (told ds [] (uses ds [] (unused b p) (followings e p))) kept → length kept.items + 2 ≤ 48
-    → new.items ≡ kept.items ++ following_uses ds b e p
-unfolding following_uses
-put-following ds b e p kept new is few = (put-uses ds [] (unused b p) (followings e p) 2 kept new (followings-length e p) is few).0
+register-count : (w n : ℕ) → length (register_uses w n) ≡ n
+unfolding register_uses
+register-count w zero = refl
+register-count w (suc n) = ap suc (register-count (w + 1) n)
+
+-- its operand words, registers included, and its following words
+pub put-prepared : (ds : List ℕ) (f : IssueState) (e : Entry) (n : ℕ) (reads : Words) (x : WordRuns) (kept new : Items) → x ≡ registers_among reads e.reads → IsEntryInTime e → IsRuns reads
+    → new ≡ uses_with (((register_uses x.one.first x.one.len ++ told ds f.past (first_uses ds n f e)) ++ (register_uses x.two.first x.two.len ++ told ds f.past (second_uses ds n f e)))
+    ++ told ds [] (following_wishes ds n f e)) kept
+    → length kept.items + 34 ≤ 48 → new.items ≡ kept.items ++ prepared_uses ds n f e reads
+unfolding data_uses operand_uses following_uses read_words
+put-prepared ds f e n reads x kept new among range runs is few =
+    let p = tick_p ds n f e in
+    let r = registers_among reads e.reads in
+    let a = register_uses r.one.first r.one.len in
+    let b = told ds f.past (first_uses ds n f e) in
+    let c = register_uses r.two.first r.two.len in
+    let d = told ds f.past (second_uses ds n f e) in
+    let behind = told ds [] (following_wishes ds n f e) in
+    let counted : length (((a ++ b) ++ (c ++ d)) ++ behind) ≤ 34 =
+    omega (
+      arith,
+      length-append ((a ++ b) ++ (c ++ d)) behind,
+      length-append (a ++ b) (c ++ d),
+      length-append a b,
+      length-append c d,
+      register-count r.one.first r.one.len,
+      register-count r.two.first r.two.len,
+      uses-count ds f.past (unused (bus_a ds f e) p) (words_of Operand p e.reads.one),
+      uses-count ds f.past (first_read ds n f e) (words_of Operand p e.reads.two),
+      uses-count ds [] (unused (operands ds n f e).bus p) (followings e p),
+      wishes-length Operand p e.reads.one.first e.reads.one.len,
+      wishes-length Operand p e.reads.two.first e.reads.two.len,
+      followings-length e p,
+      range.one_few,
+      range.two_few,
+      runs.few,
+      runs.few2,
+    ) in
+    ap (λ (k : Items). k.items) (is ∙ rw among refl) ∙ put-all (((a ++ b) ++ (c ++ d)) ++ behind) kept (omega (arith, counted, few))
 
 -- ---- an index-side word that is a register
+
+pub side-low : (side : Option ℕ) (w : ℕ) → side ≡ Some w → w < FIRST_STORAGE_WORD → side_register side ≡ record { role = Index; word = w; supply = Register } ∷ []
+side-low side w is low = rw (is, lt-ltb w FIRST_STORAGE_WORD low) refl
 
 pub side-parts : (ds : List ℕ) (past : List Past) (b : Bus) (side : Option ℕ) (a : ℕ)
     → side_uses ds past b side a ≡ told ds past (uses ds past (unused b 0) (wish_of (side_to_read side) a)) ++ side_register side
@@ -200,21 +197,6 @@ module _ (ds : List ℕ) (f : IssueState) (e : Entry) where
       ∙ ap (λ (zs : List Use). fetch_uses ds f e ++ zs)
       (ap (λ (o : Option ℕ). told ds f.past (uses ds f.past (unused (words_tick ds f e).bus 0) (wish_of o (tick_a ds f e))) ++ side_register side) is
       ∙ sym (side-parts ds f.past (words_tick ds f e).bus side (tick_a ds f e))))
-
-  module _ (n : ℕ) where
-    -- the operands are read after the index-side word, from preparation on
-    pub operands-read : (s : Fetching) (b : Bus) (p : ℕ) → s ≡ operands_read ds f.past (record { bus = b; answered = p; awaited = 0 }) e.reads p → b ≡ bus_a ds f e → p ≡ tick_p ds n f e
-        → s ≡ operands ds n f e
-    unfolding operands operands_read read_words
-    operands-read s b p is bus tick = is ∙ rw (bus, tick) refl
-
-    pub prepared-used : (reads : Words) (b : Bus) (s : Fetching) (p : ℕ) (us vs ws : List Use) → b ≡ bus_a ds f e → p ≡ tick_p ds n f e
-        → s ≡ operands ds n f e → vs ≡ us ++ data_uses ds f.past b p reads e.reads → ws ≡ vs ++ following_uses ds s.bus e p
-        → ws ≡ us ++ prepared_uses ds n f e reads
-    prepared-used reads b s p us vs ws is tick behind one two =
-        let one_is : vs ≡ us ++ data_uses ds f.past (bus_a ds f e) (tick_p ds n f e) reads e.reads = one ∙ rw (is, tick) refl in
-        let two_is : ws ≡ vs ++ following_uses ds (operands ds n f e).bus e (tick_p ds n f e) = two ∙ rw (behind, tick) refl in
-        two-noted us vs ws _ _ one_is two_is
 
 -- all words of an entry, noted in an empty list
 pub all-used : (ds : List ℕ) (n : ℕ) (f : IssueState) (e d : Entry) (side index : Option ℕ) (reads words : Words) (us vs ws : List Use)

@@ -2,9 +2,9 @@
 --
 -- Proved: by their `ensures` clauses these calls do what definitions here say: `look` (looking.rt),
 -- `begin` (rows.rt), `known_if` (known.rt), `code_found` (known.rt), and others.
--- Read by: definitions in Text of st_account, Paths of st_reasons, Standing of st_account, Runs of
--- st_causes.
--- Laws: ReasonsAreTrue (specs/ReasonLaws.antt of st_reasons), OneEntryIsBegun (specs/Laws.antt of
+-- Read by: definitions in Text of st_account, Rounds of st_account, Paths of st_ledger, Standing of
+-- st_account, and others.
+-- Laws: ReasonsAreTrue (specs/ReasonLaws.antt of st_ledger), OneEntryIsBegun (specs/Laws.antt of
 -- st_causes).
 -- Change: the meaning is fixed by docs/ledger.md, since the contract of `st_account::ledger`
 -- unfolds to a definition here. The form is free, with the proofs that unfold it.

@@ -2,18 +2,18 @@
 -- each word.
 --
 -- Proved: by their `ensures` clauses these calls do what definitions here say: `begin` (rows.rt),
--- `finish` (rows.rt), `use_data` (uses.rt), `use_registers` (uses.rt), and others.
--- Read by: definitions in Looking, Text of st_account, Segments of st_reasons.
+-- `fill` (rows.rt), `finish` (rows.rt), `note_side` (rows.rt), and others.
+-- Read by: definitions in Looking, Rounds of st_account, Text of st_account, Segments of st_ledger.
 -- Laws: ReadsOfAnEntryComeInTurn (specs/Laws.antt), ReadsOfAnEntryAreInTime (specs/Laws.antt of
--- st_reasons), ReasonsAreTrue (specs/ReasonLaws.antt of st_reasons), ForwardedWordsAreWritten
--- (specs/WaitLaws.antt of st_reasons), and others.
+-- st_ledger), ReasonsAreTrue (specs/ReasonLaws.antt of st_ledger), ForwardedWordsAreWritten
+-- (specs/WaitLaws.antt of st_ledger), and others.
 -- Change: the meaning is fixed by docs/ledger.md, since the contract of `st_account::ledger`
 -- unfolds to a definition here. The form is free, with the proofs that unfold it.
-use Rattle.std.specs.Prelude.{ℕ, zero, suc, ◌+◌, ◌-◌, nat_lt, if◌then◌else◌, List, [], ◌∷◌, ◌++◌, map, Option, None, Some}
+use Rattle.std.specs.Prelude.{ℕ, ◌+◌, ◌-◌, nat_lt, if◌then◌else◌, List, [], ◌∷◌, ◌++◌, map, Option, None, Some}
 use Rattle.st_bits.specs.declared.register.TheConstants.{FIRST_STORAGE_WORD}
 use Rattle.st_prep.specs.declared.entries.Words.{Words}
 use Rattle.st_rows.specs.Rows.{own_uses, target_uses, words_tick, tick_a, bus_a, tick_p, operands, inside_wish, followings}
-use Rattle.st_rows.specs.Supplies.{storage_supply, use_told}
+use Rattle.st_rows.specs.Supplies.{storage_supply, use_told, register_uses}
 use Rattle.st_rows.specs.Uses.{Use as WordUse, wishes, uses, unused, wish_of}
 use Rattle.st_rows.specs.Words.{read_words}
 use Rattle.st_rows.specs.declared.bus.Bus.{Bus}
@@ -67,16 +67,18 @@ side_register (Some w) = if nat_lt w FIRST_STORAGE_WORD
 
 -- ---- operand words
 
--- n registers from the word w on
-unfoldable pub register_uses : ℕ → ℕ → List Use
-register_uses w zero = []
-register_uses w (suc n) = record { role = Operand; word = w; supply = Register }
-    ∷ register_uses (w + 1) n
-
 -- n words of storage from the word w on, requested at preparation
 unfoldable pub operand_uses : List ℕ → List Past → Fetching → ℕ → ℕ → ℕ → List Use
 operand_uses ds past s p w n =
     map (use_told ds past) (uses ds past s (wishes Operand p w n))
+
+-- the registers among the operand words of an entry, which come first in each run; `read` has the
+-- words of storage among them
+abbrev pub registers_among : Words → WordRuns → WordRuns
+registers_among all read = record {
+  one = record { first = all.first; len = all.len - read.one.len };
+  two = record { first = all.first2; len = all.len2 - read.two.len };
+}
 
 -- n words from the word w on: the registers come first, and `run` has the words of storage
 abbrev pub run_uses : List ℕ → List Past → Fetching → ℕ → ℕ → ℕ → WordRun → List Use

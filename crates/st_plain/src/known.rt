@@ -53,7 +53,6 @@ fn second_where(full: bool, second: u32) -> Option<u32>
 }
 
 // The half-words of an instruction, whose fields fit their bits unless it is invalid (`HasFields`).
-#[inline(always)]
 fn code_of(instr: &Instr) -> Code
     requires { HasFields instr.now }
     ensures { result ≡ code_by instr.now }
@@ -117,7 +116,6 @@ fn known_anew(table: Option<u8>, side: Option<u32>, x: &[u64; 16], state: &State
 
 // The facts of the next entry of a state, which is planned and prepared. If it asks for following
 // words, each of its words may be fetched, and it is EX if it has a target.
-#[inline(always)]
 fn known_of(unit: &FetchUnit, table: Option<u8>, x: &[u64; 16], state: &State) -> Known
     requires indicator { IsIndicatorIfAny table }
     requires words { x.now ≡ index_words_of state.now }
@@ -141,7 +139,6 @@ fn known_of(unit: &FetchUnit, table: Option<u8>, x: &[u64; 16], state: &State) -
 
 /// The facts of the next entry of a state, which is planned and prepared; if they are not wanted,
 /// only the index-side word among them is valid.
-#[inline(always)]
 pub(crate) fn known_if(
     wanted: bool,
     unit: &FetchUnit,

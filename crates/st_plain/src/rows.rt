@@ -1,7 +1,7 @@
 //! The row (the ticks) of the next entry (instruction) of a state, the words that it uses, and its
 //! wait for a level, a place in flight. docs/timetable.md has the rules. `begin` plans the entry up
 //! to A and P, `fill` computes R and C, and `pass` advances the issue state. `st_account`
-//! (stepping.rt) calls all three, and finds a cause of delay (`st_reasons`) before `pass`;
+//! (stepping.rt) calls all three, and finds a cause of delay (`st_ledger`) before `pass`;
 //! looking.rt calls `finish` for the last two. The requirements `early` keep C of the last entry at
 //! most 2^63 + 2^20.
 //!
@@ -9,13 +9,14 @@
 //! and `prepared_uses` of specs/Uses.antt, and the wait is `level_wait` of specs/Looking.antt.
 //!
 //! Pinned, by these definitions, docs/timetable.md and vectors/timetable.txt: the ticks; by
-//! `st_account`, `st_lines` and `st_reasons`: `Before`, `Begun` and `WaitedRow`; by the clauses
+//! `st_account`, `st_lines` and `st_ledger`: `Before`, `Begun` and `WaitedRow`; by the clauses
 //! here: room for 48 words (`space`). Free: how the wait is computed, if proofs/rows follows.
-ghost use Rattle.std.specs.Prelude.{◌≡◌, ℕ, ◌+◌, ◌-◌, ◌≤◌, ◌^◌, ◌∷◌, ◌++◌, List, length, take, true, IfSome};
+ghost use Rattle.std.specs.Prelude.{◌≡◌, ℕ, ◌+◌, ◌-◌, ◌<◌, ◌≤◌, ◌^◌, ◌++◌, List, length, true, IfSome};
 ghost use Rattle.st_bits.specs.Indicators.{IsIndicatorIfAny};
 ghost use Rattle.st_bits.specs.declared.limits.TheConstants.{MOST_DELAY};
 ghost use Rattle.st_banks.specs.Bank.{last_of};
 ghost use Rattle.st_banks.specs.declared.answers.TheConstants.{BANKS as banks_there};
+ghost use Rattle.st_prep.specs.Fetch.{index_words as index_words_of};
 ghost use Rattle.st_prep.specs.Plan.{plan as plan_of};
 ghost use Rattle.st_prep.specs.Ranges.{IsPrepared, IsRuns};
 ghost use Rattle.st_state.specs.Machine.{IsMachine};
@@ -28,31 +29,27 @@ ghost use Rattle.st_rows.specs.declared.bus.Bus.{Bus as BusOf};
 ghost use Rattle.st_rows.specs.declared.log.Made.{Made};
 ghost use Rattle.st_segment.specs.Entries.{entry as entry_of};
 ghost use Rattle.st_plain.specs.Looking.{known_at, level_wait as level_wait_of, side_at};
-ghost use Rattle.st_plain.specs.Uses.{formed_uses, prepared_uses};
+ghost use Rattle.st_plain.specs.Uses.{formed_uses, prepared_uses, registers_among as registers_among_of, side_register};
 
 use crate::known::{Known, known_if};
-use crate::uses::{DataWords, use_data, use_side_register};
 use st_banks::{BANKS, LastAnswers};
+use st_bits::register::{FIRST_INDEX_WORD, FIRST_STORAGE_WORD};
 use st_next::{FetchUnit, PlanContext};
-use st_prep::index_words;
+use st_prep::Words;
 use st_rows::{
-    Bus, Entry, EntryTicks, Formed, IssueState, LastEntries, Log, Past, Timing, Uses, Wanted,
-    follow,
+    Bus, Entry, EntryTicks, Formed, FormedEntry, IssueState, LastEntries, Log, Role, Timing, Uses,
+    Watch, WordRun, WordRuns,
 };
 use st_state::State;
 
-/// Puts the newest entry first, and drops the oldest one.
-pub fn put_past(past: &mut [Past; 8], newest: Past)
-    ensures { past.new ≡ newest ∷ take 7 past.old }
+// The sixteen index words of a state, where they stand in storage.
+#[inline(always)]
+fn index_words_in(state: &State) -> &[u64; 16]
+    ensures { result.now ≡ index_words_of state.now }
 {
-    past[7] = past[6];
-    past[6] = past[5];
-    past[5] = past[4];
-    past[4] = past[3];
-    past[3] = past[2];
-    past[2] = past[1];
-    past[1] = past[0];
-    past[0] = newest;
+    let words = state.words();
+    let first = FIRST_INDEX_WORD as usize;
+    <&[u64; 16]>::try_from(&words[first..first + 16]).unwrap()
 }
 
 // The last answer of the bank of the word `w`, given those of all banks.
@@ -121,6 +118,20 @@ pub struct Begun {
     pub level_wait: u64,
 }
 
+// Notes the index-side word of an entry, if it is a register.
+fn note_side(uses: &mut Uses, side: Option<u32>)
+    requires space { length uses.old.items < 48 }
+    ensures items { uses.new.items ≡ uses.old.items ++ side_register side }
+    ensures room { length uses.new.items ≤ length uses.old.items + 1 }
+{
+    let Some(w) = side else {
+        return;
+    };
+    if w < FIRST_STORAGE_WORD {
+        uses.register(Role::Index, w);
+    }
+}
+
 /// Plans and prepares the next entry of a state, or the table instruction of an interrupt by the
 /// indicator in `table`, and notes the words that it uses until its address is formed. The old
 /// value of `unit` is ignored. Of the facts only the index-side word is valid if they are not
@@ -171,16 +182,16 @@ pub fn begin(
     ensures noted { length uses.new.items ≤ length uses.old.items + 6 }
 {
     let state = before.state;
-    let index = index_words(state);
+    let index = index_words_in(state);
     let context = PlanContext {
         timing: *before.timing,
         state,
         issue: before.issue,
-        index: &index,
+        index,
     };
     unit.plan(table, &context, log, uses);
-    let known = known_if(before.facts, unit, table, &index, state);
-    use_side_register(uses, known.side);
+    let known = known_if(before.facts, unit, table, index, state);
+    note_side(uses, known.side);
     let formed = unit.formed;
     let level_wait = level_wait(
         before.issue,
@@ -193,6 +204,24 @@ pub fn begin(
         known,
         formed,
         level_wait,
+    }
+}
+
+// The registers among the operand words of an entry, which come first in each run; `read` has the
+// words of storage among them.
+#[inline(always)]
+fn registers_among(all: &Words, read: &WordRuns) -> WordRuns
+    ensures { result ≡ registers_among_of all.now read.now }
+{
+    WordRuns {
+        one: WordRun {
+            first: all.first,
+            len: all.len.saturating_sub(read.one.len),
+        },
+        two: WordRun {
+            first: all.first2,
+            len: all.len2.saturating_sub(read.two.len),
+        },
     }
 }
 
@@ -234,29 +263,17 @@ pub fn fill(
         issue.now unit.old.entry unit.old.prepared.reads }
     ensures kept { unit.new ≡ record unit.old { words = unit.new.words } }
 {
-    let entry = &unit.entry;
-    let Formed { a, p } = unit.formed;
-    let wanted = Wanted {
-        tick: p,
-        delays: timing.delays,
-        past: &issue.past,
+    let registers = registers_among(&unit.prepared.reads, &unit.entry.reads);
+    let next = FormedEntry {
+        entry: &unit.entry,
+        timing,
+        formed: unit.formed,
+        registers,
     };
-    let data = DataWords {
-        all: unit.prepared.reads,
-        read: entry.reads,
-    };
-    let words = &mut unit.words;
-    words.answered = p;
-    words.awaited = 0;
-    use_data(uses, words, log, &wanted, data);
-    let r = words.answered;
-    let c = issue.c.max(r) + u64::from(entry.cost);
-    follow(&mut words.bus, log, uses, &wanted, entry);
-    EntryTicks { a, p, r, c }
+    issue.fill(&next, &mut unit.words, log, uses).row
 }
 
 /// Advances the issue state over an entry with the given row; `unit` is as `fill` left it.
-#[inline(always)]
 pub fn pass(issue: &mut IssueState, unit: &FetchUnit, row: &EntryTicks)
     ensures { (ds : List ℕ) (n : ℕ) → row.now ≡ row_of ds n issue.old unit.now.entry →
         unit.now.words.bus ≡ (after_of ds n issue.old unit.now.entry).bus →

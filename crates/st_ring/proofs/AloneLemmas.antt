@@ -1,17 +1,5 @@
 -- Of two levels that are prepared and not completed, none is serializing.
-use Rattle.std.proofs.Common.{◌≡◌, ℕ, ◌<◌, ◌≤◌, ◌||◌, Bool, true, false, List, [], ◌∷◌, length, All, Option, None, refl, sym, ◌∙◌, arith}
-use Rattle.std.proofs.lemmas.List.Elements.{All-head, All-tail}
-use Rattle.st_state.specs.Machine.{Machine}
-use Rattle.st_prep.specs.Plan.{plan}
-use Rattle.st_exec.specs.Completion.{prediction}
-use Rattle.st_rows.specs.Rows.{row_of_entry, issue_after_entry}
-use Rattle.st_rows.specs.declared.entry.Entry.{Entry}
-use Rattle.st_rows.specs.declared.issue.IssueState.{IssueState}
-use Rattle.st_ring.specs.declared.level.Level.{Level}
-use Rattle.st_segment.specs.Entries.{entry}
-use Rattle.st_segment.specs.Alone.{RunAhead}
-use Rattle.st_ring.specs.Levels.{IsLevel, AreLevels}
-use Rattle.st_ring.specs.declared.plans.PlannedRow.{PlannedRow}
+use Rattle.st_ring.proofs.Common.{◌≡◌, ℕ, ◌<◌, ◌≤◌, ◌||◌, Bool, true, false, List, [], ◌∷◌, length, All, Option, None, refl, sym, ◌∙◌, arith, All-head, All-tail, Machine, plan, prediction, row_of_entry, issue_after_entry, Entry, IssueState, Level, entry, RunAhead, IsLevel, AreLevels, PlannedRow}
 
 -- if an entry or the previous one is serializing, the entry is prepared after the previous one completes
 abbrev pub AwaitsLast : List ℕ → ℕ → IssueState → Entry → Type 0

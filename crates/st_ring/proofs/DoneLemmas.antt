@@ -1,20 +1,5 @@
 -- After the oldest level completes, the others are the entries in flight of the new state.
-use Rattle.std.proofs.Common.{◌≡◌, ℕ, suc, ◌-◌, ◌<◌, Bool, true, false, List, [], ◌∷◌, length, drop, Option, None, Some, refl, sym, subst, ◌∙◌, ap, arith}
-use Rattle.std.specs.Prelude.{IfSome, slice_get}
-use Rattle.st_state.specs.Machine.{Machine, IsMachine}
-use Rattle.st_prep.specs.Fetch.{index_words}
-use Rattle.st_prep.specs.Plan.{plan}
-use Rattle.st_exec.specs.Completion.{prediction}
-use Rattle.st_rows.specs.Rows.{issue_after_entry}
-use Rattle.st_rows.specs.declared.issue.IssueState.{IssueState}
-use Rattle.st_ring.specs.declared.level.Level.{Level}
-use Rattle.st_segment.specs.Entries.{entry}
-use Rattle.st_segment.specs.Predictions.{predictions, after_speculative_change, split_words}
-use Rattle.st_segment.specs.Alone.{RunAhead}
-use Rattle.st_segment.proofs.PredictionLemmas.{behind-none}
-use Rattle.st_segment.proofs.IndexLemmas.{prediction-past, split-change}
-use Rattle.st_ring.specs.Levels.{IsLevel, AreLevels, AreAhead, AreFull}
-use Rattle.st_ring.specs.declared.plans.PlannedRow.{PlannedRow}
+use Rattle.st_ring.proofs.Common.{◌≡◌, ℕ, suc, ◌-◌, ◌<◌, Bool, true, false, List, [], ◌∷◌, length, drop, Option, None, Some, refl, sym, subst, ◌∙◌, ap, arith, IfSome, slice_get, Machine, IsMachine, index_words, plan, prediction, issue_after_entry, IssueState, Level, entry, predictions, after_speculative_change, split_words, RunAhead, behind-none, prediction-past, split-change, IsLevel, AreLevels, AreAhead, AreFull, PlannedRow}
 
 pub split-behind : (k : ℕ) (t : Option ℕ) (s : Machine) → split_words (suc (suc k)) t s ≡ split_words (suc k) None (prediction t s)
 unfolding split_words predictions

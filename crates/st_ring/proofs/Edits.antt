@@ -1,8 +1,5 @@
 -- Reads and writes of levels in a list, by their places.
-use Rattle.std.proofs.Common.{◌≡◌, ◌≢◌, ℕ, zero, suc, List, [], ◌∷◌, set, Option, None, Some, refl, sym, ap}
-use Rattle.std.specs.Prelude.{slice_get}
-use Rattle.st_ring.specs.declared.level.Level.{Level}
-use Rattle.st_ring.specs.Slots.{level_with_slot}
+use Rattle.st_ring.proofs.Common.{◌≡◌, ◌≢◌, ℕ, zero, suc, List, [], ◌∷◌, set, Option, None, Some, refl, sym, ap, slice_get, Level, level_with_slot}
 
 pub set-same : (xs : List Level) (k : ℕ) (x : Level) → slice_get xs k ≡ Some x → set xs k x ≡ xs
 set-same [] k x at = refl

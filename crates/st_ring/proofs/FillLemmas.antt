@@ -1,34 +1,10 @@
 -- Operand words that have arrived by a tick: the state has their contents from before the step of their entry.
-use Rattle.std.proofs.Common.{◌≡◌, ℕ, zero, suc, ◌+◌, ◌-◌, ◌<◌, ◌≤◌, Bool, true, false, not, ◌&&◌, ◌||◌, List, [], ◌∷◌, length, get_or, take, All, Option, None, Some, ◌⊎◌, inl, inr, refl, sym, subst, ◌∙◌, ap, ap₂, arith}
-use Rattle.std.specs.Prelude.{IfSome, nat_lt, nat_le, if◌then◌else◌, slice_get, slice_set, slice_index_or}
-use Rattle.std.proofs.lemmas.Bool.{ltb-true, ltb-false, leb-true, leb-false, lt-ltb, le-ltb, le-leb, and_parts}
-use Rattle.std.proofs.lemmas.List.Elements.{All-head, All-tail, All-cons}
-use Rattle.st_state.specs.Machine.{Machine, IsMachine, word}
-use Rattle.st_prep.specs.declared.entries.Prepared.{Prepared}
-use Rattle.st_prep.specs.FewWords.{is_transmission}
-use Rattle.st_prep.specs.Plan.{plan}
-use Rattle.st_prep.specs.Ranges.{IsPrepared}
-use Rattle.st_prep.proofs.PlanLemmas.{plan-prepared}
-use Rattle.st_exec.specs.Completion.{prediction}
+use Rattle.st_ring.proofs.Common.{◌≡◌, ℕ, zero, suc, ◌+◌, ◌-◌, ◌<◌, ◌≤◌, Bool, true, false, not, ◌&&◌, ◌||◌, List, [], ◌∷◌, length, get_or, take, All, Option, None, Some, ◌⊎◌, inl, inr, refl, sym, subst, ◌∙◌, ap, ap₂, arith, IfSome, nat_lt, nat_le, if◌then◌else◌, slice_get, slice_set, slice_index_or, ltb-true, ltb-false, leb-true, leb-false, lt-ltb, le-ltb, le-leb, and_parts, All-head, All-tail, All-cons, Machine, IsMachine, word, Prepared, is_transmission, plan, IsPrepared, plan-prepared, prediction, is_among, latest_done, AreDelaysUpTo, row_of_entry, issue_after_entry, tick_p, bus_a, read_word, fill_at, fills_of, fills, is_forwarded, IssueState, Past, Level, entry, above_registers, words_to_read, predictions, RunAhead, is_word_written, prediction-machine, have_of, IsLevel, AreLevels, AreFull, fill_tick, is_there, slot_of, IsKeptSlot, put_of, coming, came_at, level_with_slot, level_with_words, PlannedRow}
 use Rattle.st_rows.specs.BusTimes.{accept_at, answer_at, answer_if}
-use Rattle.st_rows.specs.Entries.{is_among, latest_done}
-use Rattle.st_rows.specs.Ranges.{AreDelaysUpTo}
-use Rattle.st_rows.specs.Rows.{row_of_entry, issue_after_entry, tick_p, bus_a}
-use Rattle.st_rows.specs.Words.{read_word, fill_at, fills_of, fills, is_forwarded}
 use Rattle.st_rows.specs.declared.bus.Bus.{Bus}
 use Rattle.st_rows.specs.declared.entry.WordRun.{WordRun}
-use Rattle.st_rows.specs.declared.issue.IssueState.{IssueState}
-use Rattle.st_rows.specs.declared.past.Past.{Past}
 use Rattle.st_rows.proofs.Within.{delay-bounds}
-use Rattle.st_ring.specs.declared.level.Level.{Level}
-use Rattle.st_segment.specs.Entries.{entry, above_registers, words_to_read}
-use Rattle.st_segment.specs.Predictions.{predictions}
-use Rattle.st_segment.specs.Alone.{RunAhead, is_word_written}
-use Rattle.st_segment.proofs.PredictionLemmas.{prediction-machine}
 use Rattle.st_segment.proofs.RestLemmas.{storage-kept}
-use Rattle.st_ring.specs.Levels.{have_of, IsLevel, AreLevels, AreFull}
-use Rattle.st_ring.specs.Slots.{fill_tick, is_there, slot_of, IsKeptSlot, put_of, coming, came_at, level_with_slot, level_with_words}
-use Rattle.st_ring.specs.declared.plans.PlannedRow.{PlannedRow}
 use Rattle.st_ring.proofs.WriterLemmas.{take-latest, not-latest}
 
 -- ---- no word arrives before its latest writer completes

@@ -1,19 +1,6 @@
 -- Lists of levels: the issue state after them, one more level, and which of them may be serializing.
 
-use Rattle.std.proofs.Common.{◌≡◌, ℕ, zero, suc, ◌<◌, ◌≤◌, List, [], ◌∷◌, ◌++◌, length, All, Option, None, refl, sym, subst, ◌∙◌, ap, ap₂, arith}
-use Rattle.std.proofs.lemmas.Bool.{lt-ltb, le-ltb}
-use Rattle.std.proofs.lemmas.List.Elements.{All-head, All-tail}
-use Rattle.st_state.specs.Machine.{Machine}
-use Rattle.st_exec.specs.Completion.{prediction}
-use Rattle.st_rows.specs.Rows.{row_of_entry, issue_after_entry}
-use Rattle.st_rows.specs.declared.issue.IssueState.{IssueState}
-use Rattle.st_ring.specs.declared.level.Level.{Level}
-use Rattle.st_segment.specs.Entries.{entry}
-use Rattle.st_segment.specs.Predictions.{predictions, table_behind}
-use Rattle.st_segment.specs.Ahead.{ahead, issue_behind, next_ahead, prepared_before}
-use Rattle.st_segment.proofs.PredictionLemmas.{behind-none}
-use Rattle.st_ring.specs.Levels.{IsLevel, AreLevels, oldest_issue}
-use Rattle.st_ring.specs.declared.plans.PlannedRow.{PlannedRow}
+use Rattle.st_ring.proofs.Common.{◌≡◌, ℕ, zero, suc, ◌<◌, ◌≤◌, List, [], ◌∷◌, ◌++◌, length, All, Option, None, refl, sym, subst, ◌∙◌, ap, ap₂, arith, lt-ltb, le-ltb, All-head, All-tail, Machine, prediction, row_of_entry, issue_after_entry, IssueState, Level, entry, predictions, table_behind, ahead, issue_behind, next_ahead, prepared_before, behind-none, IsLevel, AreLevels, oldest_issue, PlannedRow}
 
 -- ---- as many planned rows as levels
 

@@ -1,3 +1,4 @@
+pub mod Common
 pub mod Unwindings
 pub mod LevelLemmas
 pub mod WriterLemmas

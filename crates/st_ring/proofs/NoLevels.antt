@@ -1,13 +1,5 @@
 -- A list without levels.
-use Rattle.std.proofs.Common.{◌≡◌, ℕ, List, [], ◌∷◌, length, Option, refl, arith}
-use Rattle.st_state.specs.Machine.{Machine}
-use Rattle.st_prep.specs.Fetch.{index_words}
-use Rattle.st_rows.specs.declared.issue.IssueState.{IssueState}
-use Rattle.st_ring.specs.declared.level.Level.{Level}
-use Rattle.st_segment.specs.Predictions.{split_words}
-use Rattle.st_segment.specs.Alone.{RunAhead}
-use Rattle.st_ring.specs.Levels.{AreLevels, AreAhead}
-use Rattle.st_ring.specs.declared.plans.PlannedRow.{PlannedRow}
+use Rattle.st_ring.proofs.Common.{◌≡◌, ℕ, List, [], ◌∷◌, length, Option, refl, arith, Machine, index_words, IssueState, Level, split_words, RunAhead, AreLevels, AreAhead, PlannedRow}
 
 pub none-ahead : (ds : List ℕ) (n tick : ℕ) (t : Option ℕ) (s : Machine) (f : IssueState) (x : List ℕ) → x ≡ index_words s
     → AreAhead ds n tick t s f f (record { ring = []; plans = []; x = x })

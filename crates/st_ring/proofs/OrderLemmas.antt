@@ -1,19 +1,5 @@
 -- Levels are prepared and completed in their order.
-use Rattle.std.proofs.Common.{◌≡◌, ℕ, ◌+◌, ◌<◌, ◌≤◌, true, false, List, [], ◌∷◌, length, All, Option, None, refl, sym, ◌∙◌, ap, arith}
-use Rattle.std.specs.Prelude.{IfSome}
-use Rattle.std.proofs.lemmas.Bool.{eqb-true, eqb-false}
-use Rattle.std.proofs.lemmas.List.Elements.{All-nil, All-head, All-cons}
-use Rattle.st_state.specs.Machine.{Machine, IsMachine}
-use Rattle.st_exec.specs.Completion.{prediction}
-use Rattle.st_rows.specs.Ranges.{IsEntryInTime}
-use Rattle.st_rows.specs.Rows.{row_of_entry, issue_after_entry}
-use Rattle.st_rows.specs.declared.entry.Entry.{Entry}
-use Rattle.st_rows.specs.declared.issue.IssueState.{IssueState}
-use Rattle.st_ring.specs.declared.level.Level.{Level}
-use Rattle.st_segment.specs.Entries.{entry}
-use Rattle.st_segment.proofs.PredictionLemmas.{prediction-machine}
-use Rattle.st_ring.specs.Levels.{AreLevels, is_oldest_due}
-use Rattle.st_ring.specs.declared.plans.PlannedRow.{PlannedRow}
+use Rattle.st_ring.proofs.Common.{◌≡◌, ℕ, ◌+◌, ◌<◌, ◌≤◌, true, false, List, [], ◌∷◌, length, All, Option, None, refl, sym, ◌∙◌, ap, arith, IfSome, eqb-true, eqb-false, All-nil, All-head, All-cons, Machine, IsMachine, prediction, IsEntryInTime, row_of_entry, issue_after_entry, Entry, IssueState, Level, entry, prediction-machine, AreLevels, is_oldest_due, PlannedRow}
 
 after-p : (ds : List ℕ) (n : ℕ) (f : IssueState) (e : Entry) → (issue_after_entry ds n f e).p ≡ (row_of_entry ds n f e).p
 unfolding issue_after_entry row_of_entry

@@ -1,14 +1,5 @@
 -- An entry waits for the writers of all its instruction words.
-use Rattle.std.proofs.Common.{◌≡◌, ℕ, zero, suc, ◌+◌, ◌<◌, ◌≤◌, max, List, refl, arith, Option, None, Some}
-use Rattle.st_rows.specs.BusTimes.{answer_tick_on, bus_after_request}
-use Rattle.st_rows.specs.Entries.{latest_done}
-use Rattle.st_rows.specs.Rows.{wanted_from, words_tick, tick_p, bus_a, operands}
-use Rattle.st_rows.specs.Words.{fetch_word, fetch_words, read_word, read_words, operands_read}
-use Rattle.st_rows.specs.Uses.{behind, behind_use, uses, wishes, forwarded_at}
-use Rattle.st_rows.specs.declared.past.Past.{Past}
-use Rattle.st_rows.specs.declared.entry.Entry.{Entry}
-use Rattle.st_rows.specs.declared.fetching.Fetching.{Fetching}
-use Rattle.st_rows.specs.declared.issue.IssueState.{IssueState}
+use Rattle.st_rows.proofs.Common.{◌≡◌, ℕ, zero, suc, ◌+◌, ◌<◌, ◌≤◌, max, List, refl, arith, Option, None, Some, answer_tick_on, bus_after_request, latest_done, wanted_from, words_tick, tick_p, bus_a, operands, fetch_word, fetch_words, read_word, read_words, operands_read, behind, behind_use, uses, wishes, forwarded_at, Past, Entry, Fetching, IssueState}
 use Rattle.st_rows.proofs.UseLemmas.{read_if}
 
 module _ (ds : List ℕ) (past : List Past) (from : ℕ) where

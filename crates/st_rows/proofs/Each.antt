@@ -1,21 +1,5 @@
 -- Properties of each read of an entry.
-use Rattle.std.specs.Prelude.{if◌then◌else◌, nat_lt, Bool, IfSome}
-use Rattle.std.proofs.Common.{◌≡◌, ℕ, zero, suc, ◌+◌, ◌<◌, ◌≤◌, max, true, false, List, [], ◌++◌, All, Option, None, Some, refl, arith}
-use Rattle.std.proofs.lemmas.Bool.{ltb-true}
-use Rattle.std.proofs.lemmas.List.Elements.{All-nil, All-cons, All-append}
-use Rattle.st_bits.specs.Storage.{words_of_storage}
-use Rattle.st_fetch.specs.Planned.{tick_of}
-use Rattle.st_rows.specs.Asked.{word_asked, words_asked, data_asked, side_asked, operands_asked, inside_asked, runs_asked, following_asked, fetches_asked, data_of}
-use Rattle.st_rows.specs.BusTimes.{Read}
-use Rattle.st_rows.specs.Rows.{wanted_from, tick_a, tick_p, operands}
-use Rattle.st_rows.specs.Words.{fetch_word, fetch_words, request_inside}
-use Rattle.st_rows.specs.Uses.{reads_of, uses, wishes, read_made, forwarded_at}
-use Rattle.st_rows.specs.declared.bus.Bus.{Bus}
-use Rattle.st_rows.specs.declared.entry.WordRuns.{WordRuns}
-use Rattle.st_rows.specs.declared.entry.Entry.{Entry}
-use Rattle.st_rows.specs.declared.past.Past.{Past}
-use Rattle.st_rows.specs.declared.fetching.Fetching.{Fetching}
-use Rattle.st_rows.specs.declared.issue.IssueState.{IssueState}
+use Rattle.st_rows.proofs.Common.{if◌then◌else◌, nat_lt, Bool, IfSome, ◌≡◌, ℕ, zero, suc, ◌+◌, ◌<◌, ◌≤◌, max, true, false, List, [], ◌++◌, All, Option, None, Some, refl, arith, ltb-true, All-nil, All-cons, All-append, words_of_storage, tick_of, word_asked, words_asked, data_asked, side_asked, operands_asked, inside_asked, runs_asked, following_asked, fetches_asked, data_of, Read, wanted_from, tick_a, tick_p, operands, fetch_word, fetch_words, request_inside, reads_of, uses, wishes, read_made, forwarded_at, Bus, WordRuns, Entry, Past, Fetching, IssueState}
 use Rattle.st_rows.proofs.UseLemmas.{following-is}
 
 module _ (P : Read → Type 0) where

@@ -1,21 +1,8 @@
 -- The first operand words arrive after preparation and before completion.
-use Rattle.std.specs.Prelude.{if◌then◌else◌, nat_lt, Bool}
-use Rattle.std.proofs.Common.{◌≡◌, ℕ, zero, suc, ◌+◌, ◌<◌, ◌≤◌, max, true, false, List, get_or, refl, ap, ◌∙◌, arith, None, Some}
-use Rattle.std.proofs.lemmas.Bool.{ltb-true, lt-ltb}
-use Rattle.st_rows.specs.BusTimes.{accept_at, answer_if}
-use Rattle.st_rows.specs.Entries.{latest_done}
-use Rattle.st_rows.specs.Ranges.{AreDelaysUpTo, ArePastWithin, IsTight}
-use Rattle.st_rows.specs.Rows.{tick_p, bus_a, operands}
-use Rattle.st_rows.specs.Words.{read_word, read_words, operands_read, fill_at, fills_of, fills, is_forwarded}
-use Rattle.st_rows.specs.Uses.{behind, behind_use, uses, wishes}
-use Rattle.st_rows.specs.declared.bus.Bus.{Bus}
+use Rattle.st_rows.proofs.Common.{if◌then◌else◌, nat_lt, Bool, ◌≡◌, ℕ, zero, suc, ◌+◌, ◌<◌, ◌≤◌, max, true, false, List, get_or, refl, ap, ◌∙◌, arith, None, Some, ltb-true, lt-ltb, accept_at, answer_if, latest_done, AreDelaysUpTo, ArePastWithin, IsTight, tick_p, bus_a, operands, read_word, read_words, operands_read, fill_at, fills_of, fills, is_forwarded, behind, behind_use, uses, wishes, Bus, Entry, Past, IssueState, Fetching}
 use Rattle.st_rows.specs.declared.entry.WordRun.{WordRun}
-use Rattle.st_rows.specs.declared.entry.Entry.{Entry}
-use Rattle.st_rows.specs.declared.past.Past.{Past}
-use Rattle.st_rows.specs.declared.issue.IssueState.{IssueState}
 use Rattle.st_rows.proofs.Awaited.{ready-later}
 use Rattle.st_rows.proofs.Within.{delay-bounds, latest-within}
-use Rattle.st_rows.specs.declared.fetching.Fetching.{Fetching}
 use Rattle.st_rows.proofs.UseLemmas.{read_if}
 
 -- ---- after preparation

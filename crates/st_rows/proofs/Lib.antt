@@ -1,3 +1,4 @@
+pub mod Common
 pub mod UseLemmas
 pub mod Awaited
 pub mod Fills

@@ -1,11 +1,5 @@
 -- Reads that are accepted before a tick.
-use Rattle.std.specs.Prelude.{nat_lt}
-use Rattle.std.proofs.Common.{◌≡◌, ℕ, ◌+◌, ◌<◌, ◌≤◌, true, false, List, [], ◌∷◌, ◌++◌, All, refl, inl, inr, ◌⊎◌, arith}
-use Rattle.std.proofs.lemmas.Bool.{cases_Bool, ltb-true, lt-ltb, ltb-false}
-use Rattle.std.proofs.lemmas.List.Elements.{All-head}
-use Rattle.st_rows.specs.Asked.{bus_after_reads, made_before}
-use Rattle.st_rows.specs.BusTimes.{accept_at, Read, after_one}
-use Rattle.st_rows.specs.declared.bus.Bus.{Bus}
+use Rattle.st_rows.proofs.Common.{nat_lt, ◌≡◌, ℕ, ◌+◌, ◌<◌, ◌≤◌, true, false, List, [], ◌∷◌, ◌++◌, All, refl, inl, inr, ◌⊎◌, arith, cases_Bool, ltb-true, lt-ltb, ltb-false, All-head, bus_after_reads, made_before, accept_at, Read, after_one, Bus}
 use Rattle.st_rows.proofs.Served.{free-one_if}
 
 -- a read is accepted before a tick, at it, or later

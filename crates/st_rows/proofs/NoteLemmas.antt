@@ -1,17 +1,6 @@
 -- Reads that are recorded and undone.
-use Rattle.std.specs.Prelude.{if◌then◌else◌, nat_lt}
-use Rattle.std.proofs.Common.{◌≡◌, ℕ, zero, suc, ◌+◌, ◌-◌, ◌<◌, ◌≤◌, Bool, true, false, List, [], ◌∷◌, ◌++◌, length, take, drop, set, get_or, ◌%◌, ◌≢◌, All, length-set, refl, sym, ap, ◌∙◌, append_assoc, length-append, arith}
-use Rattle.std.proofs.lemmas.Bool.{lt-ltb, le-ltb, ltb-true, ltb-false}
-use Rattle.std.proofs.lemmas.List.{append-nil, same_lists, take_all, get_or-set_same, get_or-set_other}
-use Rattle.std.proofs.lemmas.List.Elements.{All-nil, All-cons, All-head, All-tail, All-append, All-drop, All-weaker}
-use Rattle.st_banks.specs.Bank.{bank_of, last_of, answered_at}
-use Rattle.st_fetch.specs.Queue.{window}
-use Rattle.st_fetch.proofs.Windows.{length-window, get_or-window}
-use Rattle.st_rows.specs.Asked.{bus_after_reads, made_before}
-use Rattle.st_rows.specs.BusTimes.{accept_at, answer_at, bus_after_read, Read, after_one}
-use Rattle.st_rows.specs.Notes.{note, notes_of_reads, answers_left, AreEarly, AreSettled, AreFalling, IsLogged}
-use Rattle.st_rows.specs.declared.bus.Bus.{Bus}
-use Rattle.st_rows.specs.declared.log.Made.{Made}
+use Rattle.st_rows.proofs.Common.{if◌then◌else◌, nat_lt, ◌≡◌, ℕ, zero, suc, ◌+◌, ◌-◌, ◌<◌, ◌≤◌, true, false, List, [], ◌∷◌, ◌++◌, length, take, drop, set, get_or, ◌%◌, ◌≢◌, All, length-set, refl, sym, ap, ◌∙◌, append_assoc, length-append, arith, lt-ltb, le-ltb, ltb-true, ltb-false, append-nil, same_lists, take_all, get_or-set_same, get_or-set_other, All-nil, All-cons, All-head, All-tail, All-append, All-drop, All-weaker, bank_of, last_of, answered_at, window, length-window, get_or-window, bus_after_reads, made_before, accept_at, answer_at, bus_after_read, Read, after_one, note, notes_of_reads, answers_left, AreEarly, AreSettled, AreFalling, IsLogged, Bus, Made}
+use Rattle.std.proofs.Common.{Bool}
 use Rattle.st_rows.proofs.Served.{free-one_if}
 
 -- ---- one record

@@ -1,16 +1,6 @@
 -- The log after the reads of an entry, part by part.
-use Rattle.std.proofs.Common.{◌≡◌, ℕ, zero, suc, true, ◌+◌, ◌-◌, ◌≤◌, List, [], ◌∷◌, ◌++◌, refl, sym, ap, ◌∙◌, arith}
-use Rattle.st_rows.specs.Asked.{data_asked, operands_asked, runs_asked, inside_asked, following_asked, bus_after_reads}
-use Rattle.st_rows.specs.BusTimes.{Read, after_one}
-use Rattle.st_rows.specs.Notes.{log_after_reads}
-use Rattle.st_rows.specs.Words.{read_word, read_words, request_inside}
-use Rattle.st_rows.specs.declared.bus.Bus.{Bus}
-use Rattle.st_rows.specs.declared.entry.Entry.{Entry}
-use Rattle.st_rows.specs.declared.entry.WordRuns.{WordRuns}
-use Rattle.st_rows.specs.declared.log.Made.{Made}
-use Rattle.st_rows.specs.declared.past.Past.{Past}
+use Rattle.st_rows.proofs.Common.{◌≡◌, ℕ, zero, suc, true, ◌+◌, ◌-◌, ◌≤◌, List, [], ◌∷◌, ◌++◌, refl, sym, ap, ◌∙◌, arith, data_asked, operands_asked, runs_asked, inside_asked, following_asked, bus_after_reads, Read, after_one, log_after_reads, read_word, read_words, request_inside, Bus, Entry, WordRuns, Made, Past, Fetching}
 use Rattle.st_rows.proofs.Served.{served-data, served-inside, served-operands}
-use Rattle.st_rows.specs.declared.fetching.Fetching.{Fetching}
 use Rattle.st_rows.proofs.UseLemmas.{following-is}
 
 module _ (ds : List ℕ) where

@@ -1,23 +1,7 @@
 -- Entries n or more before the last one do not affect any tick on n levels.
-use Rattle.std.specs.Prelude.{if◌then◌else◌, nat_lt, Bool}
-use Rattle.std.proofs.Common.{◌≡◌, ℕ, zero, suc, ◌+◌, ◌-◌, ◌<◌, ◌≤◌, max, true, false, List, [], ◌∷◌, get_or, take, Option, None, Some, refl, ap, ◌∙◌, inl, inr, ◌⊎◌, arith}
-use Rattle.std.proofs.lemmas.Bool.{cases_Bool, cases_lt, ltb-true}
-use Rattle.std.proofs.lemmas.List.{get_or-take}
-use Rattle.std.proofs.lemmas.List.Elements.{All-from_get_or}
-use Rattle.st_rows.specs.BusTimes.{bus_after_request, answer_tick_on, answer_if}
-use Rattle.st_rows.specs.Entries.{is_among, latest_done, no_runs}
-use Rattle.st_rows.specs.Levels.{AreInOrder, AreOlderDone, issue_of_last}
-use Rattle.st_rows.specs.Rows.{wanted_from, words_tick, address_tick, done_before, preparation_tick, tick_a, bus_a, index_arrival, tick_p, operands, tick_c, row_of_entry, issue_after_entry}
-use Rattle.st_rows.specs.Words.{fetch_word, fetch_words, bus_after_index_read, side_there, read_word, read_words, operands_read}
-use Rattle.st_rows.specs.declared.bus.Bus.{Bus}
-use Rattle.st_rows.specs.declared.entry.WordRuns.{WordRuns}
-use Rattle.st_rows.specs.declared.entry.Entry.{Entry}
-use Rattle.st_rows.specs.declared.past.Past.{Past}
-use Rattle.st_rows.specs.declared.fetching.Fetching.{Fetching}
-use Rattle.st_rows.specs.declared.issue.IssueState.{IssueState}
+use Rattle.st_rows.proofs.Common.{if◌then◌else◌, nat_lt, Bool, ◌≡◌, ℕ, zero, suc, ◌+◌, ◌-◌, ◌<◌, ◌≤◌, max, true, false, List, [], ◌∷◌, get_or, take, Option, None, Some, refl, ap, ◌∙◌, inl, inr, ◌⊎◌, arith, cases_Bool, cases_lt, ltb-true, get_or-take, All-from_get_or, bus_after_request, answer_tick_on, answer_if, is_among, latest_done, no_runs, AreInOrder, AreOlderDone, issue_of_last, wanted_from, words_tick, address_tick, done_before, preparation_tick, tick_a, bus_a, index_arrival, tick_p, operands, tick_c, row_of_entry, issue_after_entry, fetch_word, fetch_words, bus_after_index_read, side_there, read_word, read_words, operands_read, Bus, WordRuns, Entry, Past, Fetching, IssueState, behind, behind_use, uses, wishes}
 use Rattle.st_rows.proofs.Within.{latest-within}
 use Rattle.st_rows.proofs.Sooner.{take-beyond}
-use Rattle.st_rows.specs.Uses.{behind, behind_use, uses, wishes}
 use Rattle.st_rows.proofs.UseLemmas.{read_if, side_if}
 
 -- ---- they are complete when the last entry is prepared

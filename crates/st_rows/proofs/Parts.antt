@@ -1,16 +1,8 @@
 -- The reads of an entry in parts: when they are requested, and when the bus is free of them.
-use Rattle.std.proofs.Common.{◌≡◌, ℕ, ◌≤◌, List, ◌++◌, All, refl, append_assoc, arith}
-use Rattle.std.proofs.lemmas.List.Elements.{All-append}
-use Rattle.st_rows.specs.Asked.{side_asked, runs_asked, following_asked, fetches_asked, formed_asked, prepared_asked, data_of}
-use Rattle.st_rows.specs.BusTimes.{Read}
-use Rattle.st_rows.specs.Ranges.{AreDelaysUpTo, IsEntryInTime, IsTight}
-use Rattle.st_rows.specs.Rows.{words_tick, tick_a, bus_a, tick_p, preparation_tick, operands, tick_c, address_tick, reads_of_entry}
-use Rattle.st_rows.specs.declared.entry.Entry.{Entry}
-use Rattle.st_rows.specs.declared.issue.IssueState.{IssueState}
+use Rattle.st_rows.proofs.Common.{◌≡◌, ℕ, ◌≤◌, List, ◌++◌, All, refl, append_assoc, arith, All-append, side_asked, runs_asked, following_asked, fetches_asked, formed_asked, prepared_asked, data_of, Read, AreDelaysUpTo, IsEntryInTime, IsTight, words_tick, tick_a, bus_a, tick_p, preparation_tick, operands, tick_c, address_tick, reads_of_entry, Entry, IssueState, ◌∙◌}
 use Rattle.st_rows.proofs.Each.{each-operand, each-following}
 use Rattle.st_rows.proofs.Tight.{free-a, free-p, free-r, later-r, later-c}
 use Rattle.st_rows.proofs.UseLemmas.{reads-are}
-use Rattle.std.proofs.Common.{◌∙◌}
 
 pub asked-parts : (ds : List ℕ) (n : ℕ) (f : IssueState) (e : Entry) → reads_of_entry ds n f e ≡ fetches_asked ds f e ++ data_of ds n f e
 asked-parts ds n f e = reads-are ds n f e ∙ append_assoc (fetches_asked ds f e) (side_asked f.past e.side (tick_a ds f e)) (prepared_asked ds n f e)

@@ -1,14 +1,6 @@
 -- The places of the last eight entries.
-use Rattle.std.specs.Prelude.{ℕ, List, map, get_or, set, replicate}
-use Rattle.std.proofs.Common.{◌≡◌, ◌+◌, ◌-◌, ◌%◌, ◌<◌, true, false, length, inl, inr, ap, sym, ◌∙◌, subst, arith}
-use Rattle.std.proofs.lemmas.Bool.{cases_eq}
-use Rattle.std.proofs.lemmas.List.{length-map, map-set, get_or-map, get_or-replicate, get_or-set_same, get_or-set_other}
-use Rattle.st_fetch.specs.Queue.{window}
-use Rattle.st_fetch.proofs.Windows.{get_or-window, length-window}
-use Rattle.st_rows.specs.Entries.{no_runs, has_words, entries_in, ticks_in, entry_in, IsEntryRing}
-use Rattle.st_rows.specs.declared.entry.WordRuns.{WordRuns}
-use Rattle.st_rows.specs.declared.past.Past.{Past}
-use Rattle.st_rows.specs.declared.past.Done.{Done}
+use Rattle.st_rows.proofs.Common.{map, ◌≡◌, ◌+◌, ◌-◌, ◌%◌, ◌<◌, true, false, length, inl, inr, ap, sym, ◌∙◌, subst, arith, cases_eq, length-map, map-set, get_or-map, get_or-replicate, get_or-set_same, get_or-set_other, window, get_or-window, length-window, no_runs, has_words, entries_in, ticks_in, entry_in, IsEntryRing, WordRuns, Past, Done}
+use Rattle.std.specs.Prelude.{ℕ, List, get_or, set, replicate}
 use Rattle.st_rows.proofs.Writers.{nth}
 
 -- the entry without words

@@ -1,23 +1,6 @@
 -- The reads of an entry, made in order, give the bus after it.
-use Rattle.std.specs.Prelude.{if◌then◌else◌, nat_lt, Bool}
-use Rattle.std.proofs.Common.{◌≡◌, ℕ, zero, suc, ◌+◌, ◌<◌, ◌≤◌, max, true, false, List, [], ◌∷◌, ◌++◌, length, Option, None, Some, refl, ap, sym, ◌∙◌, inl, inr, ◌⊎◌, length-append, arith}
-use Rattle.std.proofs.lemmas.Bool.{cases_Bool, ltb-true}
-use Rattle.st_bits.specs.Storage.{words_of_storage}
-use Rattle.st_fetch.specs.Planned.{tick_of}
-use Rattle.st_rows.specs.Asked.{word_asked, words_asked, data_asked, side_asked, operands_asked, inside_asked, runs_asked, following_asked, fetches_asked, formed_asked, prepared_asked, bus_after_reads, made_before, side_count, own_reads}
-use Rattle.st_rows.specs.BusTimes.{accept_at, bus_after_read, requested_if, bus_after_request, Read, after_one, bus_if}
-use Rattle.st_rows.specs.Ranges.{AreDelaysUpTo, IsNear}
-use Rattle.st_rows.specs.Rows.{wanted_from, words_tick, tick_a, bus_a, tick_p, operands, issue_after_entry, reads_of_entry, followings}
-use Rattle.st_rows.specs.Words.{fetch_words, bus_after_index_read, read_word, read_words, operands_read, request_inside}
-use Rattle.st_rows.specs.Uses.{behind, behind_use, reads_of, uses, wishes, read_made, forwarded_at, use_of, unused, wish_of}
-use Rattle.st_rows.specs.declared.uses.Wish.{Wish}
-use Rattle.st_rows.specs.declared.uses.Role.TheVariants.{Instruction, Operand, Following}
+use Rattle.st_rows.proofs.Common.{if◌then◌else◌, nat_lt, Bool, ◌≡◌, ℕ, zero, suc, ◌+◌, ◌<◌, ◌≤◌, max, true, false, List, [], ◌∷◌, ◌++◌, length, Option, None, Some, refl, ap, sym, ◌∙◌, inl, inr, ◌⊎◌, length-append, arith, cases_Bool, ltb-true, words_of_storage, tick_of, word_asked, words_asked, data_asked, side_asked, operands_asked, inside_asked, runs_asked, following_asked, fetches_asked, formed_asked, prepared_asked, bus_after_reads, made_before, side_count, own_reads, accept_at, bus_after_read, requested_if, bus_after_request, Read, after_one, bus_if, AreDelaysUpTo, IsNear, wanted_from, words_tick, tick_a, bus_a, tick_p, operands, issue_after_entry, reads_of_entry, followings, fetch_words, bus_after_index_read, read_word, read_words, operands_read, request_inside, behind, behind_use, reads_of, uses, wishes, read_made, forwarded_at, use_of, unused, wish_of, Wish, Instruction, Operand, Following, Bus, Entry, Past, Fetching, IssueState}
 use Rattle.st_rows.specs.declared.uses.Role.{Role}
-use Rattle.st_rows.specs.declared.bus.Bus.{Bus}
-use Rattle.st_rows.specs.declared.entry.Entry.{Entry}
-use Rattle.st_rows.specs.declared.past.Past.{Past}
-use Rattle.st_rows.specs.declared.fetching.Fetching.{Fetching}
-use Rattle.st_rows.specs.declared.issue.IssueState.{IssueState}
 use Rattle.st_rows.proofs.UseLemmas.{reads-are, side-read, operands-read}
 use Rattle.st_rows.proofs.Tight.{near-one_if}
 

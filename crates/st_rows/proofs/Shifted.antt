@@ -1,9 +1,5 @@
 -- The ring of the last eight entries, and the effect of adding one.
-use Rattle.std.specs.Prelude.{Bool, if◌then◌else◌, slice_set}
-use Rattle.std.proofs.Common.{◌≡◌, ℕ, zero, suc, ◌+◌, ◌-◌, ◌*◌, ◌%◌, ◌<◌, ◌≤◌, true, false, List, [], ◌∷◌, length, take, refl, arith}
-use Rattle.st_fetch.specs.Queue.{window}
-use Rattle.st_rows.specs.Entries.{has_words, writer_bits}
-use Rattle.st_rows.specs.declared.past.Past.{Past}
+use Rattle.st_rows.proofs.Common.{Bool, if◌then◌else◌, slice_set, ◌≡◌, ℕ, zero, suc, ◌+◌, ◌-◌, ◌*◌, ◌%◌, ◌<◌, ◌≤◌, true, false, List, [], ◌∷◌, length, take, refl, arith, window, has_words, writer_bits, Past}
 
 -- a property of a list of eight entries, by its items
 of_eight : (P : List Past → Type 0)

@@ -1,31 +1,8 @@
 -- From ticks that are no later follow ticks that are no later, if all reads take equally long and nothing is forwarded.
-use Rattle.std.specs.Prelude.{◌==◌, ◌||◌, ◌%◌, if◌then◌else◌, nat_lt, Bool, IfSome}
-use Rattle.std.proofs.Common.{◌≡◌, ℕ, zero, suc, ◌+◌, ◌-◌, ◌<◌, ◌≤◌, max, true, false, List, [], ◌∷◌, length, get_or, set, take, replicate, All, Option, None, Some, refl, sym, inl, inr, arith, subst}
+use Rattle.st_rows.proofs.Common.{◌==◌, ◌||◌, if◌then◌else◌, nat_lt, Bool, IfSome, ◌≡◌, ℕ, zero, suc, ◌+◌, ◌-◌, ◌<◌, ◌≤◌, max, true, false, List, [], ◌∷◌, length, get_or, set, take, replicate, All, Option, None, Some, refl, sym, inl, inr, arith, subst, mod-lt, cases_Bool, cases_lt, nat_tests, All-get_or, All-head, All-tail, All-cons, All-take, All-replicate, get_or-take, words_of_storage, bank_of, last_of, delay, tick_of, AskedWord, accept_at, answer_at, bus_after_read, requested_if, answer_if, bus_after_request, answer_tick_on, is_in, is_among, latest_done, no_runs, AreEqual, IsHeldSooner, IsBusSooner, IsPastSooner, IsIssueSooner, IsRowSooner, AreInOrder, IsUnwritten, IsHazardFree, AreHazardFree, AreCovered, rows_of_entries, wanted_from, words_tick, address_tick, preparation_tick, tick_a, bus_a, index_arrival, tick_p, operands, tick_c, opening_issue, row_of_entry, issue_after_entry, fetch_word, fetch_words, bus_after_index_read, side_there, read_word, read_words, operands_read, request_inside, bus_after_prefetch, is_forwarded, behind, behind_use, uses, wishes, Bus, WordRuns, Entry, Past, Fetching, IssueState, ArePastWithin}
+use Rattle.std.specs.Prelude.{◌%◌}
 use Rattle.std.specs.List.{AllZip}
-use Rattle.std.proofs.Math.Nat.{mod-lt}
-use Rattle.std.proofs.lemmas.Bool.{cases_Bool, cases_lt}
-use Rattle.std.proofs.lemmas.Bool.Decides.{nat_tests}
-use Rattle.std.proofs.lemmas.List.Elements.{All-get_or, All-head, All-tail, All-cons, All-take, All-replicate}
-use Rattle.std.proofs.lemmas.List.{get_or-take}
-use Rattle.st_bits.specs.Storage.{words_of_storage}
 use Rattle.st_banks.specs.declared.answers.LastAnswers.{LastAnswers}
-use Rattle.st_banks.specs.Bank.{bank_of, last_of}
-use Rattle.st_banks.specs.Delay.{delay}
-use Rattle.st_fetch.specs.Planned.{tick_of}
-use Rattle.st_fetch.specs.declared.fetched.AskedWord.{AskedWord}
-use Rattle.st_rows.specs.BusTimes.{accept_at, answer_at, bus_after_read, requested_if, answer_if, bus_after_request, answer_tick_on}
-use Rattle.st_rows.specs.Entries.{is_in, is_among, latest_done, no_runs}
-use Rattle.st_rows.specs.Levels.{AreEqual, IsHeldSooner, IsBusSooner, IsPastSooner, IsIssueSooner, IsRowSooner, AreInOrder, IsUnwritten, IsHazardFree, AreHazardFree, AreCovered, rows_of_entries}
-use Rattle.st_rows.specs.Rows.{wanted_from, words_tick, address_tick, preparation_tick, tick_a, bus_a, index_arrival, tick_p, operands, tick_c, opening_issue, row_of_entry, issue_after_entry}
-use Rattle.st_rows.specs.Words.{fetch_word, fetch_words, bus_after_index_read, side_there, read_word, read_words, operands_read, request_inside, bus_after_prefetch, is_forwarded}
-use Rattle.st_rows.specs.Uses.{behind, behind_use, uses, wishes}
-use Rattle.st_rows.specs.declared.bus.Bus.{Bus}
-use Rattle.st_rows.specs.declared.entry.WordRuns.{WordRuns}
-use Rattle.st_rows.specs.declared.entry.Entry.{Entry}
-use Rattle.st_rows.specs.declared.past.Past.{Past}
-use Rattle.st_rows.specs.declared.fetching.Fetching.{Fetching}
-use Rattle.st_rows.specs.declared.issue.IssueState.{IssueState}
-use Rattle.st_rows.specs.Ranges.{ArePastWithin}
 use Rattle.st_rows.proofs.Within.{past-weaker}
 use Rattle.st_rows.proofs.Stages.{nth-within}
 use Rattle.st_rows.proofs.UseLemmas.{followed-is}

@@ -1,20 +1,6 @@
 -- Bounds of the ticks of an entry, stage by stage, if no delay is longer than `most`.
-use Rattle.std.proofs.Common.{ℕ, zero, suc, ◌+◌, ◌-◌, ◌*◌, ◌<◌, ◌≤◌, max, true, false, Bool, List, [], ◌∷◌, get_or, Option, None, Some, arith}
-use Rattle.std.specs.Prelude.{IfSome, ◌||◌, if◌then◌else◌}
-use Rattle.std.proofs.Math.Nat.{max-le, mul-le-mul_right}
-use Rattle.std.proofs.lemmas.List.Elements.{All-head, All-tail}
-use Rattle.st_rows.specs.BusTimes.{answer_if}
-use Rattle.st_rows.specs.Entries.{latest_done, no_runs}
-use Rattle.st_rows.specs.Ranges.{AreDelaysUpTo, IsBusWithin, IsFetchingWithin, IsReadingWithin, ArePastWithin, IsTight, IsEntryInTime}
-use Rattle.st_rows.specs.Rows.{wanted_from, words_tick, address_tick, preparation_tick, tick_a, bus_a, index_arrival, tick_p, operands, tick_c}
-use Rattle.st_rows.specs.Words.{fetch_words, bus_after_index_read, side_there, read_words, operands_read, is_forwarded}
-use Rattle.st_rows.specs.Uses.{behind, behind_use, uses, forwarded_at}
-use Rattle.st_rows.specs.declared.bus.Bus.{Bus}
-use Rattle.st_rows.specs.declared.entry.WordRuns.{WordRuns}
-use Rattle.st_rows.specs.declared.entry.Entry.{Entry}
-use Rattle.st_rows.specs.declared.past.Past.{Past}
-use Rattle.st_rows.specs.declared.fetching.Fetching.{Fetching}
-use Rattle.st_rows.specs.declared.issue.IssueState.{IssueState}
+use Rattle.st_rows.proofs.Common.{ℕ, zero, suc, ◌+◌, ◌-◌, ◌*◌, ◌<◌, ◌≤◌, max, true, false, List, [], ◌∷◌, get_or, Option, None, Some, arith, IfSome, ◌||◌, if◌then◌else◌, max-le, mul-le-mul_right, All-head, All-tail, answer_if, latest_done, no_runs, AreDelaysUpTo, IsBusWithin, IsFetchingWithin, IsReadingWithin, ArePastWithin, IsTight, IsEntryInTime, wanted_from, words_tick, address_tick, preparation_tick, tick_a, bus_a, index_arrival, tick_p, operands, tick_c, fetch_words, bus_after_index_read, side_there, read_words, operands_read, is_forwarded, behind, behind_use, uses, forwarded_at, Bus, WordRuns, Entry, Past, Fetching, IssueState}
+use Rattle.std.proofs.Common.{Bool}
 use Rattle.st_rows.proofs.Within.{latest-within, bus-weaker, past-weaker, fetching-weaker, reading-weaker, answer-within, read-within, fetch_words-within, read_words-within}
 use Rattle.st_rows.proofs.UseLemmas.{side_if}
 

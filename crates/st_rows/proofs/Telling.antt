@@ -1,19 +1,6 @@
 -- An observer is notified of the words of an entry, in order.
-use Rattle.std.specs.Prelude.{Bool, map, if◌then◌else◌, nat_lt}
-use Rattle.std.proofs.Common.{◌≡◌, ℕ, zero, suc, ◌+◌, ◌-◌, ◌≤◌, true, false, List, [], ◌∷◌, ◌++◌, refl, sym, ◌∙◌, ap, arith}
-use Rattle.st_bits.specs.Storage.{words_of_storage}
-use Rattle.st_rows.specs.BusTimes.{bus_after_request}
-use Rattle.st_rows.specs.Rows.{followings, inside_wish}
-use Rattle.st_rows.specs.Supplies.{told}
-use Rattle.st_rows.specs.Uses.{use_of, behind_use, uses, wishes, unused}
-use Rattle.st_rows.specs.declared.uses.Wish.{Wish}
-use Rattle.st_rows.specs.Words.{read_word, request_inside}
-use Rattle.st_rows.specs.declared.bus.Bus.{Bus}
-use Rattle.st_rows.specs.declared.entry.Entry.{Entry}
-use Rattle.st_rows.specs.declared.fetching.Fetching.{Fetching}
-use Rattle.st_rows.specs.declared.past.Past.{Past}
-use Rattle.st_rows.specs.declared.uses.Role.TheVariants.{Operand, Following}
-use Rattle.st_rows.specs.declared.uses.Use.{Use}
+use Rattle.st_rows.proofs.Common.{Bool, map, if◌then◌else◌, nat_lt, ◌≡◌, ℕ, zero, suc, ◌+◌, ◌-◌, ◌≤◌, true, false, List, [], ◌∷◌, ◌++◌, refl, sym, ◌∙◌, ap, arith, words_of_storage, bus_after_request, followings, inside_wish, told, register_uses, use_of, behind_use, uses, wishes, unused, Wish, read_word, request_inside, Bus, Entry, Fetching, Past, Operand, Following, Use}
+use Rattle.st_rows.specs.declared.uses.Supply.TheVariants.{Register}
 
 -- two successive notifications are one notification of both lists
 abbrev pub Joins : {A : Type 0} → (List Use → A → A) → Type 0
@@ -26,6 +13,15 @@ Rests noted = (m : _) → noted [] m ≡ m
 module _ {A : Type 0} (noted : List Use → A → A) (more : Joins noted) where
   pub told-two : (a b : List Use) (m n o : A) → n ≡ noted a m → o ≡ noted b n → o ≡ noted (a ++ b) m
   told-two a b m n o one two = two ∙ ap (noted b) one ∙ more a b m
+
+  -- the notification of one register of a run, followed by that of the rest
+  pub registers-turn : (w n : ℕ) (m o : A) → o ≡ noted (record { role = Operand; word = w; supply = Register } ∷ []) m → 1 ≤ n
+      → noted (register_uses (w + 1) (n - 1)) o ≡ noted (register_uses w n) m
+  unfolding register_uses
+  registers-turn w zero m o one some = let no : ⊥ = omega arith in absurd no
+  registers-turn w (suc n) m o one some =
+      let e : suc n - 1 ≡ n = omega arith in
+      rw (e, one) (more (record { role = Operand; word = w; supply = Register } ∷ []) (register_uses (w + 1) n) m)
 
   module _ (ds : List ℕ) (past : List Past) (p : ℕ) where
     -- the notification of one operand word of a run, followed by that of the rest
@@ -99,3 +95,9 @@ module _ {A : Type 0} (noted : List Use → A → A) (more : Joins noted) where
         let first = uses ds [] (unused b p) (inside_wish w p) in
         rw (follows, ← here, both_if (nat_lt w words_of_storage) (nat_lt (w + 1) words_of_storage) w (w + 1) p, map-both _ first behind)
         (told-two (told ds [] first) (told ds [] behind) m n o one (two ∙ ap (λ (x : Bus). noted (told ds [] (uses ds [] (unused x p) (inside_wish (w + 1) p))) n) is))
+
+-- the notification after the last register
+pub registers-end : {A : Type 0} (noted : List Use → A → A) → Rests noted → (w n : ℕ) (m : A) → n ≡ 0 → m ≡ noted (register_uses w n) m
+unfolding register_uses
+registers-end noted none w zero m is = sym (none m)
+registers-end noted none w (suc n) m is = let no : ⊥ = omega arith in absurd no

@@ -1,23 +1,5 @@
 -- The ticks of issue states stay close together from entry to entry.
-use Rattle.std.specs.Prelude.{if◌then◌else◌, nat_lt, Bool}
-use Rattle.std.proofs.Common.{ℕ, zero, suc, ◌+◌, ◌*◌, ◌<◌, ◌≤◌, max, true, false, List, take, Option, None, Some, arith, subst, sym, [], ◌∷◌}
-use Rattle.std.proofs.Math.Nat.{max-le}
-use Rattle.std.proofs.lemmas.List.Elements.{All-cons, All-set, All-take, All-weaker}
-use Rattle.st_bits.specs.Storage.{words_of_storage}
-use Rattle.st_banks.specs.Bank.{bank_of}
-use Rattle.st_fetch.specs.Planned.{tick_of}
-use Rattle.st_fetch.specs.declared.fetched.AskedWord.{AskedWord}
-use Rattle.st_rows.specs.BusTimes.{accept_at, answer_at, bus_after_read, requested_if, answer_if, bus_after_request, answer_tick_on, Read, after_one, bus_if}
-use Rattle.st_rows.specs.Ranges.{AreDelaysUpTo, IsNear, IsTight, IsEntryInTime}
-use Rattle.st_rows.specs.Rows.{wanted_from, words_tick, address_tick, preparation_tick, tick_a, bus_a, index_arrival, tick_p, operands, tick_c, issue_after_entry, own_fetched, first_read, followings}
-use Rattle.st_rows.specs.Words.{fetch_word, fetch_words, bus_after_index_read, side_there, read_word, read_words, operands_read, request_inside, bus_after_prefetch}
-use Rattle.st_rows.specs.Uses.{behind, behind_use, uses, wishes, forwarded_at, use_of, unused, wish_of}
-use Rattle.st_rows.specs.declared.uses.Wish.{Wish}
-use Rattle.st_rows.specs.declared.bus.Bus.{Bus}
-use Rattle.st_rows.specs.declared.entry.Entry.{Entry}
-use Rattle.st_rows.specs.declared.past.Past.{Past}
-use Rattle.st_rows.specs.declared.fetching.Fetching.{Fetching}
-use Rattle.st_rows.specs.declared.issue.IssueState.{IssueState}
+use Rattle.st_rows.proofs.Common.{if◌then◌else◌, nat_lt, Bool, ℕ, zero, suc, ◌+◌, ◌*◌, ◌<◌, ◌≤◌, max, true, false, List, take, Option, None, Some, arith, subst, sym, [], ◌∷◌, max-le, All-cons, All-set, All-take, All-weaker, words_of_storage, bank_of, tick_of, AskedWord, accept_at, answer_at, bus_after_read, requested_if, answer_if, bus_after_request, answer_tick_on, Read, after_one, bus_if, AreDelaysUpTo, IsNear, IsTight, IsEntryInTime, wanted_from, words_tick, address_tick, preparation_tick, tick_a, bus_a, index_arrival, tick_p, operands, tick_c, issue_after_entry, own_fetched, first_read, followings, fetch_word, fetch_words, bus_after_index_read, side_there, read_word, read_words, operands_read, request_inside, bus_after_prefetch, behind, behind_use, uses, wishes, forwarded_at, use_of, unused, wish_of, Wish, Bus, Entry, Past, Fetching, IssueState}
 use Rattle.st_rows.proofs.Within.{at-within, delay-bounds, past-weaker}
 use Rattle.st_rows.proofs.UseLemmas.{followed-is, read_if, side_if}
 

@@ -1,9 +1,5 @@
 -- One iteration of a loop over the words of a run.
-use Rattle.std.proofs.Common.{◌≡◌, ℕ, zero, suc, ◌+◌, ◌-◌, ◌≤◌, List, refl, arith}
-use Rattle.st_rows.specs.Words.{read_word, read_words}
-use Rattle.st_rows.specs.declared.past.Past.{Past}
-use Rattle.st_rows.specs.declared.fetching.Fetching.{Fetching}
-use Rattle.st_rows.specs.Uses.{behind, uses, wishes}
+use Rattle.st_rows.proofs.Common.{◌≡◌, ℕ, zero, suc, ◌+◌, ◌-◌, ◌≤◌, List, refl, arith, read_word, read_words, Past, Fetching, behind, uses, wishes}
 
 module _ (ds : List ℕ) (past : List Past) (w tick : ℕ) where
   pub read-turn : (s t : Fetching) (n : ℕ) → t ≡ read_word ds past s w tick → 1 ≤ n

@@ -1,21 +1,6 @@
 -- The uses of an entry, part by part.
-use Rattle.std.specs.Prelude.{if◌then◌else◌, nat_lt, Bool}
-use Rattle.std.proofs.Common.{◌≡◌, ℕ, zero, suc, ◌+◌, true, false, List, [], ◌∷◌, ◌++◌, Option, None, Some, refl, append_assoc, ap, sym, ◌∙◌}
-use Rattle.std.proofs.lemmas.List.{append-nil}
-use Rattle.st_bits.specs.Storage.{words_of_storage}
-use Rattle.st_fetch.specs.Planned.{tick_of}
-use Rattle.st_rows.specs.Asked.{word_asked, data_asked, side_asked, operands_asked, inside_asked, following_asked, fetches_asked, formed_asked, prepared_asked}
-use Rattle.st_rows.specs.BusTimes.{Read, bus_if, answer_if, bus_after_request}
-use Rattle.st_rows.specs.Rows.{own_uses, target_uses, index_uses, first_uses, second_uses, following_uses, first_read, tick_a, tick_p, words_tick, bus_a, uses_of_entry, reads_of_entry}
-use Rattle.st_rows.specs.Uses.{Use, answered_by, use_of, behind_use, uses, behind, wishes, read_made, reads_of, unused, wish_of}
-use Rattle.st_rows.specs.declared.uses.Wish.{Wish}
-use Rattle.st_rows.specs.declared.uses.Role.TheVariants.{Operand, Following}
-use Rattle.st_rows.specs.Words.{bus_after_prefetch, request_inside}
-use Rattle.st_rows.specs.declared.bus.Bus.{Bus}
-use Rattle.st_rows.specs.declared.entry.Entry.{Entry}
-use Rattle.st_rows.specs.declared.past.Past.{Past}
-use Rattle.st_rows.specs.declared.fetching.Fetching.{Fetching}
-use Rattle.st_rows.specs.declared.issue.IssueState.{IssueState}
+use Rattle.st_rows.proofs.Common.{if◌then◌else◌, nat_lt, Bool, ◌≡◌, ℕ, zero, suc, ◌+◌, true, false, List, [], ◌∷◌, ◌++◌, Option, None, Some, refl, append_assoc, ap, sym, ◌∙◌, append-nil, words_of_storage, tick_of, word_asked, data_asked, side_asked, operands_asked, inside_asked, following_asked, fetches_asked, formed_asked, prepared_asked, Read, bus_if, answer_if, bus_after_request, own_uses, target_uses, index_uses, first_uses, second_uses, following_uses, first_read, tick_a, tick_p, words_tick, bus_a, uses_of_entry, reads_of_entry, answered_by, use_of, behind_use, uses, behind, wishes, read_made, reads_of, unused, wish_of, Wish, Operand, Following, bus_after_prefetch, request_inside, Bus, Entry, Past, Fetching, IssueState}
+use Rattle.st_rows.specs.Uses.{Use}
 
 -- ---- a word that is not held; it needs no read if it arrives at a given tick
 

@@ -1,23 +1,6 @@
 -- Ticks that stay within a bound while reads are made.
-use Rattle.std.specs.Prelude.{◌==◌, IfSome, Bool, if◌then◌else◌, nat_lt}
-use Rattle.std.proofs.Common.{ℕ, zero, suc, ◌+◌, ◌*◌, ◌%◌, ◌≤◌, max, true, false, List, [], ◌∷◌, length, get_or, take, All, Option, None, Some, inl, inr, arith}
-use Rattle.std.proofs.Math.Nat.{max-le, mod-lt, suc-mul}
-use Rattle.std.proofs.lemmas.List.Elements.{All-head, All-tail, All-cons, All-set, All-take, All-get_or, All-weaker}
-use Rattle.std.proofs.lemmas.Bool.{cases_Bool}
-use Rattle.st_bits.specs.Storage.{words_of_storage}
-use Rattle.st_banks.specs.Bank.{bank_of}
-use Rattle.st_banks.specs.Delay.{delay}
+use Rattle.st_rows.proofs.Common.{◌==◌, IfSome, Bool, if◌then◌else◌, nat_lt, ℕ, zero, suc, ◌+◌, ◌*◌, ◌%◌, ◌≤◌, max, true, false, List, [], ◌∷◌, length, get_or, take, All, Option, None, Some, inl, inr, arith, max-le, mod-lt, suc-mul, All-head, All-tail, All-cons, All-set, All-take, All-get_or, All-weaker, cases_Bool, words_of_storage, bank_of, delay, tick_of, AskedWord, accept_at, answer_at, bus_after_read, requested_if, answer_if, bus_after_request, answer_tick_on, is_among, latest_done, AreDelaysUpTo, IsBusWithin, IsFetchingWithin, IsReadingWithin, ArePastWithin, fetch_word, fetch_words, request_inside, read_word, read_words, behind, behind_use, uses, wishes, forwarded_at, Bus, Past, Fetching}
 use Rattle.st_banks.specs.declared.delays.Delays.{Delays}
-use Rattle.st_fetch.specs.Planned.{tick_of}
-use Rattle.st_fetch.specs.declared.fetched.AskedWord.{AskedWord}
-use Rattle.st_rows.specs.BusTimes.{accept_at, answer_at, bus_after_read, requested_if, answer_if, bus_after_request, answer_tick_on}
-use Rattle.st_rows.specs.Entries.{is_among, latest_done}
-use Rattle.st_rows.specs.Ranges.{AreDelaysUpTo, IsBusWithin, IsFetchingWithin, IsReadingWithin, ArePastWithin}
-use Rattle.st_rows.specs.Words.{fetch_word, fetch_words, request_inside, read_word, read_words}
-use Rattle.st_rows.specs.Uses.{behind, behind_use, uses, wishes, forwarded_at}
-use Rattle.st_rows.specs.declared.bus.Bus.{Bus}
-use Rattle.st_rows.specs.declared.past.Past.{Past}
-use Rattle.st_rows.specs.declared.fetching.Fetching.{Fetching}
 use Rattle.st_rows.proofs.UseLemmas.{read_if}
 
 -- the delays of the banks are at most 255

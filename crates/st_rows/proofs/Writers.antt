@@ -1,16 +1,9 @@
 -- The entries that write any word, and the latest writer of a word.
-use Rattle.std.specs.Prelude.{ℕ, zero, suc, Bool, ◌&&◌, ◌||◌, nat_le, nat_lt, if◌then◌else◌, List, [], ◌∷◌, get_or}
-use Rattle.std.specs.Int.{bit_at, bit_not, trailing_zeros, w64}
-use Rattle.std.proofs.Common.{take, All, ◌≡◌, ◌+◌, ◌*◌, ◌/◌, ◌%◌, ◌^◌, bit_and, ◌<◌, ◌≤◌, true, false, inl, inr, length, refl, ap, sym, ◌∙◌, arith}
-use Rattle.std.proofs.lemmas.Bool.{cases_eq, lt-ltb, le-ltb}
+use Rattle.st_rows.proofs.Common.{Bool, ◌&&◌, ◌||◌, nat_le, nat_lt, if◌then◌else◌, bit_at, bit_not, trailing_zeros, w64, take, All, ◌≡◌, ◌+◌, ◌*◌, ◌/◌, ◌%◌, ◌^◌, bit_and, ◌<◌, ◌≤◌, true, false, inl, inr, length, refl, ap, sym, ◌∙◌, arith, cases_eq, lt-ltb, le-ltb, nat_tests, All-head, All-tail, All-cons, All-take, is_in, is_among, no_runs, has_words, writer_bits, latest_done, writer_back, Past}
+use Rattle.std.specs.Prelude.{ℕ, zero, suc, List, [], ◌∷◌, get_or}
 use Rattle.std.proofs.lemmas.List.Sums.{position_or_len_is}
-use Rattle.std.proofs.lemmas.Bool.Decides.{nat_tests}
 use Rattle.std.proofs.lemmas.Nat.Bits.{bit_at_lowest, bit_at-suc, bit_at-zero, bit_at-trailing_zeros, bit_at_clear_same, bit_at_clear_other, bit_at_and}
 use Rattle.std.proofs.lemmas.Nat.{and_le_l}
-use Rattle.std.proofs.lemmas.List.Elements.{All-head, All-tail, All-cons, All-take}
-use Rattle.st_rows.specs.Entries.{is_in, is_among, no_runs, has_words, writer_bits, latest_done}
-use Rattle.st_rows.specs.Supplies.{writer_back}
-use Rattle.st_rows.specs.declared.past.Past.{Past}
 
 -- the entry at a place; past the end, one without words
 abbrev pub nth : List Past → ℕ → Past

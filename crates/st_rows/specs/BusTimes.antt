@@ -1,7 +1,7 @@
 -- The ticks at which reads are accepted and answered. The list of delays is ds.
 --
 -- Proved: by their `ensures` clauses these calls do what definitions here say: `read` (bus.rt),
--- `request` (bus.rt), `new` (bus.rt), `look_if` (account.rt of st_account), and others.
+-- `request` (bus.rt), `new` (bus.rt).
 -- Read by: definitions in Asked, Notes, Uses, Rows, and others.
 -- Laws: ReadsAreNoLater (specs/Laws.antt), ReadsComeInOrder (specs/Laws.antt),
 -- LateReadsChangeNothing (specs/Laws.antt), MadeReadsAreAnsweredSoon (specs/Laws.antt), and others.

@@ -3,8 +3,8 @@
 -- Proved: by their `ensures` clauses these calls do what definitions here say: `new` (issue.rt),
 -- `finish` (rows.rt of st_plain), `fill` (levels.rt of st_ring), `plan` (fetch_unit.rt of st_next),
 -- and others.
--- Read by: definitions in Levels, Going of st_next, Forecast of st_ahead, Going of st_ahead, and
--- others.
+-- Read by: definitions in Levels, Going of st_next, Forecast of st_ahead, Standing of st_account,
+-- and others.
 -- Laws: BusesAreFreeInTime (specs/Laws.antt), CompletionsAreBounded (specs/Laws.antt),
 -- OperandsAreThereBeforeCompletion (specs/Laws.antt), MadeReadsAreAnsweredSoon (specs/Laws.antt),
 -- and others.

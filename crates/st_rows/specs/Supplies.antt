@@ -1,12 +1,12 @@
 -- The sources of the words that an entry uses, as observers are notified of them.
 --
--- Proved: by their `ensures` clauses these calls do what definitions here say: `read` (bus.rt),
--- `request` (bus.rt), `word` (fetching.rt), `fill` (issue.rt), and others.
--- Read by: definitions in Uses of st_plain, Told of st_next, Served of st_reasons.
+-- Proved: by their `ensures` clauses these calls do what definitions here say: `fill` (issue.rt),
+-- `read_operands` (issue.rt), `read` (bus.rt), `request` (bus.rt), and others.
+-- Read by: definitions in Uses of st_plain, Told of st_next, Served of st_ledger.
 -- Laws: none names a definition of this file itself.
 -- Change: the meaning is fixed by docs/timetable.md, since the contract of `st_account::ledger`
 -- unfolds to a definition here. The form is free, with the proofs that unfold it.
-use Rattle.std.specs.Prelude.{ℕ, ◌+◌, if◌then◌else◌, List, [], ◌∷◌, map, Option, None, Some}
+use Rattle.std.specs.Prelude.{ℕ, zero, suc, ◌+◌, if◌then◌else◌, List, [], ◌∷◌, map, Option, None, Some}
 use Rattle.std.specs.List.{position}
 use Rattle.st_banks.specs.Bank.{last_of}
 use Rattle.st_rows.specs.BusTimes.{accept_at, answer_at}
@@ -17,7 +17,8 @@ use Rattle.st_rows.specs.declared.bus.Bus.{Bus}
 use Rattle.st_rows.specs.declared.past.Past.{Past}
 use Rattle.st_rows.specs.declared.uses.ReadTicks.{ReadTicks}
 use Rattle.st_rows.specs.declared.uses.Supply.{Supply}
-use Rattle.st_rows.specs.declared.uses.Supply.TheVariants.{Read, Held, Forwarded}
+use Rattle.st_rows.specs.declared.uses.Role.TheVariants.{Operand}
+use Rattle.st_rows.specs.declared.uses.Supply.TheVariants.{Read, Held, Forwarded, Register}
 use Rattle.st_rows.specs.declared.uses.Use.{Use}
 
 -- the ticks of a read of the word w, requested at the tick want, on the bus b
@@ -64,3 +65,9 @@ use_told ds past u =
 -- the notifications of the uses of words
 abbrev pub told : List ℕ → List Past → List WordUse → List Use
 told ds past us = map (use_told ds past) us
+
+-- n operand words from the word w on that are registers
+unfoldable pub register_uses : ℕ → ℕ → List Use
+register_uses w zero = []
+register_uses w (suc n) = record { role = Operand; word = w; supply = Register }
+    ∷ register_uses (w + 1) n

@@ -2,8 +2,8 @@
 //! the state of fetch), and the computation of that row. docs/timetable.md has the rules.
 //!
 //! `form` gives A and P (address formed, prepared), `fill` gives R and C (operands there,
-//! complete), `pass` goes to the next entry. `st_next` calls `form`, `st_ahead` `fill` and `pass`,
-//! `st_plain` `follow` and `pass`. Ticks count from the start of the run; C of the last entry is at
+//! complete), `pass` goes to the next entry. `st_next` calls `form`, `st_ahead` and `st_plain` `fill`
+//! and `pass`. Ticks count from the start of the run; C of the last entry is at
 //! most 2^63 + 2^20.
 //!
 //! Proved: the row is `row_of_entry`, and the state after it `issue_after_entry`, of
@@ -13,7 +13,7 @@
 //! Pinned, by the definitions of specs/Rows.antt, docs/timetable.md and vectors/timetable.txt: each
 //! formula of a tick. docs/changes/timetable.patch is an example that changes one. Free: inlining
 //! and the split into functions.
-ghost use Rattle.std.specs.Prelude.{◌≡◌, ◌+◌, ◌-◌, ◌≤◌, ◌^◌, ◌++◌, [], ℕ, All, IfSome, List};
+ghost use Rattle.std.specs.Prelude.{◌≡◌, ◌+◌, ◌-◌, ◌≤◌, ◌<◌, ◌^◌, ◌++◌, [], ℕ, All, IfSome, List};
 ghost use Rattle.st_bits.specs.declared.limits.TheConstants.{MOST_DELAY};
 ghost use Rattle.st_rows.specs.Asked.{side_asked, operands_asked, runs_asked, inside_asked, following_asked, prepared_asked};
 ghost use Rattle.st_rows.specs.Notes.{log_after_reads};
@@ -21,13 +21,13 @@ ghost use Rattle.st_rows.specs.Rows.{opening_issue, wanted_from, words_tick, add
 ghost use Rattle.st_rows.specs.Words.{bus_after_index_read, side_there, operands_read, read_words, request_inside as request_inside_of, bus_after_prefetch, fills_of, fills as fills_of_entry};
 ghost use Rattle.st_rows.specs.Rows.{tick_a, bus_a, tick_p, row_of_entry as row_of, issue_after_entry};
 ghost use Rattle.st_rows.specs.Rows.{index_uses, first_uses, second_uses, following_uses, inside_wish, followings};
-ghost use Rattle.st_rows.specs.Supplies.{told};
+ghost use Rattle.st_rows.specs.Supplies.{told, register_uses};
 ghost use Rattle.st_rows.specs.Uses.{uses, unused, words_of, wish_of};
 ghost use Rattle.st_rows.specs.declared.uses.Role.TheVariants.{Operand};
 ghost use Rattle.st_rows.specs.Ranges.{IsEntryInTime, IsTight, IsBusWithin, IsFetchingWithin, IsReadingWithin, ArePastWithin, IsReadable};
 
 use crate::bus::Bus;
-use crate::entry::{Entry, WordRun};
+use crate::entry::{Entry, WordRun, WordRuns};
 use crate::fetching::{Fetching, Wanted};
 use crate::log::Log;
 use crate::past::{LastEntries, Past};
@@ -92,6 +92,8 @@ pub struct FormedEntry<'a> {
     pub timing: &'a Timing<'a>,
     /// Its ticks so far.
     pub formed: Formed,
+    /// The registers among its operand words, of which the observer is notified.
+    pub registers: WordRuns,
 }
 
 /// The result of reading the operands of an entry.
@@ -187,7 +189,8 @@ impl IssueState {
     }
 
     /// Reads the operand words of the next entry, whose address was formed by `form`, and requests
-    /// its following words. The issue state does not change.
+    /// its following words. The registers of each run come before its words of storage. The issue
+    /// state does not change.
     #[inline(always)]
     pub fn fill<W: Watch>(
         &self,
@@ -205,6 +208,8 @@ impl IssueState {
             words.old.bus ≡ bus_a t.delays.now.list self.now e }
         requires tick { let t = next.now.timing.now in let e = next.now.entry.now in
             next.now.formed.p ≡ tick_p t.delays.now.list t.levels self.now e }
+        requires one { next.now.registers.one.first < 2 ^ 18 }
+        requires two { next.now.registers.two.first < 2 ^ 18 }
 
         ensures value { let t = next.now.timing.now in let e = next.now.entry.now in
             result.row ≡ row_of t.delays.now.list t.levels self.now e }
@@ -216,9 +221,10 @@ impl IssueState {
             log.new ≡ log_after_reads t.delays.now.list
             (prepared_asked t.delays.now.list t.levels self.now e) words.old.bus log.old }
         ensures told { let t = next.now.timing.now in let ds = t.delays.now.list in let n = t.levels in
-            let f = self.now in let e = next.now.entry.now in watch.new
-            ≡ W.noted ((told ds f.past (first_uses ds n f e)
-            ++ told ds f.past (second_uses ds n f e))
+            let f = self.now in let e = next.now.entry.now in let x = next.now.registers in
+            watch.new ≡ W.noted
+            (((register_uses x.one.first x.one.len ++ told ds f.past (first_uses ds n f e))
+            ++ (register_uses x.two.first x.two.len ++ told ds f.past (second_uses ds n f e)))
             ++ told ds [] (following_uses ds n f e)) watch.old }
     {
         let entry = next.entry;
@@ -231,7 +237,7 @@ impl IssueState {
         };
         words.answered = p;
         words.awaited = 0;
-        let fills = read_operands(words, log, watch, &wanted, entry);
+        let fills = read_operands(words, log, watch, &wanted, &entry.reads, &next.registers);
         let r = words.answered;
         let c = self.c.max(r) + u64::from(entry.cost);
         follow(&mut words.bus, log, watch, &wanted, entry);
@@ -312,6 +318,21 @@ fn prepared_at(levels: usize, past: &LastEntries, a: u64, y: u64) -> u64
     a.max(y).max(past.done_before(levels)) + 1
 }
 
+// Notifies the observer of the registers of a run. The label of the loop serves only its proof.
+#[inline(always)]
+fn notify<W: Watch>(watch: &mut W, registers: WordRun)
+    requires { registers.first < 2 ^ 18 }
+    ensures { watch.new ≡ W.noted (register_uses registers.first registers.len) watch.old }
+{
+    let mut w = registers.first;
+    let mut left = registers.len;
+    'words: while left > 0 {
+        watch.register(Role::Operand, w);
+        w += 1;
+        left -= 1;
+    }
+}
+
 // Reads the operand words of an entry, requested when it is prepared. Returns the arrival ticks of
 // the first two words of the first run, 0 for a missing word.
 #[inline(always)]
@@ -320,30 +341,39 @@ fn read_operands<W: Watch>(
     log: &mut Log,
     watch: &mut W,
     wanted: &Wanted<'_>,
-    entry: &Entry,
+    reads: &WordRuns,
+    registers: &WordRuns,
 ) -> [u64; 2]
-    requires entry { IsEntryInTime entry.now }
+    requires one { IsReadable reads.now.one }
+    requires one_few { reads.now.one.len ≤ 16 }
+    requires two { IsReadable reads.now.two }
+    requires two_few { reads.now.two.len ≤ 16 }
     requires before { ArePastWithin (2 ^ 64 - 2 ^ 17) wanted.now.past.now }
     requires room { IsBusWithin (2 ^ 64 - 2 ^ 17) operands.old.bus }
     requires early { wanted.now.tick ≤ 2 ^ 64 - 2 ^ 17 }
     requires start { operands.old.answered ≡ wanted.now.tick }
+    requires first { registers.now.one.first < 2 ^ 18 }
+    requires second { registers.now.two.first < 2 ^ 18 }
 
     ensures value { let x = wanted.now in operands.new
-        ≡ operands_read x.delays.now.list x.past.now operands.old entry.now.reads x.tick }
+        ≡ operands_read x.delays.now.list x.past.now operands.old reads.now x.tick }
     ensures fills { let x = wanted.now in result
-        ≡ fills_of x.delays.now.list x.past.now operands.old.bus entry.now.reads.one x.tick }
+        ≡ fills_of x.delays.now.list x.past.now operands.old.bus reads.now.one x.tick }
     ensures log { let x = wanted.now in log.new ≡ log_after_reads x.delays.now.list
-        (runs_asked x.past.now entry.now.reads x.tick) operands.old.bus log.old }
+        (runs_asked x.past.now reads.now x.tick) operands.old.bus log.old }
     ensures told { let x = wanted.now in let ds = x.delays.now.list in let past = x.past.now in
-        let reads = entry.now.reads in
-        watch.new ≡ W.noted (told ds past (uses ds past operands.old
-        (words_of Operand x.tick reads.one))
+        let one = reads.now.one in let two = reads.now.two in let r = registers.now in
+        watch.new ≡ W.noted ((register_uses r.one.first r.one.len
+        ++ told ds past (uses ds past operands.old (words_of Operand x.tick one)))
+        ++ (register_uses r.two.first r.two.len
         ++ told ds past (uses ds past
-        (read_words ds past operands.old x.tick reads.one.first reads.one.len)
-        (words_of Operand x.tick reads.two))) watch.old }
+        (read_words ds past operands.old x.tick one.first one.len)
+        (words_of Operand x.tick two)))) watch.old }
 {
-    let fills = read_run(operands, log, watch, wanted, entry.reads.one);
-    operands.read_on(log, watch, wanted, entry.reads.two);
+    notify(watch, registers.one);
+    let fills = read_run(operands, log, watch, wanted, reads.one);
+    notify(watch, registers.two);
+    operands.read_on(log, watch, wanted, reads.two);
     fills
 }
 
@@ -390,15 +420,9 @@ fn read_run<W: Watch>(
     [first, second]
 }
 
-/// Prefetches the two words after those of an entry, if it prefetches any.
+// Prefetches the two words after those of an entry, if it prefetches any.
 #[inline(always)]
-pub fn follow<W: Watch>(
-    bus: &mut Bus,
-    log: &mut Log,
-    watch: &mut W,
-    wanted: &Wanted<'_>,
-    entry: &Entry,
-)
+fn follow<W: Watch>(bus: &mut Bus, log: &mut Log, watch: &mut W, wanted: &Wanted<'_>, entry: &Entry)
     requires entry { IsEntryInTime entry.now }
     requires room { IsBusWithin (2 ^ 64 - 1024) bus.old }
     requires early { wanted.now.tick ≤ 2 ^ 64 - 1024 }

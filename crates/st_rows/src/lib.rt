@@ -27,7 +27,7 @@ mod watch;
 pub use bus::Bus;
 pub use entry::{Entry, WordRun, WordRuns};
 pub use fetching::{Fetching, Wanted};
-pub use issue::{EntryTicks, Filled, Formed, FormedEntry, IssueState, TimedEntry, follow};
+pub use issue::{EntryTicks, Filled, Formed, FormedEntry, IssueState, TimedEntry};
 pub use log::{Log, Made};
 pub use past::{LastEntries, Past};
 pub use timing::Timing;

@@ -3,7 +3,7 @@
 //! takes over the level of one of them. docs/timetable.md has the rules.
 //!
 //! issue.rt, fetching.rt and reading.rt ask for the latest writer of a word; `st_plain` and
-//! `st_reasons` ask for the ledger. watch.rt calls `latest_back`. Words below 32 are registers.
+//! `st_ledger` ask for the ledger. watch.rt calls `latest_back`. Words below 32 are registers.
 //!
 //! Proved: the answers are `latest_done` and `done_before` of the list of the last eight entries
 //! (specs/Entries.antt, specs/Rows.antt), as the clauses of these calls say.

@@ -2,9 +2,8 @@
 //! bank, or forwarded from its latest writer, if that writer completes later than the request.
 //! docs/timetable.md has the rules.
 //!
-//! issue.rt reads the runs of an entry by `read` and `read_on`; `st_plain` calls `read_on` for the
-//! ledger, with the registers noted between the runs. A run has at most 16 words, from 32 up. The
-//! result of `read` is the tick of arrival.
+//! issue.rt reads the runs of an entry by `read` and `read_on`. A run has at most 16 words, from 32
+//! up. The result of `read` is the tick of arrival.
 //!
 //! Proved: the progress is `read_words` of specs/Words.antt (clause `value` of `read_on`); the log
 //! and the observer get the reads in this order (clauses `log`, `told`).
@@ -68,9 +67,9 @@ impl Fetching {
         answer
     }
 
-    /// Reads the operand words of a run.
+    // Reads the operand words of a run.
     #[inline(always)]
-    pub fn read_on<W: Watch>(
+    pub(crate) fn read_on<W: Watch>(
         &mut self,
         log: &mut Log,
         watch: &mut W,

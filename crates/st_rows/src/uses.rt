@@ -1,16 +1,16 @@
 //! The words that an entry (one executed instruction) uses, and the source of each: read, held,
 //! forwarded, or a register (docs/ledger.md, "Uses"). `Uses` is an observer (`Watch`), which the
 //! calls of this crate notify of each word in order. `st_plain` adds the registers; `st_lines`
-//! writes the words, and `st_reasons` finds from them why an instruction waited. Addresses are word
+//! writes the words, and `st_ledger` finds from them why an instruction waited. Addresses are word
 //! addresses.
 //!
 //! Proved: `push` gives `uses_with` of specs/KeptUses.antt; the clauses `told` of bus.rt,
 //! fetching.rt, reading.rt and issue.rt say which words these are.
 //!
 //! Pinned, by `uses_with`, docs/ledger.md and vectors/ledger/lines.txt: the order of the words.
-//! Pinned, by the clause `fits` and the proofs of `st_plain` and `st_reasons`: `ROOM`, 48. At most
+//! Pinned, by the clause `fits` and the proofs of `st_plain` and `st_ledger`: `ROOM`, 48. At most
 //! 39 words come; `push` ignores words after the 48th. A new `Supply` or `Role` needs its cases in
-//! `st_lines` and `st_reasons`. Free: the array.
+//! `st_lines` and `st_ledger`. Free: the array.
 ghost use Rattle.std.specs.Prelude.{◌≡◌, ◌≤◌, ◌∷◌, [], length};
 ghost use Rattle.st_rows.specs.KeptUses.{uses_with};
 
@@ -182,15 +182,5 @@ impl Uses {
             self.words[self.len] = word;
             self.len += 1;
         }
-    }
-
-    /// Replaces the words by those of `other`.
-    #[inline(always)]
-    pub fn copy(&mut self, other: &Uses)
-        ensures { self.new.items ≡ other.now.items }
-    {
-        let words = other.as_slice();
-        self.words[..words.len()].copy_from_slice(words);
-        self.len = words.len();
     }
 }

@@ -10,8 +10,9 @@
 //! Proved: each method is `noted` of one word. The clauses `told` of the calls that notify say
 //! exactly which words come.
 //!
-//! Pinned, by the clauses `told` and by `Supply` of uses.rt: three methods, for the sources `Read`,
-//! `Held` and `Forwarded`. The fourth source, a register, is never requested. Free: the bodies.
+//! Pinned, by the clauses `told` and by `Supply` of uses.rt: four methods, one for each source. A
+//! register is never requested; `fill` of issue.rt notifies of those among the operand words,
+//! `st_plain` of an index-side word. Free: the bodies.
 ghost use Rattle.std.specs.Prelude.{◌≡◌, refl, ◌∷◌, ◌++◌, [], List};
 ghost use Rattle.st_rows.specs.Supplies.{writer_back};
 ghost use Rattle.st_rows.specs.KeptUses.{uses_with, uses_with_none, uses_with_more};
@@ -45,6 +46,11 @@ pub trait Watch {
           word = w;
           supply = from.Forwarded (record { back = writer_back past.now w; done = done });
         } ∷ []) self.old };
+
+    /// Word `w` is a register, which is never requested.
+    fn register(&mut self, role: Role, w: u32)
+        ensures { self.new ≡ noted
+            (record { role = role; word = w; supply = from.Register } ∷ []) self.old };
 
     ghost noted_none: { (m : Self) → noted [] m ≡ m };
 
@@ -83,6 +89,12 @@ impl Watch for Nobody {
         let _ = past;
         let _ = done;
     }
+
+    #[inline(always)]
+    fn register(&mut self, role: Role, w: u32) {
+        let _ = role;
+        let _ = w;
+    }
 }
 
 /// Appends each word to the list.
@@ -118,6 +130,15 @@ impl Watch for Uses {
             role,
             word,
             supply: Supply::Forwarded(Writer { back, done }),
+        });
+    }
+
+    #[inline(always)]
+    fn register(&mut self, role: Role, word: u32) {
+        self.push(Use {
+            role,
+            word,
+            supply: Supply::Register,
         });
     }
 }

@@ -1,25 +1,12 @@
 -- Entries are in the ranges of the timetable.
-use Rattle.std.proofs.Common.{◌≡◌, ℕ, zero, suc, ◌+◌, ◌-◌, ◌<◌, ◌≤◌, Bool, true, false, ◌&&◌, if◌then◌else◌, List, [], ◌∷◌, ◌++◌, length, get_or, take, drop, Option, None, Some, refl, sym, subst, ◌∙◌, ap, arith, length-append}
-use Rattle.std.specs.Prelude.{All, IfSome, is_none, nat_le}
+use Rattle.st_segment.proofs.Common.{◌≡◌, ℕ, zero, suc, ◌+◌, ◌-◌, ◌<◌, ◌≤◌, Bool, true, false, ◌&&◌, if◌then◌else◌, List, [], ◌∷◌, ◌++◌, length, get_or, take, drop, Option, None, Some, refl, sym, subst, ◌∙◌, ap, arith, length-append, All, IfSome, is_none, nat_le, get_or_append_left, and_parts, leb-true, leb-false, Machine, IsMachine, word, index_words, place_of, words_fetched, needs, decode_context, plan, index_side_words, words_read, own_words, of_choice, plan-prepared, is_needs, fetched-outcome, reading-few, word_list_from, words_of_run, reading_at, instruction_words, own_count, run_of, above_registers, words_to_read, side_to_read, entry}
 use Rattle.std.proofs.Math.Seq.{take-append_seam, drop-append_seam}
-use Rattle.std.proofs.lemmas.List.{get_or_append_left}
-use Rattle.std.proofs.lemmas.Bool.{and_parts, leb-true, leb-false}
 use Rattle.st_bits.specs.Storage.{words_of_storage}
-use Rattle.st_state.specs.Machine.{Machine, IsMachine, word}
-use Rattle.st_prep.specs.Fetch.{index_words, place_of, words_fetched}
-use Rattle.st_prep.specs.Plan.{needs, decode_context, plan}
 use Rattle.st_prep.specs.Ranges.{IsPrepared, IsNeeds}
-use Rattle.st_prep.specs.Reading.{index_side_words, words_read, own_words}
-use Rattle.st_prep.proofs.Choices.{of_choice}
 use Rattle.st_prep.proofs.CountLemmas.{few-plan}
-use Rattle.st_prep.proofs.PlanLemmas.{plan-prepared}
-use Rattle.st_prep.proofs.PreparedLemmas.{is_needs}
-use Rattle.st_prep.proofs.ReadingLemmas.{fetched-outcome, reading-few}
 use Rattle.st_rows.specs.declared.entry.WordRun.{WordRun}
 use Rattle.st_rows.specs.Asked.{side_count, own_reads}
 use Rattle.st_rows.specs.Ranges.{IsReadable, IsEntryInTime}
-use Rattle.st_segment.specs.Alone.{word_list_from, words_of_run}
-use Rattle.st_segment.specs.Entries.{reading_at, instruction_words, own_count, run_of, above_registers, words_to_read, side_to_read, entry}
 use Rattle.st_segment.proofs.InstructionRuns.{IsCut, reading-cut, reading-some}
 
 -- ---- runs of words

@@ -1,16 +1,5 @@
 -- The index words with the speculative changes of the entries in flight.
-use Rattle.std.proofs.Common.{◌≡◌, ℕ, zero, suc, ◌<◌, false, Option, None, refl, sym, ◌∙◌, ap}
-use Rattle.std.specs.Prelude.{IfSome}
-use Rattle.st_state.specs.Machine.{Machine, IsMachine}
-use Rattle.st_prep.specs.SpeculativeChanges.{words_after}
-use Rattle.st_prep.specs.Fetch.{index_words}
-use Rattle.st_prep.specs.Plan.{plan}
-use Rattle.st_prep.proofs.PlanLemmas.{plan-prepared}
-use Rattle.st_exec.specs.Ahead.{IsPast}
-use Rattle.st_exec.specs.Completion.{prediction}
-use Rattle.st_exec.proofs.UnwrittenLemmas.{speculative-index_words, predicted-past}
-use Rattle.st_segment.specs.Predictions.{predictions, table_behind, split_words}
-use Rattle.st_segment.specs.Alone.{RunAhead}
+use Rattle.st_segment.proofs.Common.{◌≡◌, ℕ, zero, suc, ◌<◌, false, Option, None, refl, sym, ◌∙◌, ap, IfSome, Machine, IsMachine, words_after, index_words, plan, plan-prepared, IsPast, prediction, speculative-index_words, predicted-past, predictions, table_behind, split_words, RunAhead}
 use Rattle.st_segment.proofs.PredictionLemmas.{behind-none, behind-indicator, predictions-machine, predictions-next}
 
 -- the predicted state after an entry that is not serializing

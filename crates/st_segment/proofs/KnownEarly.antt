@@ -1,11 +1,5 @@
 -- The parts of an entry that are known without its index-side word.
-use Rattle.std.proofs.Common.{◌≡◌, ℕ, Option, refl, ap}
-use Rattle.st_state.specs.Machine.{Machine}
-use Rattle.st_prep.specs.declared.entries.Prepared.{Prepared}
-use Rattle.st_prep.specs.Fetch.{place_of}
-use Rattle.st_prep.specs.Plan.{needs, decode_context, side_word, prepared_entry, plan}
-use Rattle.st_prep.proofs.PreparedLemmas.{prepared-read}
-use Rattle.st_segment.specs.Entries.{words_to_read, words_to_write, entry_with, entry}
+use Rattle.st_segment.proofs.Common.{◌≡◌, ℕ, Option, refl, ap, Machine, Prepared, place_of, needs, decode_context, side_word, prepared_entry, plan, prepared-read, words_to_read, words_to_write, entry_with, entry}
 use Rattle.st_segment.specs.Laws.{EntriesAreKnownEarly}
 
 -- with any index-side word the plan differs only in the index change and its indicators

@@ -1,3 +1,4 @@
+pub mod Common
 pub mod PredictionLemmas
 pub mod StepLemmas
 pub mod IndexLemmas

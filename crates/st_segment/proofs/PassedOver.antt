@@ -1,27 +1,12 @@
 -- Signals, and orders without a card, leave the entries in flight unchanged.
-use Rattle.std.proofs.Common.{◌≡◌, ◌≢◌, ℕ, zero, suc, ◌+◌, false, List, get_or, length, Option, None, Some, refl, sym, subst, ◌∙◌, ap, get_or-set_other}
+use Rattle.st_segment.proofs.Common.{◌≡◌, ◌≢◌, ℕ, zero, suc, ◌+◌, false, List, get_or, length, Option, None, Some, refl, sym, subst, ◌∙◌, ap, get_or-set_other, length-set, Machine, IsMachine, with_word, state_with_store, AreAlikeBesideOrders, Prepared, index_words, plan, plan-prepared, with_change, state_with_speculative_changes, predicted_state, prediction, predicted-machine, row_of_entry, issue_after_entry, IssueState, entry, predictions, table_behind, after_speculative_change, split_words, next_ahead, ahead, RunAhead, IsSameAhead}
 use Rattle.std.specs.List.{AllZip}
-use Rattle.std.proofs.lemmas.List.{length-set}
 use Rattle.st_bits.specs.Registers.{register_word}
-use Rattle.st_state.specs.Machine.{Machine, IsMachine, with_word, state_with_store}
-use Rattle.st_prep.specs.BesideOrders.{AreAlikeBesideOrders}
 use Rattle.st_prep.specs.declared.entries.IndexChange.{IndexChange}
-use Rattle.st_prep.specs.declared.entries.Prepared.{Prepared}
-use Rattle.st_prep.specs.Fetch.{index_words}
-use Rattle.st_prep.specs.Plan.{plan}
 use Rattle.st_prep.proofs.BesideLemmas.{plan-beside_ahead}
-use Rattle.st_prep.proofs.PlanLemmas.{plan-prepared}
-use Rattle.st_exec.specs.Completion.{with_change, state_with_speculative_changes, predicted_state, prediction}
 use Rattle.st_exec.proofs.AlikeStates.{same-set}
 use Rattle.st_exec.proofs.BesideEntries.{predicted-beside}
-use Rattle.st_exec.proofs.UnwrittenLemmas.{predicted-machine}
-use Rattle.st_rows.specs.Rows.{row_of_entry, issue_after_entry}
 use Rattle.st_rows.specs.declared.entry.Entry.{Entry}
-use Rattle.st_rows.specs.declared.issue.IssueState.{IssueState}
-use Rattle.st_segment.specs.Entries.{entry}
-use Rattle.st_segment.specs.Predictions.{predictions, table_behind, after_speculative_change, split_words}
-use Rattle.st_segment.specs.Ahead.{next_ahead, ahead}
-use Rattle.st_segment.specs.Alone.{RunAhead, IsSameAhead}
 use Rattle.st_segment.proofs.KnownEarly.{entry-seen}
 use Rattle.st_segment.proofs.SameReading.{same-index, same-decode_context, same-instruction}
 

@@ -1,16 +1,5 @@
 -- Each predicted step continues from the state before it.
-use Rattle.std.proofs.Common.{◌≡◌, ℕ, zero, suc, ◌<◌, List, [], ◌∷◌, ◌++◌, Option, None, refl, ◌∙◌, ap}
-use Rattle.std.specs.Prelude.{IfSome}
-use Rattle.st_state.specs.Machine.{Machine, IsMachine}
-use Rattle.st_prep.specs.Plan.{plan}
-use Rattle.st_prep.proofs.PlanLemmas.{plan-prepared}
-use Rattle.st_exec.specs.Completion.{prediction}
-use Rattle.st_exec.proofs.UnwrittenLemmas.{predicted-machine}
-use Rattle.st_rows.specs.Rows.{issue_after_entry}
-use Rattle.st_rows.specs.declared.issue.IssueState.{IssueState}
-use Rattle.st_segment.specs.Entries.{entry}
-use Rattle.st_segment.specs.Predictions.{predictions, table_behind}
-use Rattle.st_segment.specs.Ahead.{next_ahead, ahead, issue_behind}
+use Rattle.st_segment.proofs.Common.{◌≡◌, ℕ, zero, suc, ◌<◌, List, [], ◌∷◌, ◌++◌, Option, None, refl, ◌∙◌, ap, IfSome, Machine, IsMachine, plan, plan-prepared, prediction, predicted-machine, issue_after_entry, IssueState, entry, predictions, table_behind, next_ahead, ahead, issue_behind}
 
 -- ---- the table instruction
 

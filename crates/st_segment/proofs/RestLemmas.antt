@@ -1,18 +1,7 @@
 -- The parts of the state that predicted steps leave unchanged.
-use Rattle.std.proofs.Common.{◌≡◌, ℕ, zero, suc, ◌+◌, ◌<◌, ◌≤◌, ◌⊎◌, inl, inr, false, ◌&&◌, Option, None, refl, ◌∙◌, ap}
-use Rattle.std.specs.Prelude.{IfSome, nat_lt, nat_le}
-use Rattle.std.proofs.lemmas.Bool.{leb-false, ltb-false, and_cases, or_parts}
-use Rattle.st_state.specs.Machine.{Machine, IsMachine, word}
+use Rattle.st_segment.proofs.Common.{◌≡◌, ℕ, zero, suc, ◌+◌, ◌<◌, ◌≤◌, ◌⊎◌, inl, inr, false, ◌&&◌, Option, None, refl, ◌∙◌, ap, IfSome, nat_lt, nat_le, leb-false, ltb-false, and_cases, or_parts, Machine, IsMachine, word, plan, plan-prepared, IsNotAmong, prediction, predicted-unwritten, predicted-following, words_to_write, entry, predictions, table_behind, RunAhead, is_word_written}
 use Rattle.st_prep.specs.declared.entries.Words.{Words}
-use Rattle.st_prep.specs.Plan.{plan}
-use Rattle.st_prep.proofs.PlanLemmas.{plan-prepared}
-use Rattle.st_exec.specs.Ahead.{IsNotAmong}
-use Rattle.st_exec.specs.Completion.{prediction}
-use Rattle.st_exec.proofs.UnwrittenLemmas.{predicted-unwritten, predicted-following}
 use Rattle.st_rows.specs.Entries.{is_in, is_among}
-use Rattle.st_segment.specs.Entries.{words_to_write, entry}
-use Rattle.st_segment.specs.Predictions.{predictions, table_behind}
-use Rattle.st_segment.specs.Alone.{RunAhead, is_word_written}
 use Rattle.st_segment.proofs.PredictionLemmas.{prediction-machine, predictions-next}
 use Rattle.st_segment.proofs.IndexLemmas.{prediction-past}
 

@@ -1,17 +1,6 @@
 -- States that differ only in indicators and orders have equal readings.
-use Rattle.std.proofs.Common.{◌≡◌, ℕ, suc, ◌+◌, ◌*◌, ◌%◌, ◌^◌, ◌<◌, ◌≤◌, true, false, List, ◌∷◌, get_or, take, drop, length, Option, None, Some, refl, sym, ◌∙◌, ap, arith}
-use Rattle.std.specs.Prelude.{All}
-use Rattle.std.proofs.lemmas.List.{ext_get_or, get_or-take, get_or-drop, length-take, length-drop}
+use Rattle.st_segment.proofs.Common.{◌≡◌, ℕ, suc, ◌+◌, ◌*◌, ◌%◌, ◌^◌, ◌<◌, ◌≤◌, true, false, List, ◌∷◌, get_or, take, drop, length, Option, None, Some, refl, sym, ◌∙◌, ap, arith, All, ext_get_or, get_or-take, get_or-drop, length-take, length-drop, Machine, word, Place, AreAlikeBesideOrders, index_words, address_by, place_of, reading_of, words_fetched, decode_context, Reading, Finds, Reads, outcome, words_read, own_words, reading_at_place, same_seen, fetched-outcome, reading-few, outcome-same, reading_at, instruction_words, own_count}
 use Rattle.st_bits.specs.Bits.{part}
-use Rattle.st_state.specs.Machine.{Machine, word}
-use Rattle.st_prep.specs.declared.entries.Place.{Place}
-use Rattle.st_prep.specs.BesideOrders.{AreAlikeBesideOrders}
-use Rattle.st_prep.specs.Fetch.{index_words, address_by, place_of, reading_of, words_fetched}
-use Rattle.st_prep.specs.Plan.{decode_context}
-use Rattle.st_prep.specs.Reading.{Reading, Finds, Reads, outcome, words_read, own_words, reading_at_place}
-use Rattle.st_prep.proofs.PlanLemmas.{same_seen}
-use Rattle.st_prep.proofs.ReadingLemmas.{fetched-outcome, reading-few, outcome-same}
-use Rattle.st_segment.specs.Entries.{reading_at, instruction_words, own_count}
 
 -- ---- the words of a reading
 

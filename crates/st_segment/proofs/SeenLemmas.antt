@@ -1,13 +1,5 @@
 -- The decode context of the entry after those in flight.
-use Rattle.std.proofs.Common.{◌≡◌, ℕ, ◌<◌, List, Option, refl, ◌∙◌, ap, arith}
-use Rattle.std.specs.Prelude.{IfSome}
-use Rattle.st_state.specs.Machine.{Machine, IsMachine, word}
-use Rattle.st_prep.specs.declared.entries.Place.{Place}
-use Rattle.st_prep.specs.Reading.{reading_at_place}
-use Rattle.st_prep.specs.Fetch.{index_words, place_of, reading_of, words_fetched}
-use Rattle.st_prep.specs.Plan.{decode_context_of, decode_context, IsSeen}
-use Rattle.st_segment.specs.Predictions.{predictions, table_behind, split_words}
-use Rattle.st_segment.specs.Alone.{RunAhead}
+use Rattle.st_segment.proofs.Common.{◌≡◌, ℕ, ◌<◌, List, Option, refl, ◌∙◌, ap, arith, IfSome, Machine, IsMachine, word, Place, reading_at_place, index_words, place_of, reading_of, words_fetched, decode_context_of, decode_context, IsSeen, predictions, table_behind, split_words, RunAhead}
 use Rattle.st_segment.proofs.IndexLemmas.{index-split}
 use Rattle.st_segment.proofs.RestLemmas.{low-kept, enabled-kept}
 

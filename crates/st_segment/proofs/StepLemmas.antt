@@ -1,13 +1,6 @@
 -- A step and its prediction.
-use Rattle.std.proofs.Common.{◌≡◌, ℕ, ◌<◌, Bool, true, false, not, ◌&&◌, if◌then◌else◌, Option, refl, ap}
-use Rattle.std.specs.Prelude.{IfSome}
-use Rattle.st_state.specs.Machine.{Machine, IsMachine}
-use Rattle.st_prep.specs.declared.entries.Prepared.{Prepared}
-use Rattle.st_prep.specs.Plan.{state_at_entry, plan}
-use Rattle.st_prep.proofs.PlanLemmas.{plan-prepared}
-use Rattle.st_exec.specs.Completion.{state_with_speculative_changes, is_taken, state_after_completion, state_after_execution, predicted_state, prediction, is_mispredicted}
+use Rattle.st_segment.proofs.Common.{◌≡◌, ℕ, ◌<◌, Bool, true, false, not, ◌&&◌, if◌then◌else◌, Option, refl, ap, IfSome, Machine, IsMachine, Prepared, state_at_entry, plan, plan-prepared, state_with_speculative_changes, is_taken, state_after_completion, state_after_execution, predicted_state, prediction, is_mispredicted, predicted-alone}
 use Rattle.st_exec.proofs.AheadLemmas.{predicted-right}
-use Rattle.st_exec.proofs.UnwrittenLemmas.{predicted-alone}
 
 -- the first part of a conjunction that holds
 first-false : (a b c : Bool) → (not a && not b && c) ≡ true → a ≡ false

@@ -1,9 +1,8 @@
 -- The entries in flight after a state, with their rows: those prepared before a tick, and the reads
 -- that are made for them.
 --
--- Proved: by their `ensures` clauses these calls do what definitions here say: `look_if`
--- (account.rt of st_account), `look_behind` (behind.rt of st_account), `look` (looking.rt of
--- st_plain), `level` (lookahead_shown.rt of st_ahead).
+-- Proved: by their `ensures` clauses these calls do what definitions here say: `look` (looking.rt
+-- of st_plain), `level` (lookahead_shown.rt of st_ahead).
 -- Read by: definitions in Alone, Moments of st_run, Overlap of st_ahead, Openings of st_refine, and
 -- others.
 -- Laws: PredictionsGoOn (specs/Laws.antt), SignalsArePassedOver (specs/Laws.antt),

@@ -1,5 +1,4 @@
-use Rattle.std.proofs.Common.{refl, ◌∙◌, ap}
-use Rattle.st_back.specs.Undone.{state_undone}
+use Rattle.st_back.proofs.Common.{refl, ◌∙◌, ap, state_undone}
 use Rattle.st_back.proofs.StepLemmas.{entry-undone}
 use Rattle.st_back.proofs.RingLemmas.{fresh-sound}
 use Rattle.st_back.proofs.undoing.keep.Goals as goal

@@ -1,4 +1,4 @@
-use Rattle.std.proofs.Common.{sym, ◌∙◌, arith}
+use Rattle.st_back.proofs.Common.{sym, ◌∙◌, arith}
 use Rattle.st_back.proofs.UndoneLemmas.{unput-next, unput-none}
 use Rattle.st_back.proofs.undoing.remove_puts.Goals as goal
 

@@ -1,5 +1,4 @@
-use Rattle.std.proofs.Common.{◌≡◌, ◌≤◌}
-use Rattle.st_back.specs.Undone.{unput}
+use Rattle.st_back.proofs.Common.{◌≡◌, ◌≤◌, unput}
 use Rattle.st_back.proofs.undoing.remove_puts.Given as goal
 
 abbrev pub invariant-puts : goal.invariant-puts

@@ -1,4 +1,4 @@
-use Rattle.std.proofs.Common.{sym, ◌∙◌, arith}
+use Rattle.st_back.proofs.Common.{sym, ◌∙◌, arith}
 use Rattle.st_back.proofs.UndoneLemmas.{restored-next, restored-all}
 use Rattle.st_back.proofs.undoing.restore.Goals as goal
 

@@ -1,5 +1,4 @@
-use Rattle.std.proofs.Common.{◌≡◌, ◌+◌, ◌-◌}
-use Rattle.st_back.specs.Undone.{state_with_words}
+use Rattle.st_back.proofs.Common.{◌≡◌, ◌+◌, ◌-◌, state_with_words}
 use Rattle.st_back.proofs.undoing.restore.Given as goal
 
 abbrev pub invariant-loop-k : goal.invariant-loop-k

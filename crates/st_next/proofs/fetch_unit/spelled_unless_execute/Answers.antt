@@ -1,5 +1,4 @@
-use Rattle.std.proofs.Common.{sym, ◌∙◌, ap}
-use Rattle.st_prep.specs.Reading.{is_execute}
+use Rattle.st_next.proofs.Common.{sym, ◌∙◌, ap, is_execute}
 use Rattle.st_next.proofs.fetch_unit.spelled_unless_execute.Goals as goal
 
 pub returns-clause-plain : goal.returns-clause-plain

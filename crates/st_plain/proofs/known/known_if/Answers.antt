@@ -1,7 +1,4 @@
-use Rattle.std.proofs.Common.{ap, ◌∙◌}
-use Rattle.st_prep.specs.declared.entries.Needs.{Needs}
-use Rattle.st_plain.specs.Looking.{side_at}
-use Rattle.st_plain.specs.declared.known.Known.{Known}
+use Rattle.st_plain.proofs.Common.{ap, ◌∙◌, Needs, side_at, Known}
 use Rattle.st_plain.proofs.known.known_if.Goals as goal
 
 pub returns-then-wanted-clause-side : goal.returns-then-wanted-clause-side

@@ -1,7 +1,6 @@
-use Rattle.std.proofs.Common.{ap}
-use Rattle.std.specs.Prelude.{Some, nat_lt}
+use Rattle.st_plain.proofs.Common.{ap, nat_lt, Code}
+use Rattle.std.specs.Prelude.{Some}
 use Rattle.st_plain.proofs.KnownLemmas.{known_with, known-following, known-anew}
-use Rattle.st_plain.specs.declared.known.Code.{Code}
 use Rattle.st_plain.proofs.known.known_of.Goals as goal
 
 pub returns-then-not-entry : goal.returns-then-not-entry

@@ -1,24 +1,4 @@
-use Rattle.std.proofs.Common.{◌≡◌, ◌<◌, length, None, refl, sym, subst, ◌∙◌, ap, arith}
-use Rattle.std.proofs.lemmas.List.{length_push}
-use Rattle.st_exec.specs.Completion.{predicted_state}
-use Rattle.st_state.specs.Machine.{Machine, IsMachine}
-use Rattle.st_prep.specs.Plan.{plan}
-use Rattle.st_prep.specs.declared.entries.Prepared.{Prepared}
-use Rattle.st_rows.specs.Asked.{formed_asked}
-use Rattle.st_rows.specs.Notes.{log_after_reads}
-use Rattle.st_rows.specs.Ranges.{IsEntryInTime}
-use Rattle.st_rows.specs.Rows.{row_of_entry, issue_after_entry, bus_a, tick_p, reads_of_entry}
-use Rattle.st_rows.specs.declared.entry.Entry.{Entry}
-use Rattle.st_rows.specs.declared.issue.IssueState.{IssueState}
-use Rattle.st_rows.specs.declared.issue.EntryTicks.{EntryTicks}
-use Rattle.st_rows.proofs.Tight.{later-c}
-use Rattle.st_rows.proofs.Within.{delays-are}
-use Rattle.st_segment.specs.Entries.{entry}
-use Rattle.arrayvec.specs.ArrayVec.{ArrayVec}
-use Rattle.st_plain.specs.Looking.{side_at, known_at}
-use Rattle.st_plain.specs.Uses.{uses_of_entry}
-use Rattle.st_plain.specs.declared.known.Known.{Known}
-use Rattle.st_rows.specs.declared.uses.Use.{Use}
+use Rattle.st_plain.proofs.Common.{◌≡◌, ◌<◌, length, None, refl, sym, subst, ◌∙◌, ap, arith, length_push, predicted_state, Machine, IsMachine, plan, Prepared, formed_asked, log_after_reads, IsEntryInTime, row_of_entry, issue_after_entry, bus_a, tick_p, reads_of_entry, Entry, IssueState, EntryTicks, later-c, delays-are, entry, ArrayVec, side_at, known_at, uses_of_entry, Known, Use}
 use Rattle.st_plain.specs.declared.looking.Ahead.{Ahead as SeenAhead}
 use Rattle.st_plain.proofs.LookLemmas.{prediction-counted, prediction-done, found-late, found-same, found-look, begun-here, begun-behind, bus-late, log-late, bus-look, log-look, first-next, some-more, row-p, after-c}
 use Rattle.st_plain.proofs.UseLemmas.{all-used}

@@ -1,9 +1,5 @@
-use Rattle.std.proofs.Common.{◌∙◌, ap, arith}
-use Rattle.st_rows.specs.Rows.{row_of_entry, issue_after_entry}
-use Rattle.st_rows.specs.declared.entry.Entry.{Entry}
-use Rattle.st_rows.proofs.Within.{delays-are}
+use Rattle.st_plain.proofs.Common.{◌∙◌, ap, arith, row_of_entry, issue_after_entry, Entry, delays-are, tight-after}
 use Rattle.st_rows.proofs.Stages.{c-within}
-use Rattle.st_rows.proofs.Tight.{tight-after}
 use Rattle.st_next.specs.declared.fetch_unit.FetchUnit.{FetchUnit}
 use Rattle.st_plain.proofs.RowLemmas.{after-passed}
 use Rattle.st_plain.proofs.rows.finish.Goals as goal

@@ -1,4 +1,4 @@
-use Rattle.std.proofs.Common.{arith}
+use Rattle.st_plain.proofs.Common.{arith}
 use Rattle.st_plain.proofs.SideLemmas.{there-read_by}
 use Rattle.st_plain.proofs.rows.side_there.Goals as goal
 

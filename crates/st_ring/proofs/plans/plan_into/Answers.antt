@@ -1,6 +1,4 @@
-use Rattle.std.proofs.Common.{ap}
-use Rattle.st_rows.specs.declared.issue.IssueState.{IssueState}
-use Rattle.st_ring.specs.PlannedRows.{planned_row}
+use Rattle.st_ring.proofs.Common.{ap, IssueState, planned_row}
 use Rattle.st_ring.proofs.plans.plan_into.Goals as goal
 
 pub returns : goal.returns

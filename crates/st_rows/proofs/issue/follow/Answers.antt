@@ -1,5 +1,4 @@
-use Rattle.std.proofs.Common.{◌+◌, ◌-◌, ◌^◌, ap, arith}
-use Rattle.st_bits.specs.Storage.{words_of_storage_is}
+use Rattle.st_rows.proofs.Common.{◌+◌, ◌-◌, ◌^◌, ap, arith, words_of_storage_is}
 use Rattle.st_rows.proofs.Within.{delays-are, request_inside-within}
 use Rattle.st_rows.proofs.Noted.{both-noted}
 use Rattle.st_rows.proofs.Telling.{told-both}

@@ -1,16 +1,9 @@
-use Rattle.std.proofs.Common.{◌≡◌, ◌+◌, ◌-◌, ◌^◌, ◌∙◌, ap, sym, subst, refl, arith}
-use Rattle.st_bits.specs.Storage.{words_of_storage_is}
-use Rattle.st_rows.specs.Asked.{operands_asked}
-use Rattle.st_rows.specs.Notes.{log_after_reads}
-use Rattle.st_rows.specs.Ranges.{IsReadingWithin}
-use Rattle.st_rows.specs.Words.{read_word, read_words}
+use Rattle.st_rows.proofs.Common.{◌≡◌, ◌+◌, ◌-◌, ◌^◌, ◌∙◌, ap, sym, subst, refl, arith, words_of_storage_is, operands_asked, log_after_reads, IsReadingWithin, read_word, read_words, Fetching, behind, uses, wishes}
 use Rattle.st_rows.proofs.Noted.{operand-one, operands-two}
 use Rattle.st_rows.proofs.Telling.{told-none, told-one, told-behind}
 use Rattle.st_rows.proofs.Turns.{read-turn, read-two}
 use Rattle.st_rows.proofs.Within.{delays-are, reading-weaker, read_word-within}
 use Rattle.st_rows.proofs.issue.read_run.Goals as goal
-use Rattle.st_rows.specs.declared.fetching.Fetching.{Fetching}
-use Rattle.st_rows.specs.Uses.{behind, uses, wishes}
 
 pub returns-then-run-eq0-clause-value : goal.returns-then-run-eq0-clause-value
 unfolding read_words behind uses wishes read_word

@@ -1,5 +1,4 @@
-use Rattle.std.specs.Prelude.{IfSome}
-use Rattle.std.proofs.Common.{ℕ, ◌≤◌, Option, subst}
+use Rattle.st_rows.proofs.Common.{IfSome, ℕ, ◌≤◌, Option, subst}
 use Rattle.st_rows.proofs.issue.side.Goals as goal
 
 pub latest_done-done-requires : goal.latest_done-done-requires

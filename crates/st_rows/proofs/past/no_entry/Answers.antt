@@ -1,6 +1,4 @@
-use Rattle.std.proofs.Common.{ap}
-use Rattle.st_rows.specs.declared.past.Done.{Done}
-use Rattle.st_rows.specs.declared.past.Past.{Past}
+use Rattle.st_rows.proofs.Common.{ap, Done, Past}
 use Rattle.st_rows.proofs.past.no_entry.Goals as goal
 
 pub returns : goal.returns

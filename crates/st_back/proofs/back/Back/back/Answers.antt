@@ -1,5 +1,4 @@
-use Rattle.std.proofs.Common.{sym, subst}
-use Rattle.st_back.specs.Steps.{Steps, steps, IsUndone}
+use Rattle.st_back.proofs.Common.{sym, subst, Steps, steps, IsUndone}
 use Rattle.st_back.proofs.RingLemmas.{back-made}
 use Rattle.st_back.proofs.back.Back.back.Goals as goal
 

@@ -1,5 +1,4 @@
-use Rattle.std.proofs.Common.{sym, subst}
-use Rattle.st_back.specs.Steps.{steps, AreStepsSound, step_at}
+use Rattle.st_back.proofs.Common.{sym, subst, steps, AreStepsSound, step_at}
 use Rattle.st_back.proofs.RingLemmas.{fresh-sound, pushed-sound}
 use Rattle.st_back.proofs.back.Back.keep.Goals as goal
 

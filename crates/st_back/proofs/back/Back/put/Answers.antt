@@ -1,6 +1,4 @@
-use Rattle.std.proofs.Common.{◌≤◌, sym, ◌∙◌, ap, subst}
-use Rattle.st_back.specs.Undone.{step_with_word}
-use Rattle.st_back.specs.Steps.{Steps, steps, newest_step, IsPut}
+use Rattle.st_back.proofs.Common.{◌≤◌, sym, ◌∙◌, ap, subst, step_with_word, Steps, steps, newest_step, IsPut}
 use Rattle.st_back.proofs.RingLemmas.{put-made, put-sound, room-of}
 use Rattle.st_back.proofs.back.Back.put.Goals as goal
 

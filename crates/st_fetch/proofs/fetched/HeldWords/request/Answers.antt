@@ -1,4 +1,4 @@
-use Rattle.std.proofs.Common.{rules}
+use Rattle.st_fetch.proofs.Common.{rules}
 use Rattle.st_fetch.proofs.Shifted.{shifted}
 use Rattle.st_fetch.proofs.fetched.HeldWords.request.Goals as goal
 

@@ -1,6 +1,4 @@
-use Rattle.std.proofs.Common.{List, ap, ◌∙◌}
-use Rattle.st_fetch.specs.HeldWords.{words_after_answer}
-use Rattle.st_fetch.specs.declared.held.Held.{Held}
+use Rattle.st_fetch.proofs.Common.{List, ap, ◌∙◌, words_after_answer, Held}
 use Rattle.st_fetch.proofs.OldestFirst.{oldest_first-answered}
 use Rattle.st_fetch.proofs.held.Hold.answer.Goals as goal
 

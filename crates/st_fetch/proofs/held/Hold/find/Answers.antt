@@ -1,5 +1,4 @@
-use Rattle.std.proofs.Common.{length, refl, ap, arith}
-use Rattle.st_fetch.specs.Planned.{oldest_first}
+use Rattle.st_fetch.proofs.Common.{length, refl, ap, arith, oldest_first}
 use Rattle.st_fetch.proofs.OldestFirst.{length-oldest_first, found-next}
 use Rattle.st_fetch.proofs.held.Hold.find.Goals as goal
 

@@ -1,6 +1,4 @@
-use Rattle.std.proofs.Common.{◌≡◌}
-use Rattle.st_fetch.specs.HeldWords.{found}
-use Rattle.st_fetch.specs.Planned.{oldest_first}
+use Rattle.st_fetch.proofs.Common.{◌≡◌, found, oldest_first}
 use Rattle.st_fetch.proofs.held.Hold.find.Given as goal
 
 -- the result of the search among the newest words so far

@@ -1,5 +1,4 @@
-use Rattle.std.specs.Option.{is_some}
-use Rattle.std.proofs.Common.{sym, ap, ◌∙◌}
+use Rattle.st_fetch.proofs.Common.{is_some, sym, ap, ◌∙◌}
 use Rattle.st_fetch.proofs.OldestFirst.{is_held-found}
 use Rattle.st_fetch.proofs.held.Hold.held.Goals as goal
 

@@ -1,6 +1,4 @@
-use Rattle.std.proofs.Common.{List, ap, ◌∙◌}
-use Rattle.st_fetch.specs.HeldWords.{words_after_request}
-use Rattle.st_fetch.specs.declared.held.Held.{Held}
+use Rattle.st_fetch.proofs.Common.{List, ap, ◌∙◌, words_after_request, Held}
 use Rattle.st_fetch.proofs.OldestFirst.{oldest_first-asked}
 use Rattle.st_fetch.proofs.held.Hold.request.Goals as goal
 

@@ -1,4 +1,4 @@
-use Rattle.std.proofs.Common.{length, sym, ap, ◌∙◌}
+use Rattle.st_fetch.proofs.Common.{length, sym, ap, ◌∙◌}
 use Rattle.st_fetch.proofs.Windows.{length-window}
 use Rattle.st_fetch.proofs.wants.Wants.len.Goals as goal
 

@@ -1,4 +1,4 @@
-use Rattle.std.proofs.Common.{◌<◌, drop, length, ap, ◌∙◌, arith}
+use Rattle.st_fetch.proofs.Common.{◌<◌, drop, length, ap, ◌∙◌, arith}
 use Rattle.st_fetch.proofs.Windows.{length-window, window-pop}
 use Rattle.st_fetch.proofs.wants.Wants.pop.Goals as goal
 

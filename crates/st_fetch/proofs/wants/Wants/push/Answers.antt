@@ -1,4 +1,4 @@
-use Rattle.std.proofs.Common.{◌∷◌, [], ◌++◌, ◌<◌, List, length, ap, ◌∙◌, arith}
+use Rattle.st_fetch.proofs.Common.{◌∷◌, [], ◌++◌, ◌<◌, List, length, ap, ◌∙◌, arith}
 use Rattle.st_fetch.specs.declared.wants.Want.{Want}
 use Rattle.st_fetch.proofs.Windows.{length-window, window-push}
 use Rattle.st_fetch.proofs.wants.Wants.push.Goals as goal

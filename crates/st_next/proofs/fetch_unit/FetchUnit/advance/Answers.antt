@@ -1,9 +1,5 @@
-use Rattle.std.proofs.Common.{◌+◌, ◌-◌, [], append-nil, subst, refl, sym, ◌∙◌, ap, arith}
-use Rattle.st_prep.specs.declared.entries.Fetching.TheVariants.{Next}
-use Rattle.st_next.specs.Going.{AdvancesTo, IsReadFurther, IsPreparedBy}
-use Rattle.st_rows.specs.Asked.{bus_after_reads}
-use Rattle.st_rows.specs.Notes.{log_after_reads}
-use Rattle.st_rows.proofs.Within.{delays-are}
+use Rattle.st_next.proofs.Common.{◌+◌, ◌-◌, [], subst, refl, sym, ◌∙◌, ap, arith, Next, AdvancesTo, IsReadFurther, IsPreparedBy, bus_after_reads, log_after_reads, delays-are}
+use Rattle.std.proofs.Common.{append-nil}
 use Rattle.st_next.specs.declared.fetch_unit.FetchUnit.{FetchUnit as Entry}
 use Rattle.st_next.proofs.Steps.{own-goes, target-goes, target-waits, prepared-goes}
 use Rattle.st_next.proofs.Asking.{known-words, known-early, known-place, own-above, target-above, own-asks, target-asks, own-tells, target-tells, further-nothing}

@@ -1,6 +1,4 @@
-use Rattle.std.proofs.Common.{refl, sym, ◌∙◌, ap, arith}
-use Rattle.st_prep.specs.declared.entries.Fetching.TheVariants.{Next}
-use Rattle.st_rows.proofs.Within.{delays-are}
+use Rattle.st_next.proofs.Common.{refl, sym, ◌∙◌, ap, arith, Next, delays-are}
 use Rattle.st_next.proofs.Steps.{own-goes}
 use Rattle.st_next.proofs.Asking.{known-early, known-place, own-above, own-asks, own-tells, further-nothing}
 use Rattle.st_next.proofs.fetch_unit.FetchUnit.begin.Goals as goal

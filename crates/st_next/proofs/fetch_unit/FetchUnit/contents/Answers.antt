@@ -1,5 +1,4 @@
-use Rattle.std.proofs.Common.{◌+◌, ◌∙◌, ap, arith}
-use Rattle.st_state.specs.Machine.{word}
+use Rattle.st_next.proofs.Common.{◌+◌, ◌∙◌, ap, arith, word}
 use Rattle.st_next.proofs.Starts.{take-map_four, length-first}
 use Rattle.st_next.proofs.fetch_unit.FetchUnit.contents.Goals as goal
 

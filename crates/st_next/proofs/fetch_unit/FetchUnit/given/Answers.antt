@@ -1,6 +1,5 @@
-use Rattle.std.proofs.Common.{List, ℕ, ◌+◌, ◌∙◌, ap, arith}
-use Rattle.st_state.specs.Machine.{word}
-use Rattle.st_prep.specs.Reading.{reading_at_place, left_after, fetching_of as given_of}
+use Rattle.st_next.proofs.Common.{List, ℕ, ◌+◌, ◌∙◌, ap, arith, word, reading_at_place, left_after}
+use Rattle.st_prep.specs.Reading.{fetching_of as given_of}
 use Rattle.st_next.proofs.Starts.{length-first, none-read, one-read}
 use Rattle.st_next.proofs.fetch_unit.FetchUnit.given.Goals as goal
 

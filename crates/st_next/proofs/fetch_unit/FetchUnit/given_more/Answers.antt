@@ -1,4 +1,4 @@
-use Rattle.std.proofs.Common.{arith}
+use Rattle.st_next.proofs.Common.{arith}
 use Rattle.st_next.proofs.fetch_unit.FetchUnit.given_more.Goals as goal
 
 pub overflow_add-self : goal.overflow_add-self

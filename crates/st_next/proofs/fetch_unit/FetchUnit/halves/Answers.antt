@@ -1,5 +1,4 @@
-use Rattle.std.proofs.Common.{◌≡◌, ◌+◌, ◌∙◌, sym, ap, arith}
-use Rattle.st_state.specs.Machine.{word}
+use Rattle.st_next.proofs.Common.{◌≡◌, ◌+◌, ◌∙◌, sym, ap, arith, word}
 use Rattle.st_next.proofs.Shown.{halves-found}
 use Rattle.st_next.proofs.Starts.{length-first, one-read, two-read, own-at}
 use Rattle.st_next.proofs.fetch_unit.FetchUnit.halves.Goals as goal

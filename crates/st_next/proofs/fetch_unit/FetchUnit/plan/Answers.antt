@@ -1,10 +1,4 @@
-use Rattle.std.proofs.Common.{refl, sym, ◌∙◌, ap, arith}
-use Rattle.st_rows.proofs.Within.{delays-are}
-use Rattle.st_segment.proofs.EntryRanges.{entry-ranges}
-use Rattle.st_next.specs.declared.fetch_unit.FetchUnit.{FetchUnit}
-use Rattle.st_prep.specs.declared.entries.Needs.{Needs}
-use Rattle.st_rows.specs.declared.entry.Entry.{Entry}
-use Rattle.st_segment.specs.Entries.{side_to_read}
+use Rattle.st_next.proofs.Common.{refl, sym, ◌∙◌, ap, arith, delays-are, entry-ranges, FetchUnit, Needs, Entry, side_to_read}
 use Rattle.st_next.proofs.Planning.{side-read, self-before, fresh-known, after-next, after-planned, after-known, after-ready, after-log, after-told}
 use Rattle.st_next.proofs.fetch_unit.FetchUnit.plan.Goals as goal
 

@@ -1,4 +1,4 @@
-use Rattle.std.proofs.Common.{refl, arith}
+use Rattle.st_next.proofs.Common.{refl, arith}
 use Rattle.st_next.proofs.Goes.{goes-then, goes-waits, known-then}
 use Rattle.st_next.proofs.Steps.{plan-goes}
 use Rattle.st_next.proofs.Asking.{known-seen, plan-words, plan-asks, plan-tells, further-then, further-nothing}

@@ -1,5 +1,4 @@
-use Rattle.std.proofs.Common.{refl, arith}
-use Rattle.st_next.specs.Going.{AdvancesTo}
+use Rattle.st_next.proofs.Common.{refl, arith, AdvancesTo}
 use Rattle.st_next.proofs.Goes.{goes-same, goes-then, goes-stop, known-then}
 use Rattle.st_next.proofs.Steps.{prepared-goes}
 use Rattle.st_next.proofs.Asking.{known-words, known-place, further-then, further-nothing, count-most}

@@ -1,6 +1,4 @@
-use Rattle.std.proofs.Common.{◌≡◌, ◌+◌, ◌-◌, false}
-use Rattle.st_next.specs.Going.{GoesOnTo, IsReadFurther}
-use Rattle.st_next.specs.Told.{IsToldFurther}
+use Rattle.st_next.proofs.Common.{◌≡◌, ◌+◌, ◌-◌, false, GoesOnTo, IsReadFurther, IsToldFurther}
 use Rattle.st_next.proofs.fetch_unit.FetchUnit.prepare_before.Given as goal
 
 -- the known facts of the entry stay true, and the reads so far are noted

@@ -1,4 +1,4 @@
-use Rattle.std.proofs.Common.{◌∙◌}
+use Rattle.st_next.proofs.Common.{◌∙◌}
 use Rattle.st_next.proofs.Steps.{shown-as}
 use Rattle.st_next.proofs.fetch_unit.FetchUnit.prepare_own.Goals as goal
 

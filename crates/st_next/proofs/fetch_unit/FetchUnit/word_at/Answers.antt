@@ -1,4 +1,4 @@
-use Rattle.std.proofs.Common.{◌+◌, sym, ◌∙◌, ap, arith}
+use Rattle.st_next.proofs.Common.{◌+◌, sym, ◌∙◌, ap, arith}
 use Rattle.st_next.proofs.Starts.{own-at, target-at}
 use Rattle.st_next.proofs.fetch_unit.FetchUnit.word_at.Goals as goal
 

@@ -1,12 +1,4 @@
-use Rattle.std.proofs.Common.{◌<◌, ◌≡◌, List, [], ◌∷◌, ◌++◌, length, All, sym, subst, ap, ◌∙◌, arith}
-use Rattle.std.proofs.lemmas.List.Elements.{All-push}
-use Rattle.st_prep.specs.SpeculativeChanges.{words_after}
-use Rattle.st_prep.specs.Ranges.{IsPrepared}
-use Rattle.st_ring.specs.declared.level.Level.{Level}
-use Rattle.st_segment.specs.Predictions.{predictions, table_behind}
-use Rattle.st_ring.specs.Levels.{LevelsView}
-use Rattle.st_ring.specs.PlannedRows.{planned_row}
-use Rattle.st_ring.specs.declared.plans.PlannedRow.{PlannedRow}
+use Rattle.st_ring.proofs.Common.{◌<◌, ◌≡◌, List, [], ◌∷◌, ◌++◌, length, All, sym, subst, ap, ◌∙◌, arith, All-push, words_after, IsPrepared, Level, predictions, table_behind, LevelsView, planned_row, PlannedRow}
 use Rattle.st_ring.proofs.PushLemmas.{pushed_level, pushed-level, push-ahead}
 use Rattle.st_ring.proofs.levels.Levels.push.Goals as goal
 

@@ -1,8 +1,4 @@
-use Rattle.std.proofs.Common.{List, refl, sym, subst, ap, ◌∙◌}
-use Rattle.st_prep.specs.Fetch.{index_words}
-use Rattle.st_ring.specs.declared.level.Level.{Level}
-use Rattle.st_ring.specs.Unwinding.{index_words_after, Kept}
-use Rattle.st_ring.specs.Levels.{LevelsView}
+use Rattle.st_ring.proofs.Common.{List, refl, sym, subst, ap, ◌∙◌, index_words, Level, index_words_after, Kept, LevelsView}
 use Rattle.st_ring.proofs.UndoLemmas.{levels-keep}
 use Rattle.st_ring.proofs.levels.Levels.undo.Goals as goal
 

@@ -1,6 +1,4 @@
-use Rattle.std.proofs.Common.{◌<◌, List, length, drop, ap, ◌∙◌, arith, rules}
-use Rattle.st_fetch.proofs.Windows.{length-window, window-pop}
-use Rattle.st_ring.specs.declared.plans.PlannedRow.{PlannedRow}
+use Rattle.st_ring.proofs.Common.{◌<◌, List, length, drop, ap, ◌∙◌, arith, rules, length-window, window-pop, PlannedRow}
 use Rattle.st_ring.proofs.plans.PlannedRowRing.drop_first.Goals as goal
 
 pub returns-clause-rows : goal.returns-clause-rows

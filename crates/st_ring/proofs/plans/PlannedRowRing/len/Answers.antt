@@ -1,5 +1,4 @@
-use Rattle.std.proofs.Common.{length, sym, ap, ◌∙◌, arith}
-use Rattle.st_fetch.proofs.Windows.{length-window}
+use Rattle.st_ring.proofs.Common.{length, sym, ap, ◌∙◌, arith, length-window}
 use Rattle.st_ring.proofs.plans.PlannedRowRing.len.Goals as goal
 
 pub returns-clause-value : goal.returns-clause-value

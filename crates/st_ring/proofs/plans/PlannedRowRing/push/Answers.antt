@@ -1,6 +1,4 @@
-use Rattle.std.proofs.Common.{◌<◌, List, [], ◌∷◌, ◌++◌, length, ap, ap₂, ◌∙◌, arith, rules}
-use Rattle.st_fetch.proofs.Windows.{length-window, window-push}
-use Rattle.st_ring.specs.declared.plans.PlannedRow.{PlannedRow}
+use Rattle.st_ring.proofs.Common.{◌<◌, List, [], ◌∷◌, ◌++◌, length, ap, ap₂, ◌∙◌, arith, rules, length-window, window-push, PlannedRow}
 use Rattle.st_ring.proofs.plans.PlannedRowRing.push.Goals as goal
 
 -- the row is written after the youngest one

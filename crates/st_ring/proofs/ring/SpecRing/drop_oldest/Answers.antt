@@ -1,6 +1,4 @@
-use Rattle.std.proofs.Common.{◌<◌, List, length, drop, ap, ◌∙◌, arith, rules}
-use Rattle.st_fetch.proofs.Windows.{length-window, window-pop}
-use Rattle.st_ring.specs.declared.level.Level.{Level}
+use Rattle.st_ring.proofs.Common.{◌<◌, List, length, drop, ap, ◌∙◌, arith, rules, length-window, window-pop, Level}
 use Rattle.st_ring.proofs.ring.SpecRing.drop_oldest.Goals as goal
 
 pub returns-clause-levels : goal.returns-clause-levels

@@ -1,9 +1,4 @@
-use Rattle.std.proofs.Common.{◌≡◌, ◌<◌, ◌+◌, ◌%◌, List, length, get_or, set, ap, sym, ◌∙◌, arith, rules}
-use Rattle.std.proofs.lemmas.List.{get_or_default}
-use Rattle.std.proofs.lemmas.Option.{get_or_from_slice_get}
-use Rattle.st_fetch.proofs.Windows.{length-window, window-set, get_or-window}
-use Rattle.st_ring.specs.declared.level.Level.{Level}
-use Rattle.st_ring.specs.OneLevel.{level_with_word}
+use Rattle.st_ring.proofs.Common.{◌≡◌, ◌<◌, ◌+◌, ◌%◌, List, length, get_or, set, ap, sym, ◌∙◌, arith, rules, get_or_default, get_or_from_slice_get, length-window, window-set, get_or-window, Level, level_with_word}
 use Rattle.st_ring.proofs.ring.SpecRing.fill.Goals as goal
 
 pub returns-clause-levels : goal.returns-clause-levels

@@ -1,6 +1,4 @@
-use Rattle.std.proofs.Common.{◌<◌, ◌∷◌, List, length, drop, get_or, ap, sym, ◌∙◌, arith, rules}
-use Rattle.st_fetch.proofs.Windows.{length-window, window-oldest}
-use Rattle.st_ring.specs.declared.level.Level.{Level}
+use Rattle.st_ring.proofs.Common.{◌<◌, ◌∷◌, List, length, drop, get_or, ap, sym, ◌∙◌, arith, rules, length-window, window-oldest, Level}
 use Rattle.st_ring.proofs.ring.SpecRing.oldest.Goals as goal
 
 pub returns-clause-level : goal.returns-clause-level

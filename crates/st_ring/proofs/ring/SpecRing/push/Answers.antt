@@ -1,6 +1,4 @@
-use Rattle.std.proofs.Common.{◌<◌, List, [], ◌∷◌, ◌++◌, length, ap, ◌∙◌, arith, rules}
-use Rattle.st_fetch.proofs.Windows.{length-window, window-push}
-use Rattle.st_ring.specs.declared.level.Level.{Level}
+use Rattle.st_ring.proofs.Common.{◌<◌, List, [], ◌∷◌, ◌++◌, length, ap, ◌∙◌, arith, rules, length-window, window-push, Level}
 use Rattle.st_ring.proofs.ring.SpecRing.push.Goals as goal
 
 -- the level is written after the youngest one

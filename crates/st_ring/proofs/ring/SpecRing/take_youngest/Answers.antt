@@ -1,6 +1,5 @@
-use Rattle.std.proofs.Common.{◌≡◌, ◌+◌, ◌-◌, ap, sym, ◌∙◌, arith, rules}
+use Rattle.st_ring.proofs.Common.{◌≡◌, ◌+◌, ◌-◌, ap, sym, ◌∙◌, arith, rules, window-youngest}
 use Rattle.st_fetch.specs.Queue.{window}
-use Rattle.st_fetch.proofs.Windows.{window-youngest}
 use Rattle.st_ring.proofs.ring.SpecRing.take_youngest.Goals as goal
 
 pub returns-clause-level : goal.returns-clause-level

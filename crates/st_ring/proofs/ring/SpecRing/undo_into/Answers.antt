@@ -1,6 +1,4 @@
-use Rattle.std.proofs.Common.{List, ℕ, ap, sym, ◌∙◌}
-use Rattle.st_ring.specs.declared.level.Level.{Level}
-use Rattle.st_ring.specs.Unwinding.{unwound}
+use Rattle.st_ring.proofs.Common.{List, ℕ, ap, sym, ◌∙◌, Level, unwound}
 use Rattle.st_ring.proofs.Unwindings.{unwound-youngest, unwound-nothing, made-undone}
 use Rattle.st_ring.proofs.ring.SpecRing.undo_into.Goals as goal
 

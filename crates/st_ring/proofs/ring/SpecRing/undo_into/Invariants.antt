@@ -1,5 +1,4 @@
-use Rattle.std.proofs.Common.{◌≡◌, length}
-use Rattle.st_ring.specs.Unwinding.{unwound}
+use Rattle.st_ring.proofs.Common.{◌≡◌, length, unwound}
 use Rattle.st_ring.proofs.ring.SpecRing.undo_into.Given as goal
 
 abbrev pub invariant-levels : goal.invariant-levels

@@ -1,14 +1,9 @@
-use Rattle.std.proofs.Common.{◌≡◌, ◌+◌, ◌-◌, ◌*◌, ◌^◌, ◌∙◌, sym, subst, arith}
-use Rattle.st_bits.specs.Storage.{words_of_storage_is}
-use Rattle.st_rows.specs.Asked.{operands_asked}
-use Rattle.st_rows.specs.Notes.{log_after_reads}
-use Rattle.st_rows.specs.Ranges.{IsReadingWithin}
+use Rattle.st_rows.proofs.Common.{◌≡◌, ◌+◌, ◌-◌, ◌*◌, ◌^◌, ◌∙◌, sym, subst, arith, words_of_storage_is, operands_asked, log_after_reads, IsReadingWithin, Fetching}
 use Rattle.st_rows.proofs.Noted.{operand-turn}
 use Rattle.st_rows.proofs.Telling.{told-turn, told-none}
 use Rattle.st_rows.proofs.Turns.{read-turn}
 use Rattle.st_rows.proofs.Within.{delays-are, past-weaker, reading-weaker, read_word-within}
 use Rattle.st_rows.proofs.fetching.Fetching.read_on.Goals as goal
-use Rattle.st_rows.specs.declared.fetching.Fetching.{Fetching}
 
 pub overflow_add-w : goal.overflow_add-w
 overflow_add-w g c = omega (arith, words_of_storage_is, c.words.invariant.inside (omega arith))

@@ -1,12 +1,4 @@
-use Rattle.std.proofs.Common.{◌≡◌, ◌+◌, ◌-◌, ◌*◌, ◌^◌, ◌≤◌}
-use Rattle.st_bits.specs.Storage.{words_of_storage}
-use Rattle.st_rows.specs.Asked.{operands_asked}
-use Rattle.st_rows.specs.Notes.{log_after_reads}
-use Rattle.st_rows.specs.Ranges.{IsReadingWithin}
-use Rattle.st_rows.specs.Supplies.{told}
-use Rattle.st_rows.specs.Uses.{uses, wishes, words_of}
-use Rattle.st_rows.specs.Words.{read_words}
-use Rattle.st_rows.specs.declared.uses.Role.TheVariants.{Operand}
+use Rattle.st_rows.proofs.Common.{◌≡◌, ◌+◌, ◌-◌, ◌*◌, ◌^◌, ◌≤◌, words_of_storage, operands_asked, log_after_reads, IsReadingWithin, told, uses, wishes, words_of, read_words, Operand}
 use Rattle.st_rows.proofs.fetching.Fetching.read_on.Given as goal
 
 -- the remaining words have the effect here that all words have on the first state; there is time for each

@@ -1,21 +1,10 @@
-use Rattle.std.proofs.Common.{◌≡◌, ℕ, ◌+◌, ◌-◌, ◌*◌, ◌^◌, List, [], ◌++◌, refl, sym, subst, ap, ap₂, ◌∙◌, arith}
-use Rattle.st_rows.specs.Asked.{runs_asked, following_asked, prepared_asked}
-use Rattle.st_rows.specs.Notes.{log_after_reads}
-use Rattle.st_rows.specs.Ranges.{IsReadingWithin}
-use Rattle.st_rows.specs.Rows.{bus_a, tick_p, first_uses, second_uses, operands, following_uses, tick_c, row_of_entry, issue_after_entry}
-use Rattle.st_rows.specs.Supplies.{told}
-use Rattle.st_rows.specs.Words.{operands_read, read_words, bus_after_prefetch}
-use Rattle.st_rows.specs.declared.bus.Bus.{Bus}
-use Rattle.st_rows.specs.declared.entry.Entry.{Entry}
-use Rattle.st_rows.specs.declared.issue.IssueState.{IssueState}
-use Rattle.st_rows.specs.declared.log.Made.{Made}
+use Rattle.st_rows.proofs.Common.{◌≡◌, ℕ, ◌+◌, ◌-◌, ◌*◌, ◌^◌, List, [], ◌++◌, refl, sym, subst, ap, ap₂, ◌∙◌, arith, runs_asked, following_asked, prepared_asked, log_after_reads, IsReadingWithin, bus_a, tick_p, first_uses, second_uses, operands, following_uses, tick_c, row_of_entry, issue_after_entry, told, register_uses, operands_read, read_words, bus_after_prefetch, Bus, Entry, IssueState, Made, Fetching}
 use Rattle.st_rows.proofs.Within.{delays-are, bus-weaker}
 use Rattle.st_rows.proofs.Noted.{noted-two}
 use Rattle.st_rows.proofs.Telling.{told-two}
 use Rattle.st_rows.proofs.Served.{served-runs}
 use Rattle.st_rows.proofs.Stages.{bus_a-within, p-within, operands_of-within}
 use Rattle.st_rows.proofs.issue.IssueState.fill.Goals as goal
-use Rattle.st_rows.specs.declared.fetching.Fetching.{Fetching}
 
 -- the reads from preparation on are those of the operands
 all-read : (ds : List ℕ) (n : ℕ) (f : IssueState) (e : Entry) (s : Fetching) (b : Bus) (p : ℕ) → s ≡ operands_read ds f.past (record { bus = b; answered = p; awaited = 0 }) e.reads p → b ≡ bus_a ds f e
@@ -105,6 +94,9 @@ returns-clause-told g c =
     let n = c.args.next.now.timing.now.levels in
     let f = c.args.self.now in
     let e = c.args.next.now.entry.now in
-    told-two g.W.Watch.noted g.met.W.Watch.noted_more (told ds f.past (first_uses ds n f e) ++ told ds f.past (second_uses ds n f e)) (told ds [] (following_uses ds n f e)) c.args.watch.now c.read_operands-fills.new.watch c.follow.new.watch
+    let x = c.args.next.now.registers in
+    told-two g.W.Watch.noted g.met.W.Watch.noted_more
+    ((register_uses x.one.first x.one.len ++ told ds f.past (first_uses ds n f e)) ++ (register_uses x.two.first x.two.len ++ told ds f.past (second_uses ds n f e)))
+    (told ds [] (following_uses ds n f e)) c.args.watch.now c.read_operands-fills.new.watch c.follow.new.watch
     (c.read_operands-fills.ensures.told ∙ rw (c.requires.bus, c.requires.tick) refl)
     (c.follow.ensures.told ∙ rw (ap (λ (s : Fetching). s.bus) reads, c.requires.tick) refl)

@@ -1,11 +1,7 @@
-use Rattle.std.proofs.Common.{◌+◌, ◌-◌, ◌*◌, ◌^◌, ap, ◌∙◌, refl, arith}
-use Rattle.st_rows.specs.Ranges.{IsBusWithin}
-use Rattle.st_rows.specs.Rows.{address_tick, tick_a, bus_a, index_arrival, tick_p}
-use Rattle.st_rows.specs.declared.fetching.Fetching.{Fetching}
+use Rattle.st_rows.proofs.Common.{◌+◌, ◌-◌, ◌*◌, ◌^◌, ap, ◌∙◌, refl, arith, IsBusWithin, address_tick, tick_a, bus_a, index_arrival, tick_p, Fetching, bus_after_index_read, side_there}
 use Rattle.st_rows.proofs.Within.{delays-are, past-weaker, bus-weaker, fetching-weaker}
 use Rattle.st_rows.proofs.Stages.{side-above, fetched-within, side-within}
 use Rattle.st_rows.proofs.issue.IssueState.form.Goals as goal
-use Rattle.st_rows.specs.Words.{bus_after_index_read, side_there}
 
 pub address-a-requires-clause-room : goal.address-a-requires-clause-room
 address-a-requires-clause-room g c =

@@ -1,5 +1,4 @@
-use Rattle.std.proofs.Common.{refl}
-use Rattle.st_rows.specs.Rows.{row_of_entry, issue_after_entry}
+use Rattle.st_rows.proofs.Common.{refl, row_of_entry, issue_after_entry}
 use Rattle.st_rows.proofs.issue.IssueState.pass.Goals as goal
 
 pub returns : goal.returns

@@ -1,7 +1,4 @@
-use Rattle.std.proofs.Common.{◌≡◌, ◌+◌, ◌-◌, ◌%◌, List, ◌∷◌, take, set, ap, sym, ◌∙◌, arith}
-use Rattle.st_fetch.specs.Queue.{window}
-use Rattle.st_fetch.proofs.Windows.{length-window}
-use Rattle.st_rows.specs.declared.log.Made.{Made}
+use Rattle.st_rows.proofs.Common.{◌≡◌, ◌+◌, ◌-◌, ◌%◌, List, ◌∷◌, take, set, ap, sym, ◌∙◌, arith, window, length-window, Made}
 use Rattle.st_rows.proofs.NoteLemmas.{window-issue, window-full, take-few}
 use Rattle.st_rows.proofs.log.Log.put.Goals as goal
 

@@ -1,8 +1,4 @@
-use Rattle.std.proofs.Common.{◌<◌, List, ◌∷◌, slice_index_or, ap, sym, subst, ◌∙◌, arith}
-use Rattle.st_fetch.specs.Queue.{window}
-use Rattle.st_fetch.proofs.Windows.{window-oldest, window-pop}
-use Rattle.st_rows.specs.Notes.{AreSettled}
-use Rattle.st_rows.specs.declared.log.Made.{Made}
+use Rattle.st_rows.proofs.Common.{◌<◌, List, ◌∷◌, slice_index_or, ap, sym, subst, ◌∙◌, arith, window, window-oldest, window-pop, AreSettled, Made}
 use Rattle.st_rows.proofs.log.Log.take_late.Goals as goal
 
 pub returns : goal.returns

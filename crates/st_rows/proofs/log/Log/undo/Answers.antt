@@ -1,6 +1,4 @@
-use Rattle.std.proofs.Common.{List, ap, sym, ◌∙◌}
-use Rattle.st_rows.specs.Notes.{answers_left}
-use Rattle.st_rows.specs.declared.log.Made.{Made}
+use Rattle.st_rows.proofs.Common.{List, ap, sym, ◌∙◌, answers_left, Made}
 use Rattle.st_rows.proofs.NoteLemmas.{undone-late, undone-settled}
 use Rattle.st_rows.proofs.log.Log.undo.Goals as goal
 

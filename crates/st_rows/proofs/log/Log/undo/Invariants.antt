@@ -1,5 +1,4 @@
-use Rattle.std.proofs.Common.{◌≡◌, length}
-use Rattle.st_rows.specs.Notes.{answers_left}
+use Rattle.st_rows.proofs.Common.{◌≡◌, length, answers_left}
 use Rattle.st_rows.proofs.log.Log.undo.Given as goal
 
 -- undoing the remaining reads gives the effect of undoing all

@@ -1,8 +1,4 @@
-use Rattle.std.proofs.Common.{◌≡◌, ◌+◌, ◌-◌, ◌%◌, get_or, ap, ◌∙◌, arith}
-use Rattle.std.proofs.lemmas.List.{get_or_default}
-use Rattle.st_rows.specs.Entries.{no_entry}
-use Rattle.st_rows.specs.Rows.{done_before}
-use Rattle.st_rows.specs.declared.past.Done.{Done}
+use Rattle.st_rows.proofs.Common.{◌≡◌, ◌+◌, ◌-◌, ◌%◌, get_or, ap, ◌∙◌, arith, get_or_default, no_entry, done_before, Done}
 use Rattle.st_rows.proofs.Places.{count-places, tick-at}
 use Rattle.st_rows.proofs.past.LastEntries.done_before.Goals as goal
 

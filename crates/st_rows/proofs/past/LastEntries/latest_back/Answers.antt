@@ -1,9 +1,5 @@
-use Rattle.std.proofs.Common.{◌<◌, ap, sym, ◌∙◌, subst, arith}
-use Rattle.std.specs.Int.{trailing_zeros, w64}
+use Rattle.st_rows.proofs.Common.{◌<◌, ap, sym, ◌∙◌, subst, arith, trailing_zeros, w64, is_among, entries_in, writer_back, window}
 use Rattle.st_rows.proofs.Places.{count, words-at}
-use Rattle.st_rows.specs.Entries.{is_among, entries_in}
-use Rattle.st_rows.specs.Supplies.{writer_back}
-use Rattle.st_fetch.specs.Queue.{window}
 use Rattle.st_rows.proofs.Writers.{IsLeft, all-left, none-back, newest-inside, newest-some, newest-back, fewer-left, next-left}
 use Rattle.st_rows.proofs.past.LastEntries.latest_back.Goals as goal
 

@@ -1,6 +1,4 @@
-use Rattle.std.proofs.Common.{ap, sym, ◌∙◌}
-use Rattle.st_rows.specs.Entries.{latest_done, entries_in}
-use Rattle.st_fetch.specs.Queue.{window}
+use Rattle.st_rows.proofs.Common.{ap, sym, ◌∙◌, latest_done, entries_in, window}
 use Rattle.st_rows.proofs.Writers.{latest-unwritten}
 use Rattle.st_rows.proofs.past.LastEntries.latest_done.Goals as goal
 

@@ -1,8 +1,5 @@
-use Rattle.std.proofs.Common.{◌<◌, ap, sym, ◌∙◌, subst, arith}
-use Rattle.std.specs.Int.{trailing_zeros, w64}
+use Rattle.st_rows.proofs.Common.{◌<◌, ap, sym, ◌∙◌, subst, arith, trailing_zeros, w64, latest_done, is_among, entries_in, window}
 use Rattle.st_rows.proofs.Places.{count, words-at, tick-at}
-use Rattle.st_rows.specs.Entries.{latest_done, is_among, entries_in}
-use Rattle.st_fetch.specs.Queue.{window}
 use Rattle.st_rows.proofs.Writers.{IsLeft, all-left, none-left, newest-inside, newest-some, newest-writes, fewer-left, next-left}
 use Rattle.st_rows.proofs.past.LastEntries.latest_writer.Goals as goal
 

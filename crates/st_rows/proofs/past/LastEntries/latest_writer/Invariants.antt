@@ -1,5 +1,4 @@
-use Rattle.st_fetch.specs.Queue.{window}
-use Rattle.st_rows.specs.Entries.{entries_in}
+use Rattle.st_rows.proofs.Common.{window, entries_in}
 use Rattle.st_rows.proofs.Writers.{IsLeft}
 use Rattle.st_rows.proofs.past.LastEntries.latest_writer.Given as goal
 

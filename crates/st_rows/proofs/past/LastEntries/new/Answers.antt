@@ -1,7 +1,4 @@
-use Rattle.std.proofs.Common.{◌≡◌, false, refl, arith}
-use Rattle.std.proofs.lemmas.List.Elements.{All-replicate}
-use Rattle.st_rows.specs.Entries.{no_runs, is_among, writer_bits}
-use Rattle.st_rows.specs.declared.past.Past.{Past}
+use Rattle.st_rows.proofs.Common.{◌≡◌, false, refl, arith, All-replicate, no_runs, is_among, writer_bits, Past}
 use Rattle.st_rows.proofs.Places.{none-written}
 use Rattle.st_rows.proofs.Writers.{silent-runs}
 use Rattle.st_rows.proofs.past.LastEntries.new.Goals as goal

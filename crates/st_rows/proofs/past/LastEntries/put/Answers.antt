@@ -1,7 +1,4 @@
-use Rattle.std.proofs.Common.{◌∷◌, ◌+◌, ◌-◌, ◌%◌, List, take, length, length-set, ap, ◌∙◌, arith}
-use Rattle.st_rows.specs.declared.past.Past.{Past}
-use Rattle.st_rows.specs.Entries.{entries_in}
-use Rattle.st_fetch.specs.Queue.{window}
+use Rattle.st_rows.proofs.Common.{◌∷◌, ◌+◌, ◌-◌, ◌%◌, List, take, length, length-set, ap, ◌∙◌, arith, Past, entries_in, window}
 use Rattle.st_rows.proofs.Places.{count, entries-put, ticks-put, words-put}
 use Rattle.st_rows.proofs.Shifted.{bits-shifted, window-put}
 use Rattle.st_rows.proofs.Writers.{unwritten-put}

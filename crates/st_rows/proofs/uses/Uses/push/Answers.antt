@@ -1,8 +1,6 @@
-use Rattle.std.proofs.Common.{◌≡◌, ℕ, ◌+◌, ◌<◌, ◌≤◌, List, [], ◌∷◌, ◌++◌, length, take, set, sym, ap, ◌∙◌, length-append, arith}
-use Rattle.std.proofs.lemmas.List.{length-take-le, take_all, take-append-le, take_more_set}
+use Rattle.st_rows.proofs.Common.{◌≡◌, ℕ, ◌+◌, ◌<◌, ◌≤◌, List, [], ◌∷◌, ◌++◌, length, take, set, sym, ap, ◌∙◌, length-append, arith, length-take-le, take_all, take-append-le, take_more_set, Use}
 use Rattle.arrayvec.specs.ArrayVec.{ArrayVec}
 use Rattle.st_rows.specs.KeptUses.{uses_with}
-use Rattle.st_rows.specs.declared.uses.Use.{Use}
 use Rattle.st_rows.proofs.uses.Uses.push.Goals as goal
 
 abbrev listed : List Use → ArrayVec Use

@@ -1,0 +1,10 @@
+use Rattle.st_plain.proofs.Common.{MatchResult, ◌≢◌, List, ℕ, length, take, drop, Bor, subst, ap, ◌∙◌, index_words}
+use Rattle.std.specs.Array.{IsWholeChunk}
+use Rattle.st_plain.proofs.rows.index_words_in.Goals as goal
+
+pub returns : goal.returns
+unfolding index_words
+returns c =
+    let there = take 16 (drop 16 c.words-words.result.now) in
+    (subst (λ r. MatchResult r (λ (x : Bor (List ℕ)). IsWholeChunk there x.now 16) (λ _. length there ≢ 16)) c.unwrap.ensures c.try_from.ensures.1).same
+    ∙ ap (λ ws. take 16 (drop 16 ws)) c.words-words.ensures.words
