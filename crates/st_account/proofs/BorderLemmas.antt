@@ -1,36 +1,7 @@
 -- Lemmas on the lines between two segments, and on the issue state after them.
-use Rattle.std.specs.Prelude.{Bool, if◌then◌else◌, nat_eq, ◌||◌, is_some, map}
-use Rattle.std.proofs.Common.{◌≡◌, ◌≢◌, ℕ, zero, suc, ◌+◌, true, false, List, [], ◌∷◌, ◌++◌, length, Option, None, Some, refl, sym, ◌∙◌, ap, arith}
-use Rattle.std.proofs.lemmas.List.{length-map}
-use Rattle.st_bits.specs.Storage.{words_of_storage}
-use Rattle.st_banks.specs.declared.answers.LastAnswers.{LastAnswers}
-use Rattle.st_state.specs.Machine.{Machine}
-use Rattle.st_exec.specs.Step.{rests, interrupt}
-use Rattle.st_rows.specs.Rows.{opening_issue}
-use Rattle.st_rows.specs.declared.issue.IssueState.{IssueState}
-use Rattle.st_report.specs.Line.{ic_line, end_line as run_end_line, done_line, ticks_line}
-use Rattle.st_run.specs.Moments.{Moment, next_state, has_card, has_waited, ends_segment, next_issue}
-use Rattle.st_run.proofs.DoneLemmas.{settled-done}
+use Rattle.st_account.proofs.Common.{Bool, if◌then◌else◌, nat_eq, ◌||◌, is_some, map, ◌≡◌, ◌≢◌, ℕ, zero, suc, ◌+◌, true, false, List, [], ◌∷◌, ◌++◌, length, Option, None, Some, refl, sym, ◌∙◌, ap, arith, length-map, words_of_storage, LastAnswers, Machine, rests, interrupt, opening_issue, IssueState, ic_line, done_line, ticks_line, Moment, next_state, has_card, has_waited, ends_segment, next_issue, settled-done, seen_ahead, Use, Account, Last, Why, RowTelling, Border, Origin, Origins, origin_at, Run, start_line, Crosses, Position, kept_lines, IsBehindMoment, end-same, segment_end_lines, taken_by, en_lines, prints_lines, words_lines, marks_lines, state_lines, why_after, dropped_at_end, begins_segment, run_ends, segment_ends, segment_end_at, begun_at, state_lines_at, words_behind, why_by, why, segment_lines, segment_after, words_before, last_lines}
+use Rattle.st_report.specs.Line.{end_line as run_end_line}
 use Rattle.st_plain.specs.declared.looking.Ahead.{Ahead}
-use Rattle.st_plain.specs.Looking.{seen_ahead}
-use Rattle.st_rows.specs.declared.uses.Use.{Use}
-use Rattle.st_card.specs.declared.control_cards.Signal.{Signal}
-use Rattle.st_run.specs.Run.{Scene}
-use Rattle.st_account.specs.declared.account.Account.{Account}
-use Rattle.st_account.specs.declared.last.Last.{Last}
-use Rattle.st_lines.specs.declared.lines.Why.{Why}
-use Rattle.st_lines.specs.declared.waits.RowTelling.{RowTelling}
-use Rattle.st_lines.specs.declared.writing.Border.{Border}
-use Rattle.st_lines.specs.declared.origins.Origin.{Origin}
-use Rattle.st_lines.specs.declared.origins.Origins.{Origins}
-use Rattle.st_lines.specs.Origins.{origin_at}
-use Rattle.st_lines.specs.declared.lines.Why.TheVariants.{Run}
-use Rattle.st_lines.specs.Lines.{start_line}
-use Rattle.st_account.specs.Standing.{kept_lines, IsBehindMoment}
-use Rattle.st_lines.proofs.LineLemmas.{end-same}
-use Rattle.st_lines.specs.BorderLines.{segment_end_lines, taken_by, en_lines, prints_lines, words_lines, marks_lines, state_lines}
-use Rattle.st_account.specs.LedgerTables.{why_after, dropped_at_end}
-use Rattle.st_account.specs.Text.{begins_segment, run_ends, segment_ends, segment_end_at, begun_at, state_lines_at, words_behind, why_by, why, segment_lines, segment_after, words_before, last_lines}
 
 choice-lines : (b : Bool) (xs ys : List (List ℕ)) → (b ≡ true → xs ≡ ys) → (if b then xs else []) ≡ (if b then ys else [])
 choice-lines true xs ys same = same refl
@@ -73,15 +44,15 @@ either-ends false b on = on
 pub ends-by : (left : ℕ) (m : Moment) → ends_segment m ≡ true → segment_ends left m ≡ true
 ends-by left m on = either-ends (run_ends left m) (ends_segment m) on
 
-pub border-of : (ds : List ℕ) (n left : ℕ) (b : Machine) (m : Moment) (a : Account) (xs : List Signal) (cards : List (List ℕ))
-    → IsBehindMoment ds n left b m a xs cards → IsBorder ds n m a.state a.last a.behind.ahead.found.items a.behind.banks a.behind.card a.behind.waited
-border-of ds n left b m a xs cards h = record {
+pub border-of : (p : Position) (a : Account)
+    → IsBehindMoment p a → IsBorder p.delays p.levels p.moment a.state a.last a.behind.ahead.found.items a.behind.banks a.behind.card a.behind.waited
+border-of p a h = record {
   tick = h.tick;
   issue = h.issue;
   mispredicted = h.mispredicted;
-  dropped = λ on. h.dropped (ends-by left m on);
-  banks = λ on. h.banks (ends-by left m on);
-  state = ap (λ (c : Scene). c.machine) h.scene;
+  dropped = λ on. h.dropped (ends-by p.left p.moment on);
+  banks = λ on. h.banks (ends-by p.left p.moment on);
+  state = h.state;
   card = h.card;
   waited = h.waited;
 }
@@ -166,95 +137,87 @@ border_text table x k tick i printed was old s found begun =
     ((if x.ends then segment_end_lines (origin_at table s) k tick i found begun else []) ++ state_lines printed k was old s x.taken x.done)
     ++ (if x.begins then start_line (k + 1) x.start x.waited x.why ∷ [] else [])
 
-module _ (ds : List ℕ) (n left : ℕ) (b : Machine) (m : Moment) (a : Account) (xs : List Signal) (cards : List (List ℕ))
-    (is : IsBehindMoment ds n left b m a xs cards) (o : Account) (x : Border) (opened : o ≡ record a { last = o.last; k = o.k })
-    (border : x ≡ record {
-      ends = x.ends;
-      begins = x.begins;
-      start = o.last.issue.c;
-      waited = a.behind.waited;
-      why = if nat_eq a.k 0 then Run else why_by (interrupt a.state) a.last.done.mispredicted;
-      taken = interrupt a.state;
-      done = a.state.done;
-    })
-    (ends : x.ends ≡ (a.last.done.mispredicted || a.behind.card || a.behind.waited || is_some (interrupt a.state)))
-    (begins : x.begins ≡ (nat_eq a.k 0 || x.ends)) where
-  at : IsBorder ds n m a.state a.last a.behind.ahead.found.items a.behind.banks a.behind.card a.behind.waited
-  at = border-of ds n left b m a xs cards is
+module _ (p : Position) (a : Account) (is : IsBehindMoment p a) (o : Account) (x : Border) (crosses : Crosses a o x) where
+  at : IsBorder p.delays p.levels p.moment a.state a.last a.behind.ahead.found.items a.behind.banks a.behind.card a.behind.waited
+  at = border-of p a is
 
-  here : x.ends ≡ ends_segment m
-  here = ends-is ds n m a.state a.last a.behind.ahead.found.items a.behind.banks a.behind.card a.behind.waited at (interrupt a.state) x.ends refl ends
+  here : x.ends ≡ ends_segment p.moment
+  here = ends-is p.delays p.levels p.moment a.state a.last a.behind.ahead.found.items a.behind.banks a.behind.card a.behind.waited at (interrupt a.state) x.ends refl crosses.border.ends
 
-  pub segment-is : o.k ≡ (if x.begins then a.k + 1 else a.k) → o.k ≡ segment_after a.k m
-  segment-is is_number =
-      is_number
-      ∙ after-is ds n m a.state a.last a.behind.ahead.found.items a.behind.banks a.behind.card a.behind.waited at (interrupt a.state) x.ends refl ends a.k x.begins begins
+  pub segment-is : o.k ≡ segment_after a.k p.moment
+  segment-is =
+      crosses.segment
+      ∙ after-is p.delays p.levels p.moment a.state a.last a.behind.ahead.found.items a.behind.banks a.behind.card a.behind.waited at (interrupt a.state) x.ends refl crosses.border.ends a.k x.begins crosses.border.begins
 
   -- why the segment of the next entry begins
-  pub why-is : (w y : Why) → y ≡ (if x.begins then x.why else w) → y ≡ why_after a.k w m
+  pub why-is : (w y : Why) → y ≡ (if x.begins then x.why else w) → y ≡ why_after a.k w p.moment
   unfolding why
   why-is w y is_why =
       is_why
-      ∙ ap (λ (z : Border). if x.begins then z.why else w) border
+      ∙ ap (λ (z : Border). if x.begins then z.why else w) crosses.border.value
       ∙ ap (λ q. if q then (if nat_eq a.k 0 then Run else why_by (interrupt a.state) a.last.done.mispredicted) else w)
-      (begins ∙ ap (λ q. nat_eq a.k 0 || q) here)
-      ∙ ap (λ s. if begins_segment a.k m then (if nat_eq a.k 0 then Run else why_by (interrupt s) a.last.done.mispredicted) else w) (sym at.state)
-      ∙ ap (λ q. if begins_segment a.k m then (if nat_eq a.k 0 then Run else why_by (interrupt (next_state m)) q) else w) (sym at.mispredicted)
+      (crosses.border.begins ∙ ap (λ q. nat_eq a.k 0 || q) here)
+      ∙ ap (λ s. if begins_segment a.k p.moment then (if nat_eq a.k 0 then Run else why_by (interrupt s) a.last.done.mispredicted) else w) (sym at.state)
+      ∙ ap (λ q. if begins_segment a.k p.moment then (if nat_eq a.k 0 then Run else why_by (interrupt (next_state p.moment)) q) else w) (sym at.mispredicted)
 
   -- the number of entries that are dropped, if a segment ends
-  pub dropped-counted : (old new j : ℕ) → j ≡ length a.behind.ahead.found.items → new ≡ old + (if x.ends then j else 0) → new ≡ old + dropped_at_end m
+  pub dropped-counted : (old new j : ℕ) → j ≡ length a.behind.ahead.found.items → new ≡ old + (if x.ends then j else 0) → new ≡ old + dropped_at_end p.moment
   dropped-counted old new j is_j is_new =
       is_new
       ∙ ap (λ q. old + (if q then j else 0)) here
-      ∙ ap (λ v. old + v) (choice (ends_segment m) (λ yes. is_j ∙ ap length (at.dropped yes) ∙ length-map m.dropped (seen_ahead ds n)))
+      ∙ ap (λ v. old + v) (choice (ends_segment p.moment) (λ yes. is_j ∙ ap length (at.dropped yes) ∙ length-map p.moment.dropped (seen_ahead p.delays p.levels)))
     where
       choice : {x y : ℕ} (b : Bool) → (b ≡ true → x ≡ y) → (if b then x else 0) ≡ (if b then y else 0)
       choice true same = same refl
       choice false same = refl
 
-  pub issue-after : o.last.issue ≡ (if x.ends then opening_issue a.behind.banks (a.last.tick + 1 + length a.behind.ahead.found.items) else a.last.issue)
-      → o.last.issue ≡ next_issue m
-  issue-after is_issue =
-      issue-is ds n m a.state a.last a.behind.ahead.found.items a.behind.banks a.behind.card a.behind.waited at (interrupt a.state) x.ends refl ends o.last.issue is_issue
+  pub issue-after : o.last.issue ≡ next_issue p.moment
+  issue-after =
+      issue-is p.delays p.levels p.moment a.state a.last a.behind.ahead.found.items a.behind.banks a.behind.card a.behind.waited at (interrupt a.state) x.ends refl crosses.border.ends o.last.issue crosses.issue
 
-  module _ (last : o.last ≡ record a.last { issue = o.last.issue; past = o.last.past }) where
-    -- the lines of the last entry
-    module _ (going : run_ends left m ≡ false) (end : Option ℕ) (is_end : end ≡ (if x.ends then Some o.last.tick else None)) where
-      pub until-same : end ≡ segment_end_at left m
-      unfolding segment_end_at
-      until-same =
-          is_end
-          ∙ ap (λ t. if x.ends then Some t else None) (ap (λ (l : Last). l.tick) last ∙ sym is.tick)
-          ∙ ap (λ (y : Bool). if y then Some m.tick else None) (here ∙ ap (λ y. y || ends_segment m) (sym going))
+  -- the words of the last entry; none if a segment ends
+  pub words-left : (new : List Use) → new ≡ (if x.ends then [] else o.last.uses.items) → new ≡ words_before p.moment a.last.uses.items
+  words-left new is_new =
+      is_new
+      ∙ ap (λ (l : Last). if x.ends then [] else l.uses.items) crosses.last
+      ∙ ap (λ y. if y then [] else a.last.uses.items) here
 
-      pub row-same : kept_lines a.k o.last end ≡ kept_lines a.k a.last (segment_end_at left m)
-      unfolding kept_lines
-      row-same =
-          ap (λ (l : Last). kept_lines a.k l end) last
-          ∙ ap (kept_lines a.k a.last) until-same
+  -- the lines of the last entry
+  module _ (going : run_ends p.left p.moment ≡ false) (end : Option ℕ) (is_end : end ≡ (if x.ends then Some o.last.tick else None)) where
+    pub until-same : end ≡ segment_end_at p.left p.moment
+    unfolding segment_end_at
+    until-same =
+        is_end
+        ∙ ap (λ t. if x.ends then Some t else None) (ap (λ (l : Last). l.tick) crosses.last ∙ sym is.tick)
+        ∙ ap (λ (y : Bool). if y then Some p.moment.tick else None) (here ∙ ap (λ y. y || ends_segment p.moment) (sym going))
 
-    -- the lines of the border
-    pub crossed : length a.words.items ≡ words_of_storage → (i : ℕ) (found : List Ahead) (printed : List (List ℕ)) → i ≡ o.state.done + 1 → found ≡ o.behind.ahead.found.items → printed ≡ o.behind.printed.items
-        → o.last.issue ≡ next_issue m
-        → border_text o.origins x a.k o.last.tick i printed o.last.enabled o.words.items o.state found (o.behind.ahead.late ∷ []) ≡ segment_lines (origin_at a.origins) ds n a.k b m
-    crossed size i found printed is_i is_found is_printed issue =
-        let opening : Border = record {
-          ends = x.ends;
-          begins = x.begins;
-          start = o.last.issue.c;
-          waited = a.behind.waited;
-          why = if nat_eq a.k 0 then Run else why_by (interrupt a.state) a.last.done.mispredicted;
-          taken = interrupt a.state;
-          done = a.state.done;
-        } in
-        ap (λ (y : Border). border_text o.origins y a.k o.last.tick i printed o.last.enabled o.words.items o.state found (o.behind.ahead.late ∷ [])) border
-        ∙ ap (λ (fs : List Ahead). border_text o.origins opening a.k o.last.tick i printed o.last.enabled o.words.items o.state fs (o.behind.ahead.late ∷ [])) is_found
-        ∙ ap (λ (l : Last). border_text o.origins opening a.k l.tick i printed l.enabled o.words.items o.state o.behind.ahead.found.items (o.behind.ahead.late ∷ [])) last
-        ∙ ap (λ (y : Account). border_text y.origins opening a.k a.last.tick i printed a.last.enabled y.words.items y.state y.behind.ahead.found.items (y.behind.ahead.late ∷ [])) opened
-        ∙ border-lines ds n m a.state a.last a.behind.ahead.found.items a.behind.banks a.behind.card a.behind.waited at (interrupt a.state) x.ends refl ends (origin_at a.origins) b a.last.enabled
-        a.words.items printed (a.behind.ahead.late ∷ []) is.was (is_printed ∙ ap (λ (y : Account). y.behind.printed.items) opened ∙ is.printed) a.k i o.last.issue.c x.begins
-        (if nat_eq a.k 0 then Run else why_by (interrupt a.state) a.last.done.mispredicted) (λ some. is.words some size) (λ on some. is.begun (ends-by left m on) some) begins
-        (is_i ∙ ap (λ (y : Account). y.state.done + 1) opened) (ap (λ (f : IssueState). f.c) issue) refl
+    pub row-same : kept_lines a.k o.last end ≡ kept_lines a.k a.last (segment_end_at p.left p.moment)
+    unfolding kept_lines
+    row-same =
+        ap (λ (l : Last). kept_lines a.k l end) crosses.last
+        ∙ ap (kept_lines a.k a.last) until-same
+
+  -- the lines of the border
+  pub crossed : length a.words.items ≡ words_of_storage → (i : ℕ) (found : List Ahead) (printed : List (List ℕ)) → i ≡ o.state.done + 1 → found ≡ o.behind.ahead.found.items → printed ≡ o.behind.printed.items
+      → border_text o.origins x a.k o.last.tick i printed o.last.enabled o.words.items o.state found (o.behind.ahead.late ∷ []) ≡ segment_lines (origin_at a.origins) p.delays p.levels a.k p.before p.moment
+  crossed size i found printed is_i is_found is_printed =
+      let opening : Border = record {
+        ends = x.ends;
+        begins = x.begins;
+        start = o.last.issue.c;
+        waited = a.behind.waited;
+        why = if nat_eq a.k 0 then Run else why_by (interrupt a.state) a.last.done.mispredicted;
+        taken = interrupt a.state;
+        done = a.state.done;
+      } in
+      ap (λ (y : Border). border_text o.origins y a.k o.last.tick i printed o.last.enabled o.words.items o.state found (o.behind.ahead.late ∷ [])) crosses.border.value
+      ∙ ap (λ (fs : List Ahead). border_text o.origins opening a.k o.last.tick i printed o.last.enabled o.words.items o.state fs (o.behind.ahead.late ∷ [])) is_found
+      ∙ ap (λ (l : Last). border_text o.origins opening a.k l.tick i printed l.enabled o.words.items o.state o.behind.ahead.found.items (o.behind.ahead.late ∷ [])) crosses.last
+      ∙ ap (λ (y : Account). border_text y.origins opening a.k a.last.tick i printed a.last.enabled y.words.items y.state y.behind.ahead.found.items (y.behind.ahead.late ∷ [])) crosses.rest
+      ∙ border-lines p.delays p.levels p.moment a.state a.last a.behind.ahead.found.items a.behind.banks a.behind.card a.behind.waited at (interrupt a.state) x.ends refl crosses.border.ends (origin_at a.origins) p.before a.last.enabled
+      a.words.items printed (a.behind.ahead.late ∷ []) is.was (is_printed ∙ ap (λ (y : Account). y.behind.printed.items) crosses.rest ∙ is.printed) a.k i o.last.issue.c x.begins
+      (if nat_eq a.k 0 then Run else why_by (interrupt a.state) a.last.done.mispredicted) (λ some. is.words some size) (λ on some. is.begun (ends-by p.left p.moment on) some) crosses.border.begins
+      (is_i ∙ ap (λ (y : Account). y.state.done + 1) crosses.rest) (ap (λ (f : IssueState). f.c) issue-after) refl
 
 -- ---- the end of the run
 
@@ -283,44 +246,32 @@ totals-is s resting done tick is_rest is_done =
     ∙ ap (λ d. run_end_line (rests s) ∷ done_line d ∷ ticks_line tick ∷ []) is_done
 
 -- the account at the end of the run
-module _ (ds : List ℕ) (n left : ℕ) (b : Machine) (m : Moment) (a : Account) (xs : List Signal) (cards : List (List ℕ))
-    (is : IsBehindMoment ds n left b m a xs cards) (over : run_ends left m ≡ true) where
-  ends-there : segment_ends left m ≡ true
-  ends-there = ap (λ y. y || ends_segment m) over
+module _ (p : Position) (a : Account) (is : IsBehindMoment p a) (over : run_ends p.left p.moment ≡ true) where
+  ends-there : segment_ends p.left p.moment ≡ true
+  ends-there = ap (λ y. y || ends_segment p.moment) over
 
-  pub last-until : (end : Option ℕ) → end ≡ Some a.last.tick → end ≡ segment_end_at left m
+  pub last-until : (end : Option ℕ) → end ≡ Some a.last.tick → end ≡ segment_end_at p.left p.moment
   unfolding segment_end_at
-  last-until end is_end = is_end ∙ ap Some (sym is.tick) ∙ ap (λ (y : Bool). if y then Some m.tick else None) (sym ends-there)
+  last-until end is_end = is_end ∙ ap Some (sym is.tick) ∙ ap (λ (y : Bool). if y then Some p.moment.tick else None) (sym ends-there)
 
-  pub last-dropped : length a.behind.ahead.found.items ≡ length m.dropped
-  last-dropped = ap length (is.dropped ends-there) ∙ length-map m.dropped (seen_ahead ds n)
+  pub last-dropped : length a.behind.ahead.found.items ≡ length p.moment.dropped
+  last-dropped = ap length (is.dropped ends-there) ∙ length-map p.moment.dropped (seen_ahead p.delays p.levels)
 
-  pub last-row : (end : Option ℕ) → end ≡ Some a.last.tick → kept_lines a.k a.last end ≡ kept_lines a.k a.last (segment_end_at left m)
+  pub last-row : (end : Option ℕ) → end ≡ Some a.last.tick → kept_lines a.k a.last end ≡ kept_lines a.k a.last (segment_end_at p.left p.moment)
   unfolding segment_end_at
   last-row end is_end = ap (kept_lines a.k a.last) (last-until end is_end)
 
   pub last-lines : length a.words.items ≡ words_of_storage → (i : ℕ) (found : List Ahead) (printed : List (List ℕ)) → i ≡ a.state.done + 1 → found ≡ a.behind.ahead.found.items → printed ≡ a.behind.printed.items
       → ((segment_end_lines (origin_at a.origins a.state) a.k a.last.tick i found (a.behind.ahead.late ∷ []) ++ marks_lines printed a.k a.last.enabled a.words.items a.state)
-      ++ run_end_line (rests a.state) ∷ done_line a.state.done ∷ ticks_line a.last.tick ∷ []) ≡ last_lines (origin_at a.origins) ds n a.k b m
+      ++ run_end_line (rests a.state) ∷ done_line a.state.done ∷ ticks_line a.last.tick ∷ []) ≡ last_lines (origin_at a.origins) p.delays p.levels a.k p.before p.moment
   last-lines size i found printed number is_found is_printed =
-      last-is (origin_at a.origins) ds n b a.last.enabled is.was m printed (is_printed ∙ is.printed) a.state a.k a.last.tick i found (a.behind.ahead.late ∷ []) is.tick
-      (ap (λ (c : Scene). c.machine) is.scene) (is_found ∙ is.dropped ends-there) (is.begun ends-there) number a.words.items (λ some. is.words some size)
-
--- the words of the last entry; none if a segment ends
-pub words-left : (ds : List ℕ) (n left : ℕ) (b : Machine) (m : Moment) (a : Account) (xs : List Signal) (cards : List (List ℕ)) → IsBehindMoment ds n left b m a xs cards
-    → (ends : Bool) (old us new : List Use) → ends ≡ (a.last.done.mispredicted || a.behind.card || a.behind.waited || is_some (interrupt a.state)) → us ≡ old
-    → new ≡ (if ends then [] else us) → new ≡ words_before m old
-words-left ds n left b m a xs cards is ends old us new is_ends same is_new =
-    is_new
-    ∙ ap (λ vs. if ends then [] else vs) same
-    ∙ ap (λ y. if y then [] else old)
-    (ends-is ds n m a.state a.last a.behind.ahead.found.items a.behind.banks a.behind.card a.behind.waited (border-of ds n left b m a xs cards is) (interrupt a.state) ends refl is_ends)
+      last-is (origin_at a.origins) p.delays p.levels p.before a.last.enabled is.was p.moment printed (is_printed ∙ is.printed) a.state a.k a.last.tick i found (a.behind.ahead.late ∷ []) is.tick
+      is.state (is_found ∙ is.dropped ends-there) (is.begun ends-there) number a.words.items (λ some. is.words some size)
 
 -- the totals of waits do not matter
-pub behind-same : (ds : List ℕ) (n left : ℕ) (b : Machine) (m : Moment) (a : Account) (xs : List Signal) (cards : List (List ℕ)) (w : RowTelling)
-    → IsBehindMoment ds n left b m a xs cards → IsBehindMoment ds n left b m (record a { waiting = w }) xs cards
-behind-same ds n left b m a xs cards w is = record {
-  scene = is.scene;
+pub behind-same : (p : Position) (a : Account) (w : RowTelling) → IsBehindMoment p a → IsBehindMoment p (record a { waiting = w })
+behind-same p a w is = record {
+  state = is.state;
   tick = is.tick;
   issue = is.issue;
   mispredicted = is.mispredicted;

@@ -1,42 +1,7 @@
 -- Lemmas on a completed entry and its lines.
-use Rattle.std.specs.Prelude.{Bool, nat_eq}
-use Rattle.std.proofs.lemmas.Bool.Decides.{nat_tests}
-use Rattle.std.proofs.Common.{◌≡◌, ◌≢◌, ℕ, zero, suc, false, refl, arith, ◌+◌, ◌<◌, ◌≤◌, ◌^◌, List, [], ◌∷◌, Option, sym, ◌∙◌, ap, subst}
-use Rattle.st_state.specs.Machine.{Machine}
-use Rattle.st_prep.specs.Plan.{plan}
-use Rattle.st_prep.specs.declared.entries.Prepared.{Prepared}
-use Rattle.st_exec.specs.Completion.{state_after_execution, prediction, is_mispredicted}
-use Rattle.st_exec.specs.Step.{interrupt, step, address}
-use Rattle.st_rows.specs.Notes.{log_after_reads}
-use Rattle.st_rows.specs.Ranges.{AreDelaysUpTo, IsEntryInTime, IsTight}
-use Rattle.st_rows.specs.declared.log.Made.{Made}
-use Rattle.st_rows.specs.Rows.{row_of_entry, issue_after_entry, reads_of_entry}
-use Rattle.st_rows.specs.declared.issue.EntryTicks.{EntryTicks}
-use Rattle.st_rows.specs.declared.issue.IssueState.{IssueState}
-use Rattle.st_segment.specs.Entries.{entry}
-use Rattle.st_run.specs.Moments.{Standing, next_row, next_moment}
-use Rattle.st_ledger.specs.declared.charges.Stage.{Stage}
-use Rattle.st_ledger.specs.declared.totals.Totals.{Totals}
-use Rattle.st_ledger.specs.Charges.{parts_of_row, charges_behind, ticks_for, all_ticks}
-use Rattle.st_ledger.specs.Ledger.{charges_at}
-use Rattle.st_ledger.specs.Totals.{AreWithin}
-use Rattle.st_ledger.proofs.Rows.{row-sum}
-use Rattle.st_plain.specs.Looking.{known_at, level_wait, side_at}
-use Rattle.st_plain.specs.Uses.{formed_uses, uses_of_entry}
-use Rattle.st_rows.specs.declared.uses.Use.{Use}
+use Rattle.st_account.proofs.Common.{Bool, nat_eq, nat_tests, ◌≡◌, ◌≢◌, ℕ, zero, suc, false, refl, arith, ◌+◌, List, [], ◌∷◌, Option, sym, ◌∙◌, ap, subst, Machine, plan, Prepared, state_after_execution, prediction, is_mispredicted, interrupt, step, address, log_after_reads, AreDelaysUpTo, IsEntryInTime, IsTight, Made, row_of_entry, issue_after_entry, reads_of_entry, EntryTicks, IssueState, entry, Standing, next_row, next_moment, parts_of_row, charges_behind, charges_at, known_at, level_wait, side_at, formed_uses, uses_of_entry, Use, Last, predicting, kept_lines, IsLast, IsStanding, done_entry_lines, EntryDone, Why, Origin, Entry, because, StallCause, row_at, formed_at, uses_at, done_at, lines_of_entry}
 use Rattle.st_plain.specs.declared.known.Known.{Known}
 use Rattle.st_plain.specs.declared.rows.WaitedRow.{WaitedRow}
-use Rattle.st_account.specs.declared.last.Last.{Last}
-use Rattle.st_account.specs.Standing.{predicting, kept_lines, IsLast, IsStanding}
-use Rattle.st_lines.specs.EntryLines.{done_entry_lines}
-use Rattle.st_lines.specs.declared.facts.EntryDone.{EntryDone}
-use Rattle.st_lines.specs.declared.lines.Why.{Why}
-use Rattle.st_lines.specs.declared.origins.Origin.{Origin}
-use Rattle.st_rows.specs.declared.entry.Entry.{Entry}
-use Rattle.st_reasons.specs.Reasons.{because}
-use Rattle.st_reasons.specs.declared.because.StallCause.{StallCause}
-use Rattle.st_account.specs.LedgerTables.{row_at}
-use Rattle.st_account.specs.Text.{formed_at, uses_at, done_at, lines_of_entry}
 use Rattle.st_account.proofs.LastLemmas.{next-last}
 
 pub entry-step : (s u : Machine) (taken : Option ℕ) → taken ≡ interrupt s → u ≡ state_after_execution taken s → u ≡ step s
@@ -56,7 +21,7 @@ told_lines i a origin ticks wait mispredicted q known before start end why uses 
 
 pub kept-some : (k : ℕ) (l : Last) (end : Option ℕ) → k ≢ 0
     → kept_lines k l end
-    ≡ told_lines l.done.n l.done.address l.done.origin l.done.row.ticks l.done.row.level_wait l.done.mispredicted l.unit.prepared l.known l.done.before l.done.start end l.done.because l.uses.items l.before.items
+    ≡ told_lines l.done.n l.done.address l.done.origin l.done.row.ticks l.done.row.level_wait l.done.mispredicted l.unit.prepared l.known l.done.before l.done.start end l.done.because l.uses.items l.uses.before
 unfolding kept_lines done_entry_lines
 kept-some zero l end some = absurd (some refl)
 kept-some (suc k) l end some = rw (not-zero k) refl
@@ -65,7 +30,7 @@ kept-some (suc k) l end some = rw (not-zero k) refl
     not-zero k = grind (arith, nat_tests)
 
 -- the lines of the last entry, by its row
-pub kept-row : (k : ℕ) (l : Last) (end : Option ℕ) (us bs : List Use) → k ≢ 0 → us ≡ l.uses.items → bs ≡ l.before.items
+pub kept-row : (k : ℕ) (l : Last) (end : Option ℕ) (us bs : List Use) → k ≢ 0 → us ≡ l.uses.items → bs ≡ l.uses.before
     → done_entry_lines (record l.done { end = end }) l.unit.prepared l.known us bs
     ≡ kept_lines k l end
 unfolding done_entry_lines
@@ -199,37 +164,25 @@ entry-row o ds n p end v s l taken a origin r i mispredicted t start why us ws b
     ∙ ap (λ y. record { done = done_at o ds n end bs p; why = v; uses = y; before = bs } ∷ []) (uses-is ds n p s l taken us is is_taken is_uses)
     ∙ ap (λ y. record { done = done_at o ds n end y p; why = v; uses = uses_at ds n p; before = y } ∷ []) earlier
 
-pub entry-sums : (ds : List ℕ) (n : ℕ) (p : Standing) (s : Machine) (l : Last) (taken : Option ℕ) (r : EntryTicks) (stage : Stage) (old new : ℕ)
-    → IsStanding p s l → taken ≡ interrupt s → r ≡ row_of_entry ds n l.issue (entry taken s)
-    → new ≡ old + ticks_for stage (charges_behind l.tick (parts_of_row l.issue.c r)) → new ≡ old + ticks_for stage (charges_at ds n p)
+pub entry-charges : (ds : List ℕ) (n : ℕ) (p : Standing) (s : Machine) (l : Last) (taken : Option ℕ) (r : EntryTicks) (before start : ℕ) → IsStanding p s l
+    → taken ≡ interrupt s → r ≡ row_of_entry ds n l.issue (entry taken s) → before ≡ l.tick → start ≡ l.issue.c
+    → charges_behind before (parts_of_row start r) ≡ charges_at ds n p
 unfolding charges_at
-entry-sums ds n p s l taken r stage old new is is_taken is_row sum =
-    sum
-    ∙ ap (λ x. old + ticks_for stage (charges_behind l.tick (parts_of_row l.issue.c x))) (row-is ds n p s l taken r is is_taken is_row)
-    ∙ ap (λ t. old + ticks_for stage (charges_behind t (parts_of_row l.issue.c (next_row ds n p)))) (sym is.tick)
-    ∙ ap (λ f. old + ticks_for stage (charges_behind p.tick (parts_of_row f.c (next_row ds n p)))) (sym is.issue)
-
-pub entry-within : (ds : List ℕ) (n : ℕ) (s : Machine) (l : Last) (tick : ℕ) (taken : Option ℕ) (r : EntryTicks) (sums : Totals) → l.tick ≤ l.issue.c
-    → r ≡ row_of_entry ds n l.issue (entry taken s) → tick ≡ r.c → AreWithin (l.tick + all_ticks (charges_behind l.tick (parts_of_row l.issue.c r))) sums → AreWithin tick sums
-entry-within ds n s l tick taken r sums early is at within =
-    let reach : l.tick + all_ticks (charges_behind l.tick (parts_of_row l.issue.c r)) ≡ tick =
-    ap (λ x. l.tick + all_ticks (charges_behind l.tick (parts_of_row l.issue.c x))) is
-    ∙ row-sum ds n l.tick l.issue (entry taken s) early
-    ∙ ap (λ (x : EntryTicks). x.c) (sym is)
-    ∙ sym at in
-    subst (λ t. AreWithin t sums) reach within
+entry-charges ds n p s l taken r before start is is_taken is_row since opened =
+    ap (λ x. charges_behind before (parts_of_row start x)) (row-is ds n p s l taken r is is_taken is_row)
+    ∙ ap (λ t. charges_behind t (parts_of_row start (next_row ds n p))) (since ∙ sym is.tick)
+    ∙ ap (λ t. charges_behind p.tick (parts_of_row t (next_row ds n p))) (opened ∙ ap (λ f. f.c) (sym is.issue))
 
 pub entry-last : (ds : List ℕ) → AreDelaysUpTo 255 ds → (n : ℕ) (p : Standing) (s u : Machine) (l k j : Last) (log : List Made) (taken : Option ℕ) (r : EntryTicks) → IsStanding p s l → IsTight 255 l.issue
-    → taken ≡ interrupt s → IsEntryInTime (entry taken s) → u ≡ state_after_execution taken s → predicting j.ic u ≡ prediction taken s → j.ic < 2 ^ 19
+    → taken ≡ interrupt s → IsEntryInTime (entry taken s) → u ≡ state_after_execution taken s → predicting j.ic u ≡ prediction taken s
     → r ≡ row_of_entry ds n l.issue (entry taken s) → k.tick ≡ r.c → k.issue ≡ issue_after_entry ds n l.issue (entry taken s)
-    → log ≡ log_after_reads ds (reads_of_entry ds n l.issue (entry taken s)) l.issue.bus [] → k.past ≡ k.issue.past
+    → log ≡ log_after_reads ds (reads_of_entry ds n l.issue (entry taken s)) l.issue.bus []
     → j ≡ record k { done = record k.done { mispredicted = is_mispredicted (plan s taken) s }; ic = j.ic; enabled = s.enabled } → IsLast ds n (next_moment ds n p) j log
-entry-last ds are n p s u l k j log taken r is tight is_taken fits made prediction_is counter is_row tick issue reads past rest =
+entry-last ds are n p s u l k j log taken r is tight is_taken fits made prediction_is is_row tick issue reads rest =
     let t = interrupt s in
     next-last ds are n p s u l j log is tight (subst (λ o. IsEntryInTime (entry o s)) is_taken fits) (entry-step s u taken is_taken made)
-    (prediction_is ∙ ap (λ o. prediction o s) is_taken) counter
+    (prediction_is ∙ ap (λ o. prediction o s) is_taken)
     (ap (λ (x : Last). x.tick) rest ∙ tick ∙ ap (λ (x : EntryTicks). x.c) is_row ∙ ap (λ o. (row_of_entry ds n l.issue (entry o s)).c) is_taken)
     (ap (λ (x : Last). x.issue) rest ∙ issue ∙ ap (λ o. issue_after_entry ds n l.issue (entry o s)) is_taken)
     (ap (λ (x : Last). x.done.mispredicted) rest ∙ ap (λ o. is_mispredicted (plan s o) s) is_taken)
     (reads ∙ ap (λ o. log_after_reads ds (reads_of_entry ds n l.issue (entry o s)) l.issue.bus []) is_taken)
-    (ap (λ (x : Last). x.past) rest ∙ past ∙ ap (λ (x : Last). x.issue.past) (sym rest))

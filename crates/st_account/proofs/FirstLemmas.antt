@@ -1,18 +1,10 @@
 -- Lemmas on the first cards whose bits begin in half-words, row by row.
-use Rattle.std.specs.Prelude.{nat_eq, Option, None, Some, IfSome, All, slice_index, slice_set}
+use Rattle.st_account.proofs.Common.{nat_eq, IfSome, All, slice_index, slice_set, ◌≡◌, ◌≢◌, ℕ, zero, suc, ◌<◌, ◌≤◌, inl, inr, true, false, List, ◌∷◌, length, drop, get_or, get_or-set_other, refl, sym, ◌∙◌, ap, subst, arith, cases_eq, nat_tests, get_or-set_same, Assembly, Machine, card_by, is_kept, origin_by, origin_at, Origins, beginning, first_card, origin_of}
+use Rattle.std.specs.Prelude.{Option, None, Some}
 use Rattle.std.specs.Option.{option_or}
-use Rattle.std.proofs.Common.{◌≡◌, ◌≢◌, ℕ, zero, suc, ◌<◌, ◌≤◌, inl, inr, true, false, List, ◌∷◌, length, drop, get_or, get_or-set_other, refl, sym, ◌∙◌, ap, subst, arith}
-use Rattle.std.proofs.lemmas.Bool.{cases_eq}
-use Rattle.std.proofs.lemmas.Bool.Decides.{nat_tests}
-use Rattle.std.proofs.lemmas.List.{get_or-set_same}
 use Rattle.std.proofs.Math.ListN.{drop_of_length-le}
 use Rattle.std.proofs.Math.Path.{fun_ext}
-use Rattle.st_asm.specs.Assembly.{Assembly}
 use Rattle.st_asm.specs.declared.valuing.Listed.{Listed}
-use Rattle.st_state.specs.Machine.{Machine}
-use Rattle.st_lines.specs.Origins.{card_by, is_kept, origin_by, origin_at}
-use Rattle.st_lines.specs.declared.origins.Origins.{Origins}
-use Rattle.st_account.specs.FirstCards.{beginning, first_card, origin_of}
 
 -- ---- one row
 

@@ -1,59 +1,12 @@
 -- Lemmas on the facts about a completed entry.
-use Rattle.std.specs.Prelude.{Bool, if◌then◌else◌, nat_lt, map}
-use Rattle.std.proofs.Common.{◌≡◌, ℕ, zero, suc, ◌^◌, ◌≤◌, ◌<◌, true, false, List, [], ◌∷◌, ◌++◌, length, take, get_or, Option, None, refl, sym, ◌∙◌, ap, subst, arith}
-use Rattle.st_state.specs.Machine.{Machine}
-use Rattle.st_prep.specs.Plan.{plan}
-use Rattle.st_exec.specs.Completion.{state_after_execution, predicted_state, prediction, is_mispredicted}
-use Rattle.st_exec.specs.Step.{interrupt, step}
-use Rattle.std.proofs.lemmas.Bool.Decides.{nat_tests}
-use Rattle.st_rows.specs.BusTimes.{accept_at, Read}
-use Rattle.st_rows.specs.Asked.{formed_asked, prepared_asked, bus_after_reads, made_before}
-use Rattle.st_rows.specs.Notes.{log_after_reads, IsLogged}
-use Rattle.st_rows.specs.Ranges.{AreDelaysUpTo, IsEntryInTime, IsTight}
-use Rattle.st_rows.specs.Rows.{opening_issue, tick_a, tick_p, row_of_entry, issue_after_entry, reads_of_entry}
-use Rattle.st_rows.specs.declared.log.Made.{Made}
-use Rattle.st_rows.proofs.LogLaws.{logged-noted}
+use Rattle.st_account.proofs.Common.{Bool, if◌then◌else◌, nat_lt, map, ◌≡◌, ℕ, zero, suc, ◌≤◌, true, false, List, [], ◌∷◌, ◌++◌, length, take, Option, None, refl, sym, ◌∙◌, ap, subst, arith, Machine, plan, state_after_execution, predicted_state, prediction, is_mispredicted, interrupt, step, nat_tests, accept_at, Read, formed_asked, prepared_asked, bus_after_reads, made_before, log_after_reads, IsLogged, AreDelaysUpTo, IsEntryInTime, IsTight, opening_issue, tick_a, tick_p, row_of_entry, issue_after_entry, reads_of_entry, Made, logged-noted, two-parts, free-formed, issue-done, served-asked, served-formed, later-r, later-c, Bus, Entry, IssueState, EntryTicks, Past, entry, Ahead, ahead, prepared_before, Scene, Standing, moment_at_start, next_row, next_moment, length-map, nil_from_length, seen_ahead, first_late, formed_uses, Use, because, StallCause, Last, predicting, HasReads, IsLast, IsStanding}
 use Rattle.st_rows.proofs.NoteLemmas.{opened-log}
-use Rattle.st_rows.proofs.Parts.{two-parts, free-formed, issue-done}
-use Rattle.st_rows.proofs.Served.{served-asked, served-formed}
-use Rattle.st_rows.proofs.Tight.{later-r, later-c}
-use Rattle.st_rows.specs.declared.bus.Bus.{Bus}
-use Rattle.st_rows.specs.declared.entry.Entry.{Entry}
-use Rattle.st_rows.specs.declared.issue.IssueState.{IssueState}
-use Rattle.st_rows.specs.declared.issue.EntryTicks.{EntryTicks}
-use Rattle.st_rows.specs.declared.past.Past.{Past}
-use Rattle.st_segment.specs.Entries.{entry}
-use Rattle.st_segment.specs.Ahead.{Ahead, ahead, prepared_before}
-use Rattle.st_run.specs.Run.{Scene}
 use Rattle.st_banks.specs.Bank.{idle_banks}
-use Rattle.st_run.specs.Moments.{Standing, moment_at_start, next_row, next_moment}
-use Rattle.std.proofs.lemmas.List.{length-append, length-map}
+use Rattle.std.proofs.lemmas.List.{length-append}
 use Rattle.std.proofs.Math.Seq.{take-append_seam}
 use Rattle.st_prep.proofs.Choices.{of_choice}
-use Rattle.st_plain.specs.Looking.{seen_ahead}
-use Rattle.st_plain.specs.Uses.{formed_uses}
-use Rattle.st_rows.specs.declared.uses.Use.{Use}
-use Rattle.st_reasons.specs.Reasons.{because}
-use Rattle.st_reasons.specs.declared.because.StallCause.{StallCause}
 use Rattle.st_plain.specs.declared.looking.Ahead.{Ahead as SeenAhead}
-use Rattle.st_account.specs.declared.last.Last.{Last}
-use Rattle.st_account.specs.Standing.{predicting, HasReads, IsLast, IsStanding}
 use Rattle.st_account.proofs.ReadLemmas.{few-prepared}
-
--- putting the items of a list of eight entries into any list gives the list of eight
-pub eight-put : (xs ys : List Past) (d : Past) → length xs ≡ 8
-    → get_or xs 0 d ∷ take 7 (get_or xs 1 d ∷ take 7 (get_or xs 2 d ∷ take 7 (get_or xs 3 d ∷ take 7 (get_or xs 4 d
-    ∷ take 7 (get_or xs 5 d ∷ take 7 (get_or xs 6 d ∷ take 7 (get_or xs 7 d ∷ take 7 ys))))))) ≡ xs
-eight-put (a ∷ b ∷ c ∷ d ∷ e ∷ f ∷ g ∷ h ∷ []) ys x eight = refl
-eight-put [] ys x eight = absurd (omega arith)
-eight-put (a ∷ []) ys x eight = absurd (omega arith)
-eight-put (a ∷ b ∷ []) ys x eight = absurd (omega arith)
-eight-put (a ∷ b ∷ c ∷ []) ys x eight = absurd (omega arith)
-eight-put (a ∷ b ∷ c ∷ d ∷ []) ys x eight = absurd (omega arith)
-eight-put (a ∷ b ∷ c ∷ d ∷ e ∷ []) ys x eight = absurd (omega arith)
-eight-put (a ∷ b ∷ c ∷ d ∷ e ∷ f ∷ []) ys x eight = absurd (omega arith)
-eight-put (a ∷ b ∷ c ∷ d ∷ e ∷ f ∷ g ∷ []) ys x eight = absurd (omega arith)
-eight-put (a ∷ b ∷ c ∷ d ∷ e ∷ f ∷ g ∷ h ∷ i ∷ xs) ys x eight = absurd (omega arith)
 
 -- ---- the start
 
@@ -74,9 +27,9 @@ no-reads : (ds : List ℕ) (b : Bus) → bus_after_reads ds [] b ≡ b
 unfolding bus_after_reads
 no-reads ds b = refl
 
-pub start-last : (ds : List ℕ) (n : ℕ) (c : Scene) (l : Last) (log : List Made) → l.tick ≡ 0 → l.issue ≡ opening_issue idle_banks 0 → l.past ≡ l.issue.past → l.done.mispredicted ≡ false
-    → l.ic ≡ c.machine.ic → l.ic < 2 ^ 19 → log ≡ [] → IsTight 255 l.issue → IsLast ds n (moment_at_start c) l log
-start-last ds n c l log tick issue past mispredicted ic counter none tight = record {
+pub start-last : (ds : List ℕ) (n : ℕ) (c : Scene) (l : Last) (log : List Made) → l.tick ≡ 0 → l.issue ≡ opening_issue idle_banks 0 → l.done.mispredicted ≡ false
+    → l.ic ≡ c.machine.ic → log ≡ [] → IsTight 255 l.issue → IsLast ds n (moment_at_start c) l log
+start-last ds n c l log tick issue mispredicted ic none tight = record {
   tick = sym tick;
   issue = sym issue;
   mispredicted = sym mispredicted;
@@ -95,8 +48,6 @@ start-last ds n c l log tick issue past mispredicted ic counter none tight = rec
     free = rw (issue, tick) (omega arith);
   };
   banks = rw (tick, issue) (ap (λ (b : Bus). b.banks) (sym (none-made ds _ _)));
-  past = past;
-  counter = counter;
 }
 
 -- ---- the next entry
@@ -139,12 +90,12 @@ has-reads ds are n f g e log t range tight at behind is =
 
 pub next-last : (ds : List ℕ) (are : AreDelaysUpTo 255 ds) (n : ℕ) (p : Standing) (s u : Machine) (l k : Last) (log : List Made) → IsStanding p s l → IsTight 255 l.issue
     → IsEntryInTime (entry (interrupt s) s)
-    → u ≡ step s → predicting k.ic u ≡ prediction (interrupt s) s → k.ic < 2 ^ 19
+    → u ≡ step s → predicting k.ic u ≡ prediction (interrupt s) s
     → k.tick ≡ (row_of_entry ds n l.issue (entry (interrupt s) s)).c → k.issue ≡ issue_after_entry ds n l.issue (entry (interrupt s) s)
     → k.done.mispredicted ≡ is_mispredicted (plan s (interrupt s)) s → log ≡ log_after_reads ds (reads_of_entry ds n l.issue (entry (interrupt s) s)) l.issue.bus []
-    → k.past ≡ k.issue.past → IsLast ds n (next_moment ds n p) k log
+    → IsLast ds n (next_moment ds n p) k log
 unfolding next_moment next_row
-next-last ds are n p s u l k log is tight fits made prediction_is counter tick issue mispredicted reads past =
+next-last ds are n p s u l k log is tight fits made prediction_is tick issue mispredicted reads =
     let e = entry (interrupt s) s in
     let machine = is.machine in
     record {
@@ -156,8 +107,6 @@ next-last ds are n p s u l k log is tight fits made prediction_is counter tick i
       bus = l.issue.bus;
       has = has-reads ds are n l.issue k.issue e log k.tick fits tight tick issue reads;
       banks = rw (machine, is.issue, tick, issue, sym made, prediction_is) refl;
-      past = past;
-      counter = counter;
     }
 
 -- ---- entries that ran ahead
@@ -181,6 +130,23 @@ pub few-found : (ds : List ℕ) (n t k : ℕ) (s : Machine) (f : IssueState) (ol
 few-found ds n t k s f old new none few is =
     let found = prepared_before t (ahead ds n k None s f) in
     omega (arith, ap length is ∙ length-append old (map (seen_ahead ds n) found), length-map found (seen_ahead ds n), none, few, prepared-few t (ahead ds n k None s f), ahead-few ds n k None s f)
+
+-- the same entries are found from an equal state and an equal issue state
+module _ (ds : List ℕ) (n t k : ℕ) (s u : Machine) (f g : IssueState) (state : u ≡ s) (issue : g ≡ f) where
+  pub found-is : (old new : List SeenAhead) → length old ≡ 0 → new ≡ old ++ map (seen_ahead ds n) (prepared_before t (ahead ds n k None u g))
+      → new ≡ map (seen_ahead ds n) (prepared_before t (ahead ds n k None s f))
+  found-is old new none is =
+      is
+      ∙ ap (λ xs. xs ++ map (seen_ahead ds n) (prepared_before t (ahead ds n k None u g))) (nil_from_length old none)
+      ∙ ap (λ v. map (seen_ahead ds n) (prepared_before t (ahead ds n k None v g))) state
+      ∙ ap (λ h. map (seen_ahead ds n) (prepared_before t (ahead ds n k None s h))) issue
+
+  pub late-is : (late : List SeenAhead) → late ≡ map (seen_ahead ds n) (first_late t (ahead ds n k None u g))
+      → late ≡ map (seen_ahead ds n) (first_late t (ahead ds n k None s f))
+  late-is late is =
+      is
+      ∙ ap (λ v. map (seen_ahead ds n) (first_late t (ahead ds n k None v g))) state
+      ∙ ap (λ h. map (seen_ahead ds n) (first_late t (ahead ds n k None s h))) issue
 
 -- the last entries after one more entry
 pub past-kept : (ds : List ℕ) (n : ℕ) (f : IssueState) (e : Entry) (r : EntryTicks) (old new : List Past) (g : IssueState) → old ≡ f.past → r ≡ row_of_entry ds n f e

@@ -1,31 +1,8 @@
 -- Lemmas on a whole ledger, part by part.
-use Rattle.std.specs.Prelude.{Option, Result, Ok, Err, IsErr}
-use Rattle.std.proofs.Common.{◌≡◌, ℕ, true, List, [], ◌++◌, refl, sym, subst}
-use Rattle.st_state.specs.Machine.{Machine}
-use Rattle.st_io.specs.Output.{OutputState}
-use Rattle.st_io.specs.declared.Failed.{Failed}
-use Rattle.st_io.specs.Lines.{WritesLines}
-use Rattle.st_io.proofs.Progress.{lines_then, lines_cut}
-use Rattle.st_run.specs.Run.{Scene}
-use Rattle.st_run.specs.Moments.{moment_at_start}
-use Rattle.st_ledger.specs.declared.charges.Stage.{Stage}
-use Rattle.st_ledger.specs.declared.charges.Stage.TheVariants.{Instruction, Index, Operand}
-use Rattle.st_reasons.specs.Sums.{is_parted, waited_at, wait_sums_by}
-use Rattle.st_reasons.specs.declared.sums.WaitTotals.{WaitTotals}
-use Rattle.st_reasons.specs.declared.waits.Stall.{Stall}
-use Rattle.st_reasons.specs.declared.waits.Stall.TheVariants.{Turn, Bank, Storage}
+use Rattle.st_account.proofs.Common.{Result, Ok, Err, IsErr, ◌≡◌, ℕ, true, List, [], ◌++◌, refl, sym, subst, Machine, OutputState, Failed, WritesLines, lines_then, lines_cut, Scene, moment_at_start, Stage, Instruction, Index, Operand, is_parted, waited_at, wait_sums_by, WaitTotals, Stall, Turn, Bank, Storage, Totals, ticks_for, entries_of, all_charges, sum_at, stages, sums_by, sum_lines, machine_lines, Origin, end_from, ledger_totals, ledger_sums, tallied_of, dropped_of, table_lines, lines_from, totals_lines, stalled_from, wait_totals_lines, with_totals, ledger}
+use Rattle.std.specs.Prelude.{Option}
 use Rattle.st_lines.specs.WaitLines.{wait_sum_lines}
-use Rattle.st_ledger.specs.declared.totals.Totals.{Totals}
-use Rattle.st_ledger.specs.Charges.{ticks_for}
-use Rattle.st_ledger.specs.Ledger.{entries_of, all_charges}
-use Rattle.st_ledger.specs.Totals.{sum_at, stages, sums_by, sum_lines}
 use Rattle.st_ledger.proofs.Added.{sums-same}
-use Rattle.st_lines.specs.BorderLines.{machine_lines}
-use Rattle.st_lines.specs.declared.origins.Origin.{Origin}
-use Rattle.st_account.specs.LedgerSums.{end_from, ledger_totals, ledger_sums}
-use Rattle.st_account.specs.LedgerTables.{tallied_of, dropped_of}
-use Rattle.st_tally.specs.TallyLines.{table_lines}
-use Rattle.st_account.specs.Text.{lines_from, totals_lines, stalled_from, wait_totals_lines, with_totals, ledger}
 
 wait-sums-same : (f g : Stage → Stall → ℕ) → ((r : Stage) (s : Stall) → is_parted r ≡ true → f r s ≡ g r s) → wait_sums_by f ≡ wait_sums_by g
 wait-sums-same f g same =

@@ -1,28 +1,14 @@
 -- The events between two entries change the words from 32 on only in the area of the reader's card,
 -- and an entry changes only the words that it writes.
-use Rattle.std.specs.Prelude.{Bool, if◌then◌else◌, nat_le, option_map}
-use Rattle.std.specs.Prelude.{All}
-use Rattle.std.proofs.Common.{◌≡◌, ℕ, suc, ◌+◌, ◌<◌, ◌≤◌, ◌≢◌, ◌⊎◌, inl, inr, true, false, List, [], ◌∷◌, length, Option, None, Some, get_or-set_other, refl, sym, ◌∙◌, ap, subst, arith}
-use Rattle.std.proofs.lemmas.List.Elements.{All-head, All-tail}
+use Rattle.st_account.proofs.Common.{Bool, if◌then◌else◌, nat_le, option_map, All, ◌≡◌, ℕ, suc, ◌+◌, ◌<◌, ◌≤◌, ◌≢◌, ◌⊎◌, inl, inr, true, false, List, [], ◌∷◌, length, Option, None, Some, get_or-set_other, refl, sym, ◌∙◌, ap, subst, arith, All-head, All-tail, Signal, Machine, IsMachine, word, state_with_store, is_due, next_device, plan, Prepared, IsNotAmong, state_after_completion, state_after_execution, rests, IsCard, Scene, with_due_signals, if_due, with_due_orders, with_device, with_order_at_rest, with_wait, interlude, uneventful, with_order, with_signals_while, IsOutsideArea}
 use Rattle.st_bits.specs.Registers.{register_word}
-use Rattle.st_card.specs.declared.control_cards.Signal.{Signal}
-use Rattle.st_state.specs.Machine.{Machine, IsMachine, word, state_with_store}
 use Rattle.st_state.specs.Interrupts.{state_with_signal}
-use Rattle.st_state.specs.Orders.{is_due, next_device}
 use Rattle.st_state.specs.declared.devices.Order.{Order}
 use Rattle.st_state.specs.declared.devices.Device.{Device}
 use Rattle.st_state.specs.declared.devices.Device.TheVariants.{Reader, Printer}
-use Rattle.st_prep.specs.Plan.{plan}
 use Rattle.st_prep.specs.Ranges.{IsPrepared}
-use Rattle.st_prep.specs.declared.entries.Prepared.{Prepared}
-use Rattle.st_exec.specs.Ahead.{IsNotAmong}
-use Rattle.st_exec.specs.Completion.{state_after_completion, state_after_execution}
-use Rattle.st_exec.specs.Step.{rests}
 use Rattle.st_exec.specs.Transfer.{all_stored, read_in}
 use Rattle.st_exec.proofs.Laws.{entries_leave_what_they_do_not_write}
-use Rattle.st_run.specs.Reached.{IsCard}
-use Rattle.st_run.specs.Run.{Scene, with_due_signals, if_due, with_due_orders, with_device, with_order_at_rest, with_wait, interlude, uneventful, with_order, with_signals_while}
-use Rattle.st_lines.specs.Changes.{IsOutsideArea}
 use Rattle.st_run.proofs.SignalLemmas.{kept-while}
 
 -- ---- an entry

@@ -1,7 +1,10 @@
+pub mod Common
+pub mod PastLemmas
 pub mod LastLemmas
 pub mod ReadLemmas
 pub mod RunLemmas
 pub mod BorderLemmas
+pub mod NextLemmas
 pub mod EntryLemmas
 pub mod StallLemmas
 pub mod LoopLemmas
@@ -10,6 +13,7 @@ pub mod TurnLemmas
 pub mod RoundLemmas
 pub mod TallyLemmas
 pub mod TallyLoop
+pub mod RowTotals
 pub mod LedgerLemmas
 pub mod PrintLemmas
 pub mod LeftLemmas

@@ -1,19 +1,5 @@
 -- Lemmas on one round of the run's loop.
-use Rattle.std.specs.Prelude.{Bool, ◌||◌, nat_eq, if◌then◌else◌}
-use Rattle.std.proofs.lemmas.Bool.Decides.{nat_tests}
-use Rattle.std.proofs.Common.{◌≡◌, ◌≢◌, ℕ, zero, suc, ◌+◌, ◌-◌, ◌≤◌, ◌⊎◌, inl, inr, true, false, List, refl, ap, arith}
-use Rattle.st_exec.specs.Step.{rests}
-use Rattle.st_run.specs.Moments.{Moment, next_state, standing_at, next_moment}
-use Rattle.st_account.specs.Text.{begins_segment, segment_after, uses_at, words_before, stalled_from}
-use Rattle.st_ledger.specs.declared.charges.Stage.{Stage}
-use Rattle.st_ledger.specs.declared.charges.Stage.TheVariants.{Restart, Instruction, Address, Index, Preparing, Operand, Executing}
-use Rattle.st_ledger.specs.declared.totals.Totals.{Totals}
-use Rattle.st_ledger.specs.Charges.{ticks_for}
-use Rattle.st_ledger.specs.Ledger.{entries_from, charges_at, all_charges}
-use Rattle.st_ledger.specs.Totals.{sum_at, AreWithin}
-use Rattle.st_rows.specs.declared.uses.Use.{Use}
-use Rattle.st_reasons.specs.Sums.{row_stalled}
-use Rattle.st_reasons.specs.declared.waits.Stall.{Stall}
+use Rattle.st_account.proofs.Common.{Bool, ◌||◌, nat_eq, if◌then◌else◌, nat_tests, ◌≡◌, ◌≢◌, ℕ, zero, suc, ◌+◌, ◌-◌, ◌≤◌, ◌⊎◌, inl, inr, true, false, List, refl, ap, arith, rests, Moment, next_state, standing_at, next_moment, begins_segment, segment_after, uses_at, words_before, stalled_from, Stage, Restart, Instruction, Address, Index, Preparing, Operand, Executing, Totals, ticks_for, entries_from, charges_at, all_charges, sum_at, AreWithin, Use, row_stalled, Stall}
 use Rattle.st_account.proofs.RunLemmas.{waits-end, waits-on, charges-end, charges-on}
 
 -- ---- numbers of a round

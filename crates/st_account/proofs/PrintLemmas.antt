@@ -1,8 +1,5 @@
 -- Lemmas on the output that is printed between two entries.
-use Rattle.std.proofs.Common.{◌≡◌, ℕ, List, [], ◌∷◌, None, Some, sym, ap}
-use Rattle.st_run.specs.Run.{PlainEvent}
-use Rattle.st_run.specs.ExternalEvents.{ArePrinted}
-use Rattle.st_account.specs.Settling.{words_printed}
+use Rattle.st_account.proofs.Common.{◌≡◌, ℕ, List, [], ◌∷◌, None, Some, sym, ap, PlainEvent, ArePrinted, words_printed}
 
 pub none-printed : (es : List PlainEvent) → ArePrinted None es → [] ≡ words_printed es
 unfolding words_printed

@@ -1,36 +1,11 @@
 -- Lemmas on the reads of the last completed entry and of the entries that run ahead, and on those
 -- of the reads that are made.
-use Rattle.std.specs.Prelude.{Bool, if◌then◌else◌, nat_lt, All}
-use Rattle.std.proofs.Common.{◌≡◌, ℕ, zero, suc, ◌+◌, ◌≤◌, ◌<◌, max, true, false, List, [], ◌++◌, drop, length, length-append, Option, None, Some, refl, sym, ◌∙◌, ap, subst, append_assoc, arith}
-use Rattle.std.proofs.lemmas.Bool.Decides.{nat_tests}
-use Rattle.std.proofs.lemmas.List.{append-nil}
-use Rattle.std.proofs.lemmas.List.Elements.{All-weaker}
-use Rattle.st_banks.specs.declared.answers.LastAnswers.{LastAnswers}
-use Rattle.st_state.specs.Machine.{Machine, IsMachine}
-use Rattle.st_exec.specs.Completion.{prediction}
-use Rattle.st_rows.specs.Asked.{formed_asked, prepared_asked, fetches_asked, following_asked, bus_after_reads, made_before, side_count, words_asked}
-use Rattle.st_rows.specs.BusTimes.{Read}
-use Rattle.st_rows.specs.Notes.{log_after_reads, notes_of_reads, answers_left, AreEarly, IsLogged}
-use Rattle.st_rows.specs.Ranges.{AreDelaysUpTo, IsEntryInTime, IsTight}
-use Rattle.st_rows.specs.Rows.{row_of_entry, issue_after_entry, wanted_from, tick_a, tick_p, bus_a, operands, reads_of_entry}
+use Rattle.st_account.proofs.Common.{Bool, if◌then◌else◌, nat_lt, All, ◌≡◌, ℕ, zero, suc, ◌+◌, ◌≤◌, ◌<◌, max, true, false, List, [], ◌++◌, drop, length, length-append, Option, None, Some, refl, sym, ◌∙◌, ap, subst, append_assoc, arith, nat_tests, append-nil, All-weaker, LastAnswers, Machine, IsMachine, prediction, formed_asked, prepared_asked, fetches_asked, following_asked, bus_after_reads, made_before, side_count, words_asked, Read, log_after_reads, notes_of_reads, answers_left, AreEarly, IsLogged, AreDelaysUpTo, IsEntryInTime, IsTight, row_of_entry, issue_after_entry, wanted_from, tick_a, tick_p, bus_a, operands, reads_of_entry, Bus, Entry, IssueState, Made, undone_is_made_before, few_are_undone, logged-noted, two-parts, at-prepared, free-formed, made-bounds, served-append, served-asked, few-words, few-side, few-operands, few-following, served-formed, tight-after, entry, ahead, reads_before, entry-ranges, reads_up_to, HasReads}
 use Rattle.st_rows.specs.Words.{fetch_words}
-use Rattle.st_rows.specs.declared.bus.Bus.{Bus}
-use Rattle.st_rows.specs.declared.entry.Entry.{Entry}
 use Rattle.st_rows.specs.declared.fetching.Fetching.{Fetching}
-use Rattle.st_rows.specs.declared.issue.IssueState.{IssueState}
-use Rattle.st_rows.specs.declared.log.Made.{Made}
-use Rattle.st_rows.proofs.LogLaws.{undone_is_made_before, few_are_undone, logged-noted}
 use Rattle.st_rows.proofs.MadeLemmas.{made-more}
-use Rattle.st_rows.proofs.Parts.{two-parts, at-prepared, free-formed}
-use Rattle.st_rows.proofs.Served.{made-bounds, served-append, served-asked, few-words, few-side, few-operands, few-following, served-formed}
-use Rattle.st_rows.proofs.Tight.{tight-after}
-use Rattle.st_segment.specs.Entries.{entry}
-use Rattle.st_segment.specs.Ahead.{ahead, reads_before}
-use Rattle.st_segment.proofs.EntryRanges.{entry-ranges}
 use Rattle.st_segment.proofs.PredictionLemmas.{prediction-machine}
-use Rattle.st_plain.specs.Looking.{reads_up_to}
 use Rattle.st_plain.proofs.LookLemmas.{row-p}
-use Rattle.st_account.specs.Standing.{HasReads}
 
 -- ---- the number of reads of an entry in each part
 

@@ -1,32 +1,8 @@
 -- Lemmas on the part of a run that is written so far.
-use Rattle.std.specs.Prelude.{Bool, nat_lt, nat_eq, not, ◌||◌, is_some, is_none, Option, Some}
-use Rattle.std.proofs.lemmas.Bool.{and_parts, not-true}
-use Rattle.std.proofs.lemmas.Bool.Decides.{nat_tests}
-use Rattle.std.proofs.Common.{◌≡◌, ◌≢◌, ℕ, zero, suc, ◌+◌, ◌-◌, ◌*◌, ◌^◌, ◌≤◌, ◌⊎◌, inl, inr, true, false, List, ◌++◌, length, None, refl, sym, ◌∙◌, ap, arith}
-use Rattle.st_bits.specs.declared.limits.TheConstants.{MOST_INSTRUCTIONS}
-use Rattle.st_state.specs.Machine.{Machine}
-use Rattle.st_exec.specs.Step.{rests, step, interrupt}
-use Rattle.st_card.specs.declared.control_cards.Signal.{Signal}
-use Rattle.st_run.specs.Run.{Transition, uneventful, interlude, scene_after_step, with_due_signals, with_due_orders}
-use Rattle.st_state.specs.Orders.{is_due}
-use Rattle.st_run.specs.ExternalEvents.{signal_due}
+use Rattle.st_account.proofs.Common.{Bool, nat_lt, nat_eq, not, ◌||◌, is_some, is_none, and_parts, not-true, nat_tests, ◌≡◌, ◌≢◌, ℕ, zero, suc, ◌+◌, ◌-◌, ◌*◌, ◌^◌, ◌≤◌, ◌⊎◌, inl, inr, true, false, List, ◌++◌, length, None, refl, sym, ◌∙◌, ap, arith, MOST_INSTRUCTIONS, Machine, rests, step, interrupt, Signal, Transition, uneventful, interlude, scene_after_step, with_due_signals, with_due_orders, is_due, signal_due, Moment, Standing, next_scene, next_state, standing_at, next_row, next_moment, has_card, has_waited, ends_segment, HasTime, settled-done, row_of_entry, issue_after_entry, Stage, ticks_for, entries_from, charges_at, all_charges, Use, row_stalled, Stall, Origin, at_hand, still_by, end_lines, end_from, segment_ends, segment_end_at, segment_lines, segment_after, uses_at, words_before, lines_of_entry, last_lines, lines_from, stalled_from}
+use Rattle.std.specs.Prelude.{Option, Some}
 use Rattle.st_run.proofs.QuietLemmas.{none-due, none-comes}
-use Rattle.st_run.specs.Moments.{Moment, Standing, next_scene, next_state, standing_at, next_row, next_moment, has_card, has_waited, ends_segment}
-use Rattle.st_run.proofs.Bounds.{HasTime}
-use Rattle.st_run.proofs.DoneLemmas.{settled-done}
-use Rattle.st_rows.specs.Rows.{row_of_entry, issue_after_entry}
-use Rattle.st_ledger.specs.declared.charges.Stage.{Stage}
-use Rattle.st_ledger.specs.Charges.{ticks_for}
-use Rattle.st_ledger.specs.Ledger.{entries_from, charges_at, all_charges}
 use Rattle.st_ledger.proofs.Runs.{entries-none, entries-step, ticks_for-append}
-use Rattle.st_rows.specs.declared.uses.Use.{Use}
-use Rattle.st_reasons.specs.Sums.{row_stalled}
-use Rattle.st_reasons.specs.declared.waits.Stall.{Stall}
-use Rattle.st_lines.specs.declared.origins.Origin.{Origin}
-use Rattle.st_account.specs.Settling.{at_hand}
-use Rattle.st_account.specs.Standing.{still_by}
-use Rattle.st_account.specs.LedgerSums.{end_lines, end_from}
-use Rattle.st_account.specs.Text.{segment_ends, segment_end_at, segment_lines, segment_after, uses_at, words_before, lines_of_entry, last_lines, lines_from, stalled_from}
 
 none-is : {A : Type 0} (o : Option A) → is_none o ≡ true → o ≡ None
 none-is None h = refl

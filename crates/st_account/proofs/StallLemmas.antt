@@ -1,32 +1,10 @@
 -- Lemmas on the waits of the last entry and their totals.
-use Rattle.std.specs.Prelude.{if◌then◌else◌, nat_eq, All}
-use Rattle.std.proofs.Common.{◌≡◌, ◌≢◌, ℕ, zero, suc, ◌+◌, ◌≤◌, false, Bool, List, [], Option, refl, sym, ◌∙◌, ap, subst, arith}
-use Rattle.std.proofs.lemmas.Bool.{cond_both}
-use Rattle.std.proofs.lemmas.Bool.Decides.{nat_tests}
-use Rattle.std.proofs.lemmas.List.Elements.{All-nil}
-use Rattle.st_state.specs.Machine.{Machine}
-use Rattle.st_exec.specs.Step.{interrupt}
-use Rattle.st_rows.specs.Rows.{row_of_entry}
-use Rattle.st_rows.specs.declared.issue.EntryTicks.{EntryTicks}
-use Rattle.st_segment.specs.Entries.{entry}
-use Rattle.st_run.specs.Moments.{Standing, next_row}
-use Rattle.st_ledger.specs.Charges.{parts_of_row, charges_behind, all_ticks}
-use Rattle.st_ledger.specs.Ledger.{charges_at}
-use Rattle.st_ledger.specs.declared.charges.Stage.{Stage}
-use Rattle.st_ledger.specs.declared.charges.Stage.TheVariants.{Restart, Instruction, Address, Index, Preparing, Operand, Executing}
+use Rattle.st_account.proofs.Common.{if◌then◌else◌, nat_eq, All, ◌≡◌, ◌≢◌, ℕ, zero, suc, ◌+◌, ◌≤◌, false, List, [], Option, refl, sym, ◌∙◌, ap, subst, arith, cond_both, nat_tests, All-nil, Machine, interrupt, row_of_entry, EntryTicks, entry, Standing, next_row, parts_of_row, charges_behind, all_ticks, charges_at, Stage, Restart, Instruction, Address, Index, Preparing, Operand, Executing, Use, AreSharesWithin, AreWaitsWithin, share_at, waited_at, row_stalled, IsReadInTime, WaitTotals, Stall, Turn, Bank, Storage, Last, charges_kept, kept_stalled, IsWaiting, AddsKeptWaits, IsStanding, uses_at}
+use Rattle.std.proofs.Common.{Bool}
 use Rattle.st_ledger.proofs.Rows.{row-sum}
-use Rattle.st_rows.specs.declared.uses.Use.{Use}
-use Rattle.st_reasons.specs.Sums.{AreSharesWithin, AreWaitsWithin, share_at, waited_at, row_stalled}
-use Rattle.st_reasons.specs.Words.{IsReadInTime}
-use Rattle.st_reasons.specs.declared.sums.Shares.{Shares}
-use Rattle.st_reasons.specs.declared.sums.WaitTotals.{WaitTotals}
-use Rattle.st_reasons.specs.declared.waits.Stall.{Stall}
-use Rattle.st_reasons.specs.declared.waits.Stall.TheVariants.{Turn, Bank, Storage}
-use Rattle.st_reasons.proofs.Added.{shares-later}
-use Rattle.st_account.specs.declared.last.Last.{Last}
+use Rattle.st_ledger.specs.declared.sums.Shares.{Shares}
+use Rattle.st_ledger.proofs.AddedWaits.{shares-later}
 use Rattle.st_lines.specs.Waited.{AddsWaits}
-use Rattle.st_account.specs.Standing.{charges_kept, kept_stalled, IsWaiting, AddsKeptWaits, IsStanding}
-use Rattle.st_account.specs.Text.{uses_at}
 use Rattle.st_account.proofs.EntryLemmas.{row-is}
 
 -- ---- totals
@@ -59,7 +37,7 @@ unfolding kept_stalled
 kept-stalled-none r s k l none = rw none refl
 
 pub kept-stalled-some : (r : Stage) (s : Stall) (k : ℕ) (l : Last) → k ≢ 0
-    → kept_stalled r s k l ≡ row_stalled r s l.uses.items l.before.items (charges_behind l.done.before (parts_of_row l.done.start l.done.row.ticks))
+    → kept_stalled r s k l ≡ row_stalled r s l.uses.items l.uses.before (charges_behind l.done.before (parts_of_row l.done.start l.done.row.ticks))
 unfolding kept_stalled
 kept-stalled-some r s zero l some = absurd (some refl)
 kept-stalled-some r s (suc k) l some = rw (not-zero k) refl
@@ -68,7 +46,7 @@ kept-stalled-some r s (suc k) l some = rw (not-zero k) refl
     not-zero k = grind (arith, nat_tests)
 
 -- the waits before the first entry
-pub waiting-none : (l : Last) (sums : WaitTotals) → AreWaitsWithin 0 sums → l.tick ≡ 0 → l.uses.items ≡ [] → l.before.items ≡ [] → l.done.before ≡ 0
+pub waiting-none : (l : Last) (sums : WaitTotals) → AreWaitsWithin 0 sums → l.tick ≡ 0 → l.uses.items ≡ [] → l.uses.before ≡ [] → l.done.before ≡ 0
     → l.done.start ≡ 0 → l.done.row.ticks ≡ record { a = 0; p = 0; r = 0; c = 0 } → IsWaiting l sums
 unfolding charges_behind all_ticks
 waiting-none l sums none tick unused before done start ticks = record {
@@ -92,7 +70,7 @@ kept-stalled-same : (r : Stage) (s : Stall) (k : ℕ) (l j : Last) → j ≡ rec
 unfolding kept_stalled
 kept-stalled-same r s k l j same = ap (kept_stalled r s k) same
 
-reach-within : (l : Last) (sums new : WaitTotals) → IsWaiting l sums → AreWaitsWithin l.done.before new → AreWaitsWithin l.tick new
+pub reach-within : (l : Last) (sums new : WaitTotals) → IsWaiting l sums → AreWaitsWithin l.done.before new → AreWaitsWithin l.tick new
 reach-within l sums new is within = waits-later l.done.before l.tick new (omega (arith, is.reach)) within
 
 pub adds-none : (k : ℕ) (l : Last) (sums : WaitTotals) → k ≡ 0 → IsWaiting l sums → AddsKeptWaits k l sums sums
@@ -102,7 +80,7 @@ adds-none k l sums none is = record {
 }
 
 pub adds-some : (k : ℕ) (l : Last) (us bs : List Use) (old new : WaitTotals) → k ≢ 0 → l.done.before + all_ticks (charges_kept l) ≡ l.tick
-    → us ≡ l.uses.items → bs ≡ l.before.items → AddsWaits us bs l.done.before (charges_kept l) old new → AddsKeptWaits k l old new
+    → us ≡ l.uses.items → bs ≡ l.uses.before → AddsWaits us bs l.done.before (charges_kept l) old new → AddsKeptWaits k l old new
 adds-some k l us bs old new some reach used earlier is = record {
   within = subst (λ t. AreWaitsWithin t new) reach is.within;
   sums = λ r s parted.

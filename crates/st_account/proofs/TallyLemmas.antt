@@ -1,32 +1,8 @@
 -- Lemmas on the last completed entry as a row of the tables.
-use Rattle.std.specs.Prelude.{nat_eq, length, Option, option_map}
-use Rattle.std.proofs.lemmas.Bool.Decides.{nat_tests}
-use Rattle.std.proofs.lemmas.List.{append-nil}
-use Rattle.std.proofs.Common.{◌≡◌, ◌≢◌, ℕ, zero, suc, ◌+◌, ◌≤◌, ◌<◌, ◌^◌, false, List, [], ◌∷◌, ◌++◌, refl, sym, ◌∙◌, ap, subst, arith}
-use Rattle.st_state.specs.Machine.{Machine}
-use Rattle.st_rows.specs.Ranges.{AreDelaysUpTo, IsTight, IsEntryInTime}
-use Rattle.st_rows.specs.Rows.{row_of_entry, issue_after_entry}
-use Rattle.st_rows.specs.declared.entry.Entry.{Entry}
-use Rattle.st_rows.specs.declared.issue.IssueState.{IssueState}
-use Rattle.st_rows.specs.declared.issue.EntryTicks.{EntryTicks}
-use Rattle.st_rows.specs.declared.uses.Use.{Use}
+use Rattle.st_account.proofs.Common.{Bool, if◌then◌else◌, nat_eq, option_map, nat_tests, append-nil, ◌≡◌, ◌≢◌, ℕ, zero, suc, ◌+◌, ◌≤◌, ◌<◌, ◌^◌, true, false, List, [], ◌∷◌, ◌++◌, refl, sym, ◌∙◌, ap, subst, arith, Machine, AreDelaysUpTo, IsTight, IsEntryInTime, row_of_entry, issue_after_entry, Entry, IssueState, EntryTicks, Use, entry, level_wait, EntryDone, Why, Origin, StallCause, AreTablesWithin, IsInOrder, TalliedRow, IsTally, Tables, Last, CountAs, done_kept, kept_rows, IsOrdered, IsTallyReady, AddsKeptRow}
+use Rattle.std.specs.Prelude.{length, Option}
 use Rattle.st_rows.proofs.Laws.{rows_are_in_order, completions_are_bounded}
-use Rattle.st_segment.specs.Entries.{entry}
-use Rattle.st_plain.specs.Looking.{level_wait}
-use Rattle.st_lines.specs.EntryLines.{charges_of_entry}
-use Rattle.st_lines.specs.Waited.{AddsWaits}
-use Rattle.st_lines.specs.declared.facts.EntryDone.{EntryDone}
-use Rattle.st_lines.specs.declared.lines.Why.{Why}
-use Rattle.st_lines.specs.declared.origins.Origin.{Origin}
-use Rattle.st_reasons.specs.declared.because.StallCause.{StallCause}
-use Rattle.st_reasons.specs.declared.sums.WaitTotals.{WaitTotals}
-use Rattle.st_tally.specs.Slots.{AreTablesWithin, IsInOrder}
-use Rattle.st_tally.specs.Tally.{TalliedRow, IsTally}
-use Rattle.st_tally.specs.declared.tables.Tables.{Tables}
 use Rattle.st_tally.proofs.Alike.{tally-alike, entries-alike}
-use Rattle.st_account.specs.declared.last.Last.{Last}
-use Rattle.st_account.specs.Standing.{charges_kept, kept_stalled, IsWaiting, AddsKeptWaits}
-use Rattle.st_account.specs.Tallying.{CountAs, done_kept, kept_rows, IsOrdered, IsTallyReady, AddsKeptRow}
 use Rattle.st_account.proofs.StallLemmas.{row-reach}
 
 pub kept-rows-none : (k : ℕ) (l : Last) (end : Option ℕ) (w : Why) → k ≡ 0 → kept_rows k l end w ≡ []
@@ -34,7 +10,7 @@ unfolding kept_rows
 kept-rows-none k l end w none = rw none refl
 
 pub kept-rows-some : (k : ℕ) (l : Last) (end : Option ℕ) (w : Why) → k ≢ 0
-    → kept_rows k l end w ≡ record { done = done_kept l end; why = w; uses = l.uses.items; before = l.before.items } ∷ []
+    → kept_rows k l end w ≡ record { done = done_kept l end; why = w; uses = l.uses.items; before = l.uses.before } ∷ []
 unfolding kept_rows
 kept-rows-some zero l end w some = absurd (some refl)
 kept-rows-some (suc k) l end w some = rw (not-zero k) refl
@@ -50,11 +26,11 @@ kept-rows-same k l j end w same = ap (λ x. kept_rows k x end w) same
 -- the row counts as one with another cause and another origin, if the card is the same, and the cause where the entry lost ticks
 pub row-counts : (k : ℕ) (l : Last) (end : Option ℕ) (w : Why) (origin : Option Origin) (why : StallCause) (rows : List TalliedRow) → k ≢ 0
     → option_map (λ (o : Origin). o.card) l.done.origin ≡ option_map (λ (o : Origin). o.card) origin → (l.done.before < l.done.row.ticks.r → l.done.because ≡ why)
-    → (record { done = record (done_kept l end) { origin = origin; because = why }; why = w; uses = l.uses.items; before = l.before.items } ∷ []) ≡ rows
+    → (record { done = record (done_kept l end) { origin = origin; because = why }; why = w; uses = l.uses.items; before = l.uses.before } ∷ []) ≡ rows
     → CountAs (kept_rows k l end w) rows
 row-counts k l end w origin why rows some card same is zs t tally =
     subst (λ ys. IsTally (zs ++ ys) t) is
-    (tally-alike zs _ _ (entries-alike (done_kept l end) w l.uses.items l.before.items origin why card same) t
+    (tally-alike zs _ _ (entries-alike (done_kept l end) w l.uses.items l.uses.before origin why card same) t
     (subst (λ ys. IsTally (zs ++ ys) t) (kept-rows-some k l end w some) tally))
 
 -- ---- before a row is added
@@ -95,7 +71,7 @@ row-none k l end w t none h = record {
 }
 
 pub row-some : (k : ℕ) (l : Last) (end : Option ℕ) (w : Why) (us bs : List Use) (d : EntryDone) (old new : Tables) → k ≢ 0 → IsTallyReady k l old → d ≡ done_kept l end
-    → us ≡ l.uses.items → bs ≡ l.before.items
+    → us ≡ l.uses.items → bs ≡ l.uses.before
     → ((xs : List TalliedRow) → IsTally xs old → IsTally (xs ++ record { done = d; why = w; uses = us; before = bs } ∷ []) new)
     → length new.cards.items ≡ length old.cards.items → new.level_ticks ≡ old.level_ticks + d.row.level_wait → AreTablesWithin d.row.ticks.c new
     → AddsKeptRow k l end w old new
@@ -115,10 +91,6 @@ row-some k l end w us bs d old new some h is used earlier tally size ticks withi
       within = subst (λ t. AreTablesWithin t new) (ap (λ (x : EntryDone). x.row.ticks.c) is ∙ o.at) within;
     }
 
-pub waits-added : (l : Last) (end : Option ℕ) (us bs : List Use) (d : EntryDone) (old new : WaitTotals) → d ≡ done_kept l end
-    → AddsWaits us bs d.before (charges_of_entry d) old new → AddsWaits us bs l.done.before (charges_kept l) old new
-waits-added l end us bs d old new is = subst (λ (x : EntryDone). AddsWaits us bs x.before (charges_of_entry x) old new) is
-
 pub row-same : (k : ℕ) (l j : Last) (end until : Option ℕ) (w : Why) (old new : Tables) → j ≡ record l { issue = j.issue; past = j.past } → end ≡ until
     → AddsKeptRow k j end w old new → AddsKeptRow k l until w old new
 row-same k l j end until w old new same is h = record {
@@ -129,13 +101,15 @@ row-same k l j end until w old new same is h = record {
   within = subst (λ (x : Last). AreTablesWithin x.tick new) same h.within;
 }
 
+-- at most eight entries are dropped
+pub few-more : (ends : Bool) (old new j found : ℕ) → j ≡ found → found ≤ 8 → new ≡ old + (if ends then j else 0) → new ≤ old + 8
+few-more true old new j found is few more = omega (arith, is, few, more)
+few-more false old new j found is few more = omega (arith, more)
+
 -- ---- the end of the entry's segment does not matter
 
 abbrev pub ended : Option ℕ → Last → Last
 ended e l = record l { done = record l.done { end = e } }
-
-pub waiting-ended : (e : Option ℕ) (l : Last) (sums : WaitTotals) → IsWaiting l sums → IsWaiting (ended e l) sums
-waiting-ended e l sums h = record { uses = h.uses; before = h.before; reach = h.reach; within = h.within }
 
 pub ready-ended : (e : Option ℕ) (k : ℕ) (l : Last) (t : Tables) → IsTallyReady k l t → IsTallyReady k (ended e l) t
 ready-ended e k l t h = record {
@@ -146,10 +120,6 @@ ready-ended e k l t h = record {
   within = h.within;
   ticks = h.ticks;
 }
-
-pub adds-ended : (e : Option ℕ) (k : ℕ) (l : Last) (old new : WaitTotals) → AddsKeptWaits k (ended e l) old new → AddsKeptWaits k l old new
-unfolding kept_stalled
-adds-ended e k l old new h = record { within = h.within; sums = λ r s parted. h.sums r s parted }
 
 pub row-ended : (e : Option ℕ) (k : ℕ) (l : Last) (end : Option ℕ) (w : Why) (old new : Tables) → AddsKeptRow k (ended e l) end w old new
     → AddsKeptRow k l end w old new

@@ -1,34 +1,12 @@
 -- Lemmas on the tables of a run in its loop.
+use Rattle.st_account.proofs.Common.{append-nil, ◌≡◌, ◌≢◌, ℕ, zero, suc, ◌+◌, ◌-◌, ◌*◌, ◌^◌, ◌≤◌, ◌⊎◌, inl, inr, true, false, List, [], ◌∷◌, ◌++◌, refl, sym, ◌∙◌, ap, subst, append_assoc, arith, Signal, Machine, rests, OutputState, PendingEvents, Moment, Standing, next_state, standing_at, next_moment, Use, origin_at, Origin, Why, Run, AreTablesWithin, TalliedRow, IsTally, Tables, Account, why_after, row_at, tallied_from, dropped_at_end, dropped_from, end_from, IsAtStart, HasTakenEvents, IsNext, IsStepped, Completes, Position, position, next_position, IsStanding, CountAs, kept_rows, IsOrdered, IsTallyReady, AddsKeptRow, IsEmptyTally, TalliesRow, run_ends, segment_end_at, segment_after, uses_at, words_before}
 use Rattle.std.specs.Prelude.{length, Option}
-use Rattle.std.proofs.lemmas.List.{append-nil}
-use Rattle.std.proofs.Common.{◌≡◌, ◌≢◌, ℕ, zero, suc, ◌+◌, ◌-◌, ◌*◌, ◌^◌, ◌≤◌, ◌⊎◌, inl, inr, true, false, List, [], ◌∷◌, ◌++◌, refl, sym, ◌∙◌, ap, subst, append_assoc, arith}
-use Rattle.st_card.specs.declared.control_cards.Signal.{Signal}
-use Rattle.st_state.specs.Machine.{Machine}
-use Rattle.st_exec.specs.Step.{rests}
-use Rattle.st_io.specs.Output.{OutputState}
-use Rattle.st_run.specs.ExternalEvents.{PendingEvents}
-use Rattle.st_run.specs.Moments.{Moment, Standing, next_state, standing_at, next_moment}
-use Rattle.st_ledger.specs.declared.charges.Stage.{Stage}
-use Rattle.st_reasons.specs.declared.waits.Stall.{Stall}
-use Rattle.st_rows.specs.declared.uses.Use.{Use}
-use Rattle.st_lines.specs.Origins.{origin_at}
-use Rattle.st_lines.specs.declared.origins.Origin.{Origin}
-use Rattle.st_lines.specs.declared.lines.Why.{Why}
-use Rattle.st_lines.specs.declared.lines.Why.TheVariants.{Run}
-use Rattle.st_tally.specs.Slots.{AreTablesWithin}
-use Rattle.st_tally.specs.Tally.{TalliedRow, IsTally}
-use Rattle.st_tally.specs.declared.tables.Tables.{Tables}
-use Rattle.st_account.specs.declared.account.Account.{Account}
+use Rattle.st_tally.proofs.TableLemmas.{tables-later}
 use Rattle.st_account.specs.declared.tallying.Tally.{Tally}
-use Rattle.st_account.specs.LedgerTables.{why_after, row_at, tallied_from, dropped_at_end, dropped_from}
-use Rattle.st_account.specs.LedgerSums.{end_from}
-use Rattle.st_account.specs.Standing.{IsStanding}
-use Rattle.st_account.specs.Tallying.{CountAs, kept_rows, IsOrdered, IsTallyReady, AddsKeptRow, IsEmptyTally}
-use Rattle.st_account.specs.Text.{run_ends, segment_end_at, segment_after, uses_at, words_before}
 use Rattle.st_account.proofs.LoopLemmas.{number-some, ends-one}
 use Rattle.st_account.proofs.RunLemmas.{end-on}
 use Rattle.st_account.proofs.TallyLemmas.{kept-rows-none}
-use Rattle.st_account.proofs.TurnLemmas.{IsCounting, IsSumming, taken, next-done}
+use Rattle.st_account.proofs.TurnLemmas.{IsCounting, IsSumming, taken, next-done, done-is, some, on, stands, after, old-words}
 
 -- ---- the rows and the dropped entries from a moment on
 
@@ -71,49 +49,47 @@ module _ (ds : List ℕ) (n : ℕ) where
 -- The tables have rows, to which the last entry and the rows of the remaining run are still to be added. `own` is the row of the last entry, as which the
 -- kept one counts. The number of entries that are still dropped and
 -- of those that were dropped are together the total.
-pub record AreTallied (o : Machine → ℕ → Option Origin) (ds : List ℕ) (n : ℕ) (rows : List TalliedRow) (dropped size : ℕ) (a : Account) (y : Tally) (left : ℕ)
-    (m : Moment) : Type 0 where
+pub record AreTallied (p : Position) (o : Machine → ℕ → Option Origin) (rows : List TalliedRow) (dropped size : ℕ) (a : Account) (y : Tally) : Type 0 where
   pub front : List TalliedRow
   pub tally : IsTally front y.tables
   pub own : List TalliedRow
-  pub counts : CountAs (kept_rows a.k a.last (segment_end_at left m) y.why) own
-  pub all : front ++ (own ++ tallied_from o ds n left a.k y.why a.last.uses.items m) ≡ rows
+  pub counts : CountAs (kept_rows a.k a.last (segment_end_at p.left p.moment) y.why) own
+  pub all : front ++ (own ++ tallied_from o p.delays p.levels p.left a.k y.why a.last.uses.items p.moment) ≡ rows
   pub table : origin_at a.origins ≡ o
   pub places : length y.tables.cards.items ≡ size
   pub ordered : a.k ≢ 0 → IsOrdered a.last
   pub first : a.k ≡ 0 → AreTablesWithin a.last.tick y.tables
   pub within : AreTablesWithin a.last.done.before y.tables
-  pub ticks : y.tables.level_ticks ≤ 165760000000 * m.scene.machine.done
-  pub sum : y.dropped + dropped_from ds n left m ≡ dropped
-  pub few : y.dropped ≤ 8 * m.scene.machine.done
+  pub ticks : y.tables.level_ticks ≤ 165760000000 * p.moment.scene.machine.done
+  pub sum : y.dropped + dropped_from p.delays p.levels p.left p.moment ≡ dropped
+  pub few : y.dropped ≤ 8 * p.moment.scene.machine.done
 
 -- Loop invariant of the totals with their tables.
-pub record IsTallying (s t : OutputState) (all : List (List ℕ)) (o : Machine → ℕ → Option Origin) (ds : List ℕ) (n : ℕ) (total : Stage → ℕ) (waited : Stage → Stall → ℕ)
-    (rows : List TalliedRow) (dropped places : ℕ) (a : Account) (y : Tally) (rest : List Signal) (cards : List (List ℕ)) (left : ℕ) : Type 0 where
-  pub summing : IsSumming s t all ds n total waited a rest cards left
-  pub tallied : AreTallied o ds n rows dropped places a y left summing.m
+pub record IsTallying (s t : OutputState) (all : List (List ℕ)) (o : Machine → ℕ → Option Origin) (ds : List ℕ) (n : ℕ)
+    (rows : List TalliedRow) (dropped places : ℕ) (a : Account) (y : Tally) (x : PendingEvents) (left : ℕ) : Type 0 where
+  pub summing : IsSumming s t all ds n a x left
+  pub tallied : AreTallied (position ds n left summing.b summing.m) o rows dropped places a y
 
-pub tally-taken : (s t : OutputState) (all : List (List ℕ)) (o : Machine → ℕ → Option Origin) (ds : List ℕ) (n : ℕ) (total : Stage → ℕ) (waited : Stage → Stall → ℕ)
+pub tally-taken : (s t : OutputState) (all : List (List ℕ)) (o : Machine → ℕ → Option Origin) (ds : List ℕ) (n : ℕ)
     (rows : List TalliedRow) (dropped places : ℕ) (a : Account) (y : Tally) (x : PendingEvents)
     (xs ys : List Signal) (cards : List (List ℕ)) (left budget : ℕ) → x ≡ record { signals = xs; cards = cards } → xs ≡ ys → left ≡ budget
-    → IsTallying s t all o ds n total waited rows dropped places a y ys cards budget
-    → IsTallying s t all o ds n total waited rows dropped places a y x.signals x.cards left
-tally-taken s t all o ds n total waited rows dropped places a y x xs ys cards left budget =
-    taken (λ zs cs k. IsTallying s t all o ds n total waited rows dropped places a y zs cs k) x xs ys cards left budget
+    → IsTallying s t all o ds n rows dropped places a y (record { signals = ys; cards = cards }) budget
+    → IsTallying s t all o ds n rows dropped places a y x left
+tally-taken s t all o ds n rows dropped places a y x xs ys cards left budget =
+    taken (λ z k. IsTallying s t all o ds n rows dropped places a y z k) x xs ys cards left budget
 
 -- the invariant after a round
-pub tallies : (s t : OutputState) (all : List (List ℕ)) (o : Machine → ℕ → Option Origin) (ds : List ℕ) (n : ℕ) (total : Stage → ℕ) (waited : Stage → Stall → ℕ)
-    (rows : List TalliedRow) (dropped places : ℕ) (d : Account) (x : Tally) (ys : List Signal) (cards : List (List ℕ)) (left : ℕ) (m : Moment) → left ≢ 0
-    → rests (next_state m) ≡ false → end_from ds n left m ≡ all → t ≡ s → length d.words.items ≡ 0
-    → IsCounting ds n total waited d ys cards (left - 1) (next_moment ds n (standing_at m)) (next_state m)
-    → AreTallied o ds n rows dropped places d x (left - 1) (next_moment ds n (standing_at m))
-    → IsTallying s t all o ds n total waited rows dropped places d x ys cards (left - 1)
-tallies s t all o ds n total waited rows dropped places d x ys cards left m some on ends still bare counted tallied = record {
+pub tallies : (p : Position) (s t : OutputState) (all : List (List ℕ)) (o : Machine → ℕ → Option Origin)
+    (rows : List TalliedRow) (dropped places : ℕ) (d : Account) (x : Tally) (y : PendingEvents) → p.left ≢ 0
+    → rests (next_state p.moment) ≡ false → end_from p.delays p.levels p.left p.moment ≡ all → t ≡ s → length d.words.items ≡ 0
+    → IsCounting (next_position p) d y → AreTallied (next_position p) o rows dropped places d x
+    → IsTallying s t all o p.delays p.levels rows dropped places d x y (p.left - 1)
+tallies p s t all o rows dropped places d x y some on ends still bare counted tallied = record {
   summing = record {
-    m = next_moment ds n (standing_at m);
-    b = next_state m;
+    m = next_moment p.delays p.levels (standing_at p.moment);
+    b = next_state p.moment;
     counted = counted;
-    ends = sym (end-on ds n left m some on) ∙ ends;
+    ends = sym (end-on p.delays p.levels p.left p.moment some on) ∙ ends;
     unwritten = still;
     bare = bare;
   };
@@ -121,120 +97,126 @@ tallies s t all o ds n total waited rows dropped places d x ys cards left m some
 }
 
 -- before the first entry
-pub tally-starts : (o : Machine → ℕ → Option Origin) (ds : List ℕ) (n budget : ℕ) (a : Account) (y : Tally) (m : Moment) → IsEmptyTally y → origin_at a.origins ≡ o
-    → a.k ≡ 0 → a.last.tick ≡ 0 → a.last.uses.items ≡ [] → a.last.done.before ≡ 0
-    → AreTallied o ds n (tallied_from o ds n budget 0 Run [] m) (dropped_from ds n budget m) (length y.tables.cards.items) a y budget m
-tally-starts o ds n budget a y m empty table number tick unused before = record {
+pub tally-starts : (o : Machine → ℕ → Option Origin) (ds : List ℕ) (n budget : ℕ) (s : Machine) (a : Account) (y : Tally) (m : Moment) → IsEmptyTally y → origin_at a.origins ≡ o
+    → IsAtStart s a
+    → AreTallied (position ds n budget s m) o (tallied_from o ds n budget 0 Run [] m) (dropped_from ds n budget m) (length y.tables.cards.items) a y
+tally-starts o ds n budget s a y m empty table start = record {
   front = [];
   tally = empty.tables.tally;
   own = kept_rows a.k a.last (segment_end_at budget m) y.why;
   counts = λ zs t is. is;
   all =
-      ap (λ ls. ls ++ tallied_from o ds n budget a.k y.why a.last.uses.items m) (kept-rows-none a.k a.last (segment_end_at budget m) y.why number)
-      ∙ ap (λ k. tallied_from o ds n budget k y.why a.last.uses.items m) number
+      ap (λ ls. ls ++ tallied_from o ds n budget a.k y.why a.last.uses.items m) (kept-rows-none a.k a.last (segment_end_at budget m) y.why start.number)
+      ∙ ap (λ k. tallied_from o ds n budget k y.why a.last.uses.items m) start.number
       ∙ ap (λ w. tallied_from o ds n budget 0 w a.last.uses.items m) empty.why
-      ∙ ap (λ us. tallied_from o ds n budget 0 Run us m) unused;
+      ∙ ap (λ us. tallied_from o ds n budget 0 Run us m) start.unused;
   table = table;
   places = refl;
-  ordered = λ some. absurd (some number);
-  first = λ none. subst (λ t. AreTablesWithin t y.tables) (sym tick) empty.tables.within;
-  within = subst (λ t. AreTablesWithin t y.tables) (sym before) empty.tables.within;
+  ordered = λ some. absurd (some start.number);
+  first = λ none. subst (λ t. AreTablesWithin t y.tables) (sym start.tick) empty.tables.within;
+  within = subst (λ t. AreTablesWithin t y.tables) (sym start.before) empty.tables.within;
   ticks = omega (arith, empty.tables.ticks);
   sum = omega (arith, empty.dropped);
   few = omega (arith, empty.dropped);
 }
 
-module _ (o : Machine → ℕ → Option Origin) (ds : List ℕ) (n : ℕ) (rows : List TalliedRow) (dropped places : ℕ) (total : Stage → ℕ) (waited : Stage → Stall → ℕ)
-    (a : Account) (xs : List Signal) (cards : List (List ℕ)) (left : ℕ) (m : Moment) (b : Machine) (h : IsCounting ds n total waited a xs cards left m b)
-    (y : Tally) (z : AreTallied o ds n rows dropped places a y left m) (a' : Account) (same : a' ≡ record a { state = a'.state; log = a'.log; behind = a'.behind }) where
-  tick-is : m.tick ≡ a.last.tick
-  tick-is = h.at.hand.tick
+module _ (p : Position) (a : Account) (x : PendingEvents) (h : IsCounting p a x)
+    (a' : Account) (z : PendingEvents) (same : a' ≡ record a { state = a'.state; log = a'.log; behind = a'.behind }) (came : HasTakenEvents p a' z)
+    (o : Machine → ℕ → Option Origin) (rows : List TalliedRow) (dropped places : ℕ) (y : Tally) (tallied : AreTallied p o rows dropped places a y) where
+  count-is : p.moment.scene.machine.done ≡ a'.state.done
+  count-is = done-is p a x h a' z same came
+
+  most : p.moment.scene.machine.done ≤ 10000000
+  most = omega (arith, count-is, came.behind.run.few)
 
   pub ready-then : IsTallyReady a'.k a'.last y.tables
-  ready-then = subst (λ (x : Account). IsTallyReady x.k x.last y.tables) (sym same) (record {
-    ordered = z.ordered;
-    first = z.first;
-    within = z.within;
-    ticks = omega (arith, z.ticks, h.few, h.time, tick-is);
+  ready-then = subst (λ (v : Account). IsTallyReady v.k v.last y.tables) (sym same) (record {
+    ordered = tallied.ordered;
+    first = tallied.first;
+    within = tallied.within;
+    ticks = omega (arith, tallied.ticks, most, h.time, h.at.hand.tick);
   })
 
   pub few-dropped : y.dropped ≤ 2 ^ 62
-  few-dropped = omega (arith, z.few, h.few)
+  few-dropped = omega (arith, tallied.few, most)
 
   -- the last entry is added
-  module _ (new : Tables) (added : AddsKeptRow a'.k a'.last (segment_end_at left m) y.why y.tables new) where
-    now : IsTally (z.front ++ z.own) new
+  module _ (new : Tables) (added : AddsKeptRow a'.k a'.last (segment_end_at p.left p.moment) y.why y.tables new) where
+    now : IsTally (tallied.front ++ tallied.own) new
     now =
-        z.counts z.front new (subst (λ (x : Account). IsTally (z.front ++ kept_rows x.k x.last (segment_end_at left m) y.why) new) same (added.tally z.front z.tally))
+        tallied.counts tallied.front new
+        (subst (λ (v : Account). IsTally (tallied.front ++ kept_rows v.k v.last (segment_end_at p.left p.moment) y.why) new) same (added.tally tallied.front tallied.tally))
 
     pub places-kept : length new.cards.items ≡ places
-    places-kept = added.size ∙ z.places
+    places-kept = added.size ∙ tallied.places
+
+    pub tables-small : AreTablesWithin (2 ^ 63) new
+    tables-small =
+        tables-later a'.last.tick (2 ^ 63) new (omega (arith, ap (λ (v : Account). v.last.tick) same, h.at.hand.tick, h.time, most)) added.within
 
     -- the run ends
-    pub tally-ends : run_ends left m ≡ true → IsTally rows new
+    pub tally-ends : run_ends p.left p.moment ≡ true → IsTally rows new
     tally-ends end =
         subst (λ ls. IsTally ls new)
-        (ap (λ ls. z.front ++ ls) (sym (append-nil z.own) ∙ ap (λ ls. z.own ++ ls) (sym (tallied-end ds n o left a.k y.why a.last.uses.items m (ends-one left (rests (next_state m)) end)))) ∙ z.all)
+        (ap (λ ls. tallied.front ++ ls)
+        (sym (append-nil tallied.own)
+        ∙ ap (λ ls. tallied.own ++ ls)
+        (sym (tallied-end p.delays p.levels o p.left a.k y.why a.last.uses.items p.moment (ends-one p.left (rests (next_state p.moment)) end)))) ∙ tallied.all)
         now
 
-    -- the run continues
-    module _ (some : left ≢ 0) (on : rests (next_state m) ≡ false) (c : Account) (number : c.k ≡ segment_after a.k m) (tick : c.last.tick ≡ a'.last.tick)
-        (table : c.origins ≡ a'.origins) (earlier : c.last.uses.items ≡ words_before m a.last.uses.items) (stands : IsStanding (standing_at m) c.state c.last) where
-      abbrev p : Standing
-      p = standing_at m
+  -- the run continues
+  module _ (going : run_ends p.left p.moment ≡ false) (c : Account) (moved : IsNext p a' c) where
+    pub tally-on : (d : Account) (w : Tally) → TalliesRow p a' y w → IsStepped c d
+        → ((q : Standing) → IsStanding q c.state c.last → Completes p.delays p.levels q c d)
+        → AreTallied (next_position p) o rows dropped places d w
+    tally-on d w added stepped completes =
+        let m = p.moment in
+        let q = standing_at m in
+        let next = next_moment p.delays p.levels q in
+        let end = segment_end_at (p.left - 1) next in
+        let why_next = why_after a.k y.why m in
+        let us = words_before m a.last.uses.items in
+        let is_after = after p a x h a' z same came going c moved in
+        let standing = stands p a x h a' z same came going c moved in
+        let done = completes q standing in
+        let later = number-some a.k c.k m is_after in
+        let is_some = some p a x h a' z same came going in
+        let is_on = on p a x h a' z same came going in
+        let origin : origin_at c.origins ≡ o = ap origin_at (moved.origins ∙ ap (λ (v : Account). v.origins) same) ∙ tallied.table in
+        let why_is : w.why ≡ why_next = added.why ∙ ap (λ (v : Account). why_after v.k y.why m) same in
+        let old : a'.last.tick ≡ a.last.tick = ap (λ (v : Account). v.last.tick) same in
+        let segment : d.k ≡ c.k = ap (λ (v : Account). v.k) stepped.rest in
+        let more_done = next-done p.delays p.levels m in
+        let some_more = dropped-on p.delays p.levels p.left m is_some is_on in
+        record {
+          front = tallied.front ++ tallied.own;
+          tally = now w.tables added.row;
+          own = row_at o p.delays p.levels end why_next us q ∷ [];
+          counts =
+              subst (CountAs (kept_rows d.k d.last end w.why))
+              (ap (λ g. row_at g p.delays p.levels end w.why c.last.uses.items q ∷ []) origin
+              ∙ ap (λ v. row_at o p.delays p.levels end v c.last.uses.items q ∷ []) why_is
+              ∙ ap (λ v. row_at o p.delays p.levels end why_next v q ∷ []) (old-words p a x h a' z same came going c moved))
+              (done.row end w.why later);
+          all =
+              append_assoc tallied.front tallied.own (row_at o p.delays p.levels end why_next us q
+              ∷ tallied_from o p.delays p.levels (p.left - 1) d.k w.why d.last.uses.items next)
+              ∙ ap (λ ls. tallied.front ++ (tallied.own ++ ls))
+              (ap (λ v. row_at o p.delays p.levels end why_next us q ∷ tallied_from o p.delays p.levels (p.left - 1) d.k v d.last.uses.items next) why_is
+              ∙ ap (λ k. row_at o p.delays p.levels end why_next us q ∷ tallied_from o p.delays p.levels (p.left - 1) k why_next d.last.uses.items next) (segment ∙ is_after)
+              ∙ ap (λ v. row_at o p.delays p.levels end why_next us q ∷ tallied_from o p.delays p.levels (p.left - 1) (segment_after a.k m) why_next v next) done.uses
+              ∙ sym (tallied-on p.delays p.levels o p.left a.k y.why a.last.uses.items m is_some is_on))
+              ∙ tallied.all;
+          table = ap (λ (v : Account). origin_at v.origins) stepped.rest ∙ origin;
+          places = places-kept w.tables added.row;
+          ordered = λ some. stepped.ordered;
+          first = λ none. absurd (later (sym segment ∙ none));
+          within = subst (λ t. AreTablesWithin t w.tables) (sym (stepped.before ∙ moved.tick)) added.row.within;
+          ticks = omega (arith, added.row.ticks, old, tallied.ticks, h.time, most, h.at.hand.tick, more_done);
+          sum = omega (arith, added.dropped, some_more, tallied.sum);
+          few = omega (arith, added.few, tallied.few, more_done);
+        }
 
-      abbrev m' : Moment
-      m' = next_moment ds n p
-
-      abbrev next : List TalliedRow
-      next = tallied_from o ds n left a.k y.why a.last.uses.items m
-
-      pub tally-on : (d : Account) (x : Tally) → x.tables ≡ new → x.why ≡ why_after a'.k y.why m → x.dropped ≡ y.dropped + dropped_at_end m → x.dropped ≤ y.dropped + 8
-          → ((p : Standing) (end : Option ℕ) (w : Why) → c.k ≢ 0 → IsStanding p c.state c.last
-          → CountAs (kept_rows d.k d.last end w) (row_at (origin_at c.origins) ds n end w c.last.uses.items p ∷ []))
-          → ((p : Standing) → IsStanding p c.state c.last → d.last.uses.items ≡ uses_at ds n p)
-          → IsOrdered d.last → d.last.done.before ≡ c.last.tick → d.k ≡ c.k → d.origins ≡ c.origins
-          → AreTallied o ds n rows dropped places d x (left - 1) m'
-      tally-on d x is_new why more few_more row used order before segment kept_table =
-          let end = segment_end_at (left - 1) m' in
-          let w = why_after a.k y.why m in
-          let us = words_before m a.last.uses.items in
-          let later = number-some a.k c.k m number in
-          let origin : origin_at c.origins ≡ o = ap origin_at table ∙ ap (λ (x : Account). origin_at x.origins) same ∙ z.table in
-          let why_is : x.why ≡ w = why ∙ ap (λ (x : Account). why_after x.k y.why m) same in
-          let old : c.last.tick ≡ a.last.tick = tick ∙ ap (λ (x : Account). x.last.tick) same in
-          let more_done = next-done ds n m in
-          let some_more = dropped-on ds n left m some on in
-          record {
-            front = z.front ++ z.own;
-            tally = subst (IsTally (z.front ++ z.own)) (sym is_new) now;
-            own = row_at o ds n end w us p ∷ [];
-            counts =
-                subst (CountAs (kept_rows d.k d.last end x.why))
-                (ap (λ g. row_at g ds n end x.why c.last.uses.items p ∷ []) origin
-                ∙ ap (λ v. row_at o ds n end v c.last.uses.items p ∷ []) why_is
-                ∙ ap (λ v. row_at o ds n end w v p ∷ []) earlier)
-                (row p end x.why later stands);
-            all =
-                append_assoc z.front z.own (row_at o ds n end w us p ∷ tallied_from o ds n (left - 1) d.k x.why d.last.uses.items m')
-                ∙ ap (λ ls. z.front ++ (z.own ++ ls))
-                (ap (λ v. row_at o ds n end w us p ∷ tallied_from o ds n (left - 1) d.k v d.last.uses.items m') why_is
-                ∙ ap (λ k. row_at o ds n end w us p ∷ tallied_from o ds n (left - 1) k w d.last.uses.items m') (segment ∙ number)
-                ∙ ap (λ v. row_at o ds n end w us p ∷ tallied_from o ds n (left - 1) (segment_after a.k m) w v m') (used p stands)
-                ∙ sym (tallied-on ds n o left a.k y.why a.last.uses.items m some on))
-                ∙ z.all;
-            table = ap origin_at kept_table ∙ origin;
-            places = ap (λ (t : Tables). length t.cards.items) is_new ∙ places-kept;
-            ordered = λ some. order;
-            first = λ none. absurd (later (sym segment ∙ none));
-            within = subst (λ t. AreTablesWithin t x.tables) (sym (before ∙ tick)) (subst (AreTablesWithin a'.last.tick) (sym is_new) added.within);
-            ticks =
-                let bound : new.level_ticks ≤ y.tables.level_ticks + a.last.tick = subst (λ (x : Account). new.level_ticks ≤ y.tables.level_ticks + x.last.tick) same added.ticks in
-                let levels : x.tables.level_ticks ≡ new.level_ticks = ap (λ (t : Tables). t.level_ticks) is_new in
-                omega (arith, bound, levels, z.ticks, h.time, h.few, tick-is, more_done);
-            sum = omega (arith, more, some_more, z.sum);
-            few = omega (arith, few_more, z.few, more_done);
-          }
-
-  pub dropped-ends : (new : ℕ) → run_ends left m ≡ true → new ≡ y.dropped + length m.dropped → new ≡ dropped
-  dropped-ends new end is = omega (arith, is, z.sum, dropped-end ds n left m (ends-one left (rests (next_state m)) end))
+  pub dropped-ends : (new : ℕ) → run_ends p.left p.moment ≡ true → new ≡ y.dropped + length p.moment.dropped → new ≡ dropped
+  dropped-ends new end is =
+      omega (arith, is, tallied.sum, dropped-end p.delays p.levels p.left p.moment (ends-one p.left (rests (next_state p.moment)) end))

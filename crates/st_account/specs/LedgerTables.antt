@@ -4,9 +4,8 @@
 -- that segment begins.
 --
 -- Proved: by their `ensures` clauses these calls do what definitions here say: `add_run`
--- (running.rt), `write_ledger_totals` (running.rt), `tally_to_next` (tallying.rt), `step`
--- (account.rt).
--- Read by: definitions in LedgerSums.
+-- (running.rt), `write_ledger_totals` (running.rt).
+-- Read by: definitions in LedgerSums, Tallying, Rounds.
 -- Laws: TotalsAreTheLedgerWithoutRows (specs/Laws.antt of st_causes), RowsComeFromTheCards
 -- (specs/CardLaws.antt of st_causes), TablesHaveTheRowsOfTheRun (specs/Laws.antt of st_causes).
 -- Change: the meaning is fixed by docs/ledger.md, since the contract of `st_account::ledger`

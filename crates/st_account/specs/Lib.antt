@@ -5,7 +5,11 @@ pub mod Tallying
 pub mod LedgerRows
 pub mod FirstCards
 pub mod Answers
+pub mod Uses
+pub mod Lending
 pub mod Standing
+pub mod Rounds
+pub mod Running
 pub mod Passing
 pub mod Settling
 pub use Rattle.st_asm.specs.Assembly
@@ -27,8 +31,8 @@ pub use Rattle.st_ledger.specs.Charges
 pub use Rattle.st_ledger.specs.Ledger
 pub use Rattle.st_ledger.specs.Totals
 pub use Rattle.st_plain.specs.Looking
-pub use Rattle.st_reasons.specs.Reasons
-pub use Rattle.st_reasons.specs.Sums
+pub use Rattle.st_ledger.specs.Reasons
+pub use Rattle.st_ledger.specs.Sums
 pub use Rattle.st_prep.specs.Entry
 pub use Rattle.st_prep.specs.Plan
 pub use Rattle.st_report.specs.Line

@@ -3,7 +3,7 @@
 -- Proved: by their `ensures` clauses these calls do what definitions here say: `write_part`
 -- (program.rt), `write_tallied` (program.rt), `add_run` (running.rt), `write_ledger` (running.rt),
 -- and others.
--- Read by: definitions in Answers, Standing, Text.
+-- Read by: definitions in Answers, Text.
 -- Laws: none names a definition of this file itself.
 -- Change: the meaning is fixed by docs/ledger.md, since the contract of `st_account::ledger`
 -- unfolds to a definition here. The form is free, with the proofs that unfold it.

@@ -1,8 +1,9 @@
 -- The facts that the code has of the tables of a run, to which the last completed entry is still to
 -- be added.
 --
--- Proved: by their `ensures` clauses these calls do what definitions here say: `step` (account.rt),
--- `finish_tally` (tallying.rt), `tally_row` (tallying.rt), `tally_to_next` (tallying.rt).
+-- Proved: by their `ensures` clauses these calls do what definitions here say: `finish_tally`
+-- (tallying.rt), `tally_row` (tallying.rt), `tally_to_next` (tallying.rt).
+-- Read by: definitions in Rounds.
 -- Laws: none names a definition of this file itself.
 -- Change: no page fixes these definitions, since no contract of a program unfolds to them; they
 -- change together with the clauses, definitions and laws that name them. docs/ledger.md describes
@@ -14,8 +15,12 @@ use Rattle.st_lines.specs.declared.lines.Why.TheVariants.{Run}
 use Rattle.st_tally.specs.Slots.{AreTablesWithin, IsInOrder}
 use Rattle.st_tally.specs.Tally.{TalliedRow, IsTally}
 use Rattle.st_tally.specs.declared.tables.Tables.{Tables}
+use Rattle.st_account.specs.declared.account.Account.{Account}
 use Rattle.st_account.specs.declared.last.Last.{Last}
 use Rattle.st_account.specs.declared.tallying.Tally.{Tally}
+use Rattle.st_account.specs.LedgerTables.{why_after, dropped_at_end}
+use Rattle.st_account.specs.Standing.{Position}
+use Rattle.st_account.specs.Text.{segment_end_at}
 
 -- the last completed entry, whose segment ends at tick `end` or continues
 abbrev pub done_kept : Last → Option ℕ → EntryDone
@@ -30,7 +35,7 @@ kept_rows k l end w =
       done = done_kept l end;
       why = w;
       uses = l.uses.items;
-      before = l.before.items;
+      before = l.uses.before;
     } ∷ []
 
 -- some rows count in tables as others do: each table has the same sums over both
@@ -70,3 +75,17 @@ pub record IsEmptyTally (t : Tally) : Type 0 where
   pub tables : AreEmptyTables t.tables
   pub why : t.why ≡ Run
   pub dropped : t.dropped ≡ 0
+
+-- Behind a moment after which the next entry comes, the row of the last completed entry is added to
+-- the tables, and the entries that are dropped if a segment ends are counted.
+pub record TalliesRow (p : Position) (a : Account) (old new : Tally) : Type 0 where
+  pub row : AddsKeptRow a.k a.last (segment_end_at p.left p.moment) old.why old.tables new.tables
+  pub why : new.why ≡ why_after a.k old.why p.moment
+  pub dropped : new.dropped ≡ old.dropped + dropped_at_end p.moment
+  pub few : new.dropped ≤ old.dropped + 8
+
+-- at the end of the run, the row of the last completed entry is added, and all dropped entries are
+-- counted
+pub record TalliesLast (p : Position) (a : Account) (old new : Tally) : Type 0 where
+  pub row : AddsKeptRow a.k a.last (segment_end_at p.left p.moment) old.why old.tables new.tables
+  pub dropped : new.dropped ≡ old.dropped + length p.moment.dropped

@@ -3,10 +3,10 @@
 -- entry, 0 before the first entry, and us are the words that this entry uses. The function `o`
 -- gives the card that a half-word of a state comes from.
 --
--- Proved: by their `ensures` clauses these calls do what definitions here say: `write_to_next`
--- (account.rt), `skip_to_next` (account.rt), `tally_to_next` (tallying.rt), `finish` (account.rt),
--- and others.
--- Read by: definitions in LedgerRows, LedgerTables, Passing, Standing, and others.
+-- Proved: by their `ensures` clauses these calls do what definitions here say: `write_last`
+-- (account.rt), `finish` (account.rt), `skip_to_next` (account.rt), `step` (account.rt), and
+-- others.
+-- Read by: definitions in LedgerRows, LedgerTables, Passing, Rounds, and others.
 -- Laws: LedgersTellWhereTicksWent (specs/Laws.antt of st_causes), ReasonsOfARunAreTrue
 -- (specs/Laws.antt of st_causes), TablesHaveTheRowsOfTheRun (specs/Laws.antt of st_causes),
 -- TotalsAreTheLedgerWithoutRows (specs/Laws.antt of st_causes), and others.
@@ -31,9 +31,9 @@ use Rattle.st_plain.specs.declared.looking.Ahead.{Ahead}
 use Rattle.st_plain.specs.Looking.{known_at, level_wait, side_at, seen_ahead, first_late}
 use Rattle.st_plain.specs.Uses.{formed_uses, uses_of_entry}
 use Rattle.st_rows.specs.declared.uses.Use.{Use}
-use Rattle.st_reasons.specs.Reasons.{because}
-use Rattle.st_reasons.specs.Sums.{row_stalled, wait_sums_by}
-use Rattle.st_reasons.specs.declared.waits.Stall.{Stall}
+use Rattle.st_ledger.specs.Reasons.{because}
+use Rattle.st_ledger.specs.Sums.{row_stalled, wait_sums_by}
+use Rattle.st_ledger.specs.declared.waits.Stall.{Stall}
 use Rattle.st_lines.specs.Lines.{start_line}
 use Rattle.st_lines.specs.EntryLines.{done_entry_lines}
 use Rattle.st_lines.specs.WaitLines.{wait_sum_lines}

@@ -8,18 +8,12 @@
 //! banks are those of the reads that were made by then.
 //!
 //! Pinned: these entries and banks, by docs/ledger.md and vectors/ledger; that at most eight
-//! entries ran ahead, by the clauses `dropped` of account.rt, which need that bound. Free: the body
+//! entries ran ahead, by `CanPass` of specs/Standing.antt, which has that bound. Free: the body
 //! of `look_behind`, if proofs/behind follows; it may use up the log, which nobody reads
 //! afterwards.
-ghost use Rattle.std.specs.Prelude.{◌≡◌, List, suc, ◌+◌, ◌≤◌, ◌<◌, ◌^◌, ◌++◌, ◌∷◌, [], map, length, None, All};
-ghost use Rattle.st_bits.specs.declared.limits.TheConstants.{MOST_DELAY};
-ghost use Rattle.st_rows.specs.Asked.{made_before};
-ghost use Rattle.st_rows.specs.BusTimes.{Read};
-ghost use Rattle.st_rows.specs.Ranges.{IsTight};
-ghost use Rattle.st_segment.specs.Ahead.{ahead, prepared_before, reads_before};
-ghost use Rattle.st_rows.specs.declared.bus.Bus.{Bus as BusOf};
-ghost use Rattle.st_plain.specs.Looking.{seen_ahead, first_late};
-ghost use Rattle.st_account.specs.Standing.{predicting, HasReads};
+ghost use Rattle.std.specs.Prelude.{◌≡◌, ◌+◌, ◌≤◌, ◌<◌, ◌^◌, length};
+ghost use Rattle.st_account.specs.Rounds.{HasFound, AnswerSoon};
+ghost use Rattle.st_account.specs.Standing.{IsOpen};
 
 use crate::last::{Last, issue_of};
 use st_banks::LastAnswers;
@@ -71,31 +65,15 @@ pub(crate) fn look_behind(
     behind: &mut Behind,
 )
     requires few { state.old.done + 8 < 2 ^ 63 }
-    requires tight { IsTight MOST_DELAY last.now.issue }
-    requires early { last.now.issue.c ≤ 2 ^ 63 }
-    requires order { last.now.tick ≤ last.now.issue.c }
-    requires past { last.now.past ≡ last.now.issue.past }
+    requires opened { IsOpen last.now }
+    requires early { last.now.tick ≤ 2 ^ 62 }
     requires counter { last.now.ic < 2 ^ 19 }
     requires none { length behind.old.ahead.found.items ≡ 0 }
 
     ensures state { state.new ≡ state.old }
-    ensures found { behind.new.ahead.found.items
-        ≡ map (seen_ahead timing.now.delays.now.list timing.now.levels) (prepared_before
-        last.now.tick (ahead timing.now.delays.now.list timing.now.levels timing.now.levels None
-        (predicting last.now.ic state.old) last.now.issue)) }
-    ensures begun { behind.new.ahead.late ∷ []
-        ≡ map (seen_ahead timing.now.delays.now.list timing.now.levels) (first_late last.now.tick
-        (ahead timing.now.delays.now.list timing.now.levels (suc timing.now.levels) None
-        (predicting last.now.ic state.old) last.now.issue)) }
-    ensures banks { (reads : List Read) (bus : BusOf) →
-        HasReads timing.now.delays.now.list last.now.tick reads bus last.now.issue.bus log.old →
-        behind.new.banks ≡ (made_before timing.now.delays.now.list last.now.tick
-        (reads ++ reads_before timing.now.delays.now.list timing.now.levels last.now.tick
-        (ahead timing.now.delays.now.list timing.now.levels (suc timing.now.levels) None
-        (predicting last.now.ic state.old) last.now.issue)) bus).banks }
-    ensures soon { (reads : List Read) (bus : BusOf) →
-        HasReads timing.now.delays.now.list last.now.tick reads bus last.now.issue.bus log.old →
-        All (λ t. t ≤ last.now.tick + MOST_DELAY) behind.new.banks.ticks }
+    ensures found { HasFound timing.now.delays.now.list timing.now.levels state.old last.now
+        log.old behind.new }
+    ensures soon { AnswerSoon timing.now.delays.now.list last.now log.old behind.new }
     ensures few { length behind.new.ahead.found.items ≤ 8 }
 {
     let ic = state.ic;

@@ -4,8 +4,8 @@
 //! read it. Ticks are those of the run, addresses half-word addresses.
 //!
 //! Proved, by the clauses below: the issue state after a start of a segment is `opening_issue` of
-//! `st_rows`, at most 9 ticks later; an issue state stays `IsTight`; copies equal their originals.
-//! The issue state cannot be copied, so `past` keeps its last entries again (clauses `past`).
+//! `st_rows`, at most 9 ticks later; the next row can be computed (`IsOpen` of specs/Standing.antt).
+//! An issue state cannot be copied, so `past` has its last entries again (past.rt).
 //!
 //! Pinned, by docs/timetable.md: a segment starts one tick after the end of the last one, and one
 //! tick later for each of at most 8 dropped entries. Free: the bodies. A new fact for a line is a
@@ -13,16 +13,18 @@
 ghost use Rattle.std.specs.Prelude.{◌≡◌, ◌+◌, ◌≤◌, ◌^◌, if◌then◌else◌, replicate, All, false, []};
 ghost use Rattle.st_bits.specs.declared.limits.TheConstants.{MOST_DELAY};
 ghost use Rattle.st_banks.specs.declared.answers.TheConstants.{BANKS};
-ghost use Rattle.st_rows.specs.Ranges.{IsTight};
 ghost use Rattle.st_rows.specs.Rows.{opening_issue};
+ghost use Rattle.st_account.specs.Standing.{IsOpen};
 
+use crate::past::KeptPast;
+use crate::uses::UsesInTurn;
 use st_banks::LastAnswers;
+use st_ledger::StallCause;
 use st_lines::EntryDone;
 use st_next::FetchUnit;
 use st_plain::{Known, WaitedRow};
 use st_prep::Place;
-use st_reasons::StallCause;
-use st_rows::{Bus, IssueState, LastEntries, Past, Uses};
+use st_rows::{Bus, IssueState};
 
 /// The facts about the last completed entry, and the timetable after it.
 #[derive(Drop)]
@@ -32,7 +34,7 @@ pub(crate) struct Last {
     /// The issue state from which the row of the next entry is computed, if the segment continues.
     pub issue: IssueState,
     /// The last eight entries of the issue state, newest first.
-    pub past: [Past; 8],
+    pub past: KeptPast,
     /// The instruction counter by the prediction.
     pub ic: u32,
     /// Whether interrupts were enabled before the entry.
@@ -45,26 +47,8 @@ pub(crate) struct Last {
     pub done: EntryDone,
     /// Facts about the entry that do not concern its ticks.
     pub known: Known,
-    /// The words that the entry uses.
-    pub uses: Uses,
-    /// The words that the previous entry in the segment uses.
-    pub before: Uses,
-}
-
-// A list of eight entries in the form that an issue state has, newest first.
-fn entries_of(past: &[Past; 8]) -> LastEntries
-    ensures { result ≡ past.now }
-{
-    let mut entries = LastEntries::new();
-    entries.put(past[7]);
-    entries.put(past[6]);
-    entries.put(past[5]);
-    entries.put(past[4]);
-    entries.put(past[3]);
-    entries.put(past[2]);
-    entries.put(past[1]);
-    entries.put(past[0]);
-    entries
+    /// The words that the entry uses, and those that the previous entry in the segment uses.
+    pub uses: UsesInTurn,
 }
 
 /// The issue state after the last entry, as a copy.
@@ -78,7 +62,7 @@ pub(crate) fn issue_of(last: &Last) -> IssueState
         p: issue.p,
         c: issue.c,
         serial: issue.serial,
-        past: entries_of(&last.past),
+        past: last.past.copied(),
     }
 }
 
@@ -87,14 +71,13 @@ pub(crate) fn issue_of(last: &Last) -> IssueState
 pub(crate) fn at_start(ic: u32, enabled: bool) -> Last
     ensures tick { result.tick ≡ 0 }
     ensures issue { result.issue ≡ opening_issue (record { ticks = replicate BANKS 0 }) 0 }
-    ensures past { result.past ≡ result.issue.past }
+    ensures opened { IsOpen result }
 
     ensures mispredicted { result.done.mispredicted ≡ false }
     ensures counter { result.ic ≡ ic }
     ensures enabled { result.enabled ≡ enabled }
-    ensures tight { IsTight MOST_DELAY result.issue }
     ensures uses { result.uses.items ≡ [] }
-    ensures before { result.before.items ≡ [] }
+    ensures before { result.uses.before ≡ [] }
     ensures done { result.done.before ≡ 0 }
     ensures start { result.done.start ≡ 0 }
     ensures ticks { result.done.row.ticks ≡ record { a = 0; p = 0; r = 0; c = 0 } }
@@ -103,7 +86,7 @@ pub(crate) fn at_start(ic: u32, enabled: bool) -> Last
     Last {
         tick: 0,
         issue: IssueState::new(banks, 0),
-        past: [Past::default(); 8],
+        past: KeptPast::new(),
         ic,
         enabled,
         unit: FetchUnit::new(Place::default(), Bus::new(banks, 0)),
@@ -119,8 +102,7 @@ pub(crate) fn at_start(ic: u32, enabled: bool) -> Last
             because: StallCause::Start(0),
         },
         known: Known::default(),
-        uses: Uses::new(),
-        before: Uses::new(),
+        uses: UsesInTurn::new(),
     }
 }
 
@@ -131,8 +113,7 @@ pub(crate) fn open_segment(last: &mut Last, banks: LastAnswers, dropped: u64)
     requires soon { All (λ t. t ≤ last.old.tick + MOST_DELAY) banks.ticks }
 
     ensures issue { last.new.issue ≡ opening_issue banks (last.old.tick + 1 + dropped) }
-    ensures past { last.new.past ≡ last.new.issue.past }
-    ensures tight { IsTight MOST_DELAY last.new.issue }
+    ensures opened { IsOpen last.new }
     ensures rest { last.new ≡ record last.old {
       issue = last.new.issue;
       past = last.new.past;
@@ -140,7 +121,7 @@ pub(crate) fn open_segment(last: &mut Last, banks: LastAnswers, dropped: u64)
 {
     let start = last.tick + 1 + dropped;
     last.issue = IssueState::new(banks, start);
-    last.past = [Past::default(); 8];
+    last.past = KeptPast::new();
 }
 
 /// Begins a segment with the next entry if the last segment ends; otherwise the issue state is
@@ -149,20 +130,15 @@ pub(crate) fn open_if(ends: bool, last: &mut Last, banks: LastAnswers, dropped: 
     requires dropped { dropped ≤ 8 }
     requires early { last.old.tick ≤ 2 ^ 62 }
     requires soon { All (λ t. t ≤ last.old.tick + MOST_DELAY) banks.ticks }
-    requires past { last.old.past ≡ last.old.issue.past }
-    requires tight { IsTight MOST_DELAY last.old.issue }
-    requires done { last.old.issue.c ≡ last.old.tick }
+    requires opened { IsOpen last.old }
 
     ensures issue { last.new.issue
         ≡ (if ends then opening_issue banks (last.old.tick + 1 + dropped) else last.old.issue) }
-    ensures past { last.new.past ≡ last.new.issue.past }
-    ensures tight { IsTight MOST_DELAY last.new.issue }
+    ensures opened { IsOpen last.new }
     ensures rest { last.new ≡ record last.old {
       issue = last.new.issue;
       past = last.new.past;
     } }
-    ensures order { last.new.tick ≤ last.new.issue.c }
-    ensures bound { last.new.issue.c ≤ last.new.tick + 9 }
 {
     if ends {
         open_segment(last, banks, dropped);
@@ -170,7 +146,7 @@ pub(crate) fn open_if(ends: bool, last: &mut Last, banks: LastAnswers, dropped: 
 }
 
 /// Clears the words if a segment ends.
-pub(crate) fn clear_if(ends: bool, uses: &mut Uses)
+pub(crate) fn clear_if(ends: bool, uses: &mut UsesInTurn)
     ensures { uses.new.items ≡ (if ends then [] else uses.old.items) }
 {
     if ends {

@@ -17,12 +17,14 @@ mod job;
 mod last;
 mod origins;
 mod passing;
+mod past;
 mod program;
 mod running;
 mod settling;
 mod status;
 mod stepping;
 mod tallying;
+mod uses;
 
 pub use program::ledger;
 pub use running::{Ready, write_ledger, write_ledger_rows, write_ledger_sums};

@@ -4,29 +4,23 @@
 //! rules ("Rows of a long run"). running.rt calls it for each entry; account.rt writes lines or
 //! skips.
 //!
-//! Proved: with `IsBehindMoment` of specs/Standing.antt kept, the lines are `passed_lines` and
-//! `ended_lines` of specs/Passing.antt, all of them on Ok, the first ones after a failed write. The
-//! law about rows is `RowsAreAPartOfTheLedger` (specs/Laws.antt of `st_causes`).
+//! Proved: from an account that can pass (`CanPass` of specs/Standing.antt) to the next entry
+//! (`IsNext` of specs/Rounds.antt), the lines are `passed_lines` and `ended_lines` of
+//! specs/Passing.antt, all of them on Ok, the first ones after a failed write. The law about rows is
+//! `RowsAreAPartOfTheLedger` (specs/Laws.antt of `st_causes`).
 //!
 //! Pinned: the order of these lines, and the line SEGMENT as the last one before the row, by these
 //! definitions, docs/ledger.md and vectors/ledger/rows.txt. Free: how the border is kept
 //! (`keep_start`); the bodies, if proofs/passing follows.
-ghost use Rattle.std.specs.Prelude.{◌≡◌, ◌≢◌, List, true, false, ℕ, ◌+◌, ◌≤◌, ◌^◌, ◌++◌, if◌then◌else◌, length, All, IsOk};
-ghost use Rattle.st_bits.specs.declared.limits.TheConstants.{MOST_DELAY, MOST_INSTRUCTIONS};
+ghost use Rattle.std.specs.Prelude.{◌≡◌, ◌≢◌, true, false, ◌++◌, if◌then◌else◌, length, IsOk};
 ghost use Rattle.st_bits.specs.Storage.{words_of_storage};
-ghost use Rattle.st_card.specs.declared.control_cards.Signal.{Signal as SignalOf};
 ghost use Rattle.st_io.specs.Lines.{WritesLines};
 ghost use Rattle.st_lines.specs.BorderLines.{whole_state_lines};
-ghost use Rattle.st_lines.specs.Changes.{IsCopyBehind};
-ghost use Rattle.st_lines.specs.Origins.{origin_at};
-ghost use Rattle.st_reasons.specs.Words.{IsReadInTime};
-ghost use Rattle.st_rows.specs.Ranges.{IsTight};
-ghost use Rattle.st_run.specs.Moments.{Moment, next_issue};
-ghost use Rattle.st_state.specs.Machine.{Machine};
 ghost use Rattle.st_account.specs.LedgerRows.{start_after};
 ghost use Rattle.st_account.specs.Passing.{passed_lines, ended_lines, line_of_start};
-ghost use Rattle.st_account.specs.Standing.{IsWaiting, AddsKeptWaits, IsBehindMoment};
-ghost use Rattle.st_account.specs.Text.{run_ends, segment_after, words_before};
+ghost use Rattle.st_account.specs.Rounds.{IsNext};
+ghost use Rattle.st_account.specs.Standing.{Position, AddsKeptWaits, CanPass};
+ghost use Rattle.st_account.specs.Text.{run_ends};
 
 use crate::account::Account;
 use st_io::{Failed, Sink};
@@ -76,56 +70,21 @@ pub(crate) fn pass_to_next<K: Sink>(
     until: u64,
     start: &mut Border,
 ) -> Result<(), Failed>
-    requires few { account.old.state.done ≤ MOST_INSTRUCTIONS }
-    requires number { account.old.k ≤ MOST_INSTRUCTIONS }
-    requires early { account.old.last.tick ≤ 2 ^ 62 }
-    requires dropped { length account.old.behind.ahead.found.items ≤ 8 }
-    requires soon { All (λ t. t ≤ account.old.last.tick + MOST_DELAY)
-        account.old.behind.banks.ticks }
-    requires past { account.old.last.past ≡ account.old.last.issue.past }
-    requires tight { IsTight MOST_DELAY account.old.last.issue }
-    requires done { account.old.last.issue.c ≡ account.old.last.tick }
+    requires behind { (p : Position) × CanPass p account.old }
     requires size { length account.old.words.items ≡ words_of_storage }
-    requires left { IsCopyBehind account.old.k account.old.behind.may account.old.words.items
-        account.old.state }
-    requires waiting { IsWaiting account.old.last account.old.waiting.totals }
 
-    ensures lines { (ds : List ℕ) (n left : ℕ) (b : Machine) (m : Moment)
-        (xs : List SignalOf) (cards : List (List ℕ)) →
-        IsBehindMoment ds n left b m account.old xs cards → run_ends left m ≡ false →
+    ensures lines { (p : Position) → CanPass p account.old → run_ends p.left p.moment ≡ false →
         WritesLines (K.output out.old) (K.output out.new)
-        (passed_lines until (origin_at account.old.origins) ds n left account.old.k b
-        account.old.last (line_of_start account.old.k start.old) m) result }
-    ensures start { (ds : List ℕ) (n left : ℕ) (b : Machine) (m : Moment)
-        (xs : List SignalOf) (cards : List (List ℕ)) →
-        IsBehindMoment ds n left b m account.old xs cards → run_ends left m ≡ false →
+        (passed_lines until p account.old (line_of_start account.old.k start.old)) result }
+    ensures start { (p : Position) → CanPass p account.old → run_ends p.left p.moment ≡ false →
         until ≢ 0 → line_of_start account.new.k start.new
-        ≡ start_after account.old.k (line_of_start account.old.k start.old) m }
-    ensures number { (ds : List ℕ) (n left : ℕ) (b : Machine) (m : Moment)
-        (xs : List SignalOf) (cards : List (List ℕ)) →
-        IsBehindMoment ds n left b m account.old xs cards →
-        account.new.k ≡ segment_after account.old.k m }
-    ensures issue { (ds : List ℕ) (n left : ℕ) (b : Machine) (m : Moment)
-        (xs : List SignalOf) (cards : List (List ℕ)) →
-        IsBehindMoment ds n left b m account.old xs cards → run_ends left m ≡ false →
-        account.new.last.issue ≡ next_issue m }
-    ensures past { account.new.last.past ≡ account.new.last.issue.past }
-    ensures tick { account.new.last.tick ≡ account.old.last.tick }
-    ensures tight { IsTight MOST_DELAY account.new.last.issue }
-    ensures order { account.new.last.tick ≤ account.new.last.issue.c }
-    ensures bound { account.new.last.issue.c ≤ account.new.last.tick + 9 }
-    ensures words { IsOk result → account.new.words.items ≡ account.old.state.words }
-    ensures size { IsOk result → length account.new.words.items ≡ words_of_storage }
-    ensures state { account.new.state ≡ account.old.state }
-    ensures origins { account.new.origins ≡ account.old.origins }
-    ensures sums { account.new.sums ≡ account.old.sums }
-    ensures earlier { (ds : List ℕ) (n left : ℕ) (b : Machine) (m : Moment)
-        (xs : List SignalOf) (cards : List (List ℕ)) →
-        IsBehindMoment ds n left b m account.old xs cards → IsOk result →
-        account.new.last.uses.items ≡ words_before m account.old.last.uses.items }
-    ensures read { IsOk result → All IsReadInTime account.new.last.uses.items }
+        ≡ start_after account.old.k (line_of_start account.old.k start.old) p.moment }
+    ensures next { (p : Position) → CanPass p account.old → run_ends p.left p.moment ≡ false →
+        IsOk result → IsNext p account.old account.new }
     ensures waits { IsOk result → AddsKeptWaits account.old.k account.old.last
         account.old.waiting.totals account.new.waiting.totals }
+    ensures words { IsOk result → account.new.words.items ≡ account.old.state.words }
+    ensures size { IsOk result → length account.new.words.items ≡ words_of_storage }
 {
     if until == 0 {
         return account.write_to_next(out);
@@ -145,19 +104,11 @@ pub(crate) fn finish_run<K: Sink>(
     account: &mut Account,
     until: u64,
 ) -> Result<(), Failed>
-    requires few { account.old.state.done ≤ MOST_INSTRUCTIONS }
-    requires dropped { length account.old.behind.ahead.found.items ≤ 8 }
+    requires behind { (p : Position) × CanPass p account.old }
     requires size { length account.old.words.items ≡ words_of_storage }
-    requires left { IsCopyBehind account.old.k account.old.behind.may account.old.words.items
-        account.old.state }
-    requires waiting { IsWaiting account.old.last account.old.waiting.totals }
 
-    ensures lines { (ds : List ℕ) (n left : ℕ) (b : Machine) (m : Moment)
-        (xs : List SignalOf) (cards : List (List ℕ)) →
-        IsBehindMoment ds n left b m account.old xs cards → run_ends left m ≡ true →
-        WritesLines (K.output out.old) (K.output out.new)
-        (ended_lines until (origin_at account.old.origins) ds n left account.old.k b
-        account.old.last m) result }
+    ensures lines { (p : Position) → CanPass p account.old → run_ends p.left p.moment ≡ true →
+        WritesLines (K.output out.old) (K.output out.new) (ended_lines until p account.old) result }
     ensures sums { account.new.sums ≡ account.old.sums }
     ensures waits { IsOk result → AddsKeptWaits account.old.k account.old.last
         account.old.waiting.totals account.new.waiting.totals }

@@ -10,7 +10,7 @@
 //! before its budget is looked at, by `ledger`. Free: the bodies, if proofs/running follows. Laws
 //! that sums add up to the ticks of the run: `WaitSumsAddUp` and `StageSumsAddUp` (specs/Laws.antt
 //! of `st_causes`).
-ghost use Rattle.std.specs.Prelude.{◌≡◌, ◌≤◌, true, suc, [], IsOk, All, length, min};
+ghost use Rattle.std.specs.Prelude.{◌≡◌, ◌≤◌, ◌^◌, suc, [], IsOk, All, length, min};
 ghost use Rattle.std.specs.List.{AllPass};
 ghost use Rattle.st_bits.specs.declared.limits.TheConstants.{MOST_INSTRUCTIONS};
 ghost use Rattle.st_bits.specs.Storage.{words_of_storage};
@@ -19,31 +19,26 @@ ghost use Rattle.st_io.specs.Lines.{WritesLines};
 ghost use Rattle.st_lines.specs.Origins.{origin_at};
 ghost use Rattle.st_run.specs.Reached.{IsCard};
 ghost use Rattle.st_run.specs.Moments.{moment_at_start as start_of};
-ghost use Rattle.st_ledger.specs.Ledger.{entries_from, all_charges};
-ghost use Rattle.st_ledger.specs.declared.charges.Stage.{Stage};
-ghost use Rattle.st_ledger.specs.Charges.{ticks_for};
-ghost use Rattle.st_ledger.specs.Totals.{sum_at};
 ghost use Rattle.st_account.specs.Settling.{at_hand};
-ghost use Rattle.st_reasons.specs.Sums.{is_parted, waited_at};
-ghost use Rattle.st_reasons.specs.declared.waits.Stall.{Stall};
 ghost use Rattle.st_account.specs.LedgerSums.{end_from, ledger_totals, ledger_sums};
 ghost use Rattle.st_account.specs.LedgerTables.{tallied_of, dropped_of};
 ghost use Rattle.st_account.specs.Tallying.{AreEmptyTables, IsEmptyTally};
+ghost use Rattle.st_tally.specs.Slots.{AreTablesWithin};
 ghost use Rattle.st_tally.specs.Tally.{IsTally};
 ghost use Rattle.st_account.specs.LedgerRows.{ledger_rows};
 ghost use Rattle.st_account.specs.Passing.{lines_until};
-ghost use Rattle.st_account.specs.Text.{stalled_from, ledger};
+ghost use Rattle.st_account.specs.Running.{CanRun, HasTotals};
+ghost use Rattle.st_account.specs.Text.{ledger};
 
-use crate::account::Account;
+use crate::account::{Account, add_charges};
 use crate::passing::{finish_run, no_border, pass_to_next};
 use crate::tallying::{Tally, finish_tally, tally_to_next};
 use st_banks::Delays;
 use st_card::Controls;
 use st_exch::Hopper;
 use st_io::{Failed, Sink};
-use st_ledger::{Totals, write_sums};
+use st_ledger::{Totals, WaitTotals, write_sums};
 use st_lines::{Origins, Why, write_machine, write_wait_sums};
-use st_reasons::WaitTotals;
 use st_rows::Timing;
 use st_run::PendingEvents;
 use st_state::State;
@@ -78,23 +73,13 @@ fn write_run<K: Sink>(
     sums: &mut Totals,
     waits: &mut WaitTotals,
 ) -> Result<(), Failed>
-    requires fresh { ready.state.done ≡ 0 }
-    requires cards { All IsCard ready.cards }
-    requires levels { (1 ≤ ready.levels) × (ready.levels ≤ 8) }
-    requires signals { AllPass is_signal controls.now.signals }
-    requires limit { budget ≤ MOST_INSTRUCTIONS }
-    requires size { length ready.words.items ≡ words_of_storage }
+    requires { CanRun ready controls.now budget }
 
     ensures lines { WritesLines (K.output out.old) (K.output out.new)
         (lines_until until (origin_at ready.origins) ready.delays.list ready.levels budget 0
         ready.state [] [] (start_of (at_hand ready.state controls.now.signals ready.cards))) result }
-    ensures sums { (s : Stage) → IsOk result → sum_at s sums.new
-        ≡ ticks_for s (all_charges ready.delays.list ready.levels
-        (entries_from ready.delays.list ready.levels budget
-        (start_of (at_hand ready.state controls.now.signals ready.cards)))) }
-    ensures waits { (r : Stage) (s : Stall) → is_parted r ≡ true → IsOk result →
-        waited_at r s waits.new ≡ stalled_from r s ready.delays.list ready.levels budget []
-        (start_of (at_hand ready.state controls.now.signals ready.cards)) }
+    ensures totals { IsOk result → HasTotals ready.delays.list ready.levels budget
+        (start_of (at_hand ready.state controls.now.signals ready.cards)) sums.new waits.new }
 {
     let Ready {
         state,
@@ -123,43 +108,30 @@ fn write_run<K: Sink>(
         }
         pass_to_next(out, &mut account, until, &mut start)?;
         account.step(&timing, true);
+        add_charges(&mut account.sums, &account.last);
         left -= 1;
         until = until.saturating_sub(1);
     }
 }
 
 // Runs until the run ends or its budget is used up, and writes the lines of the end alone.
-// Afterwards `sums` are the ticks of the run's charges, `waits` those of its waits, and `tally` has
-// its tables and the number of dropped entries.
+// Afterwards `tally` has its tables, which have its totals too, and the number of dropped entries.
 fn add_run<K: Sink>(
     out: &mut K,
     ready: Ready,
     controls: &Controls,
-    sums: &mut Totals,
-    waits: &mut WaitTotals,
     tally: &mut Tally,
 ) -> Result<(), Failed>
-    requires fresh { ready.state.done ≡ 0 }
-    requires cards { All IsCard ready.cards }
-    requires levels { (1 ≤ ready.levels) × (ready.levels ≤ 8) }
-    requires signals { AllPass is_signal controls.now.signals }
-    requires limit { controls.now.budget ≤ MOST_INSTRUCTIONS }
-    requires size { length ready.words.items ≡ words_of_storage }
+    requires ready { CanRun ready controls.now controls.now.budget }
     requires empty { IsEmptyTally tally.old }
 
     ensures lines { WritesLines (K.output out.old) (K.output out.new)
         (end_from ready.delays.list ready.levels controls.now.budget
         (start_of (at_hand ready.state controls.now.signals ready.cards))) result }
-    ensures sums { (s : Stage) → sum_at s sums.new
-        ≡ ticks_for s (all_charges ready.delays.list ready.levels
-        (entries_from ready.delays.list ready.levels controls.now.budget
-        (start_of (at_hand ready.state controls.now.signals ready.cards)))) }
-    ensures waits { (r : Stage) (s : Stall) → is_parted r ≡ true →
-        waited_at r s waits.new ≡ stalled_from r s ready.delays.list ready.levels
-        controls.now.budget [] (start_of (at_hand ready.state controls.now.signals ready.cards)) }
     ensures tables { IsTally (tallied_of (origin_at ready.origins) ready.delays.list ready.levels
         controls.now.budget (at_hand ready.state controls.now.signals ready.cards))
         tally.new.tables }
+    ensures within { AreTablesWithin (2 ^ 63) tally.new.tables }
     ensures places { length tally.new.tables.cards.items ≡ length tally.old.tables.cards.items }
     ensures dropped { tally.new.dropped ≡ dropped_of ready.delays.list ready.levels
         controls.now.budget (at_hand ready.state controls.now.signals ready.cards) }
@@ -184,10 +156,7 @@ fn add_run<K: Sink>(
     'entries: loop {
         account.take_events(&timing, left, &mut pending);
         if account.is_over(left) {
-            let written = finish_tally(out, &mut account, tally);
-            *sums = account.sums;
-            *waits = account.waiting.totals;
-            return written;
+            return finish_tally(out, &mut account, tally);
         }
         tally_to_next(&mut account, tally);
         account.step(&timing, false);
@@ -202,13 +171,8 @@ fn write_ledger_totals<K: Sink>(
     controls: &Controls,
     tally: &mut Tally,
 ) -> Result<(), Failed>
-    requires fresh { ready.state.done ≡ 0 }
-    requires cards { All IsCard ready.cards }
-    requires levels { (1 ≤ ready.levels) × (ready.levels ≤ 8) }
+    requires ready { CanRun ready controls.now controls.now.budget }
     requires delays { ready.delays.list ≡ controls.now.delays }
-    requires signals { AllPass is_signal controls.now.signals }
-    requires limit { controls.now.budget ≤ MOST_INSTRUCTIONS }
-    requires size { length ready.words.items ≡ words_of_storage }
     requires empty { IsEmptyTally tally.old }
 
     ensures lines { WritesLines (K.output out.old) (K.output out.new)
@@ -223,12 +187,10 @@ fn write_ledger_totals<K: Sink>(
     ensures dropped { IsOk result → tally.new.dropped ≡ dropped_of ready.delays.list ready.levels
         controls.now.budget (at_hand ready.state controls.now.signals ready.cards) }
 {
-    let mut sums = Totals::default();
-    let mut waits = WaitTotals::default();
     write_machine(out, ready.levels, controls.delays())?;
-    add_run(out, ready, controls, &mut sums, &mut waits, tally)?;
-    write_sums(out, &sums)?;
-    write_wait_sums(out, &waits)
+    add_run(out, ready, controls, tally)?;
+    write_sums(out, &tally.tables.stage_totals())?;
+    write_wait_sums(out, &tally.tables.wait_totals())
 }
 
 /// Writes the totals of a run, which ends or uses up the requested budget, at most 10,000,000

@@ -5,7 +5,7 @@
 //!
 //! Proved: the row, the words and the wait are `row_of_entry` (specs/Rows.antt of `st_rows`),
 //! `uses_of_entry` and `level_wait` (specs of `st_plain`) for the next entry of the state, and the
-//! state after it is that of a step. The cause is `because` (specs/Reasons.antt of `st_reasons`) if
+//! state after it is that of a step. The cause is `because` (specs/Reasons.antt of `st_ledger`) if
 //! the lines are wanted or the entry lost ticks; nothing else shows it.
 //!
 //! Pinned: that the row is computed before the entry is executed, by the clauses of `execute`,
@@ -13,30 +13,30 @@
 //! the bodies, if proofs/stepping follows.
 ghost use Rattle.std.specs.Prelude.{◌≡◌, ◌+◌, ◌<◌, ◌≤◌, ◌^◌, ◌||◌, [], length, take, not, nat_eq, if◌then◌else◌, is_some, option_map, Some, None, true};
 ghost use Rattle.st_bits.specs.Indicators.{IsIndicatorIfAny};
-ghost use Rattle.st_bits.specs.declared.limits.TheConstants.{MOST_DELAY, MOST_INSTRUCTIONS};
+ghost use Rattle.st_bits.specs.declared.limits.TheConstants.{MOST_INSTRUCTIONS};
 ghost use Rattle.st_prep.specs.Plan.{plan as plan_of};
 ghost use Rattle.st_prep.specs.Ranges.{IsPrepared};
 ghost use Rattle.st_exec.specs.Completion.{state_after_execution, prediction as prediction_of, is_mispredicted as is_mispredicted_of};
-ghost use Rattle.st_plain.specs.Looking.{known_at, level_wait, side_at};
-ghost use Rattle.st_plain.specs.Uses.{formed_uses, uses_of_entry};
-ghost use Rattle.st_reasons.specs.Reasons.{because as because_of};
+ghost use Rattle.st_plain.specs.Looking.{known_at};
+ghost use Rattle.st_ledger.specs.Reasons.{because as because_of};
 ghost use Rattle.st_rows.specs.Notes.{log_after_reads};
-ghost use Rattle.st_rows.specs.Ranges.{IsTight};
-ghost use Rattle.st_rows.specs.Rows.{row_of_entry as row_of, issue_after_entry as after_of, reads_of_entry as asked_of};
+ghost use Rattle.st_rows.specs.Rows.{reads_of_entry as asked_of};
 ghost use Rattle.st_segment.specs.Entries.{entry as entry_of};
 ghost use Rattle.st_account.specs.Text.{why_by};
-ghost use Rattle.st_account.specs.Standing.{predicting, still_by};
+ghost use Rattle.st_account.specs.Rounds.{HasRow, HasCause};
+ghost use Rattle.st_account.specs.Standing.{predicting, still_by, IsOpen};
 ghost use Rattle.st_lines.specs.declared.lines.Why.TheVariants.{Run as RunBegins};
 ghost use Rattle.st_state.specs.Machine.{IsMachine};
 
 use crate::last::Last;
+use crate::uses::UsesInTurn;
 use st_card::Signal;
 use st_exec::{complete_in, interrupt, is_mispredicted};
+use st_ledger::{StallCause, find_reason};
 use st_lines::{Changeable, Why};
-use st_plain::{Before, Begun, WaitedRow, begin, fill, pass, put_past};
+use st_plain::{Before, Begun, Known, WaitedRow, begin, fill, pass};
 use st_prep::Prepared;
-use st_reasons::{StallCause, find_reason};
-use st_rows::{Entry, IssueState, Log, Past, Timing, Use};
+use st_rows::{Entry, IssueState, Log, Past, Timing};
 use st_run::plain::{is_signal_due, printer_is_free, reader_is_free};
 use st_state::{State, is_enabled};
 
@@ -106,24 +106,33 @@ fn is_wanted(facts: bool, before: u64, r: u64) -> bool
 
 // Finds the cause that delayed an entry, if it is wanted; the first `formed` of its words come
 // until its address is formed.
-#[inline(always)]
 fn find_if(
     wanted: bool,
     issue: &IssueState,
     entry: &Entry,
     begun: &Begun,
-    words: &[Use],
+    uses: &UsesInTurn,
     formed: usize,
-    before: &[Use],
     because: &mut StallCause,
 )
-    requires { formed ≤ length words.now }
+    requires { formed ≤ length uses.now.items }
     ensures { wanted ≡ true → because.new ≡ because_of issue.now entry.now
-        begun.now.formed.a begun.now.formed.p begun.now.level_wait (take formed words.now)
-        before.now }
+        begun.now.formed.a begun.now.formed.p begun.now.level_wait (take formed uses.now.items)
+        uses.now.before }
 {
     if wanted {
-        *because = find_reason(issue, entry, begun, &words[..formed], before);
+        let words = uses.as_slice();
+        *because = find_reason(issue, entry, begun, &words[..formed], uses.before());
+    }
+}
+
+// Keeps the facts of an entry that its lines need, if they are wanted.
+#[inline(always)]
+fn keep_if(wanted: bool, known: &Known, kept: &mut Known)
+    ensures { wanted ≡ true → kept.new ≡ known.now }
+{
+    if wanted {
+        *kept = *known;
     }
 }
 
@@ -139,79 +148,49 @@ pub(crate) fn count_on(
     log: &mut Log,
 )
     requires indicator { IsIndicatorIfAny taken }
-    requires tight { IsTight MOST_DELAY last.old.issue }
+    requires opened { IsOpen last.old }
     requires early { last.old.issue.c ≤ 2 ^ 63 }
-    requires past { last.old.past ≡ last.old.issue.past }
 
-    ensures plan { last.new.unit.prepared ≡ plan_of state.now taken }
-    ensures prepared { IsPrepared last.new.unit.prepared }
-    ensures row { last.new.done.row.ticks ≡ row_of timing.now.delays.now.list timing.now.levels
-        last.old.issue (entry_of taken state.now) }
-    ensures wait { last.new.done.row.level_wait
-        ≡ level_wait timing.now.delays.now.list timing.now.levels last.old.issue
-        (entry_of taken state.now) }
+    ensures row { HasRow timing.now.delays.now.list timing.now.levels taken state.now last.old
+        last.new }
     ensures known { facts ≡ true → last.new.known ≡ known_at taken state.now }
-    ensures uses { last.new.uses.items ≡ uses_of_entry timing.now.delays.now.list timing.now.levels
-        last.old.issue (entry_of taken state.now) (side_at taken state.now)
-        (plan_of state.now taken).reads }
-    ensures earlier { last.new.before.items ≡ last.old.uses.items }
     ensures because { facts ≡ true →
-        last.new.done.because ≡ because_of last.old.issue (entry_of taken state.now)
-        last.new.done.row.ticks.a last.new.done.row.ticks.p last.new.done.row.level_wait
-        (formed_uses timing.now.delays.now.list last.old.issue (entry_of taken state.now)
-        (side_at taken state.now)) last.old.uses.items }
+        HasCause timing.now.delays.now.list taken state.now last.old last.new }
     ensures lost { last.new.done.before < last.new.done.row.ticks.r →
-        last.new.done.because ≡ because_of last.old.issue (entry_of taken state.now)
-        last.new.done.row.ticks.a last.new.done.row.ticks.p last.new.done.row.level_wait
-        (formed_uses timing.now.delays.now.list last.old.issue (entry_of taken state.now)
-        (side_at taken state.now)) last.old.uses.items }
-    ensures issue { last.new.issue ≡ after_of timing.now.delays.now.list timing.now.levels
-        last.old.issue (entry_of taken state.now) }
+        HasCause timing.now.delays.now.list taken state.now last.old last.new }
     ensures log { log.new ≡ log_after_reads timing.now.delays.now.list
         (asked_of timing.now.delays.now.list timing.now.levels last.old.issue
         (entry_of taken state.now)) last.old.issue.bus [] }
-    ensures past { last.new.past ≡ last.new.issue.past }
-    ensures tick { last.new.tick ≡ last.new.done.row.ticks.c }
-    ensures number { last.new.done.n ≡ last.old.done.n }
-    ensures address { last.new.done.address ≡ last.old.done.address }
-    ensures origin { last.new.done.origin ≡ last.old.done.origin }
-    ensures before { last.new.done.before ≡ last.old.done.before }
-    ensures start { last.new.done.start ≡ last.old.done.start }
 {
     log.clear();
-    last.before.copy(&last.uses);
-    last.uses.clear();
     let before = Before {
         state: &*state,
         issue: &last.issue,
         timing: &*timing,
         facts,
     };
-    let begun = begin(&mut last.unit, taken, &before, log, &mut last.uses);
-    let formed = last.uses.as_slice().len();
+    let uses = last.uses.turn();
+    let begun = begin(&mut last.unit, taken, &before, log, uses);
+    let formed = uses.as_slice().len();
     let level_wait = begun.level_wait;
-    let ticks = fill(&last.issue, &mut last.unit, timing, log, &mut last.uses);
+    let ticks = fill(&last.issue, &mut last.unit, timing, log, uses);
     find_if(
         is_wanted(facts, last.done.before, ticks.r),
         &last.issue,
         &last.unit.entry,
         &begun,
-        last.uses.as_slice(),
+        &last.uses,
         formed,
-        last.before.as_slice(),
         &mut last.done.because,
     );
     pass(&mut last.issue, &last.unit, &ticks);
-    put_past(
-        &mut last.past,
-        Past {
-            c: ticks.c,
-            writes: last.unit.entry.writes,
-        },
-    );
+    last.past.put(Past {
+        c: ticks.c,
+        writes: last.unit.entry.writes,
+    });
     last.tick = ticks.c;
     last.done.row = WaitedRow { ticks, level_wait };
-    last.known = begun.known;
+    keep_if(facts, &begun.known, &mut last.known);
 }
 
 // The instruction counter by the prediction of a completed entry with the preparation `p`.

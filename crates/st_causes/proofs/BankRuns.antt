@@ -1,29 +1,13 @@
 -- In a run, a bank is held by the previous read in it.
-use Rattle.std.specs.Prelude.{zero, suc, nat_lt, All, length, reverse}
-use Rattle.std.proofs.Common.{◌≡◌, ℕ, ◌+◌, List, [], ◌∷◌, ◌++◌, inl, inr, refl, ◌∙◌, ap, subst}
-use Rattle.std.proofs.lemmas.Bool.{cases_Bool}
+use Rattle.st_causes.proofs.Common.{zero, suc, nat_lt, All, length, reverse, ◌≡◌, ℕ, ◌+◌, List, [], ◌∷◌, ◌++◌, inl, inr, refl, ◌∙◌, ap, subst, cases_Bool, All-nil, All-cons, LastAnswers, plan, rests, interrupt, opening_issue, reads_of_entry, reads_to_end, entry, Moment, Standing, next_state, next_issue, ends_segment, standing_at, next_row, next_moment, entry_of_moment, side_at, Use, AreBankedBehind, busy_until, reads_told_are_those_of_the_bus, uses_at, words_before, ToldRow, told_from}
 use Rattle.std.proofs.lemmas.List.{length-set}
-use Rattle.std.proofs.lemmas.List.Elements.{All-nil, All-cons}
 use Rattle.st_banks.specs.Bank.{bank_of}
-use Rattle.st_banks.specs.declared.answers.LastAnswers.{LastAnswers}
 use Rattle.st_banks.specs.declared.answers.TheConstants.{BANKS}
-use Rattle.st_prep.specs.Plan.{plan}
-use Rattle.st_exec.specs.Step.{rests, interrupt}
 use Rattle.st_rows.specs.Asked.{made_before}
 use Rattle.st_rows.specs.BusTimes.{accept_at, answer_at, Read, after_one}
-use Rattle.st_rows.specs.Rows.{opening_issue, reads_of_entry}
 use Rattle.st_rows.specs.declared.bus.Bus.{Bus}
 use Rattle.st_rows.proofs.Laws.{rows_make_their_reads}
-use Rattle.st_segment.specs.Ahead.{reads_to_end}
-use Rattle.st_segment.specs.Entries.{entry}
-use Rattle.st_run.specs.Moments.{Moment, Standing, next_state, next_issue, ends_segment, standing_at, next_row, next_moment, entry_of_moment}
-use Rattle.st_plain.specs.Looking.{side_at}
-use Rattle.st_rows.specs.declared.uses.Use.{Use}
-use Rattle.st_reasons.specs.Served.{AreBankedBehind, busy_until}
-use Rattle.st_reasons.proofs.BankLemmas.{AreBanked, left-by, banked}
-use Rattle.st_reasons.proofs.WaitLaws.{reads_told_are_those_of_the_bus}
-use Rattle.st_account.specs.Text.{uses_at, words_before}
-use Rattle.st_causes.specs.Runs.{ToldRow, told_from}
+use Rattle.st_ledger.proofs.BankLemmas.{AreBanked, left-by, banked}
 
 -- the number of banks is unchanged by reads
 made-whole : (ds : List ℕ) (t : ℕ) (reads : List Read) (b : Bus) → length b.banks.ticks ≡ BANKS → length (made_before ds t reads b).banks.ticks ≡ BANKS

@@ -1,18 +1,8 @@
 -- One of the n + 1 entries ahead is not prepared in time.
-use Rattle.std.specs.Prelude.{zero, suc, nat_lt, Option, None, All, length, get_or, take}
-use Rattle.std.proofs.Common.{◌≡◌, ℕ, ◌+◌, ◌-◌, ◌≤◌, ◌<◌, max, List, inl, inr, refl, sym, subst, arith, get_or-take}
-use Rattle.std.proofs.lemmas.Bool.{cases_Bool, ltb-true}
-use Rattle.std.proofs.lemmas.List.Elements.{All-head, All-tail}
-use Rattle.st_state.specs.Machine.{Machine}
+use Rattle.st_causes.proofs.Common.{zero, suc, nat_lt, Option, None, All, length, get_or, take, ◌≡◌, ℕ, ◌+◌, ◌-◌, ◌≤◌, ◌<◌, max, List, inl, inr, refl, sym, subst, arith, get_or-take, cases_Bool, ltb-true, All-head, All-tail, Machine, completion_of, done_before, row_of_entry, issue_after_entry, tick_p, tick_c, preparation_tick, operands, Entry, IssueState, Ahead, ahead, entry, first_late}
 use Rattle.st_exec.specs.Completion.{prediction}
 use Rattle.st_rows.specs.Entries.{no_runs}
-use Rattle.st_rows.specs.Rows.{completion_of, done_before, row_of_entry, issue_after_entry, tick_p, tick_c, preparation_tick, operands}
-use Rattle.st_rows.specs.declared.entry.Entry.{Entry}
-use Rattle.st_rows.specs.declared.issue.IssueState.{IssueState}
 use Rattle.st_rows.specs.declared.past.Past.{Past}
-use Rattle.st_segment.specs.Ahead.{Ahead, ahead}
-use Rattle.st_segment.specs.Entries.{entry}
-use Rattle.st_plain.specs.Looking.{first_late}
 
 module _ (ds : List ℕ) (n c : ℕ) (some : 1 ≤ n) (few : n ≤ 8) where
   prepared-late : (g : IssueState) (e : Entry) → c < done_before n g.past → c < (row_of_entry ds n g e).p

@@ -1,22 +1,11 @@
 -- Lemmas on the cards that rows come from.
-use Rattle.std.specs.Prelude.{slice_index_or, Bool, length, Option, Some, All}
-use Rattle.std.proofs.Common.{◌≡◌, ℕ, zero, suc, ◌+◌, ◌≤◌, ◌<◌, List, [], ◌∷◌, arith}
-use Rattle.std.proofs.lemmas.Bool.{cond_both}
-use Rattle.std.proofs.lemmas.List.Elements.{All-nil, All-cons, All-head, All-tail, All-from_get_or}
+use Rattle.st_causes.proofs.Common.{slice_index_or, Bool, length, Option, Some, All, ◌≡◌, ℕ, ◌+◌, ◌≤◌, ◌<◌, List, [], ◌∷◌, arith, cond_both, All-nil, All-cons, All-head, All-tail, All-from_get_or, rests, Use, Moment, next_state, standing_at, next_moment, Machine, Why, Origin, card_of, card_by_origin, row_at, tallied_from, why_after, segment_after, segment_end_at, uses_at, words_before}
+use Rattle.std.proofs.Common.{zero, suc}
 use Rattle.st_asm.specs.Assembly.{Assembly}
 use Rattle.st_asm.specs.Sound.{IsAssemblySound}
 use Rattle.st_asm.specs.declared.valuing.Listed.{Listed}
-use Rattle.st_exec.specs.Step.{rests}
-use Rattle.st_rows.specs.declared.uses.Use.{Use}
-use Rattle.st_run.specs.Moments.{Moment, next_state, standing_at, next_moment}
-use Rattle.st_state.specs.Machine.{Machine}
 use Rattle.st_lines.specs.Origins.{origin_by, is_kept}
-use Rattle.st_lines.specs.declared.lines.Why.{Why}
-use Rattle.st_lines.specs.declared.origins.Origin.{Origin}
-use Rattle.st_tally.specs.Tally.{card_of, card_by_origin}
 use Rattle.st_account.specs.FirstCards.{beginning, is_at, first_card, origin_of}
-use Rattle.st_account.specs.LedgerTables.{row_at, tallied_from, why_after}
-use Rattle.st_account.specs.Text.{segment_after, segment_end_at, uses_at, words_before}
 
 -- the cards of a listing are numbered from 1 on
 cards-by : (cards : ℕ) (rows : List Listed) → length rows ≡ cards → ((k : ℕ) (d : Listed) → k < cards → (slice_index_or rows k d).card ≡ k + 1)

@@ -9,27 +9,28 @@ use Rattle.st_ledger.specs.declared.charges.Charge.{Charge}
 use Rattle.st_ledger.specs.declared.charges.Stage.{Stage}
 use Rattle.st_ledger.specs.declared.charges.Stage.TheVariants.{Restart, Instruction, Address, Index, Preparing, Operand, Executing}
 use Rattle.st_rows.specs.declared.uses.Use.{Use}
-use Rattle.st_reasons.specs.Causes.{is_cause, IsTrueOf, FallTo}
-use Rattle.st_reasons.specs.Paths.{IsReason}
-use Rattle.st_reasons.specs.Served.{served, reads_told, AreBrought, IsWrittenBy}
-use Rattle.st_reasons.specs.Sums.{is_parted}
+use Rattle.st_ledger.specs.Causes.{is_cause, IsTrueOf, FallTo}
+use Rattle.st_ledger.specs.Paths.{IsReason}
+use Rattle.st_ledger.specs.Served.{served, reads_told, AreBrought, IsWrittenBy}
+use Rattle.st_ledger.specs.Sums.{is_parted}
 use Rattle.st_rows.specs.Rows.{reads_of_entry}
-use Rattle.st_reasons.specs.Waits.{charge_waits}
-use Rattle.st_reasons.specs.Words.{read_of}
-use Rattle.st_reasons.specs.declared.waits.Wait.{Wait}
+use Rattle.st_ledger.specs.Waits.{charge_waits}
+use Rattle.st_ledger.specs.Words.{read_of}
+use Rattle.st_ledger.specs.declared.waits.Wait.{Wait}
 use Rattle.st_lines.specs.declared.lines.Why.TheVariants.{Run}
 use Rattle.st_account.specs.LedgerSums.{ledger_sums}
 use Rattle.st_account.specs.Text.{formed_at, uses_at}
 use Rattle.st_causes.specs.Laws.{LedgersTellWhereTicksWent, TotalsAreTheLedgerWithoutRows, TablesHaveTheRowsOfTheRun, RowsAreAPartOfTheLedger, OneEntryIsBegun, StageSumsAddUp, WaitSumsAddUp, UsesOfARunAreTrue, WaitsOfARunAreTrue, WaitsOfARunCoverTheirCharges, NamedReadsAreMade, ReasonsStandWhereTicksAreLost, ReasonsOfARunAreTrue}
 use Rattle.st_causes.specs.Runs.{ToldRow, because_at}
 use Rattle.st_causes.specs.Summed.{all_summed}
+use Rattle.st_account.proofs.RowTotals.{charges-told, waits-told}
 use Rattle.st_causes.proofs.RunLemmas.{row-read, row-brought, row-written, row-true, row-covered, row-ended, row-reasoned, each-told, sums-from, at-start, entries-fit}
 use Rattle.st_causes.proofs.BankRuns.{opened-banked, each-banked}
 use Rattle.st_causes.proofs.BegunLemmas.{one-begun}
 use Rattle.st_causes.proofs.TextLemmas.{ledger-told}
 use Rattle.st_causes.proofs.RowsLemmas.{from-row, without-row}
 use Rattle.st_causes.proofs.SumsLemmas.{without-rows}
-use Rattle.st_causes.proofs.TableLemmas.{rows-told, charges-told, waits-told}
+use Rattle.st_causes.proofs.TableLemmas.{rows-told}
 use Rattle.st_causes.proofs.TickLemmas.{named-early, each-lost}
 
 -- ---- the text

@@ -1,37 +1,8 @@
 -- Lemmas on a part of a ledger from one row on.
-use Rattle.std.specs.Prelude.{Bool, true, false, nat_eq, nat_lt, ◌||◌, if◌then◌else◌, reverse, slice_index, Option, None, Some, length}
-use Rattle.std.proofs.Common.{◌≡◌, ℕ, zero, suc, ◌+◌, ◌-◌, ◌<◌, ◌≤◌, List, [], ◌∷◌, ◌++◌, refl, sym, ◌∙◌, ap, append_assoc, arith}
-use Rattle.st_state.specs.Machine.{Machine, word}
-use Rattle.st_prep.specs.declared.entries.IndexChange.{IndexChange}
-use Rattle.st_prep.specs.declared.entries.Prepared.{Prepared}
-use Rattle.st_exec.specs.Step.{rests}
-use Rattle.st_io.specs.Lines.{lines_for}
-use Rattle.st_run.specs.Run.{Scene}
-use Rattle.st_run.specs.Moments.{Moment, Standing, moment_at_start, next_state, next_issue, has_waited, ends_segment, standing_at, next_moment}
-use Rattle.st_plain.specs.declared.known.Code.{Code}
-use Rattle.st_plain.specs.declared.known.Known.{Known}
-use Rattle.st_rows.specs.declared.uses.Use.{Use}
-use Rattle.st_ledger.specs.Lines.{row_stage_line, charge_line}
-use Rattle.st_ledger.specs.declared.charges.Charge.{Charge}
-use Rattle.st_reasons.specs.Waits.{charge_waits}
-use Rattle.st_reasons.specs.declared.because.StallCause.{StallCause}
-use Rattle.st_reasons.specs.declared.because.StallCause.TheVariants.{Start, Prefetch, Earlier}
-use Rattle.st_reasons.specs.declared.waits.Wait.{Wait}
-use Rattle.st_lines.specs.Lines.{start_line}
-use Rattle.st_lines.specs.EntryLines.{alone_lines, suppressed_lines, run_lines, index_lines, emitted_lines, code_lines, facts_lines, missed_lines, level_lines, done_entry_lines, charges_of_entry, known_lines, late_entry_lines, spent_lines}
-use Rattle.st_lines.specs.UseLines.{use_lines, is_told}
-use Rattle.st_lines.specs.WaitLines.{wait_lines, charged_lines, because_line, because_lines}
-use Rattle.st_lines.specs.BorderLines.{taken_by, en_lines, prints_lines, nonzero_word_lines, word_change_lines, words_lines, marks_lines, state_lines, whole_state_lines, machine_lines}
-use Rattle.st_lines.specs.declared.facts.EntryDone.{EntryDone}
-use Rattle.st_lines.specs.declared.lines.Alone.{Alone}
-use Rattle.st_lines.specs.declared.lines.Why.{Why}
-use Rattle.st_lines.specs.declared.origins.Origin.{Origin}
+use Rattle.st_causes.proofs.Common.{Bool, false, nat_eq, nat_lt, ◌||◌, if◌then◌else◌, reverse, slice_index, Option, None, Some, length, ◌≡◌, ℕ, ◌+◌, ◌-◌, ◌<◌, ◌≤◌, List, [], ◌∷◌, ◌++◌, refl, sym, ◌∙◌, ap, append_assoc, arith, Machine, word, IndexChange, Prepared, rests, lines_for, Scene, Moment, Standing, moment_at_start, next_state, next_issue, has_waited, ends_segment, standing_at, next_moment, Code, Known, Use, row_stage_line, charge_line, Charge, charge_waits, StallCause, Start, Prefetch, Earlier, Wait, start_line, alone_lines, suppressed_lines, run_lines, index_lines, emitted_lines, code_lines, facts_lines, missed_lines, level_lines, done_entry_lines, charges_of_entry, known_lines, late_entry_lines, spent_lines, use_lines, is_told, wait_lines, charged_lines, because_line, because_lines, taken_by, en_lines, prints_lines, nonzero_word_lines, word_change_lines, words_lines, marks_lines, state_lines, whole_state_lines, machine_lines, EntryDone, Alone, Why, Origin, end_from, why, end_lines_at, words_behind, state_lines_at, segment_after, segment_lines, uses_at, words_before, lines_of_entry, segment_end_at, lines_from, with_totals, ledger, head_of, is_word, is_segment_line, last_segment, IsFromRow, ToldRow, told_from, line_of_row}
+use Rattle.std.specs.Prelude.{true}
+use Rattle.std.proofs.Common.{zero, suc}
 use Rattle.st_account.specs.LedgerRows.{start_after, rows_from, ledger_rows}
-use Rattle.st_account.specs.LedgerSums.{end_from}
-use Rattle.st_account.specs.Text.{why, end_lines_at, words_behind, state_lines_at, segment_after, segment_lines, uses_at, words_before, lines_of_entry, segment_end_at, lines_from, with_totals, ledger}
-use Rattle.st_causes.specs.Heads.{head_of, is_word, is_segment_line, last_segment}
-use Rattle.st_causes.specs.Laws.{IsFromRow}
-use Rattle.st_causes.specs.Runs.{ToldRow, told_from, line_of_row}
 
 -- ---- lines other than SEGMENT
 

@@ -1,41 +1,16 @@
 -- The rows of a run are rows of segments.
-use Rattle.std.specs.Prelude.{zero, suc, Bool, if◌then◌else◌, All, reverse}
-use Rattle.std.proofs.Common.{◌≡◌, ℕ, ◌+◌, ◌≤◌, ◌<◌, true, false, List, [], ◌∷◌, ◌++◌, length, inl, inr, refl, sym, ◌∙◌, ap, subst, arith}
-use Rattle.std.proofs.lemmas.Bool.{cases_Bool}
-use Rattle.std.proofs.lemmas.List.Elements.{All-nil, All-cons, All-head, All-tail}
-use Rattle.st_banks.specs.declared.answers.LastAnswers.{LastAnswers}
-use Rattle.st_prep.specs.Plan.{plan}
-use Rattle.st_exec.specs.Step.{rests, interrupt}
+use Rattle.st_causes.proofs.Common.{zero, suc, Bool, if◌then◌else◌, All, reverse, ◌≡◌, ℕ, ◌+◌, ◌≤◌, ◌<◌, true, List, [], ◌∷◌, ◌++◌, inl, inr, refl, sym, ◌∙◌, ap, subst, arith, cases_Bool, All-nil, All-cons, All-head, All-tail, LastAnswers, plan, rests, interrupt, row_of_entry, issue_after_entry, opening_issue, reads_of_entry, IssueState, entry, Scene, Moment, Standing, moment_at_start, next_state, next_issue, ends_segment, standing_at, next_moment, next_row, entry_of_moment, entries-none, entries-step, charges, ticks_for, entries_from, charges_at, all_charges, Charge, side_at, Use, served, reads_told, AreBrought, IsWrittenBy, charge_waits, Turn, Bank, Storage, Wait, formed_at, uses_at, words_before, stalled_from, IsTrueOf, FallTo, ToldRow, told_from, because_at, ticks_for-append, reads_told_are_those_of_the_bus, held_words_are_brought, forwarded_words_are_written, waits_are_true, waits_cover_their_charge, waits_end_before_their_row, waits_add_up_to_their_stage}
+use Rattle.std.proofs.Common.{false, length}
 use Rattle.st_rows.specs.Ranges.{IsEntryInTime}
-use Rattle.st_rows.specs.Rows.{row_of_entry, issue_after_entry, opening_issue, reads_of_entry}
-use Rattle.st_rows.specs.declared.issue.IssueState.{IssueState}
-use Rattle.st_segment.specs.Entries.{entry}
 use Rattle.st_segment.proofs.EntryRanges.{entry-ranges}
 use Rattle.st_refine.proofs.Kept.{interrupt-below}
 use Rattle.st_run.specs.Scenes.{IsScene}
 use Rattle.st_run.proofs.SceneLemmas.{settled-scene, stepped-scene}
-use Rattle.st_run.specs.Run.{Scene}
-use Rattle.st_run.specs.Moments.{Moment, Standing, moment_at_start, next_state, next_issue, ends_segment, standing_at, next_moment, next_row, entry_of_moment}
-use Rattle.st_ledger.proofs.Runs.{entries-none, entries-step}
-use Rattle.st_ledger.specs.Charges.{charges, ticks_for}
-use Rattle.st_ledger.specs.Ledger.{entries_from, charges_at, all_charges}
-use Rattle.st_ledger.specs.declared.charges.Charge.{Charge}
 use Rattle.st_ledger.specs.declared.charges.Stage.{Stage}
-use Rattle.st_plain.specs.Looking.{side_at}
-use Rattle.st_rows.specs.declared.uses.Use.{Use}
-use Rattle.st_reasons.specs.Served.{served, reads_told, AreBrought, IsWrittenBy}
-use Rattle.st_reasons.specs.Sums.{is_parted, row_stalled}
-use Rattle.st_reasons.specs.Waits.{charge_waits}
-use Rattle.st_reasons.specs.declared.waits.Stall.TheVariants.{Turn, Bank, Storage}
-use Rattle.st_reasons.specs.declared.waits.Wait.{Wait}
-use Rattle.st_account.specs.Text.{formed_at, uses_at, words_before, stalled_from}
-use Rattle.st_reasons.specs.Causes.{IsTrueOf, FallTo}
-use Rattle.st_reasons.specs.Segments.{Told, IsTold, issue_of, uses_behind, last_uses, all_uses}
-use Rattle.st_reasons.specs.Paths.{IsReason}
-use Rattle.st_causes.specs.Runs.{ToldRow, told_from, because_at}
-use Rattle.st_ledger.proofs.Runs.{ticks_for-append}
-use Rattle.st_reasons.proofs.ReasonLaws.{reasons_are_true}
-use Rattle.st_reasons.proofs.WaitLaws.{reads_told_are_those_of_the_bus, held_words_are_brought, forwarded_words_are_written, waits_are_true, waits_cover_their_charge, waits_end_before_their_row, waits_add_up_to_their_stage}
+use Rattle.st_ledger.specs.Sums.{is_parted, row_stalled}
+use Rattle.st_ledger.specs.Segments.{Told, IsTold, issue_of, uses_behind, last_uses, all_uses}
+use Rattle.st_ledger.specs.Paths.{IsReason}
+use Rattle.st_ledger.proofs.ReasonLaws.{reasons_are_true}
 
 -- the issue state is the one after a segment's entries so far; the words of the last entry and of
 -- the whole segment are given

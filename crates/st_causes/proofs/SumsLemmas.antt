@@ -1,18 +1,8 @@
 -- Lemmas on the totals of a run: the whole ledger ends with their lines.
-use Rattle.std.specs.Prelude.{Bool, true, false, Option}
-use Rattle.std.proofs.Common.{◌≡◌, ◌≢◌, ℕ, zero, suc, ◌-◌, inl, inr, List, [], ◌++◌, refl, sym, ◌∙◌, ap, append_assoc, arith}
-use Rattle.st_exec.specs.Step.{rests}
-use Rattle.st_state.specs.Machine.{Machine}
-use Rattle.st_rows.specs.declared.uses.Use.{Use}
-use Rattle.st_run.specs.Moments.{Moment, moment_at_start, next_moment, next_state, standing_at}
-use Rattle.st_run.specs.Run.{Scene}
-use Rattle.st_ledger.specs.Ledger.{entries_of, all_charges}
-use Rattle.st_lines.specs.BorderLines.{machine_lines, marks_lines}
-use Rattle.st_lines.specs.declared.origins.Origin.{Origin}
-use Rattle.st_account.specs.LedgerSums.{end_lines, end_from, ledger_totals}
-use Rattle.st_account.specs.Text.{end_lines_at, words_behind, segment_lines, segment_after, segment_end_at, lines_of_entry, words_before, uses_at, last_lines, lines_from, totals_lines, wait_totals_lines, stalled_from, ledger}
+use Rattle.st_causes.proofs.Common.{Bool, false, Option, ◌≡◌, ◌≢◌, ℕ, ◌-◌, inl, inr, List, [], ◌++◌, refl, sym, ◌∙◌, ap, append_assoc, arith, rests, Machine, Use, Moment, moment_at_start, next_moment, next_state, standing_at, Scene, entries_of, all_charges, machine_lines, marks_lines, Origin, end_lines, end_from, ledger_totals, end_lines_at, words_behind, segment_lines, segment_after, segment_end_at, lines_of_entry, words_before, uses_at, last_lines, lines_from, totals_lines, wait_totals_lines, stalled_from, ledger, IsWithoutLines}
+use Rattle.std.specs.Prelude.{true}
+use Rattle.std.proofs.Common.{zero, suc}
 use Rattle.st_account.proofs.RunLemmas.{lines-end, lines-on, end-last, end-on}
-use Rattle.st_causes.specs.Laws.{IsWithoutLines}
 
 -- some lines end with others
 record EndsWith (all end : List (List ℕ)) : Type 0 where

@@ -1,48 +1,12 @@
 -- The lines of a ledger that account for ticks.
-use Rattle.std.specs.Prelude.{zero, suc, Bool, nat_eq, nat_lt, if◌then◌else◌, map, drop, slice_index, reverse, Option, None, Some, length}
+use Rattle.st_causes.proofs.Common.{zero, suc, Bool, nat_eq, nat_lt, if◌then◌else◌, map, drop, slice_index, reverse, Option, None, Some, length, ◌≡◌, ℕ, ◌+◌, ◌/◌, ◌≤◌, true, List, [], ◌∷◌, ◌++◌, inl, inr, refl, sym, ◌∙◌, ap, append_assoc, arith, cond_both, cases_Bool, filter-append, Machine, word, IndexChange, Prepared, rests, row_of_entry, issue_after_entry, IssueState, Scene, Moment, Standing, moment_at_start, next_state, next_issue, ends_segment, standing_at, next_moment, next_row, entry_of_moment, lines_for, seen_ahead, Code, Known, Use, entries-none, entries-step, all_ticks, entries_from, charges_at, all_charges, row_stage_line, charge_line, Charge, charges_follow, charge_waits, StallCause, Start, Prefetch, Earlier, Wait, delays_line, tens_of, alone_lines, suppressed_lines, run_lines, index_lines, emitted_lines, code_lines, facts_lines, missed_lines, level_lines, done_entry_lines, charges_of_entry, known_lines, late_entry_lines, spent_lines, use_lines, is_told, wait_lines, charged_lines, wait_sum_lines, because_line, because_lines, drop_lines, begun_entry_lines, segment_end_lines, taken_by, en_lines, prints_lines, nonzero_word_lines, word_change_lines, words_lines, marks_lines, state_lines, machine_lines, EntryDone, Alone, Origin, begun_at, words_behind, segment_start_lines, begins_segment, segment_after, segment_lines, uses_at, words_before, lines_of_entry, segment_end_at, last_lines, totals_lines, wait_totals_lines, lines_from, stalled_from, ledger, head_of, is_word, is_spent_line, told_from, lines_of_row, lines_of_rows}
 use Rattle.std.specs.List.{filter}
-use Rattle.std.proofs.Common.{◌≡◌, ℕ, ◌+◌, ◌/◌, ◌≤◌, true, false, List, [], ◌∷◌, ◌++◌, inl, inr, refl, sym, ◌∙◌, ap, append_assoc, arith}
-use Rattle.std.proofs.lemmas.Bool.{cond_both, cases_Bool}
-use Rattle.std.proofs.lemmas.List.Elements.{filter-append}
-use Rattle.st_state.specs.Machine.{Machine, word}
-use Rattle.st_prep.specs.declared.entries.IndexChange.{IndexChange}
-use Rattle.st_prep.specs.declared.entries.Prepared.{Prepared}
-use Rattle.st_exec.specs.Step.{rests}
-use Rattle.st_rows.specs.Rows.{row_of_entry, issue_after_entry}
-use Rattle.st_rows.specs.declared.issue.IssueState.{IssueState}
-use Rattle.st_run.specs.Run.{Scene}
-use Rattle.st_run.specs.Moments.{Moment, Standing, moment_at_start, next_state, next_issue, ends_segment, standing_at, next_moment, next_row, entry_of_moment}
+use Rattle.std.proofs.Common.{false}
 use Rattle.st_report.specs.Line.{end_line as run_end_line, done_line, ticks_line}
-use Rattle.st_io.specs.Lines.{lines_for}
-use Rattle.st_plain.specs.Looking.{seen_ahead}
-use Rattle.st_plain.specs.declared.known.Code.{Code}
-use Rattle.st_plain.specs.declared.known.Known.{Known}
 use Rattle.st_plain.specs.declared.looking.Ahead.{Ahead}
-use Rattle.st_rows.specs.declared.uses.Use.{Use}
-use Rattle.st_ledger.proofs.Runs.{entries-none, entries-step}
-use Rattle.st_ledger.specs.Charges.{all_ticks}
-use Rattle.st_ledger.specs.Ledger.{entries_from, charges_at, all_charges}
-use Rattle.st_ledger.specs.Lines.{row_stage_line, charge_line}
 use Rattle.st_ledger.specs.Totals.{sum_lines}
-use Rattle.st_ledger.specs.declared.charges.Charge.{Charge}
 use Rattle.st_ledger.specs.declared.totals.StageSum.{StageSum}
-use Rattle.st_ledger.proofs.Laws.{charges_follow}
-use Rattle.st_reasons.specs.Waits.{charge_waits}
-use Rattle.st_reasons.specs.declared.because.StallCause.{StallCause}
-use Rattle.st_reasons.specs.declared.because.StallCause.TheVariants.{Start, Prefetch, Earlier}
-use Rattle.st_reasons.specs.declared.sums.WaitSum.{WaitSum}
-use Rattle.st_reasons.specs.declared.waits.Wait.{Wait}
-use Rattle.st_lines.specs.Lines.{delays_line, tens_of}
-use Rattle.st_lines.specs.EntryLines.{alone_lines, suppressed_lines, run_lines, index_lines, emitted_lines, code_lines, facts_lines, missed_lines, level_lines, done_entry_lines, charges_of_entry, known_lines, late_entry_lines, spent_lines}
-use Rattle.st_lines.specs.UseLines.{use_lines, is_told}
-use Rattle.st_lines.specs.WaitLines.{wait_lines, charged_lines, wait_sum_lines, because_line, because_lines}
-use Rattle.st_lines.specs.BorderLines.{drop_lines, begun_entry_lines, segment_end_lines, taken_by, en_lines, prints_lines, nonzero_word_lines, word_change_lines, words_lines, marks_lines, state_lines, machine_lines}
-use Rattle.st_lines.specs.declared.facts.EntryDone.{EntryDone}
-use Rattle.st_lines.specs.declared.lines.Alone.{Alone}
-use Rattle.st_lines.specs.declared.origins.Origin.{Origin}
-use Rattle.st_account.specs.Text.{begun_at, words_behind, segment_start_lines, begins_segment, segment_after, segment_lines, uses_at, words_before, lines_of_entry, segment_end_at, last_lines, totals_lines, wait_totals_lines, lines_from, stalled_from, ledger}
-use Rattle.st_causes.specs.Heads.{head_of, is_word, is_spent_line}
-use Rattle.st_causes.specs.Runs.{told_from, lines_of_row, lines_of_rows}
+use Rattle.st_ledger.specs.declared.sums.WaitSum.{WaitSum}
 
 -- ---- lines that do not account for ticks
 

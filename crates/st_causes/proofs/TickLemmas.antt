@@ -1,26 +1,10 @@
 -- Lemmas on rows with lost ticks, and on the reads that waits name.
-use Rattle.std.specs.Prelude.{zero, suc, nat_eq, nat_le, nat_lt, ◌&&◌, All, reverse}
-use Rattle.std.proofs.Common.{◌≡◌, ℕ, ◌+◌, ◌≤◌, ◌<◌, ◌⊎◌, max, true, List, ◌++◌, inl, inr, refl, sym, ◌∙◌, arith}
-use Rattle.std.proofs.lemmas.Bool.{cases_Bool, and_parts, eqb-true, leb-true, lt-ltb, ltb-true, ltb-false}
-use Rattle.std.proofs.lemmas.List.Elements.{All-nil, All-cons}
-use Rattle.st_exec.specs.Step.{rests}
-use Rattle.st_rows.specs.Rows.{row_of_entry, issue_after_entry, tick_a, tick_p, tick_c, address_tick, preparation_tick}
-use Rattle.st_rows.specs.declared.entry.Entry.{Entry}
-use Rattle.st_rows.specs.declared.issue.IssueState.{IssueState}
+use Rattle.st_causes.proofs.Common.{zero, suc, nat_eq, nat_le, nat_lt, ◌&&◌, All, reverse, ◌≡◌, ℕ, ◌+◌, ◌≤◌, ◌<◌, ◌⊎◌, max, true, List, ◌++◌, inl, inr, refl, sym, ◌∙◌, arith, cases_Bool, and_parts, eqb-true, leb-true, lt-ltb, ltb-true, ltb-false, All-nil, All-cons, rests, row_of_entry, issue_after_entry, tick_a, tick_p, tick_c, address_tick, preparation_tick, Entry, IssueState, Moment, Standing, next_state, next_issue, ends_segment, standing_at, next_moment, next_row, entry_of_moment, charges, all_ticks, ticks_for, charges_at, charges_follow, Use, has_cause, is_cause, Turn, Bank, Storage, uses_at, words_before, ToldRow, told_from}
 use Rattle.st_rows.proofs.Awaited.{ready-after}
-use Rattle.st_run.specs.Moments.{Moment, Standing, next_state, next_issue, ends_segment, standing_at, next_moment, next_row, entry_of_moment}
-use Rattle.st_ledger.specs.Charges.{charges, all_ticks, ticks_for}
-use Rattle.st_ledger.specs.Ledger.{charges_at}
 use Rattle.st_ledger.specs.declared.charges.Stage.TheVariants.{Executing}
-use Rattle.st_ledger.proofs.Laws.{charges_follow}
 use Rattle.st_rows.specs.declared.uses.ReadTicks.{ReadTicks}
-use Rattle.st_rows.specs.declared.uses.Use.{Use}
-use Rattle.st_reasons.specs.Causes.{has_cause, is_cause}
-use Rattle.st_reasons.specs.Words.{is_read, read_of}
-use Rattle.st_reasons.specs.declared.waits.Stall.{Stall}
-use Rattle.st_reasons.specs.declared.waits.Stall.TheVariants.{Turn, Bank, Storage}
-use Rattle.st_account.specs.Text.{uses_at, words_before}
-use Rattle.st_causes.specs.Runs.{ToldRow, told_from}
+use Rattle.st_ledger.specs.Words.{is_read, read_of}
+use Rattle.st_ledger.specs.declared.waits.Stall.{Stall}
 
 -- ---- a read that is named is accepted by the end of the wait
 

@@ -24,15 +24,15 @@ use Rattle.st_ledger.specs.declared.charges.Stage.{Stage}
 use Rattle.st_ledger.specs.declared.charges.Stage.TheVariants.{Executing}
 use Rattle.st_plain.specs.Looking.{first_late}
 use Rattle.st_rows.specs.declared.uses.Use.{Use}
-use Rattle.st_reasons.specs.Causes.{is_cause, IsTrueOf, FallTo}
-use Rattle.st_reasons.specs.Paths.{IsReason}
-use Rattle.st_reasons.specs.Served.{served, reads_told, AreBankedBehind, AreBrought, IsWrittenBy}
-use Rattle.st_reasons.specs.Sums.{is_parted}
-use Rattle.st_reasons.specs.Waits.{charge_waits}
-use Rattle.st_reasons.specs.Words.{read_of}
-use Rattle.st_reasons.specs.declared.waits.Stall.{Stall}
-use Rattle.st_reasons.specs.declared.waits.Stall.TheVariants.{Turn, Bank, Storage}
-use Rattle.st_reasons.specs.declared.waits.Wait.{Wait}
+use Rattle.st_ledger.specs.Causes.{is_cause, IsTrueOf, FallTo}
+use Rattle.st_ledger.specs.Paths.{IsReason}
+use Rattle.st_ledger.specs.Served.{served, reads_told, AreBankedBehind, AreBrought, IsWrittenBy}
+use Rattle.st_ledger.specs.Sums.{is_parted}
+use Rattle.st_ledger.specs.Waits.{charge_waits}
+use Rattle.st_ledger.specs.Words.{read_of}
+use Rattle.st_ledger.specs.declared.waits.Stall.{Stall}
+use Rattle.st_ledger.specs.declared.waits.Stall.TheVariants.{Turn, Bank, Storage}
+use Rattle.st_ledger.specs.declared.waits.Wait.{Wait}
 use Rattle.st_lines.specs.declared.origins.Origin.{Origin}
 use Rattle.st_lines.specs.BorderLines.{whole_state_lines, machine_lines}
 use Rattle.st_tally.specs.Tally.{stage_ticks, wait_ticks}

@@ -5,7 +5,7 @@ pub mod Laws
 pub mod CardLaws
 pub use Rattle.st_ledger.specs.Charges
 pub use Rattle.st_plain.specs.Uses
-pub use Rattle.st_reasons.specs.Causes
-pub use Rattle.st_reasons.specs.Paths
-pub use Rattle.st_reasons.specs.Sums
-pub use Rattle.st_reasons.specs.Waits
+pub use Rattle.st_ledger.specs.Causes
+pub use Rattle.st_ledger.specs.Paths
+pub use Rattle.st_ledger.specs.Sums
+pub use Rattle.st_ledger.specs.Waits

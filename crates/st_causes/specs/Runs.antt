@@ -16,8 +16,8 @@ use Rattle.st_ledger.specs.Ledger.{charges_at}
 use Rattle.st_ledger.specs.Lines.{row_stage_line}
 use Rattle.st_plain.specs.Looking.{level_wait}
 use Rattle.st_rows.specs.declared.uses.Use.{Use}
-use Rattle.st_reasons.specs.Reasons.{because}
-use Rattle.st_reasons.specs.declared.because.StallCause.{StallCause}
+use Rattle.st_ledger.specs.Reasons.{because}
+use Rattle.st_ledger.specs.declared.because.StallCause.{StallCause}
 use Rattle.st_lines.specs.EntryLines.{level_lines}
 use Rattle.st_lines.specs.WaitLines.{charged_lines, because_lines}
 use Rattle.st_lines.specs.declared.facts.EntryDone.{EntryDone}

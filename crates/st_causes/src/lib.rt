@@ -3,8 +3,7 @@
 //!
 //! Proved: the statements in specs/Laws.antt and specs/CardLaws.antt: lines are those of the rows
 //! of the run, sums add up to its ticks, waits cover their charges and hold at each tick, and
-//! causes did delay their rows. The laws of one segment are in the specs of `st_reasons` and
-//! `st_ledger`.
+//! causes did delay their rows. The laws of one segment are in the specs of `st_ledger`.
 //!
 //! Pinned: each statement, by docs/promises.txt; docs/CLAIMS.md names those that carry a promise.
 //! Free: the proofs, in proofs/. A change of the ledger or of the timetable that makes a line

@@ -1,21 +1,14 @@
 -- Lemmas on the ticks that a charge adds to the totals.
-use Rattle.std.specs.Prelude.{if◌then◌else◌, Result, Ok, Err, IsErr}
-use Rattle.std.proofs.Common.{◌≡◌, ℕ, ◌+◌, ◌-◌, ◌≤◌, inl, inr, max, List, [], ◌∷◌, ◌++◌, refl, sym, ◌∙◌, ap, subst, arith}
-use Rattle.std.proofs.lemmas.Bool.{le-ltb}
+use Rattle.st_ledger.proofs.Common.{if◌then◌else◌, Result, Ok, Err, IsErr, ◌≡◌, ℕ, ◌+◌, ◌-◌, ◌≤◌, inl, inr, max, List, [], ◌∷◌, ◌++◌, refl, sym, ◌∙◌, ap, subst, arith, le-ltb, Charge, StagePart, Stage, Restart, Address, Preparing, Executing, charges_behind, part_charges, is_stage, ticks_for, ticks_of, all_ticks, sum_line}
 use Rattle.st_io.specs.Output.{OutputState}
 use Rattle.st_io.specs.declared.Failed.{Failed}
 use Rattle.st_io.specs.Lines.{WritesLines}
 use Rattle.st_io.proofs.Progress.{lines_then, lines_cut, wrote_nothing}
-use Rattle.st_ledger.specs.declared.charges.Charge.{Charge}
-use Rattle.st_ledger.specs.declared.charges.StagePart.{StagePart}
-use Rattle.st_ledger.specs.declared.charges.Stage.{Stage}
-use Rattle.st_ledger.specs.declared.charges.Stage.TheVariants.{Restart, Instruction, Address, Index, Preparing, Operand, Executing}
+use Rattle.st_ledger.specs.declared.charges.Stage.TheVariants.{Instruction, Index, Operand}
 use Rattle.st_ledger.specs.declared.totals.StageSum.{StageSum}
 use Rattle.st_ledger.specs.declared.totals.Totals.{Totals}
-use Rattle.st_ledger.specs.Charges.{charges_behind, part_charges, is_stage, ticks_for, ticks_of, all_ticks}
-use Rattle.st_ledger.specs.Lines.{sum_line}
 use Rattle.st_ledger.specs.Totals.{sum_at, AreWithin, sums_by, sum_lines}
-use Rattle.st_ledger.proofs.Sums.{lt-cases}
+use Rattle.st_ledger.proofs.ChargeSums.{lt-cases}
 use Rattle.st_ledger.proofs.Told.{charged-parts}
 use Rattle.st_ledger.proofs.Runs.{ticks_for-append}
 

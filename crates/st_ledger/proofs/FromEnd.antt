@@ -1,8 +1,6 @@
 -- Lemmas on lines that are built from their end, piece by piece.
-use Rattle.std.proofs.Common.{◌≡◌, ℕ, ◌+◌, ◌/◌, ◌%◌, ◌*◌, ◌^◌, ◌<◌, ◌≤◌, List, [], ◌++◌, length, codes, decimal, refl, append_assoc, arith}
-use Rattle.std.proofs.lemmas.Fmt.{length-decimal-le}
-use Rattle.std.proofs.lemmas.List.{append-nil, length-append}
-use Rattle.st_text.specs.Numerals.{half_address}
+use Rattle.st_ledger.proofs.Common.{◌≡◌, ℕ, ◌+◌, ◌/◌, ◌%◌, ◌*◌, ◌^◌, ◌<◌, ◌≤◌, List, [], ◌++◌, length, codes, decimal, refl, append_assoc, arith, length-decimal-le, append-nil, half_address}
+use Rattle.std.proofs.lemmas.List.{length-append}
 
 -- a line of five pieces, the last one first
 pub five_pieces : (a b c d e l0 l1 l2 l3 l4 l5 : List ℕ) → l0 ≡ [] → l1 ≡ e ++ l0 → l2 ≡ d ++ l1 → l3 ≡ c ++ l2 → l4 ≡ b ++ l3 → l5 ≡ a ++ l4

@@ -1,14 +1,7 @@
 -- Lemmas on the charges of each row.
-use Rattle.std.proofs.Common.{◌≡◌, ℕ, ◌+◌, ◌-◌, ◌≤◌, max, List, [], ◌∷◌, refl, ◌∙◌, ap, subst, arith}
-use Rattle.st_rows.specs.Rows.{row_of_entry, preparation_tick, tick_p, tick_c}
-use Rattle.st_rows.specs.declared.entry.Entry.{Entry}
-use Rattle.st_rows.specs.declared.issue.IssueState.{IssueState}
-use Rattle.st_rows.specs.declared.issue.EntryTicks.{EntryTicks}
-use Rattle.st_rows.proofs.Awaited.{ready-after}
-use Rattle.st_ledger.specs.declared.charges.StagePart.{StagePart}
-use Rattle.st_ledger.specs.declared.charges.Stage.TheVariants.{Restart, Instruction, Address, Index, Preparing, Operand, Executing}
-use Rattle.st_ledger.specs.Charges.{parts_of_row, charges, all_ticks, ticks_for, Follow}
-use Rattle.st_ledger.proofs.Sums.{reach, AreOthers, charged-follow, follow-sum, charged-last, charged-first}
+use Rattle.st_ledger.proofs.Common.{◌≡◌, ℕ, ◌+◌, ◌-◌, ◌≤◌, max, List, [], ◌∷◌, refl, ◌∙◌, ap, subst, arith, row_of_entry, preparation_tick, tick_p, tick_c, Entry, IssueState, EntryTicks, ready-after, StagePart, Restart, Address, Preparing, Executing, parts_of_row, charges, all_ticks, ticks_for, Follow}
+use Rattle.st_ledger.specs.declared.charges.Stage.TheVariants.{Instruction, Index, Operand}
+use Rattle.st_ledger.proofs.ChargeSums.{reach, AreOthers, charged-follow, follow-sum, charged-last, charged-first}
 
 -- the order of the ticks of a row
 record IsOrdered (f : IssueState) (row : EntryTicks) (cost : ℕ) : Type 0 where

@@ -1,9 +1,8 @@
 -- Lemmas on the charges of all rows of a run.
-use Rattle.std.specs.Prelude.{Bool, if◌then◌else◌, map, reverse}
-use Rattle.std.proofs.Common.{◌≡◌, ℕ, zero, suc, ◌+◌, ◌≤◌, true, false, List, [], ◌∷◌, ◌++◌, length, refl, sym, ◌∙◌, ap, subst, append_assoc, arith}
+use Rattle.st_ledger.proofs.Common.{Bool, if◌then◌else◌, map, reverse, ◌≡◌, ℕ, ◌+◌, ◌≤◌, true, false, List, [], ◌∷◌, ◌++◌, length, refl, sym, ◌∙◌, ap, subst, append_assoc, arith, row_of_entry, issue_after_entry, Charge, Stage, Executing, ticks_for, Follow}
+use Rattle.std.proofs.Common.{zero, suc}
 use Rattle.st_prep.proofs.Choices.{of_choice}
 use Rattle.st_exec.specs.Step.{rests, interrupt}
-use Rattle.st_rows.specs.Rows.{row_of_entry, issue_after_entry}
 use Rattle.st_run.specs.Run.{PlainEvent, Ends, interlude, interrupts_by}
 use Rattle.st_run.specs.Events.{Timed, drop_of, snapshot}
 use Rattle.st_run.specs.Moments.{Moment, Standing, next_state, standing_at, entry_of_moment, next_row, next_moment, next_issue, next_segment, ends_segment, moments}
@@ -12,10 +11,6 @@ use Rattle.st_run.specs.TimedRun.{event_at, ticks_before, snapshots_from, drops,
 use Rattle.st_run.specs.Course.{Course, course}
 use Rattle.st_run.proofs.CourseLemmas.{timed-none, timed-step}
 use Rattle.st_run.proofs.ShownLemmas.{last-append, last_events-tick}
-use Rattle.st_ledger.specs.declared.charges.Charge.{Charge}
-use Rattle.st_ledger.specs.declared.charges.Stage.{Stage}
-use Rattle.st_ledger.specs.declared.charges.Stage.TheVariants.{Executing}
-use Rattle.st_ledger.specs.Charges.{ticks_for, Follow}
 use Rattle.st_ledger.specs.Ledger.{entries_from, charges_at, all_charges, all_costs, row_at, row_of_event, rows_told}
 use Rattle.st_ledger.proofs.Rows.{row-follows, row-costs}
 

@@ -1,8 +1,6 @@
 -- Lemmas on the charges of consecutive stages.
-use Rattle.std.proofs.Common.{◌≡◌, ℕ, inl, inr, max, List, ◌∷◌, ◌++◌, refl, arith}
-use Rattle.st_ledger.specs.declared.charges.StagePart.{StagePart}
-use Rattle.st_ledger.specs.Charges.{charges_behind, part_charges}
-use Rattle.st_ledger.proofs.Sums.{lt-cases}
+use Rattle.st_ledger.proofs.Common.{◌≡◌, ℕ, inl, inr, max, List, ◌∷◌, ◌++◌, refl, arith, StagePart, charges_behind, part_charges}
+use Rattle.st_ledger.proofs.ChargeSums.{lt-cases}
 
 -- the charges of the first stage, then those of the others
 pub charged-parts : (t : ℕ) (x : StagePart) (xs : List StagePart) → charges_behind t (x ∷ xs) ≡ part_charges t x ++ charges_behind (max t x.end) xs

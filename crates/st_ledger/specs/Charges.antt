@@ -2,12 +2,11 @@
 -- ticks after the completion of the entry before it, up to and including its own completion.
 --
 -- Proved: by their `ensures` clauses these calls do what definitions here say: `add_row`
--- (totals.rt), `add_parts` (totals.rt), `add_part` (totals.rt), `parts` (telling.rt), and others.
--- Read by: definitions in Ledger, Standing of st_account, EntryLines of st_lines, Slots of
--- st_tally, and others.
+-- (totals.rt), `add_parts` (totals.rt), `add_part` (totals.rt), `add` (sums.rt), and others.
+-- Read by: definitions in Ledger, Segments, Sums, Standing of st_account, and others.
 -- Laws: ChargesFollow (specs/Laws.antt), ChargesAddUpToTheRun (specs/Laws.antt),
--- TicksBelongToTheirStage (specs/Laws.antt), LostTicksAreThoseOfOtherStages (specs/Laws.antt of
--- st_tally), and others.
+-- TicksBelongToTheirStage (specs/Laws.antt), WaitsAddUpToTheirStage (specs/WaitLaws.antt), and
+-- others.
 -- Change: the meaning is fixed by docs/ledger.md, since the contract of `st_account::ledger`
 -- unfolds to a definition here. The form is free, with the proofs that unfold it.
 use Rattle.std.specs.Prelude.{ℕ, ◌≡◌, ◌+◌, ◌-◌, ◌<◌, nat_eq, nat_lt, nat_le, Bool, if◌then◌else◌, List, [], ◌∷◌}

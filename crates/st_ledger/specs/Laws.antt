@@ -1,10 +1,10 @@
 -- Laws of charges: of each row, and of all rows of a run.
 --
 -- Proved: each law has its lemma in proofs/Laws.antt, with its name in small letters.
--- Claimed: docs/CLAIMS.md names ChargesAddUpToTheRun, ChargesFollow, RowsAreThoseOfTheRun,
--- SegmentsStartBehindTheirEnd, and others.
+-- Claimed: docs/CLAIMS.md names ChargesAddUpToTheRun, ChargesFollow, ReadsOfAnEntryAreInTime,
+-- RowsAreThoseOfTheRun, and others.
 -- Change: docs/promises.txt lists each law, and the gate compares the list with the laws.
-use Rattle.std.specs.Prelude.{ℕ, ◌≡◌, ◌+◌, ◌<◌, ◌≤◌, true, List, All, map, length}
+use Rattle.std.specs.Prelude.{ℕ, ◌≡◌, ◌+◌, ◌<◌, ◌≤◌, true, List, All, map, length, ◌-◌, Option}
 use Rattle.st_rows.specs.Rows.{row_of_entry}
 use Rattle.st_rows.specs.declared.entry.Entry.{Entry}
 use Rattle.st_rows.specs.declared.issue.IssueState.{IssueState}
@@ -16,6 +16,12 @@ use Rattle.st_ledger.specs.declared.charges.Charge.{Charge}
 use Rattle.st_ledger.specs.declared.charges.Stage.TheVariants.{Restart, Executing}
 use Rattle.st_ledger.specs.Charges.{Follow, charges, stage_at, all_ticks, ticks_for}
 use Rattle.st_ledger.specs.Ledger.{entries_of, all_charges, all_costs, row_at, rows_told}
+use Rattle.st_prep.specs.declared.entries.Words.{Words}
+use Rattle.st_plain.specs.Uses.{uses_of_entry}
+use Rattle.st_rows.specs.declared.uses.Use.{Use}
+use Rattle.st_ledger.specs.Words.{IsReadInTime}
+use Rattle.st_ledger.specs.Waits.{charge_waits}
+use Rattle.st_ledger.specs.Sums.{all_stalled}
 
 -- ---- one row
 
@@ -66,3 +72,17 @@ pub record ChargesAddUpToTheRun : Type 0 where
 abbrev pub SegmentsStartBehindTheirEnd : Type 0
 SegmentsStartBehindTheirEnd = (m : Moment) → ends_segment m ≡ true →
     (next_issue m).c ≡ m.tick + 1 + length m.dropped
+
+-- ---- the waits of a charge
+
+-- The waits of a charge have at most as many ticks as the charge.
+abbrev pub WaitsAreWithinTheirCharge : Type 0
+WaitsAreWithinTheirCharge = (x : Charge) (uses before : List Use) →
+    All IsReadInTime uses → All IsReadInTime before →
+    all_stalled (charge_waits x uses before) ≤ x.to - x.from
+
+-- Each word that an entry reads is accepted when it is wanted or later, and answered no earlier
+-- than that.
+abbrev pub ReadsOfAnEntryAreInTime : Type 0
+ReadsOfAnEntryAreInTime = (ds : List ℕ) (n : ℕ) (f : IssueState) (e : Entry) (side : Option ℕ)
+    (reads : Words) → All IsReadInTime (uses_of_entry ds n f e side reads)

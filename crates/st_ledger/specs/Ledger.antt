@@ -1,10 +1,9 @@
 -- The entries that complete in a run, and the charges of all of them. The machine has the delays ds
 -- and n levels.
 --
--- Proved: by their `ensures` clauses these calls do what definitions here say: `add_run`
--- (running.rt of st_account), `write_run` (running.rt of st_account), `step` (account.rt of
--- st_account).
--- Read by: definitions in Text of st_account, Runs of st_causes.
+-- Proved: no `ensures` clause names a definition of this file.
+-- Read by: definitions in Text of st_account, Running of st_account, Rounds of st_account, Runs of
+-- st_causes.
 -- Laws: ChargesAddUpToTheRun (specs/Laws.antt), RowsAreThoseOfTheRun (specs/Laws.antt),
 -- LedgersTellWhereTicksWent (specs/Laws.antt of st_causes), TablesHaveTheRowsOfTheRun
 -- (specs/Laws.antt of st_causes), and others.

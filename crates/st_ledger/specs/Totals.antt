@@ -3,7 +3,7 @@
 -- Proved: by their `ensures` clauses these calls do what definitions here say: `write_sums`
 -- (totals.rt), `sums_of` (totals.rt), `add` (totals.rt), `add_part` (totals.rt), and others.
 -- Read by: definitions in TallyLines of st_tally, Text of st_account, Slots of st_tally, Tally of
--- st_tally.
+-- st_tally, and others.
 -- Laws: StageSumsAddUp (specs/Laws.antt of st_causes).
 -- Change: the meaning is fixed by docs/ledger.md, since the contract of `st_account::ledger`
 -- unfolds to a definition here. The form is free, with the proofs that unfold it.

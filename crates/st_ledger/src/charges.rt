@@ -1,15 +1,15 @@
 //! Charges: the ticks that are attributed to the stages of entries (executed instructions). An
 //! entry is charged with the ticks after the completion of the entry before it, up to its own;
 //! `from` is not in a charge, `to` is. docs/ledger.md has the rules ("Charges"). telling.rt makes
-//! the stages of a row; totals.rt and `st_lines` make charges; `st_reasons` splits them; contracts
-//! of `st_account` and `st_tally` name `Stage`.
+//! the stages of a row; totals.rt and `st_lines` make charges; waits.rt splits them; contracts of
+//! `st_account` and `st_tally` name `Stage`.
 //!
 //! Proved: nothing here, there is no code. `charges` of specs/Charges.antt defines the charges of a
 //! row; the law `ChargesFollow` (specs/Laws.antt) says that they have no gap.
 //!
 //! Pinned, by specs/Charges.antt, docs/ledger.md and vectors/ledger/lines.txt: the order of the
 //! stages, which is that of the lines. A new stage needs its place in `parts_of_row` and `stage_at`
-//! of specs/Charges.antt, its name in specs/Lines.antt, its total, and a decision in `st_reasons`
+//! of specs/Charges.antt, its name in specs/Lines.antt, its total, and a decision in waits.rt
 //! whether it has waits. Free: the derived traits.
 
 /// A stage of an entry, in the order in which an entry passes through them.

@@ -18,7 +18,6 @@ use st_rows::EntryTicks;
 
 /// Puts the name of a stage in front of a line. The longest name has 11 letters, for which there
 /// has to be room.
-#[inline(always)]
 pub fn put_stage(line: &mut LineFromEnd, stage: Stage)
     requires { length line.old + 11 ≤ 128 }
     ensures bytes { line.new ≡ stage_name stage ++ line.old }

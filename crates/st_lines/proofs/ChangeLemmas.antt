@@ -1,18 +1,7 @@
 -- Lemmas on words that changed and words that did not.
-use Rattle.std.specs.Prelude.{take, drop, Bool, if◌then◌else◌, nat_eq, slice_index, slice_set, Result, Ok, Err, IsErr}
-use Rattle.std.proofs.Common.{◌≡◌, ◌≢◌, ℕ, zero, suc, ◌+◌, ◌-◌, ◌<◌, ◌≤◌, inl, inr, true, false, List, [], ◌++◌, length, length-set, length-append, get_or-set_other, refl, sym, ◌∙◌, ap, subst, arith}
-use Rattle.std.proofs.lemmas.Bool.Decides.{leb_tells, eqb_tells, nat_tests}
-use Rattle.std.proofs.lemmas.List.{get_or-set_same, ext_get_or, length-take-le, get_or_append_left, get_or-take, get_or-append-add, get_or-drop, length-drop}
+use Rattle.st_lines.proofs.Common.{Bool, if◌then◌else◌, nat_eq, slice_index, slice_set, Result, Ok, Err, IsErr, ◌≡◌, ◌≢◌, ℕ, zero, suc, ◌+◌, ◌-◌, ◌<◌, ◌≤◌, inl, inr, true, false, List, [], ◌++◌, length, length-set, length-append, get_or-set_other, refl, sym, ◌∙◌, ap, subst, arith, leb_tells, eqb_tells, nat_tests, get_or-set_same, ext_get_or, length-take-le, get_or_append_left, get_or-take, get_or-append-add, get_or-drop, length-drop, words_of_storage, words_of_storage_is, WORDS, OutputState, Failed, WritesLines, lines_for, LinesSoFar, lines_none, lines_more, lines_failed, lines_for_next, lines_for_whole, Machine, word, word_change_lines, IsUntouched, AreOthersAlike}
+use Rattle.std.specs.Prelude.{take, drop}
 use Rattle.std.proofs.Math.Seq.{take-append_seam}
-use Rattle.st_bits.specs.Storage.{words_of_storage, words_of_storage_is}
-use Rattle.st_bits.specs.declared.limits.TheConstants.{WORDS}
-use Rattle.st_io.specs.Output.{OutputState}
-use Rattle.st_io.specs.declared.Failed.{Failed}
-use Rattle.st_io.specs.Lines.{WritesLines, lines_for}
-use Rattle.st_io.proofs.Progress.{LinesSoFar, lines_none, lines_more, lines_failed, lines_for_next, lines_for_whole}
-use Rattle.st_state.specs.Machine.{Machine, word}
-use Rattle.st_lines.specs.BorderLines.{word_change_lines}
-use Rattle.st_lines.specs.Changes.{IsUntouched, AreOthersAlike}
 use Rattle.st_lines.specs.declared.changes.Changeable.{Changeable}
 
 -- ---- lines of numbers that have none are passed over

@@ -1,8 +1,6 @@
 -- Lemmas on hexadecimal digits, eight at a time.
-use Rattle.std.proofs.Common.{◌+◌, ◌*◌, ◌%◌, ◌∷◌, get_or, ◌≡◌, ℕ, ◌/◌, ◌^◌, List, [], ◌++◌, refl, ◌∙◌, ap, sym, append_assoc, arith}
-use Rattle.std.proofs.lemmas.List.{append-nil}
+use Rattle.st_lines.proofs.Common.{◌+◌, ◌*◌, ◌%◌, ◌∷◌, get_or, ◌≡◌, ℕ, ◌/◌, ◌^◌, List, [], ◌++◌, refl, ◌∙◌, ap, sym, append_assoc, arith, append-nil, hex_digit, hex_text, hex_word}
 use Rattle.st_report.proofs.PairTables.{pair-at}
-use Rattle.st_text.specs.Numerals.{hex_digit, hex_text, hex_word}
 use Rattle.st_lines.specs.declared.digits.TheConstants.{PAIRS}
 
 pub hex-halves : (x : ℕ) → hex_text 8 (x / 2 ^ 32) ++ hex_text 8 x ≡ hex_word x

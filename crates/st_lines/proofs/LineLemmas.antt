@@ -1,21 +1,9 @@
 -- Lemmas on lines that are written in sequence.
-use Rattle.std.specs.Prelude.{Option, Some, Bool, if◌then◌else◌, nat_eq, Result, Ok, Err, IsErr, IsOk, codes, decimal}
-use Rattle.std.proofs.Common.{◌≡◌, ◌≢◌, ℕ, zero, suc, ◌+◌, ◌/◌, ◌≤◌, inl, inr, min, true, false, List, [], ◌∷◌, ◌++◌, length, take, drop, refl, sym, ◌∙◌, ap, subst, append_assoc, arith}
-use Rattle.std.proofs.lemmas.Bool.Decides.{leb_tells, nat_tests}
-use Rattle.std.proofs.lemmas.List.{take_min, append-nil, length-drop}
-use Rattle.std.proofs.Math.Seq.{drop-length}
-use Rattle.std.proofs.Math.ListN.{drop_of_length-le}
-use Rattle.st_io.specs.Output.{OutputState}
-use Rattle.st_io.specs.declared.Failed.{Failed}
-use Rattle.st_io.specs.Lines.{WritesLines}
-use Rattle.st_io.proofs.Progress.{lines_then, lines_cut, wrote_nothing}
+use Rattle.st_lines.proofs.Common.{Option, Bool, not, if◌then◌else◌, nat_eq, Result, Ok, Err, IsErr, IsOk, ◌≡◌, ◌≢◌, ℕ, zero, suc, ◌+◌, ◌/◌, ◌≤◌, true, false, List, [], ◌∷◌, ◌++◌, length, take, drop, refl, sym, ◌∙◌, ap, subst, append_assoc, arith, nat_tests, append-nil, length-drop, OutputState, Failed, WritesLines, lines_then, lines_cut, wrote_nothing, numbers_text, delays_line, tens_of, delays_lines, dropped_line, begun_line, segment_end_line, prt_line, en_line, facts_lines, Origin, drop_lines, begun_entry_lines, segment_end_lines, differs, en_lines, prints_lines}
+use Rattle.std.specs.Prelude.{Some, codes, decimal}
+use Rattle.std.proofs.Math.Bool.{beq}
 use Rattle.st_plain.specs.declared.looking.Ahead.{Ahead}
-use Rattle.st_lines.specs.Lines.{numbers_text, delays_line, tens_of, delays_lines, dropped_line, begun_line, segment_end_line}
 use Rattle.st_exch.specs.Printer.{line_of_words}
-use Rattle.st_report.specs.Line.{prt_line}
-use Rattle.st_lines.specs.EntryLines.{facts_lines}
-use Rattle.st_lines.specs.declared.origins.Origin.{Origin}
-use Rattle.st_lines.specs.BorderLines.{drop_lines, begun_entry_lines, segment_end_lines, prints_lines}
 
 pub no_lines : (s : OutputState) (o : Unit {0}) → WritesLines s s [] (Ok o)
 no_lines s o = record { ok = wrote_nothing s; err = tt }
@@ -75,20 +63,6 @@ end-some by (suc k) tick n found begun some = rw (not-zero k) refl
 
 -- ---- delays
 
-pub ten-first : (ds : List ℕ) → take (min (length ds) 10) ds ≡ take 10 ds
-ten-first ds =
-    let same : min (length ds) 10 ≡ min 10 (length ds) = omega arith in
-    ap (λ n. take n ds) same ∙ take_min 10 ds
-
-pub ten-behind : (ds : List ℕ) → drop (min (length ds) 10) ds ≡ drop 10 ds
-ten-behind ds = elim (leb_tells 10 (length ds)) [
-  | inl y ↦ let same : min (length ds) 10 ≡ 10 = omega (arith, y.1) in ap (λ n. drop n ds) same
-  | inr n ↦
-      let same : min (length ds) 10 ≡ length ds = omega (arith, n.1) in
-      let few : length ds ≤ 10 = omega (arith, n.1) in
-      ap (λ k. drop k ds) same ∙ drop-length ds ∙ sym (drop_of_length-le ds few)
-]
-
 pub delays-none : (ds : List ℕ) → length ds ≡ 0 → delays_lines ds ≡ []
 unfolding tens_of
 delays-none ds none = ap (λ n. tens_of ((n + 9) / 10) ds) none
@@ -102,12 +76,12 @@ delays-some ds some =
 
 -- ---- numbers
 
-pub numbers-first : (old mid new : List ℕ) (ns more : List ℕ) (n : ℕ) → ns ≡ n ∷ more → mid ≡ old ++ (codes " " ++ decimal n)
-    → new ≡ mid ++ numbers_text more → new ≡ old ++ numbers_text ns
+pub numbers-first : (old mid behind new : List ℕ) (ns more : List ℕ) (n m : ℕ) → ns ≡ n ∷ more → mid ≡ old ++ codes " "
+    → behind ≡ mid ++ decimal m → m ≡ n → new ≡ behind ++ numbers_text more → new ≡ old ++ numbers_text ns
 unfolding numbers_text
-numbers-first old mid new ns more n is first later =
+numbers-first old mid behind new ns more n m is blank number same later =
     later
-    ∙ ap (λ xs. xs ++ numbers_text more) first
+    ∙ ap (λ xs. xs ++ numbers_text more) (number ∙ ap (λ xs. xs ++ decimal m) blank ∙ append_assoc old (codes " ") (decimal m) ∙ ap (λ k. old ++ (codes " " ++ decimal k)) same)
     ∙ append_assoc old (codes " " ++ decimal n) (numbers_text more)
     ∙ ap (λ xs. old ++ numbers_text xs) (sym is)
 
@@ -132,25 +106,21 @@ same_lines s u xs ys r same h = subst (λ ls. WritesLines s u ls r) same h
 pub delays_all : (s u : OutputState) (ds : List ℕ) (r : Result (Unit {0}) Failed) → length ds ≡ 0 → WritesLines s u [] r → WritesLines s u (delays_lines ds) r
 delays_all s u ds r none h = subst (λ ls. WritesLines s u ls r) (sym (delays-none ds none)) h
 
-ten : (ds line : List ℕ) → line ≡ take (min (length ds) 10) ds → delays_line line ≡ delays_line (take 10 ds)
-ten ds line is = ap delays_line (is ∙ ten-first ds)
-
 pub delays_cut : (s u : OutputState) (ds line : List ℕ) (e : Failed) (r : Result (Unit {0}) Failed) → IsErr r → length ds ≢ 0
-    → line ≡ take (min (length ds) 10) ds → WritesLines s u (delays_line line ∷ []) (Err e) → WritesLines s u (delays_lines ds) r
+    → line ≡ delays_line (take 10 ds) → WritesLines s u (line ∷ []) (Err e) → WritesLines s u (delays_lines ds) r
 delays_cut s u ds line e r f some is h =
     subst (λ ls. WritesLines s u ls r) (sym (delays-some ds (omega (arith, some))))
     (lines_cut s u (delays_line (take 10 ds) ∷ []) (delays_lines (drop 10 ds)) e r f
-    (subst (λ l. WritesLines s u (l ∷ []) (Err e)) (ten ds line is) h))
+    (subst (λ l. WritesLines s u (l ∷ []) (Err e)) is h))
 
 pub delays_then : (s v u : OutputState) (ds line more : List ℕ) (o : Unit {0}) (r : Result (Unit {0}) Failed) → length ds ≢ 0
-    → line ≡ take (min (length ds) 10) ds → more ≡ drop (min (length ds) 10) ds → WritesLines s v (delays_line line ∷ []) (Ok o)
+    → line ≡ delays_line (take 10 ds) → more ≡ drop 10 ds → WritesLines s v (line ∷ []) (Ok o)
     → WritesLines v u (delays_lines more) r → WritesLines s u (delays_lines ds) r
 delays_then s v u ds line more o r some is rest h later =
-    let same : more ≡ drop 10 ds = rest ∙ ten-behind ds in
     subst (λ ls. WritesLines s u ls r) (sym (delays-some ds (omega (arith, some))))
     (lines_then s v u (delays_line (take 10 ds) ∷ []) (delays_lines (drop 10 ds)) o r
-    (subst (λ l. WritesLines s v (l ∷ []) (Ok o)) (ten ds line is) h)
-    (subst (λ xs. WritesLines v u (delays_lines xs) r) same later))
+    (subst (λ l. WritesLines s v (l ∷ []) (Ok o)) is h)
+    (subst (λ xs. WritesLines v u (delays_lines xs) r) rest later))
 
 -- ---- three lines
 
@@ -170,11 +140,6 @@ not_both-by (Err x) f g = absurd (cc)
 pub not_both : {A : Type 0} (r : Result (Unit {0}) Failed) → IsErr r → IsOk r → A
 not_both r f g = not_both-by r f g
 
--- a line followed by the remaining lines, in two forms
-pub line_then : (s v u : OutputState) (x : List ℕ) (xs ys : List (List ℕ)) (o : Unit {0}) (r : Result (Unit {0}) Failed) → xs ≡ ys
-    → WritesLines s v (x ∷ []) (Ok o) → WritesLines v u xs r → WritesLines s u (x ∷ ys) r
-line_then s v u x xs ys o r same h k = lines_then s v u (x ∷ []) ys o r h (same_lines v u xs ys r same k)
-
 -- lines followed by the remaining lines, in two forms
 pub both_then : (s v u : OutputState) (ws xs ys zs : List (List ℕ)) (o : Unit {0}) (r : Result (Unit {0}) Failed) → ws ≡ xs → ys ≡ zs
     → WritesLines s v ws (Ok o) → WritesLines v u ys r → WritesLines s u (xs ++ zs) r
@@ -184,6 +149,18 @@ pub both_cut : (s u : OutputState) (ws xs zs : List (List ℕ)) (e : Failed) (r 
     → WritesLines s u ws (Err e) → WritesLines s u (xs ++ zs) r
 both_cut s u ws xs zs e r f one h = lines_cut s u xs zs e r f (same_lines s u ws xs (Err e) one h)
 
+-- a line, and a line followed by the remaining lines, in two forms
+pub put_one : (s u : OutputState) (l x : List ℕ) (r : Result (Unit {0}) Failed) → l ≡ x → WritesLines s u (l ∷ []) r → WritesLines s u (x ∷ []) r
+put_one s u l x r one h = subst (λ k. WritesLines s u (k ∷ []) r) one h
+
+pub put_then : (s v u : OutputState) (l x : List ℕ) (xs ys : List (List ℕ)) (o : Unit {0}) (r : Result (Unit {0}) Failed) → l ≡ x → xs ≡ ys
+    → WritesLines s v (l ∷ []) (Ok o) → WritesLines v u xs r → WritesLines s u (x ∷ ys) r
+put_then s v u l x xs ys o r one two h k = lines_then s v u (x ∷ []) ys o r (put_one s v l x (Ok o) one h) (same_lines v u xs ys r two k)
+
+pub put_cut : (s u : OutputState) (l x : List ℕ) (xs : List (List ℕ)) (e : Failed) (r : Result (Unit {0}) Failed) → IsErr r → l ≡ x
+    → WritesLines s u (l ∷ []) (Err e) → WritesLines s u (x ∷ xs) r
+put_cut s u l x xs e r f one h = lines_cut s u (x ∷ []) xs e r f (put_one s u l x (Err e) one h)
+
 -- an error in the first of three parts
 pub first_cut : (s u : OutputState) (xs ys zs : List (List ℕ)) (e : Failed) (r : Result (Unit {0}) Failed) → IsErr r → WritesLines s u xs (Err e)
     → WritesLines s u ((xs ++ ys) ++ zs) r
@@ -192,6 +169,25 @@ first_cut s u xs ys zs e r f h = lines_cut s u (xs ++ ys) zs e r f (lines_cut s 
 pub second_cut : (s v u : OutputState) (xs ys zs : List (List ℕ)) (o : Unit {0}) (e : Failed) (r : Result (Unit {0}) Failed) → IsErr r
     → WritesLines s v xs (Ok o) → WritesLines v u ys (Err e) → WritesLines s u ((xs ++ ys) ++ zs) r
 second_cut s v u xs ys zs o e r f h k = lines_cut s u (xs ++ ys) zs e r f (lines_then s v u xs ys o (Err e) h k)
+
+-- ---- whether interrupts are enabled
+
+pub en-start : (k : ℕ) (was now shown : Bool) → k ≡ 0 → shown ≡ nat_eq k 0 → (if shown then en_line now ∷ [] else []) ≡ en_lines k was now
+unfolding en_lines
+en-start k was now shown none on = rw (on, none) refl
+
+pub flags-differ : (was now : Bool) → not (beq was now) ≡ differs was now
+flags-differ true true = refl
+flags-differ true false = refl
+flags-differ false true = refl
+flags-differ false false = refl
+
+pub en-later : (k : ℕ) (was now shown : Bool) → k ≢ 0 → shown ≡ differs was now → (if shown then en_line now ∷ [] else []) ≡ en_lines k was now
+unfolding en_lines
+en-later k was now shown some is = rw (is, later k some) refl
+  where
+    later : (k : ℕ) → k ≢ 0 → nat_eq k 0 ≡ false
+    later k some = grind (arith, nat_tests)
 
 -- ---- what is printed
 

@@ -1,11 +1,7 @@
 -- Lemmas on the origin of half-words and on its line.
-use Rattle.std.specs.Prelude.{Bool, None, Some, slice_index, option_map}
-use Rattle.std.proofs.Common.{◌≡◌, ◌≢◌, ℕ, zero, suc, List, [], ◌++◌, refl, sym, ◌∙◌, ap, append_assoc}
-use Rattle.std.proofs.lemmas.List.{append-nil}
-use Rattle.st_lines.specs.Origins.{card_by, is_kept, origin_by, origin_at}
-use Rattle.st_lines.specs.declared.origins.Origin.{Origin}
+use Rattle.st_lines.proofs.Common.{Bool, slice_index, option_map, ◌≡◌, ◌≢◌, ℕ, zero, suc, List, [], ◌++◌, refl, sym, ◌∙◌, ap, append_assoc, append-nil, card_by, is_kept, origin_by, origin_at, Origin, Machine}
+use Rattle.std.specs.Prelude.{None, Some}
 use Rattle.st_lines.specs.declared.origins.Origins.{Origins}
-use Rattle.st_state.specs.Machine.{Machine}
 
 -- a line of five pieces, two of which are put together, the last one first
 pub emitted_pieces : (a b c d e l0 l1 l2 l3 l4 : List ℕ) → l0 ≡ [] → l1 ≡ e ++ l0 → l2 ≡ (c ++ d) ++ l1 → l3 ≡ b ++ l2 → l4 ≡ a ++ l3

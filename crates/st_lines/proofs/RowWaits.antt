@@ -1,19 +1,8 @@
 -- The waits of a row are those of three of its stages.
-use Rattle.std.specs.Prelude.{Bool, if◌then◌else◌}
-use Rattle.std.proofs.Common.{◌≡◌, ℕ, ◌+◌, ◌-◌, ◌≤◌, max, true, false, inl, inr, List, [], refl, sym, ◌∙◌, ap, subst, arith}
-use Rattle.std.proofs.lemmas.Bool.Decides.{leb_tells}
+use Rattle.st_lines.proofs.Common.{Bool, if◌then◌else◌, ◌≡◌, ℕ, ◌+◌, ◌-◌, ◌≤◌, max, true, false, inl, inr, List, [], refl, sym, ◌∙◌, ap, subst, arith, leb_tells, Use, StagePart, Stage, charges_behind, part_charges, parts_of_row, charge_waits, stage_waits, stalled_for, AreSharesWithin, AreWaitsWithin, WaitTotals, Stall, AddsWaits}
 use Rattle.st_rows.specs.declared.issue.EntryTicks.{EntryTicks}
-use Rattle.st_rows.specs.declared.uses.Use.{Use}
-use Rattle.st_ledger.specs.declared.charges.StagePart.{StagePart}
-use Rattle.st_ledger.specs.declared.charges.Stage.{Stage}
 use Rattle.st_ledger.specs.declared.charges.Stage.TheVariants.{Restart, Instruction, Address, Index, Preparing, Operand, Executing}
-use Rattle.st_ledger.specs.Charges.{charges_behind, part_charges, parts_of_row}
-use Rattle.st_reasons.specs.Waits.{charge_waits, stage_waits}
-use Rattle.st_reasons.specs.Sums.{stalled_for, AreSharesWithin, AreWaitsWithin}
-use Rattle.st_reasons.specs.declared.sums.Shares.{Shares}
-use Rattle.st_reasons.specs.declared.sums.WaitTotals.{WaitTotals}
-use Rattle.st_reasons.specs.declared.waits.Stall.{Stall}
-use Rattle.st_lines.specs.Waited.{AddsWaits}
+use Rattle.st_ledger.specs.declared.sums.Shares.{Shares}
 use Rattle.st_lines.proofs.WaitLemmas.{part_stalled, part_added, part_end, parts_taken, parts_passed, next_within}
 
 shares-later : (t u : ℕ) (shares : Shares) → t ≤ u → AreSharesWithin t shares → AreSharesWithin u shares

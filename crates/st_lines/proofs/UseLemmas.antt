@@ -1,15 +1,8 @@
 -- Lemmas on the lines of the words that an entry uses, and on the pieces of these lines.
-use Rattle.std.specs.Prelude.{if◌then◌else◌, Option, decimal}
-use Rattle.std.proofs.Common.{◌≡◌, ℕ, ◌+◌, ◌<◌, ◌≤◌, List, [], ◌∷◌, ◌++◌, length, drop, get_or, refl, sym, ◌∙◌, ap, subst, append_assoc, drop-cons, add-one}
+use Rattle.st_lines.proofs.Common.{if◌then◌else◌, Option, ◌≡◌, ℕ, ◌+◌, ◌<◌, ◌≤◌, List, [], ◌∷◌, ◌++◌, length, drop, get_or, refl, sym, ◌∙◌, ap, subst, append_assoc, drop-cons, add-one, append-nil, bank_of, text, OutputState, Wrote, LinesSoFar, lines_whole, Use, is_told, use_line, use_lines}
+use Rattle.std.specs.Prelude.{decimal}
 use Rattle.std.proofs.lemmas.Fmt.{decimal_digit}
-use Rattle.std.proofs.lemmas.List.{append-nil}
 use Rattle.std.proofs.Math.ListN.{drop_of_length-le}
-use Rattle.st_banks.specs.Bank.{bank_of}
-use Rattle.st_io.specs.Lines.{text}
-use Rattle.st_io.specs.Output.{OutputState, Wrote}
-use Rattle.st_io.proofs.Progress.{LinesSoFar, lines_whole}
-use Rattle.st_rows.specs.declared.uses.Use.{Use}
-use Rattle.st_lines.specs.UseLines.{is_told, use_line, use_lines}
 
 -- fourteen pieces in front of a line, two at a time, the last ones first
 pub seven_pairs : (a b c d e f g h i j k m n o l0 l1 l2 l3 l4 l5 l6 l7 l8 l9 l10 l11 l12 : List ℕ)

@@ -1,30 +1,12 @@
 -- Lemmas on writing charges with their waits in sequence.
-use Rattle.std.specs.Prelude.{if◌then◌else◌, Result, Ok, Err, IsErr}
-use Rattle.std.proofs.Common.{◌≡◌, ℕ, ◌+◌, ◌≤◌, ◌<◌, max, true, List, [], ◌∷◌, ◌++◌, refl, sym, ◌∙◌, ap, subst, append_assoc, arith}
-use Rattle.std.proofs.lemmas.Bool.{lt-ltb, le-ltb}
-use Rattle.std.proofs.lemmas.List.{append-nil}
-use Rattle.st_io.specs.Output.{OutputState}
-use Rattle.st_io.specs.declared.Failed.{Failed}
-use Rattle.st_io.specs.Lines.{WritesLines}
-use Rattle.st_io.proofs.Progress.{lines_then, lines_cut, wrote_nothing}
-use Rattle.st_rows.specs.declared.uses.Use.{Use}
+use Rattle.st_lines.proofs.Common.{if◌then◌else◌, Result, Ok, Err, IsErr, ◌≡◌, ℕ, ◌+◌, ◌≤◌, ◌<◌, max, true, List, [], ◌∷◌, ◌++◌, refl, sym, ◌∙◌, ap, subst, append_assoc, arith, lt-ltb, le-ltb, append-nil, OutputState, Failed, WritesLines, lines_then, lines_cut, wrote_nothing, Use, StagePart, Stage, charges_behind, part_charges, is_stage, all_ticks, charge_line, charge_waits, stalled_for, row_stalled, is_parted, waited_at, AreWaitsWithin, all_stalled, WaitTotals, Stall, AddsWaits, wait_line, wait_lines, charged_lines, wait_sum_line, wait_sum_lines}
 use Rattle.st_ledger.specs.declared.charges.Charge.{Charge}
-use Rattle.st_ledger.specs.declared.charges.StagePart.{StagePart}
-use Rattle.st_ledger.specs.declared.charges.Stage.{Stage}
-use Rattle.st_ledger.specs.Charges.{charges_behind, part_charges, is_stage, all_ticks}
-use Rattle.st_ledger.specs.Lines.{charge_line}
 use Rattle.st_ledger.proofs.Added.{reach-end, reach-later}
 use Rattle.st_ledger.proofs.Told.{charged-parts}
-use Rattle.st_reasons.specs.Waits.{charge_waits}
-use Rattle.st_reasons.specs.Sums.{stalled_for, row_stalled, is_parted, waited_at, AreWaitsWithin, all_stalled}
-use Rattle.st_reasons.specs.Words.{AreWordsInTime}
-use Rattle.st_reasons.specs.declared.sums.WaitSum.{WaitSum}
-use Rattle.st_reasons.specs.declared.sums.WaitTotals.{WaitTotals}
-use Rattle.st_reasons.specs.declared.waits.Stall.{Stall}
-use Rattle.st_reasons.specs.declared.waits.Wait.{Wait}
-use Rattle.st_reasons.proofs.Laws.{waits_are_within_their_charge}
-use Rattle.st_lines.specs.Waited.{AddsWaits}
-use Rattle.st_lines.specs.WaitLines.{wait_line, wait_lines, charged_lines, wait_sum_line, wait_sum_lines}
+use Rattle.st_ledger.specs.Words.{AreWordsInTime}
+use Rattle.st_ledger.specs.declared.sums.WaitSum.{WaitSum}
+use Rattle.st_ledger.specs.declared.waits.Wait.{Wait}
+use Rattle.st_ledger.proofs.Laws.{waits_are_within_their_charge}
 
 -- ---- waits in sequence
 

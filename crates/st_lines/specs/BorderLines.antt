@@ -1,9 +1,9 @@
 -- The lines of a ledger between two entries: the end of a segment, and the state after an entry;
 -- and the lines about the machine before all entries.
 --
--- Proved: by their `ensures` clauses these calls do what definitions here say: `write_ahead`
--- (writing.rt), `write_border` (writing.rt), `write_standing` (writing.rt), `write_words`
--- (writing.rt), and others.
+-- Proved: by their `ensures` clauses these calls do what definitions here say: `write_border`
+-- (writing.rt), `write_words` (writing.rt), `write_change` (changes.rt), `write_changed`
+-- (changes.rt), and others.
 -- Read by: definitions in Text of st_account, LedgerRows of st_account, Passing of st_account.
 -- Laws: RowsAreAPartOfTheLedger (specs/Laws.antt of st_causes), TotalsAreTheLedgerWithoutRows
 -- (specs/Laws.antt of st_causes).

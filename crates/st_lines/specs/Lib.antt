@@ -17,9 +17,9 @@ pub use Rattle.st_io.specs.Output
 pub use Rattle.st_ledger.specs.Charges
 pub use Rattle.st_prep.specs.Entry
 pub use Rattle.st_prep.specs.Reading
-pub use Rattle.st_reasons.specs.Reasons
-pub use Rattle.st_reasons.specs.Sums
-pub use Rattle.st_reasons.specs.Waits
+pub use Rattle.st_ledger.specs.Reasons
+pub use Rattle.st_ledger.specs.Sums
+pub use Rattle.st_ledger.specs.Waits
 pub use Rattle.st_report.specs.Line
 pub use Rattle.st_state.specs.Interrupts
 pub use Rattle.st_state.specs.Machine

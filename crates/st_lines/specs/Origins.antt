@@ -2,8 +2,8 @@
 -- of the image there.
 --
 -- Proved: by their `ensures` clauses these calls do what definitions here say: `at` (origins.rt),
--- `half_at` (origins.rt), `is_kept` (origins.rt), `is_same_half` (origins.rt), and others.
--- Read by: definitions in FirstCards of st_account.
+-- `at_if` (origins.rt), `half_at` (origins.rt), `is_kept` (origins.rt), and others.
+-- Read by: definitions in FirstCards of st_account, Passing of st_account, Rounds of st_account.
 -- Laws: none names a definition of this file itself.
 -- Change: the meaning is fixed by docs/ledger.md, since the contract of `st_account::ledger`
 -- unfolds to a definition here. The form is free, with the proofs that unfold it.

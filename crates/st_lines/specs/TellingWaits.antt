@@ -1,7 +1,7 @@
 -- Preconditions and effects of writing the waits of a completed entry on the totals of waits.
 --
 -- Proved: by their `ensures` clauses these calls do what definitions here say: `write_done`
--- (facts.rt), `write_spent` (facts.rt), `write_waits` (facts.rt), `write_charged` (waits.rt).
+-- (facts.rt), `write_charged` (waits.rt).
 -- Laws: none names a definition of this file itself.
 -- Change: no page fixes these definitions, since no contract of a program unfolds to them; they
 -- change together with the clauses, definitions and laws that name them. docs/ledger.md describes
@@ -9,7 +9,7 @@
 use Rattle.st_lines.specs.EntryLines.{charges_of_entry}
 use Rattle.st_lines.specs.Waited.{AreWaitsReady, AddsWaits}
 use Rattle.st_lines.specs.declared.facts.EntryRecord.{EntryRecord}
-use Rattle.st_reasons.specs.declared.sums.WaitTotals.{WaitTotals}
+use Rattle.st_ledger.specs.declared.sums.WaitTotals.{WaitTotals}
 
 -- the waits of all charges of an entry can be written and added to these totals
 abbrev pub CanTellWaits : EntryRecord → WaitTotals → Type 0

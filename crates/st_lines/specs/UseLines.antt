@@ -1,7 +1,7 @@
 -- The lines of the words that an entry uses, with the source of each word.
 --
 -- Proved: by their `ensures` clauses these calls do what definitions here say: `write_use`
--- (uses.rt), `write_words` (facts.rt), `fill_use` (uses.rt), `is_before` (uses.rt), and others.
+-- (uses.rt), `fill_use` (uses.rt), `is_before` (uses.rt), `is_told` (uses.rt), and others.
 -- Read by: definitions in EntryLines.
 -- Laws: none names a definition of this file itself.
 -- Change: the meaning is fixed by docs/ledger.md, since the contract of `st_account::ledger`

@@ -14,15 +14,15 @@ use Rattle.st_banks.specs.Bank.{bank_of}
 use Rattle.st_rows.specs.declared.uses.Use.{Use}
 use Rattle.st_ledger.specs.Lines.{stage_name, charge_line}
 use Rattle.st_ledger.specs.declared.charges.Charge.{Charge}
-use Rattle.st_reasons.specs.Waits.{charge_waits}
-use Rattle.st_reasons.specs.declared.because.StallCause.{StallCause}
-use Rattle.st_reasons.specs.declared.because.StallCause.TheVariants.{Start, Prefetch, Earlier}
-use Rattle.st_reasons.specs.declared.because.Reason.{Reason}
-use Rattle.st_reasons.specs.declared.because.Reason.TheVariants.{Serial, Store, Level, Forwarding, Bus, Order}
-use Rattle.st_reasons.specs.declared.sums.WaitSum.{WaitSum}
-use Rattle.st_reasons.specs.declared.waits.Stall.{Stall}
-use Rattle.st_reasons.specs.declared.waits.Stall.TheVariants.{Turn, Bank, Storage}
-use Rattle.st_reasons.specs.declared.waits.Wait.{Wait}
+use Rattle.st_ledger.specs.Waits.{charge_waits}
+use Rattle.st_ledger.specs.declared.because.StallCause.{StallCause}
+use Rattle.st_ledger.specs.declared.because.StallCause.TheVariants.{Start, Prefetch, Earlier}
+use Rattle.st_ledger.specs.declared.because.Reason.{Reason}
+use Rattle.st_ledger.specs.declared.because.Reason.TheVariants.{Serial, Store, Level, Forwarding, Bus, Order}
+use Rattle.st_ledger.specs.declared.sums.WaitSum.{WaitSum}
+use Rattle.st_ledger.specs.declared.waits.Stall.{Stall}
+use Rattle.st_ledger.specs.declared.waits.Stall.TheVariants.{Turn, Bank, Storage}
+use Rattle.st_ledger.specs.declared.waits.Wait.{Wait}
 
 -- ---- waits
 

@@ -2,8 +2,7 @@
 -- some words, and the row before it others.
 --
 -- Proved: by their `ensures` clauses these calls do what definitions here say: `add_part`
--- (waits.rt), `add_waits` (waits.rt), `write_part` (waits.rt), `write_parts` (waits.rt), and
--- others.
+-- (waits.rt), `add_waits` (waits.rt), `write_part` (waits.rt), `write_parts` (waits.rt).
 -- Read by: definitions in TellingWaits.
 -- Laws: none names a definition of this file itself.
 -- Change: no page fixes these definitions, since no contract of a program unfolds to them; they
@@ -14,10 +13,10 @@ use Rattle.st_ledger.specs.Charges.{all_ticks}
 use Rattle.st_ledger.specs.declared.charges.Charge.{Charge}
 use Rattle.st_ledger.specs.declared.charges.Stage.{Stage}
 use Rattle.st_rows.specs.declared.uses.Use.{Use}
-use Rattle.st_reasons.specs.Sums.{AreWaitsWithin, is_parted, waited_at, row_stalled}
-use Rattle.st_reasons.specs.Words.{AreWordsInTime}
-use Rattle.st_reasons.specs.declared.sums.WaitTotals.{WaitTotals}
-use Rattle.st_reasons.specs.declared.waits.Stall.{Stall}
+use Rattle.st_ledger.specs.Sums.{AreWaitsWithin, is_parted, waited_at, row_stalled}
+use Rattle.st_ledger.specs.Words.{AreWordsInTime}
+use Rattle.st_ledger.specs.declared.sums.WaitTotals.{WaitTotals}
+use Rattle.st_ledger.specs.declared.waits.Stall.{Stall}
 
 -- The waits of charges after tick `from` can be written: words are accepted and answered in time,
 -- and no total is greater than that tick.

@@ -68,7 +68,6 @@ fn next_of_card(card: Option<u32>, w: u32) -> u32
 }
 
 // Whether no word other than registers may have changed.
-#[inline(always)]
 fn are_left(may: &Changeable) -> bool
     ensures { result ≡ true → (v : ℕ) → 32 ≤ v → IsUntouched v may.now }
 {
@@ -97,7 +96,6 @@ fn next_word(may: &Changeable, w: u32) -> u32
 }
 
 // Whether the two registers from `w` on are unchanged.
-#[inline(always)]
 #[tactic(auto, using(st_bits::specs::Storage::words_of_storage_is))]
 fn are_two(old: &Vec<u64>, state: &State, w: u32) -> bool
     requires size { length old.now.items ≡ words_of_storage }
@@ -112,7 +110,6 @@ fn are_two(old: &Vec<u64>, state: &State, w: u32) -> bool
 }
 
 // Whether the four registers from `w` on are unchanged.
-#[inline(always)]
 fn are_four(old: &Vec<u64>, state: &State, w: u32) -> bool
     requires size { length old.now.items ≡ words_of_storage }
     requires inside { w + 4 ≤ 32 }
@@ -150,7 +147,6 @@ fn next_register(old: &Vec<u64>, state: &State, w: u32) -> u32
 }
 
 // The first address from `w` on of a word that may have changed; at most `WORDS`.
-#[inline(always)]
 fn next_changed(old: &Vec<u64>, state: &State, may: &Changeable, w: u32) -> u32
     requires size { length old.now.items ≡ words_of_storage }
     requires most { w ≤ WORDS }

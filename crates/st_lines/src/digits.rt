@@ -29,7 +29,6 @@ static PAIRS: [u8; 512] = *b"000102030405060708090A0B0C0D0E0F1011121314151617181
     E0E1E2E3E4E5E6E7E8E9EAEBECEDEEEFF0F1F2F3F4F5F6F7F8F9FAFBFCFDFEFF";
 
 // The last two hexadecimal digits of a number.
-#[inline(always)]
 fn pair_of(n: u64) -> [u8; 2]
     ensures { result ≡ hex_text 2 n }
 {
@@ -38,7 +37,6 @@ fn pair_of(n: u64) -> [u8; 2]
 }
 
 // Puts the last eight hexadecimal digits of a number in front of a line.
-#[inline(always)]
 fn put_digits(line: &mut LineFromEnd, n: u64)
     requires { length line.old + 8 ≤ 128 }
     ensures bytes { line.new ≡ hex_text 8 n ++ line.old }
@@ -51,7 +49,6 @@ fn put_digits(line: &mut LineFromEnd, n: u64)
 }
 
 // Puts the sixteen hexadecimal digits of a word in front of a line.
-#[inline(always)]
 fn put_hex(line: &mut LineFromEnd, word: u64)
     requires { length line.old + 16 ≤ 128 }
     ensures bytes { line.new ≡ hex_word word ++ line.old }
@@ -92,7 +89,6 @@ pub fn fill_index(line: &mut LineFromEnd, change: &IndexChange)
 }
 
 // Puts the second half-word of a full word, if there is one, in front of a line.
-#[inline(always)]
 fn put_second(line: &mut LineFromEnd, half: Option<u32>)
     requires { length line.old + 9 ≤ 128 }
     ensures bytes { line.new ≡ second_half_text half ++ line.old }

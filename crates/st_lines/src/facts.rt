@@ -10,13 +10,11 @@
 //! Pinned, by these definitions, docs/ledger.md and vectors/ledger/lines.txt: the lines and their
 //! order. Free: the split into functions, if proofs/facts follows. A new fact is a line in
 //! specs/Lines.antt, its place in specs/EntryLines.antt, and a call here.
-ghost use Rattle.std.specs.Prelude.{◌≡◌, ◌-◌, ◌≤◌, ◌==◌, ◌||◌, ◌++◌, IsOk};
+ghost use Rattle.std.specs.Prelude.{◌≡◌, ◌-◌, ◌≤◌, ◌==◌, IsOk};
 ghost use Rattle.st_bits.specs.Indicators.{indicator as indicator_of};
-ghost use Rattle.st_prep.specs.Entry.{is_register as is_register_of, has_register as has_register_of};
 ghost use Rattle.st_state.specs.Interrupts.{first_from};
 ghost use Rattle.st_io.specs.Lines.{WritesLines};
-ghost use Rattle.st_lines.specs.EntryLines.{alone_for as alone_of, alone_by as alone_why, alone_lines, suppressed_by as suppressed_of, suppressed_lines, emitted_lines, code_lines, run_lines, writes_lines, index_lines, facts_lines, missed_lines, level_lines, known_lines, late_entry_lines, spent_lines, done_entry_lines};
-ghost use Rattle.st_lines.specs.UseLines.{use_lines};
+ghost use Rattle.st_lines.specs.EntryLines.{alone_for as alone_of, alone_by as alone_why, alone_lines, suppressed_by as suppressed_of, suppressed_lines, emitted_lines, code_lines, run_lines, index_lines, facts_lines, missed_lines, level_lines, known_lines, done_entry_lines};
 ghost use Rattle.st_lines.specs.TellingWaits.{CanTellWaits, HasToldWaits};
 
 use crate::digits::{fill_code, fill_index, fill_writes};
@@ -26,10 +24,9 @@ use crate::uses::{FactLine, write_uses};
 use crate::waits::{RowTelling, write_because, write_charged};
 use st_bits::indicator;
 use st_io::{Failed, Sink, write_line};
-use st_ledger::write_row;
+use st_ledger::{StallCause, write_row};
 use st_plain::{Code, Known, WaitedRow};
-use st_prep::{IndexChange, Prepared, Words, has_register, is_register};
-use st_reasons::StallCause;
+use st_prep::{IndexChange, Prepared, has_register, is_register};
 use st_report::{LineFromEnd, put};
 use st_rows::Use;
 
@@ -51,20 +48,13 @@ fn alone_for(table: Option<u8>, execute: bool, register: bool) -> Alone
     }
 }
 
-// Whether a register is among the words that an entry uses or writes.
-fn uses_register(p: &Prepared, side: Option<u32>) -> bool
-    ensures { result ≡ (is_register_of side || has_register_of p.now.reads
-        || has_register_of p.now.writes) }
-{
-    is_register(side) || has_register(p.reads) || has_register(p.writes)
-}
-
 // Why an entry is serialized; `None` if it is not.
 fn alone_by(p: &Prepared, side: Option<u32>, execute: bool) -> Option<Alone>
     ensures { result ≡ alone_why p.now side execute }
 {
     if p.serial {
-        Some(alone_for(p.place.table, execute, uses_register(p, side)))
+        let register = is_register(side) || has_register(p.reads) || has_register(p.writes);
+        Some(alone_for(p.place.table, execute, register))
     } else {
         None
     }
@@ -117,16 +107,6 @@ fn write_suppressed<K: Sink>(out: &mut K, by: Option<u8>) -> Result<(), Failed>
     }
 }
 
-// Writes why an entry is serialized and that it is suppressed, if so.
-fn write_kind<K: Sink>(out: &mut K, p: &Prepared, known: &Known) -> Result<(), Failed>
-    ensures { WritesLines (K.output out.old) (K.output out.new)
-        (alone_lines (alone_why p.now known.now.side known.now.execute)
-        ++ suppressed_lines (suppressed_of p.now)) result }
-{
-    write_alone(out, alone_by(p, known.side, known.execute))?;
-    write_suppressed(out, suppressed_by(p))
-}
-
 // Writes the line of a run of words that an entry writes, unless the run is empty.
 #[inline(always)]
 #[tactic(auto, unfolding(crate::specs::EntryLines::run_lines), using(st_io::proofs::Progress::wrote_nothing))]
@@ -138,14 +118,6 @@ fn write_run<K: Sink>(out: &mut K, line: &mut LineFromEnd, w: u32, n: u8) -> Res
     }
     fill_writes(line, w, n);
     write_line(out, line.as_bytes())
-}
-
-// Writes the lines of the words that an entry writes, one line for each run.
-fn write_writes<K: Sink>(out: &mut K, line: &mut LineFromEnd, words: Words) -> Result<(), Failed>
-    ensures { WritesLines (K.output out.old) (K.output out.new) (writes_lines words) result }
-{
-    write_run(out, line, words.first, words.len)?;
-    write_run(out, line, words.first2, words.len2)
 }
 
 // Writes the index word that an entry changes speculatively, if it does.
@@ -164,15 +136,6 @@ fn write_index<K: Sink>(
             write_line(out, line.as_bytes())
         }
     }
-}
-
-// Writes the words that an entry writes, and the index word that it changes speculatively.
-fn write_changes<K: Sink>(out: &mut K, line: &mut LineFromEnd, p: &Prepared) -> Result<(), Failed>
-    ensures { WritesLines (K.output out.old) (K.output out.new)
-        (writes_lines p.now.writes ++ index_lines p.now.index) result }
-{
-    write_writes(out, line, p.writes)?;
-    write_index(out, line, p.index)
 }
 
 // Writes the card that an entry's half-words come from, if a card's bits begin there.
@@ -211,20 +174,6 @@ fn write_code<K: Sink>(
     }
 }
 
-// Writes the card that an entry's half-words come from, and the half-words that it executes.
-fn write_halves<K: Sink>(
-    out: &mut K,
-    line: &mut LineFromEnd,
-    origin: Option<Origin>,
-    code: Option<Code>,
-) -> Result<(), Failed>
-    ensures { WritesLines (K.output out.old) (K.output out.new)
-        (emitted_lines origin ++ code_lines code) result }
-{
-    write_emitted(out, line, origin)?;
-    write_code(out, line, code)
-}
-
 /// The facts about a single entry.
 #[derive(Clone, Copy)]
 pub(crate) struct Facts<'a> {
@@ -242,17 +191,6 @@ pub(crate) struct Facts<'a> {
     pub uses: &'a [Use],
 }
 
-// Writes the words that an entry uses and writes, and the index word that it changes speculatively.
-fn write_words<K: Sink>(out: &mut K, line: &mut FactLine, facts: &Facts<'_>) -> Result<(), Failed>
-    ensures { WritesLines (K.output out.old) (K.output out.new)
-        (use_lines facts.now.n facts.now.end facts.now.uses.now
-        ++ (writes_lines facts.now.plan.now.writes ++ index_lines facts.now.plan.now.index))
-        result }
-{
-    write_uses(out, line, facts.n, facts.end, facts.uses)?;
-    write_changes(out, &mut line.bytes, facts.plan)
-}
-
 /// Writes the facts about a single entry.
 pub(crate) fn write_facts<K: Sink>(
     out: &mut K,
@@ -263,9 +201,17 @@ pub(crate) fn write_facts<K: Sink>(
         (facts_lines facts.now.n facts.now.end facts.now.plan.now facts.now.known.now
         facts.now.origin facts.now.uses.now) result }
 {
-    write_kind(out, facts.plan, facts.known)?;
-    write_halves(out, &mut line.bytes, facts.origin, facts.known.code)?;
-    write_words(out, line, facts)
+    let plan = facts.plan;
+    let known = facts.known;
+    write_alone(out, alone_by(plan, known.side, known.execute))?;
+    write_suppressed(out, suppressed_by(plan))?;
+    write_emitted(out, &mut line.bytes, facts.origin)?;
+    write_code(out, &mut line.bytes, known.code)?;
+    write_uses(out, line, facts.n, facts.end, facts.uses)?;
+    let words = plan.writes;
+    write_run(out, &mut line.bytes, words.first, words.len)?;
+    write_run(out, &mut line.bytes, words.first2, words.len2)?;
+    write_index(out, &mut line.bytes, plan.index)
 }
 
 /// A completed entry.
@@ -352,46 +298,6 @@ fn write_level<K: Sink>(out: &mut K, d: u64) -> Result<(), Failed>
     put(out, &line_level(d))
 }
 
-// Writes an entry's wait for a level, and the cause that delayed the entry.
-fn write_late_entry<K: Sink>(out: &mut K, done: &EntryDone) -> Result<(), Failed>
-    ensures { WritesLines (K.output out.old) (K.output out.new) (late_entry_lines done.now) result }
-{
-    write_level(out, done.row.level_wait)?;
-    write_because(out, done.n, done.before, done.row.ticks.r, &done.because)
-}
-
-// Writes the charges of an entry with their waits, its wait for a level, and the cause that delayed
-// it.
-fn write_waits<K: Sink>(
-    out: &mut K,
-    entry: &EntryRecord<'_>,
-    waiting: &mut RowTelling,
-) -> Result<(), Failed>
-    requires { CanTellWaits entry.now waiting.old.totals }
-    ensures lines { WritesLines (K.output out.old) (K.output out.new)
-        (spent_lines entry.now.done.now entry.now.uses.now entry.now.before.now) result }
-    ensures waits { IsOk result → HasToldWaits entry.now waiting.old.totals waiting.new.totals }
-{
-    write_charged(out, entry, waiting)?;
-    write_late_entry(out, entry.done)
-}
-
-// Writes the row and the facts about a completed entry, and its charges.
-fn write_spent<K: Sink>(
-    out: &mut K,
-    entry: &EntryRecord<'_>,
-    waiting: &mut RowTelling,
-) -> Result<(), Failed>
-    requires { CanTellWaits entry.now waiting.old.totals }
-    ensures lines { WritesLines (K.output out.old) (K.output out.new)
-        (known_lines entry.now.done.now entry.now.plan.now entry.now.known.now entry.now.uses.now
-        ++ spent_lines entry.now.done.now entry.now.uses.now entry.now.before.now) result }
-    ensures waits { IsOk result → HasToldWaits entry.now waiting.old.totals waiting.new.totals }
-{
-    write_known(out, &mut waiting.facts, entry)?;
-    write_waits(out, entry, waiting)
-}
-
 /// Writes the lines of a completed entry, and adds its waits to the totals.
 pub fn write_done<K: Sink>(
     out: &mut K,
@@ -412,5 +318,8 @@ pub fn write_done<K: Sink>(
         done.address,
         &done.row.ticks,
     )?;
-    write_spent(out, entry, waiting)
+    write_known(out, &mut waiting.facts, entry)?;
+    write_charged(out, entry, waiting)?;
+    write_level(out, done.row.level_wait)?;
+    write_because(out, done.n, done.before, done.row.ticks.r, &done.because)
 }

@@ -1,7 +1,6 @@
 //! The lines of a ledger: their contents, and the code that writes them. docs/ledger.md has the
 //! rules. `st_account` follows a run and writes its lines with these calls, `st_tally` writes sums
-//! of waits; charges come from `st_ledger`, waits and causes from `st_reasons`, entries from
-//! `st_plain`.
+//! of waits; charges, waits and causes come from `st_ledger`, entries from `st_plain`.
 //!
 //! Proved: each call writes exactly the lines of its definition, or the first ones up to a failed
 //! write (`WritesLines`, specs/Lines.antt of `st_io`). The bytes of each line are defined in specs/
@@ -30,6 +29,6 @@ pub use origins::{Origin, Origins};
 pub use uses::FactLine;
 pub use waits::{RowTelling, add_waits, write_because, write_charged, write_wait_sums};
 pub use writing::{
-    Between, Border, Dropped, Printed, copy_changed, either, write_border, write_end,
-    write_machine, write_marks, write_start, write_totals, write_whole_state,
+    Between, Border, Dropped, Printed, copy_changed, write_border, write_end, write_machine,
+    write_marks, write_start, write_totals, write_whole_state,
 };

@@ -11,7 +11,7 @@
 //! form `word.bit`, segments and entries are numbered from 1. A new reason (`Why`, `Alone`) needs
 //! its text here and in specs/Lines.antt, and a new `Why` its heading in `st_tally`. Free: the
 //! bodies, if proofs/lines follows `push_numbers`.
-ghost use Rattle.std.specs.Prelude.{◌≡◌, ◌+◌, ◌*◌, ◌≤◌, ◌++◌, length, codes, decimal};
+ghost use Rattle.std.specs.Prelude.{◌≡◌, ◌+◌, ◌*◌, ◌≤◌, ◌++◌, length};
 ghost use Rattle.arrayvec.specs.ArrayString.{array_string_len};
 ghost use Rattle.st_lines.specs.Lines.{ledger_levels_line, numbers_text, delays_line, why_text, start_line, segment_end_line, word_line, missed_line, alone_text, alone_line, suppressed_line, ahead_text, dropped_line, begun_line, level_wait_line};
 
@@ -56,16 +56,6 @@ pub fn line_levels(n: u8) -> Line
     close_line(line)
 }
 
-// Appends a blank and a number.
-fn push_number(line: &mut Line, n: u8)
-    requires { array_string_len line.old + 11 ≤ 128 }
-    ensures bytes { line.new.bytes ≡ line.old.bytes ++ (codes " " ++ decimal n) }
-    ensures room { array_string_len line.new ≤ array_string_len line.old + 11 }
-{
-    line.push_str(" ");
-    push_short_decimal(line, u32::from(n));
-}
-
 // Appends numbers, each after a blank.
 fn push_numbers(line: &mut Line, ns: &[u8])
     requires { array_string_len line.old + 11 * length ns.now ≤ 128 }
@@ -75,7 +65,8 @@ fn push_numbers(line: &mut Line, ns: &[u8])
     let Some((&first, more)) = ns.split_first() else {
         return;
     };
-    push_number(line, first);
+    line.push_str(" ");
+    push_short_decimal(line, u32::from(first));
     push_numbers(line, more);
 }
 

@@ -12,7 +12,6 @@
 //! for a full word both half-words are compared with the image. Free: the bodies, if proofs/origins
 //! follows.
 ghost use Rattle.std.specs.Prelude.{◌≡◌, ◌+◌, ◌≤◌, ◌++◌, true, length, codes, slice_index, option_map};
-ghost use Rattle.st_prep.specs.Reading.{half_of as half_by};
 ghost use Rattle.st_text.specs.Numerals.{flag};
 ghost use Rattle.st_lines.specs.Lines.{emitted_line};
 ghost use Rattle.st_lines.specs.Origins.{half_in, is_same_half as is_same_half_of, is_kept as is_kept_of, origin_at};
@@ -41,32 +40,16 @@ pub struct Origins {
     pub image: Vec<u64>,
 }
 
-// Word `w` of a list of words; 0 after the last one.
-#[inline(always)]
-fn word_in(words: &[u64], w: usize) -> u64
-    ensures { result ≡ slice_index words.now w }
-{
-    if w < words.len() { words[w] } else { 0 }
-}
-
-// The half-word of a word that half-word address `h` selects.
-#[inline(always)]
-fn half_of(word: u64, h: usize) -> u32
-    ensures { result ≡ half_by word h }
-{
-    part(word, 32 * (h % 2) as u32, 32) as u32
-}
-
-// Half-word `h` of a list of words.
-#[inline(always)]
+// Half-word `h` of a list of words; 0 after the last one.
 fn half_at(words: &[u64], h: usize) -> u32
     ensures { result ≡ half_in words.now h }
 {
-    half_of(word_in(words, h / 2), h)
+    let w = h / 2;
+    let word = if w < words.len() { words[w] } else { 0 };
+    part(word, 32 * (h % 2) as u32, 32) as u32
 }
 
 // Whether half-word `h` of a list of words is that of the image.
-#[inline(always)]
 #[tactic(auto, unfolding(crate::specs::Origins::is_same_half))]
 fn is_same_half(image: &[u64], words: &[u64], h: usize) -> bool
     ensures { result ≡ is_same_half_of image.now words.now h }
@@ -87,7 +70,6 @@ fn is_kept(image: &[u64], words: &[u64], h: u32) -> bool
 }
 
 // The number of the card whose bits begin in half-word `h`, or 0.
-#[inline(always)]
 fn number_at(cards: &Vec<u32>, h: u32) -> u32
     ensures { result ≡ slice_index cards.now.items h }
 {
@@ -112,7 +94,6 @@ impl Origins {
 
     /// The card that half-word `h` of a state comes from, if a card's bits begin there. Whether
     /// storage still has these bits is valid only if `facts` is set.
-    #[inline(always)]
     pub fn at_if(&self, facts: bool, state: &State, h: u32) -> Option<Origin>
         ensures facts { facts ≡ true → result ≡ origin_at self.now state.now h }
         ensures card { option_map (λ o. o.card) result
@@ -130,7 +111,6 @@ impl Origins {
 }
 
 // Puts whether half-words are unchanged in front of a line.
-#[inline(always)]
 fn put_kept(line: &mut LineFromEnd, kept: bool)
     requires { length line.old + 7 ≤ 192 }
     ensures bytes { line.new ≡ (codes " KEPT " ++ flag kept) ++ line.old }

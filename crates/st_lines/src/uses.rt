@@ -9,7 +9,7 @@
 //! Pinned, by `use_lines`, docs/ledger.md and vectors/ledger/lines.txt: the lines and their order.
 //! A new source of words needs its text here and in specs/UseLines.antt. Free: how digits are kept,
 //! if proofs/uses follows.
-ghost use Rattle.std.specs.Prelude.{◌≡◌, ◌+◌, ◌-◌, ◌<◌, ◌≤◌, ◌∷◌, ◌++◌, [], length, codes, decimal, if◌then◌else◌};
+ghost use Rattle.std.specs.Prelude.{◌≡◌, ◌+◌, ◌-◌, ◌≤◌, ◌∷◌, ◌++◌, [], length, codes, decimal, if◌then◌else◌};
 ghost use Rattle.st_banks.specs.Bank.{bank_of as bank_by};
 ghost use Rattle.st_io.specs.Lines.{WritesLines};
 ghost use Rattle.st_text.specs.Numerals.{flag};
@@ -21,7 +21,6 @@ use st_report::{KeptDigits, LineFromEnd};
 use st_rows::{ReadTicks, Role, Supply, Use, Writer};
 
 // Whether a tick is before the end of a segment; true if the segment continues.
-#[inline(always)]
 fn is_before(end: Option<u64>, tick: u64) -> bool
     ensures { result ≡ is_before_of end tick }
 {
@@ -32,7 +31,6 @@ fn is_before(end: Option<u64>, tick: u64) -> bool
 }
 
 // Puts the first word of a `USE` line and the role of a used word in front of a line.
-#[inline(always)]
 fn put_role(line: &mut LineFromEnd, role: Role)
     requires { length line.old + 16 ≤ 192 }
     ensures { line.new ≡ (codes "USE " ++ role_text role ++ codes " ") ++ line.old }
@@ -46,7 +44,6 @@ fn put_role(line: &mut LineFromEnd, role: Role)
 }
 
 /// Puts the bank of a word in front of a line, preceded by the given text.
-#[inline(always)]
 pub(crate) fn put_bank<const K: usize>(line: &mut LineFromEnd, piece: [u8; K], w: u32)
     requires { length line.old + K + 1 ≤ 192 }
     ensures bytes { line.new ≡ (piece.entry ++ decimal (bank_by w)) ++ line.old }
@@ -57,7 +54,6 @@ pub(crate) fn put_bank<const K: usize>(line: &mut LineFromEnd, piece: [u8; K], w
 }
 
 // Puts whether a read is made in front of a line.
-#[inline(always)]
 fn put_made(line: &mut LineFromEnd, made: bool)
     requires { length line.old + 7 ≤ 192 }
     ensures bytes { line.new ≡ (codes " MADE " ++ flag made) ++ line.old }
@@ -85,7 +81,6 @@ fn put_tick(line: &mut LineFromEnd, kept: &mut KeptDigits, tick: u64)
 
 // Puts the read of word w in front of a line; its ticks may have digits in common with earlier
 // ones.
-#[inline(always)]
 fn put_read(
     line: &mut LineFromEnd,
     kept: &mut KeptDigits,
@@ -112,7 +107,6 @@ fn put_read(
 }
 
 // Puts the writer of a word that the n-th entry uses in front of a line.
-#[inline(always)]
 fn put_writer(line: &mut LineFromEnd, n: u32, writer: Writer)
     requires { length line.old + 61 ≤ 192 }
     ensures bytes { line.new ≡ (codes " FORWARDED ROW " ++ decimal (n - writer.back)
@@ -148,7 +142,6 @@ impl FactLine {
 }
 
 // Puts the source of a word that the n-th entry uses in front of a line.
-#[inline(always)]
 fn put_supply(line: &mut FactLine, n: u32, end: Option<u64>, used: &Use)
     requires { length line.old.bytes + 153 ≤ 192 }
     ensures bytes { line.new.bytes
@@ -178,7 +171,6 @@ fn fill_use(line: &mut FactLine, n: u32, end: Option<u64>, used: &Use)
 }
 
 // Whether a word has a line, given its source.
-#[inline(always)]
 fn is_told(end: Option<u64>, supply: &Supply) -> bool
     ensures { result ≡ is_told_of end supply.now }
 {

@@ -9,14 +9,13 @@
 //!
 //! Pinned, by these definitions, docs/ledger.md and vectors/ledger/reasons.txt: the lines and their
 //! order, and that a row with no charge but executing has no cause. Free: the recursions and
-//! buffers, if proofs/waits follows. A new `Stall` or `Reason` of `st_reasons` needs its text here
+//! buffers, if proofs/waits follows. A new `Stall` or `Reason` of `st_ledger` needs its text here
 //! and in specs/WaitLines.antt.
-ghost use Rattle.std.specs.Prelude.{◌≡◌, ◌+◌, ◌≤◌, ◌∷◌, ◌++◌, [], length, IsOk};
+ghost use Rattle.std.specs.Prelude.{◌≡◌, ◌+◌, ◌≤◌, ◌++◌, length, IsOk};
 ghost use Rattle.st_io.specs.Lines.{WritesLines};
 ghost use Rattle.st_ledger.specs.Charges.{charges_behind, part_charges, parts_of_row};
-ghost use Rattle.st_ledger.specs.Lines.{charge_line};
-ghost use Rattle.st_reasons.specs.declared.because.StallCause.TheVariants.{Start as StartOf, Prefetch as PrefetchOf, Earlier as EarlierOf};
-ghost use Rattle.st_reasons.specs.Sums.{waited_at, wait_sums_by};
+ghost use Rattle.st_ledger.specs.declared.because.StallCause.TheVariants.{Start as StartOf, Prefetch as PrefetchOf, Earlier as EarlierOf};
+ghost use Rattle.st_ledger.specs.Sums.{waited_at, wait_sums_by};
 ghost use Rattle.st_lines.specs.EntryLines.{charges_of_entry};
 ghost use Rattle.st_lines.specs.Waited.{AreWaitsReady, AddsWaits};
 ghost use Rattle.st_lines.specs.TellingWaits.{CanTellWaits, HasToldWaits};
@@ -25,16 +24,14 @@ ghost use Rattle.st_lines.specs.WaitLines.{stall_name, wait_line, wait_lines, ch
 use crate::facts::EntryRecord;
 use crate::uses::{FactLine, put_bank};
 use st_io::{Failed, Sink, write_line};
-use st_ledger::{Charge, RowLine, Stage, StagePart, fill_charge, later, parts, put_stage};
-use st_reasons::{
-    Cause, Prefetched, Reason, Stall, StallCause, Wait, WaitSum, WaitTotals, Waits, fill_waits,
-    wait_sums,
+use st_ledger::{
+    Cause, Charge, Prefetched, Reason, RowLine, Stage, StagePart, Stall, StallCause, Wait, WaitSum,
+    WaitTotals, Waits, fill_charge, fill_waits, later, parts, put_stage, wait_sums,
 };
 use st_report::LineFromEnd;
 use st_rows::{EntryTicks, Use};
 
 // Puts the name of a kind of wait in front of a line.
-#[inline(always)]
 fn put_stall(line: &mut LineFromEnd, why: Stall)
     requires { length line.old + 7 ≤ 128 }
     ensures bytes { line.new ≡ stall_name why ++ line.old }
@@ -66,14 +63,6 @@ fn fill_wait(line: &mut RowLine, wait: &Wait)
     line.bytes.put_word(*b"WAIT ");
 }
 
-// Writes the line of a wait.
-fn write_wait<K: Sink>(out: &mut K, line: &mut RowLine, wait: &Wait) -> Result<(), Failed>
-    ensures { WritesLines (K.output out.old) (K.output out.new) (wait_line wait.now ∷ []) result }
-{
-    fill_wait(line, wait);
-    write_line(out, line.bytes.as_bytes())
-}
-
 // Writes the lines of several waits.
 #[tactic(auto, using(st_io::proofs::Progress::wrote_nothing))]
 fn write_each_wait<K: Sink>(out: &mut K, line: &mut RowLine, waits: &[Wait]) -> Result<(), Failed>
@@ -82,30 +71,9 @@ fn write_each_wait<K: Sink>(out: &mut K, line: &mut RowLine, waits: &[Wait]) -> 
     let Some((wait, more)) = waits.split_first() else {
         return Ok(());
     };
-    write_wait(out, line, wait)?;
+    fill_wait(line, wait);
+    write_line(out, line.bytes.as_bytes())?;
     write_each_wait(out, line, more)
-}
-
-// Writes the line of a charge.
-fn write_charge<K: Sink>(out: &mut K, line: &mut RowLine, charge: Charge) -> Result<(), Failed>
-    ensures { WritesLines (K.output out.old) (K.output out.new) (charge_line charge ∷ []) result }
-{
-    fill_charge(line, charge);
-    write_line(out, line.bytes.as_bytes())
-}
-
-// Writes the line of a charge, followed by those of its waits.
-fn write_charge_with<K: Sink>(
-    out: &mut K,
-    line: &mut RowLine,
-    charge: Charge,
-    waits: &[Wait],
-) -> Result<(), Failed>
-    ensures { WritesLines (K.output out.old) (K.output out.new)
-        (charge_line charge ∷ wait_lines waits.now) result }
-{
-    write_charge(out, line, charge)?;
-    write_each_wait(out, line, waits)
 }
 
 /// The buffers for the lines of rows, and the totals of their waits so far.
@@ -146,7 +114,9 @@ fn write_part<K: Sink>(
     };
     fill_waits(&mut waiting.waits, charge, entry.uses, entry.before);
     waiting.totals.add(charge, waiting.waits.as_slice());
-    write_charge_with(out, &mut waiting.line, charge, waiting.waits.as_slice())
+    fill_charge(&mut waiting.line, charge);
+    write_line(out, waiting.line.bytes.as_bytes())?;
+    write_each_wait(out, &mut waiting.line, waiting.waits.as_slice())
 }
 
 // Writes the charges of stages of an entry after tick `from`, each followed by its waits, and adds
@@ -266,16 +236,6 @@ fn fill_wait_sum(line: &mut LineFromEnd, sum: &WaitSum)
     line.put_word(*b"SUM ");
 }
 
-// Writes the line of a total.
-fn write_wait_sum<K: Sink>(out: &mut K, sum: &WaitSum) -> Result<(), Failed>
-    ensures { WritesLines (K.output out.old) (K.output out.new)
-        (wait_sum_line sum.now ∷ []) result }
-{
-    let mut line = LineFromEnd::new();
-    fill_wait_sum(&mut line, sum);
-    write_line(out, line.as_bytes())
-}
-
 // Writes the lines of totals.
 #[tactic(auto, using(st_io::proofs::Progress::wrote_nothing))]
 fn write_each_sum<K: Sink>(out: &mut K, sums: &[WaitSum]) -> Result<(), Failed>
@@ -284,7 +244,9 @@ fn write_each_sum<K: Sink>(out: &mut K, sums: &[WaitSum]) -> Result<(), Failed>
     let Some((sum, more)) = sums.split_first() else {
         return Ok(());
     };
-    write_wait_sum(out, sum)?;
+    let mut line = LineFromEnd::new();
+    fill_wait_sum(&mut line, sum);
+    write_line(out, line.as_bytes())?;
     write_each_sum(out, more)
 }
 
@@ -297,7 +259,6 @@ pub fn write_wait_sums<K: Sink>(out: &mut K, totals: &WaitTotals) -> Result<(), 
 }
 
 // Puts the name of a reason in front of a line.
-#[inline(always)]
 fn put_reason(line: &mut LineFromEnd, reason: Reason)
     requires { length line.old + 10 ≤ 128 }
     ensures bytes { line.new ≡ reason_name reason ++ line.old }
@@ -363,16 +324,6 @@ fn fill_because(line: &mut LineFromEnd, n: u32, because: &StallCause)
     }
 }
 
-// Writes the cause that delayed the n-th entry.
-fn put_because<K: Sink>(out: &mut K, n: u32, because: &StallCause) -> Result<(), Failed>
-    ensures { WritesLines (K.output out.old) (K.output out.new)
-        (because_line n because.now ∷ []) result }
-{
-    let mut line = LineFromEnd::new();
-    fill_because(&mut line, n, because);
-    write_line(out, line.as_bytes())
-}
-
 /// Writes the cause that delayed the n-th entry, if the entry has a charge other than that of
 /// executing. The previous entry completed at tick `done`, and the entry's operands were available
 /// at tick `r`.
@@ -390,5 +341,7 @@ pub fn write_because<K: Sink>(
     if r <= done {
         return Ok(());
     }
-    put_because(out, n, because)
+    let mut line = LineFromEnd::new();
+    fill_because(&mut line, n, because);
+    write_line(out, line.as_bytes())
 }

@@ -11,17 +11,16 @@
 //! Pinned, by specs/BorderLines.antt, docs/ledger.md and vectors/ledger/lines.txt: the lines and
 //! their order; by `st_account`: the public structures. Free: the split into functions, if
 //! proofs/writing follows.
-ghost use Rattle.std.specs.Prelude.{◌≡◌, ◌+◌, ◌<◌, ◌≤◌, ◌^◌, ℕ, ◌∷◌, ◌++◌, [], if◌then◌else◌, ◌||◌, length, min, Some, false, IsOk};
+ghost use Rattle.std.specs.Prelude.{◌≡◌, ◌+◌, ◌<◌, ◌^◌, ◌∷◌, ◌++◌, [], if◌then◌else◌, length, Some, false, IsOk};
 ghost use Rattle.st_io.specs.Lines.{WritesLines, lines_for};
 ghost use Rattle.st_bits.specs.Storage.{words_of_storage};
 ghost use Rattle.st_bits.specs.declared.limits.TheConstants.{WORDS};
-ghost use Rattle.st_exch.specs.Printer.{line_of_words as printed_of};
-ghost use Rattle.st_report.specs.Line.{prt_line, ic_line, en_line, end_line as run_end_line, done_line, ticks_line};
-ghost use Rattle.st_lines.specs.Lines.{ledger_levels_line, delays_line, delays_lines, start_line, segment_end_line, dropped_line, begun_line};
+ghost use Rattle.st_report.specs.Line.{ic_line, en_line, end_line as run_end_line, done_line, ticks_line};
+ghost use Rattle.st_lines.specs.Lines.{delays_lines, start_line};
 ghost use Rattle.st_lines.specs.EntryLines.{facts_lines};
 ghost use Rattle.st_lines.specs.Changes.{AreOthersAlike, IsCopyBehind};
 ghost use Rattle.st_lines.specs.Origins.{origin_at};
-ghost use Rattle.st_lines.specs.BorderLines.{drop_lines, begun_entry_lines, segment_end_lines, differs, en_lines, prints_lines, nonzero_word_lines, word_change_lines, words_lines, marks_lines, taken_by, state_lines, whole_state_lines, machine_lines};
+ghost use Rattle.st_lines.specs.BorderLines.{drop_lines, begun_entry_lines, segment_end_lines, en_lines, prints_lines, nonzero_word_lines, word_change_lines, marks_lines, taken_by, state_lines, whole_state_lines, machine_lines};
 
 use crate::changes::{Changeable, keep_changed, keep_words, write_changed};
 use crate::digits::fill_counter;
@@ -45,14 +44,6 @@ use st_text::{behind, front};
 /// The printed lines between two entries, each as eight words.
 pub type Printed = ArrayVec<[u64; 8], 3>;
 
-// Writes the `DROP` line of the n-th entry.
-fn write_drop_line<K: Sink>(out: &mut K, n: u32, ahead: &Ahead) -> Result<(), Failed>
-    ensures { WritesLines (K.output out.old) (K.output out.new)
-        (dropped_line n ahead.now.plan.place.address ahead.now.row ∷ []) result }
-{
-    put(out, &line_drop(n, ahead.plan.place.address, &ahead.row))
-}
-
 // Writes the facts about the n-th entry, which ran ahead and is dropped at a tick.
 fn write_ahead_facts<K: Sink>(
     out: &mut K,
@@ -74,23 +65,6 @@ fn write_ahead_facts<K: Sink>(
         uses: ahead.uses.as_slice(),
     };
     write_facts(out, &mut FactLine::new(), &facts)
-}
-
-// Writes the `DROP` line of the n-th entry and the facts about it.
-fn write_drop<K: Sink>(
-    out: &mut K,
-    n: u32,
-    tick: u64,
-    ahead: &Ahead,
-    origin: Option<Origin>,
-) -> Result<(), Failed>
-    ensures { WritesLines (K.output out.old) (K.output out.new)
-        (dropped_line n ahead.now.plan.place.address ahead.now.row
-        ∷ facts_lines n (Some tick) ahead.now.plan ahead.now.known origin ahead.now.uses.items)
-        result }
-{
-    write_drop_line(out, n, ahead)?;
-    write_ahead_facts(out, n, tick, ahead, origin)
 }
 
 // The card that the half-words of an entry come from that ran ahead.
@@ -128,7 +102,8 @@ fn write_drops<K: Sink>(out: &mut K, dropped: &Dropped<'_>, state: &State) -> Re
     };
     let n = dropped.n;
     let tick = dropped.tick;
-    write_drop(
+    put(out, &line_drop(n, first.plan.place.address, &first.row))?;
+    write_ahead_facts(
         out,
         n,
         tick,
@@ -145,21 +120,6 @@ fn write_drops<K: Sink>(out: &mut K, dropped: &Dropped<'_>, state: &State) -> Re
     write_drops(out, &behind, state)
 }
 
-// Writes the `BEGUN` line of the n-th entry.
-fn write_begun_line<K: Sink>(out: &mut K, n: u32, begun: &Ahead) -> Result<(), Failed>
-    ensures { WritesLines (K.output out.old) (K.output out.new)
-        (begun_line n begun.now.plan.place.address begun.now.row ∷ []) result }
-{
-    put(out, &line_begun(n, begun.plan.place.address, &begun.row))
-}
-
-// The number of the entry that had begun.
-fn number_behind(dropped: &Dropped<'_>) -> u32
-    ensures { result ≡ dropped.now.n + length dropped.now.found.now }
-{
-    dropped.n + dropped.found.len() as u32
-}
-
 // Writes the `BEGUN` line of the n-th entry and the facts about it.
 fn write_begun_entry<K: Sink>(
     out: &mut K,
@@ -172,7 +132,7 @@ fn write_begun_entry<K: Sink>(
         (dropped.now.begun.now ∷ [])) result }
 {
     let begun = dropped.begun;
-    write_begun_line(out, n, begun)?;
+    put(out, &line_begun(n, begun.plan.place.address, &begun.row))?;
     write_ahead_facts(
         out,
         n,
@@ -180,27 +140,6 @@ fn write_begun_entry<K: Sink>(
         begun,
         origin_of(begun, dropped.origins, state),
     )
-}
-
-// Writes the lines of dropped entries, and of the entry after them that had begun.
-fn write_ahead<K: Sink>(out: &mut K, dropped: &Dropped<'_>, state: &State) -> Result<(), Failed>
-    ensures { let d = dropped.now in
-        WritesLines (K.output out.old) (K.output out.new)
-        (drop_lines (origin_at d.origins.now state.now) d.n d.tick d.found.now
-        ++ begun_entry_lines (origin_at d.origins.now state.now) (d.n + length d.found.now) d.tick
-        (d.begun.now ∷ [])) result }
-{
-    let behind = number_behind(dropped);
-    write_drops(out, dropped, state)?;
-    write_begun_entry(out, behind, dropped, state)
-}
-
-// Writes the line of the end of segment k.
-fn write_end_line<K: Sink>(out: &mut K, k: u32, tick: u64) -> Result<(), Failed>
-    ensures { WritesLines (K.output out.old) (K.output out.new)
-        (segment_end_line k tick ∷ []) result }
-{
-    put(out, &line_end(k, tick))
 }
 
 /// Writes the end of segment k, with the dropped entries and their half-words' origins in the state
@@ -219,32 +158,10 @@ pub fn write_end<K: Sink>(
     if k == 0 {
         return Ok(());
     }
-    write_end_line(out, k, dropped.tick)?;
-    write_ahead(out, dropped, state)
-}
-
-// Writes the instruction counter.
-#[inline(always)]
-fn write_ic<K: Sink>(out: &mut K, ic: u32) -> Result<(), Failed>
-    ensures { WritesLines (K.output out.old) (K.output out.new) (ic_line ic ∷ []) result }
-{
-    let mut line = LineFromEnd::new();
-    fill_counter(&mut line, ic);
-    write_line(out, line.as_bytes())
-}
-
-// Whether two flags differ.
-fn differ(was: bool, now: bool) -> bool
-    ensures { result ≡ differs was now }
-{
-    if was { !now } else { now }
-}
-
-/// Whether at least one of two flags is set.
-pub fn either(one: bool, two: bool) -> bool
-    ensures { result ≡ (one || two) }
-{
-    one || two
+    put(out, &line_end(k, dropped.tick))?;
+    write_drops(out, dropped, state)?;
+    let behind = dropped.n + dropped.found.len() as u32;
+    write_begun_entry(out, behind, dropped, state)
 }
 
 // Writes whether interrupts are enabled, if `shown` is set.
@@ -259,14 +176,6 @@ fn write_en<K: Sink>(out: &mut K, shown: bool, enabled: bool) -> Result<(), Fail
     put(out, &line_en(enabled))
 }
 
-// Writes a printed line of eight words.
-fn write_print<K: Sink>(out: &mut K, words: &[u64; 8]) -> Result<(), Failed>
-    ensures { WritesLines (K.output out.old) (K.output out.new)
-        (prt_line (printed_of words.now) ∷ []) result }
-{
-    put(out, &line_prt(&print_text(words)))
-}
-
 // Writes all printed lines.
 #[tactic(auto, using(st_io::proofs::Progress::wrote_nothing))]
 fn write_prints<K: Sink>(out: &mut K, printed: &[[u64; 8]]) -> Result<(), Failed>
@@ -275,7 +184,7 @@ fn write_prints<K: Sink>(out: &mut K, printed: &[[u64; 8]]) -> Result<(), Failed
     let Some((first, more)) = printed.split_first() else {
         return Ok(());
     };
-    write_print(out, first)?;
+    put(out, &line_prt(&print_text(first)))?;
     write_prints(out, more)
 }
 
@@ -291,8 +200,10 @@ fn write_counter<K: Sink>(
     ensures { WritesLines (K.output out.old) (K.output out.new)
         (ic_line ic ∷ en_lines k was enabled) result }
 {
-    write_ic(out, ic)?;
-    write_en(out, either(k == 0, differ(was, enabled)), enabled)
+    let mut line = LineFromEnd::new();
+    fill_counter(&mut line, ic);
+    write_line(out, line.as_bytes())?;
+    write_en(out, k == 0 || was != enabled, enabled)
 }
 
 // Writes a word of storage or a register, if it is not zero.
@@ -379,26 +290,6 @@ pub struct Between<'a> {
     pub may: &'a Changeable,
 }
 
-// Writes the instruction counter, whether interrupts are enabled if that line is due, and the
-// words.
-fn write_standing<K: Sink>(
-    out: &mut K,
-    between: &Between<'_>,
-    old: &mut Vec<u64>,
-    state: &State,
-) -> Result<(), Failed>
-    requires size { length old.old.items ≡ words_of_storage }
-    requires left { IsCopyBehind between.now.k between.now.may.now old.old.items state.now }
-    ensures lines { WritesLines (K.output out.old) (K.output out.new)
-        (ic_line state.now.ic ∷ en_lines between.now.k between.now.was state.now.enabled
-        ++ words_lines between.now.k old.old.items state.now) result }
-    ensures words { IsOk result → old.new.items ≡ state.now.words }
-{
-    let k = between.k;
-    write_counter(out, k, between.was, counter_in(state), is_enabled(state))?;
-    write_words(out, k == 0, old, state, between.may)
-}
-
 /// Writes the printed lines, the instruction counter, whether interrupts are enabled if that line
 /// is due, and the words: at the start of a run, before segment 1, those that are not zero, and
 /// otherwise those that changed. `old` has the words as they were before the last entry, and is
@@ -418,7 +309,9 @@ pub fn write_marks<K: Sink>(
     ensures words { IsOk result → old.new.items ≡ state.now.words }
 {
     write_prints(out, between.printed)?;
-    write_standing(out, between, old, state)
+    let k = between.k;
+    write_counter(out, k, between.was, counter_in(state), is_enabled(state))?;
+    write_words(out, k == 0, old, state, between.may)
 }
 
 // Writes the interrupt that is taken after a number of instructions, except before the first
@@ -479,26 +372,6 @@ fn write_ended<K: Sink>(
     write_end(out, between.k, &between.dropped, state)
 }
 
-// Writes the state after an entry, if the run continues.
-#[tactic(auto, unfolding(crate::specs::BorderLines::state_lines))]
-fn write_state<K: Sink>(
-    out: &mut K,
-    border: &Border,
-    between: &Between<'_>,
-    old: &mut Vec<u64>,
-    state: &State,
-) -> Result<(), Failed>
-    requires size { length old.old.items ≡ words_of_storage }
-    requires left { IsCopyBehind between.now.k between.now.may.now old.old.items state.now }
-    ensures lines { WritesLines (K.output out.old) (K.output out.new)
-        (state_lines between.now.printed.now between.now.k between.now.was old.old.items state.now
-        border.now.taken border.now.done) result }
-    ensures words { IsOk result → old.new.items ≡ state.now.words }
-{
-    write_marks(out, between, old, state)?;
-    write_taken(out, between.k == 0, border.taken, border.done)
-}
-
 /// Writes the start of segment k, if one begins.
 #[inline(always)]
 pub fn write_start<K: Sink>(out: &mut K, border: &Border, k: u32) -> Result<(), Failed>
@@ -537,29 +410,9 @@ pub fn write_border<K: Sink>(
     ensures words { IsOk result → old.new.items ≡ state.now.words }
 {
     write_ended(out, border.ends, between, state)?;
-    write_state(out, border, between, old, state)?;
+    write_marks(out, between, old, state)?;
+    write_taken(out, between.k == 0, border.taken, border.done)?;
     write_start(out, border, between.k + 1)
-}
-
-// Writes how the run ended.
-fn write_run_end<K: Sink>(out: &mut K, rests: bool) -> Result<(), Failed>
-    ensures { WritesLines (K.output out.old) (K.output out.new) (run_end_line rests ∷ []) result }
-{
-    put(out, &line_run_end(rests))
-}
-
-// Writes the number of completed instructions.
-fn write_done<K: Sink>(out: &mut K, done: u64) -> Result<(), Failed>
-    ensures { WritesLines (K.output out.old) (K.output out.new) (done_line done ∷ []) result }
-{
-    put(out, &line_done(done))
-}
-
-// Writes the last tick.
-fn write_ticks<K: Sink>(out: &mut K, tick: u64) -> Result<(), Failed>
-    ensures { WritesLines (K.output out.old) (K.output out.new) (ticks_line tick ∷ []) result }
-{
-    put(out, &line_ticks(tick))
 }
 
 /// Writes how the run ended, the number of completed instructions, and the last tick.
@@ -567,49 +420,26 @@ pub fn write_totals<K: Sink>(out: &mut K, rests: bool, done: u64, tick: u64) -> 
     ensures { WritesLines (K.output out.old) (K.output out.new)
         (run_end_line rests ∷ done_line done ∷ ticks_line tick ∷ []) result }
 {
-    write_run_end(out, rests)?;
-    write_done(out, done)?;
-    write_ticks(out, tick)
-}
-
-// Writes the line of at most ten delays.
-fn write_ten<K: Sink>(out: &mut K, ds: &[u8]) -> Result<(), Failed>
-    requires { length ds.now ≤ 10 }
-    ensures { WritesLines (K.output out.old) (K.output out.new) (delays_line ds.now ∷ []) result }
-{
-    put(out, &line_delays(ds))
-}
-
-// The number of delays in the next line, at most ten.
-fn count_of(ds: &[u8]) -> usize
-    ensures { result ≡ min (length ds.now) 10 }
-{
-    ds.len().min(10)
+    put(out, &line_run_end(rests))?;
+    put(out, &line_done(done))?;
+    put(out, &line_ticks(tick))
 }
 
 // Writes all delays, ten in each line.
 fn write_delays<K: Sink>(out: &mut K, ds: &[u8]) -> Result<(), Failed>
     ensures { WritesLines (K.output out.old) (K.output out.new) (delays_lines ds.now) result }
 {
-    let count = count_of(ds);
-    if count == 0 {
+    if ds.is_empty() {
         return Ok(());
     }
-    write_ten(out, front(ds, count))?;
-    write_delays(out, behind(ds, count))
-}
-
-// Writes the number of levels.
-fn write_levels<K: Sink>(out: &mut K, n: u8) -> Result<(), Failed>
-    ensures { WritesLines (K.output out.old) (K.output out.new) (ledger_levels_line n ∷ []) result }
-{
-    put(out, &line_levels(n))
+    put(out, &line_delays(front(ds, 10)))?;
+    write_delays(out, behind(ds, 10))
 }
 
 /// Writes the lines of a machine with n levels and these delays.
 pub fn write_machine<K: Sink>(out: &mut K, n: u8, ds: &[u8]) -> Result<(), Failed>
     ensures { WritesLines (K.output out.old) (K.output out.new) (machine_lines ds.now n) result }
 {
-    write_levels(out, n)?;
+    put(out, &line_levels(n))?;
     write_delays(out, ds)
 }

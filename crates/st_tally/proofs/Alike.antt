@@ -1,25 +1,9 @@
 -- Rows that count alike in tables.
-use Rattle.std.specs.Prelude.{Bool, nat_eq, nat_lt, if◌then◌else◌, not, length, Option, None, Some, option_map, unwrap_or}
-use Rattle.std.specs.List.{filter, sum_by}
-use Rattle.std.proofs.Common.{◌≡◌, ℕ, ◌+◌, ◌-◌, ◌<◌, ◌≤◌, true, false, List, [], ◌∷◌, ◌++◌, inl, inr, refl, sym, ◌∙◌, ap, subst, arith}
-use Rattle.std.proofs.lemmas.Bool.{cases_Bool, ltb-true, ltb-false}
-use Rattle.std.proofs.lemmas.List.{length_push}
-use Rattle.std.proofs.lemmas.List.Sums.{sum_by_push}
-use Rattle.st_rows.specs.declared.uses.Use.{Use}
-use Rattle.st_ledger.specs.Charges.{ticks_for}
-use Rattle.st_ledger.specs.declared.charges.Stage.{Stage}
-use Rattle.st_reasons.specs.Sums.{row_stalled}
-use Rattle.st_reasons.specs.declared.because.StallCause.{StallCause}
-use Rattle.st_reasons.specs.declared.because.StallCause.TheVariants.{Start, Prefetch, Earlier}
-use Rattle.st_reasons.specs.declared.waits.Stall.{Stall}
-use Rattle.st_lines.specs.EntryLines.{charges_of_entry}
-use Rattle.st_lines.specs.declared.facts.EntryDone.{EntryDone}
+use Rattle.st_tally.proofs.Common.{nat_eq, nat_lt, if◌then◌else◌, not, length, Option, None, Some, option_map, unwrap_or, filter, sum_by, ◌≡◌, ℕ, ◌+◌, ◌-◌, ◌<◌, ◌≤◌, true, false, List, [], ◌∷◌, ◌++◌, inl, inr, refl, sym, ◌∙◌, ap, subst, arith, cases_Bool, ltb-true, ltb-false, length_push, sum_by_push, Use, ticks_for, Stage, row_stalled, StallCause, Start, Earlier, Stall, charges_of_entry, EntryDone, heading_at, heading_of, is_heading, TalliedRow, card_by_origin, card_of, reason_of, lost_by, late_by, late_of, has_level_wait, rows_of_card, rows_elsewhere, rows_for, stage_ticks, wait_ticks, lost_ticks, late_ticks, mispredicted_rows, level_rows, level_ticks, card_sum, reason_sum, IsCardSum, IsReasonSum, IsTally, Heading, CardSum, Tables}
+use Rattle.std.specs.Prelude.{Bool}
+use Rattle.st_ledger.specs.declared.because.StallCause.TheVariants.{Prefetch}
 use Rattle.st_lines.specs.declared.lines.Why.{Why}
 use Rattle.st_lines.specs.declared.origins.Origin.{Origin}
-use Rattle.st_tally.specs.Headings.{heading_at, heading_of, is_heading}
-use Rattle.st_tally.specs.Tally.{TalliedRow, card_by_origin, card_of, reason_of, lost_by, late_by, late_of, has_level_wait, rows_of_card, rows_for, stage_ticks, wait_ticks, lost_ticks, late_ticks, mispredicted_rows, level_rows, level_ticks, card_sum, reason_sum, IsCardSum, IsReasonSum, IsTally}
-use Rattle.st_tally.specs.declared.headings.Heading.{Heading}
-use Rattle.st_tally.specs.declared.tables.Tables.{Tables}
 use Rattle.st_tally.proofs.CardLemmas.{filter-some, filter-none}
 
 -- ---- a last row in place of another one
@@ -61,21 +45,27 @@ pub record AreAlike (x y : TalliedRow) : Type 0 where
   pub wait : x.done.row.level_wait ≡ y.done.row.level_wait
 
 module _ (zs : List TalliedRow) (x y : TalliedRow) (like : AreAlike x y) where
-  card-like : (k : ℕ) (t : Tables) → IsCardSum (rows_of_card k (zs ++ x ∷ [])) (card_sum t k) → IsCardSum (rows_of_card k (zs ++ y ∷ [])) (card_sum t k)
-  unfolding rows_of_card stage_ticks wait_ticks
-  card-like k t is =
-      let at : TalliedRow → Bool = λ r. nat_eq (card_of r) k in
-      let taken : at x ≡ at y = ap (λ n. nat_eq n k) like.card in
-      record {
-        rows = is.rows ∙ count-alike at zs x y taken;
-        stages = λ s. is.stages s ∙ sum-alike (λ (r : TalliedRow). ticks_for s (charges_of_entry r.done)) at zs x y taken (ap (ticks_for s) like.charges);
-        waits = λ r s parted.
-            is.waits r s parted
-            ∙ sum-alike (λ (z : TalliedRow). row_stalled r s z.uses z.before (charges_of_entry z.done)) at zs x y taken
-            (ap (λ us. row_stalled r s us x.before (charges_of_entry x.done)) like.uses
-            ∙ ap (λ bs. row_stalled r s y.uses bs (charges_of_entry x.done)) like.before
-            ∙ ap (row_stalled r s y.uses y.before) like.charges);
-      }
+  -- the sums of the rows that a test takes
+  slot-like : (at : TalliedRow → Bool) (sum : CardSum) → at x ≡ at y → IsCardSum (filter at (zs ++ x ∷ [])) sum → IsCardSum (filter at (zs ++ y ∷ [])) sum
+  unfolding stage_ticks wait_ticks
+  slot-like at sum taken is = record {
+    rows = is.rows ∙ count-alike at zs x y taken;
+    stages = λ s. is.stages s ∙ sum-alike (λ (r : TalliedRow). ticks_for s (charges_of_entry r.done)) at zs x y taken (ap (ticks_for s) like.charges);
+    waits = λ r s parted.
+        is.waits r s parted
+        ∙ sum-alike (λ (z : TalliedRow). row_stalled r s z.uses z.before (charges_of_entry z.done)) at zs x y taken
+        (ap (λ us. row_stalled r s us x.before (charges_of_entry x.done)) like.uses
+        ∙ ap (λ bs. row_stalled r s y.uses bs (charges_of_entry x.done)) like.before
+        ∙ ap (row_stalled r s y.uses y.before) like.charges);
+  }
+
+  card-like : (k : ℕ) (sum : CardSum) → IsCardSum (rows_of_card k (zs ++ x ∷ [])) sum → IsCardSum (rows_of_card k (zs ++ y ∷ [])) sum
+  unfolding rows_of_card
+  card-like k sum is = slot-like (λ (r : TalliedRow). nat_eq (card_of r) k) sum (ap (λ n. nat_eq n k) like.card) is
+
+  others-like : (n : ℕ) (sum : CardSum) → IsCardSum (rows_elsewhere n (zs ++ x ∷ [])) sum → IsCardSum (rows_elsewhere n (zs ++ y ∷ [])) sum
+  unfolding rows_elsewhere
+  others-like n sum is = slot-like (λ (r : TalliedRow). not (nat_lt (card_of r) n)) sum (ap (λ c. not (nat_lt c n)) like.card) is
 
   reason-like : (h : Heading) (t : Tables) → IsReasonSum (rows_for h (zs ++ x ∷ [])) (reason_sum t h) → IsReasonSum (rows_for h (zs ++ y ∷ [])) (reason_sum t h)
   unfolding rows_for lost_ticks late_ticks
@@ -91,7 +81,8 @@ module _ (zs : List TalliedRow) (x y : TalliedRow) (like : AreAlike x y) where
   pub tally-alike : (t : Tables) → IsTally (zs ++ x ∷ []) t → IsTally (zs ++ y ∷ []) t
   unfolding mispredicted_rows level_rows level_ticks
   tally-alike t is = record {
-    cards = λ k inside. card-like k t (is.cards k inside);
+    cards = λ k inside. card-like k (card_sum t k) (is.cards k inside);
+    others = others-like (length t.cards.items) t.others is.others;
     reasons = λ h. reason-like h t (is.reasons h);
     mispredicted = is.mispredicted ∙ count-alike (λ (r : TalliedRow). r.done.mispredicted) zs x y like.mispredicted;
     level_rows = is.level_rows ∙ count-alike has_level_wait zs x y (ap (λ n. not (nat_eq n 0)) like.wait);

@@ -1,23 +1,5 @@
 -- Lemmas on an entry that only executes.
-use Rattle.std.proofs.Common.{◌≡◌, ℕ, ◌+◌, ◌-◌, ◌≤◌, ◌<◌, true, List, [], ◌∷◌, refl, sym, ◌∙◌, ap, arith}
-use Rattle.std.proofs.lemmas.Bool.{le-ltb, lt-ltb, true≢false}
-use Rattle.st_rows.specs.declared.uses.Use.{Use}
-use Rattle.st_ledger.specs.Charges.{charges_behind, ticks_for}
-use Rattle.st_ledger.specs.Totals.{sum_at}
-use Rattle.st_ledger.specs.declared.charges.StagePart.{StagePart}
-use Rattle.st_ledger.specs.declared.charges.Charge.{Charge}
-use Rattle.st_ledger.specs.declared.charges.Stage.{Stage}
-use Rattle.st_ledger.specs.declared.charges.Stage.TheVariants.{Restart, Instruction, Address, Index, Preparing, Operand, Executing}
-use Rattle.st_ledger.specs.declared.totals.Totals.{Totals}
-use Rattle.st_ledger.proofs.Added.{charge-added}
-use Rattle.st_lines.specs.EntryLines.{charges_of_entry}
-use Rattle.st_lines.specs.declared.facts.EntryDone.{EntryDone}
-use Rattle.st_reasons.specs.Sums.{row_stalled, is_parted}
-use Rattle.st_reasons.specs.declared.sums.Shares.{Shares}
-use Rattle.st_reasons.specs.declared.sums.WaitTotals.{WaitTotals}
-use Rattle.st_reasons.specs.declared.waits.Stall.{Stall}
-use Rattle.st_tally.specs.Slots.{OnlyExecutes, both_shares, both_waits}
-use Rattle.st_tally.specs.Tally.{no_waits}
+use Rattle.st_tally.proofs.Common.{◌≡◌, ℕ, ◌+◌, ◌-◌, ◌≤◌, ◌<◌, true, List, [], ◌∷◌, refl, sym, ◌∙◌, ap, arith, le-ltb, lt-ltb, true≢false, Use, charges_behind, ticks_for, sum_at, StagePart, Charge, Stage, Restart, Instruction, Address, Index, Preparing, Operand, Executing, Totals, charge-added, charges_of_entry, EntryDone, row_stalled, is_parted, Stall, OnlyExecutes}
 
 -- a stage that ended has no charge
 ended : (t : ℕ) (x : StagePart) (xs : List StagePart) → x.end ≤ t → charges_behind t (x ∷ xs) ≡ charges_behind t xs
@@ -64,20 +46,3 @@ pub executing-stalled : (r : Stage) (s : Stall) (uses before : List Use) (d : En
     → row_stalled r s uses before (charges_of_entry d) ≡ 0
 executing-stalled r s uses before d is later parted =
     ap (row_stalled r s uses before) (only-charge d is later) ∙ none-executing r s uses before (whole d) refl parted
-
--- no waits change no totals
-shares-none : (a : Shares) → a ≡ both_shares a (record { turn = 0; bank = 0; storage = 0 })
-shares-none a =
-    ap (λ n. record a { turn = n }) (none a.turn)
-    ∙ ap (λ n. record { turn = a.turn + 0; bank = n; storage = a.storage }) (none a.bank)
-    ∙ ap (λ n. record { turn = a.turn + 0; bank = a.bank + 0; storage = n }) (none a.storage)
-  where
-    none : (n : ℕ) → n ≡ n + 0
-    none n = omega arith
-
-pub waits-none : (a : WaitTotals) → a ≡ both_waits a no_waits
-waits-none a =
-    ap (λ x. record a { instruction = x }) (shares-none a.instruction)
-    ∙ ap (λ x. record { instruction = both_shares a.instruction no_waits.instruction; index = x; operand = a.operand }) (shares-none a.index)
-    ∙ ap (λ x. record { instruction = both_shares a.instruction no_waits.instruction; index = both_shares a.index no_waits.index; operand = x })
-    (shares-none a.operand)

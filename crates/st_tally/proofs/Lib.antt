@@ -1,3 +1,4 @@
+pub mod Common
 pub mod WaitSums
 pub mod CardLemmas
 pub mod Alike
@@ -7,4 +8,6 @@ pub mod TableLemmas
 pub mod LineLemmas
 pub mod Laws
 pub mod SharedRows
+pub mod SlotLemmas
 pub mod LostTicks
+pub mod TotalLemmas

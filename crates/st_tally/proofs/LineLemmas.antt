@@ -1,27 +1,9 @@
 -- Lemmas on the lines of tables.
-use Rattle.std.specs.Prelude.{length, nat_eq, Result, Ok, Err, IsErr}
-use Rattle.std.proofs.Common.{◌≡◌, ℕ, zero, suc, ◌+◌, ◌-◌, ◌≤◌, ◌<◌, true, false, List, [], ◌∷◌, ◌++◌, refl, sym, ◌∙◌, ap, subst, arith}
-use Rattle.std.proofs.lemmas.Bool.Decides.{nat_tests}
+use Rattle.st_tally.proofs.Common.{length, nat_eq, Result, Ok, Err, IsErr, ◌≡◌, ℕ, zero, suc, ◌+◌, ◌-◌, ◌≤◌, ◌<◌, true, false, List, [], ◌∷◌, ◌++◌, refl, sym, ◌∙◌, ap, subst, arith, nat_tests, LinesSoFar, lines_none, lines_more, lines_failed, lines_then, lines_cut, lines_for_next, lines_for_whole, wrote_nothing, sum_at, stages, sums_by, sum_lines, Stage, Instruction, Index, Operand, sums-same, waited_at, wait_sums_by, is_parted, Stall, Turn, Bank, Storage, headings, slot_lines, reason_sum_line, tables_lines, TalliedRow, rows_of_card, rows_for, stage_ticks, wait_ticks, mispredicted_rows, level_rows, level_ticks, card_sum, reason_sum, IsCardSum, IsReasonSum, IsTally, card_line, card_lines_by, card_lines, reason_line_of, lines_by_heading, count_lines, table_lines, Heading, CardSum, ReasonSum, Tables}
 use Rattle.st_io.specs.Output.{OutputState}
 use Rattle.st_io.specs.declared.Failed.{Failed}
 use Rattle.st_io.specs.Lines.{WritesLines, lines_for}
-use Rattle.st_io.proofs.Progress.{LinesSoFar, lines_none, lines_more, lines_failed, lines_then, lines_cut, lines_for_next, lines_for_whole, wrote_nothing}
-use Rattle.st_ledger.specs.Totals.{sum_at, stages, sums_by, sum_lines}
-use Rattle.st_ledger.specs.declared.charges.Stage.{Stage}
-use Rattle.st_ledger.specs.declared.charges.Stage.TheVariants.{Instruction, Index, Operand}
-use Rattle.st_ledger.proofs.Added.{sums-same}
-use Rattle.st_reasons.specs.Sums.{waited_at, wait_sums_by, is_parted}
-use Rattle.st_reasons.specs.declared.waits.Stall.{Stall}
-use Rattle.st_reasons.specs.declared.waits.Stall.TheVariants.{Turn, Bank, Storage}
 use Rattle.st_lines.specs.WaitLines.{wait_sum_lines}
-use Rattle.st_tally.specs.Headings.{headings}
-use Rattle.st_tally.specs.Slots.{slot_lines, reason_sum_line, tables_lines}
-use Rattle.st_tally.specs.Tally.{TalliedRow, rows_of_card, rows_for, stage_ticks, wait_ticks, mispredicted_rows, level_rows, level_ticks, card_sum, reason_sum, IsCardSum, IsReasonSum, IsTally}
-use Rattle.st_tally.specs.TallyLines.{card_line, card_lines_by, card_lines, reason_line_of, lines_by_heading, count_lines, table_lines}
-use Rattle.st_tally.specs.declared.headings.Heading.{Heading}
-use Rattle.st_tally.specs.declared.tables.CardSum.{CardSum}
-use Rattle.st_tally.specs.declared.tables.ReasonSum.{ReasonSum}
-use Rattle.st_tally.specs.declared.tables.Tables.{Tables}
 
 waits-same : (f g : Stage → Stall → ℕ) → ((r : Stage) (s : Stall) → is_parted r ≡ true → f r s ≡ g r s) → wait_sums_by f ≡ wait_sums_by g
 waits-same f g each =

@@ -1,14 +1,5 @@
 -- Lemmas on the ticks that an entry lost.
-use Rattle.std.specs.Prelude.{max}
-use Rattle.std.proofs.Common.{◌≡◌, ℕ, ◌+◌, ◌-◌, ◌≤◌, false, List, [], ◌∷◌, inl, inr, refl, sym, ◌∙◌, ap, arith}
-use Rattle.st_ledger.specs.Charges.{charges_behind, is_stage, ticks_for, all_ticks}
-use Rattle.st_ledger.specs.declared.charges.StagePart.{StagePart}
-use Rattle.st_ledger.specs.declared.charges.Stage.TheVariants.{Restart, Instruction, Address, Index, Preparing, Operand, Executing}
-use Rattle.st_ledger.proofs.Added.{reach-later, reach-end}
-use Rattle.st_ledger.proofs.Sums.{lt-cases}
-use Rattle.st_lines.specs.EntryLines.{charges_of_entry}
-use Rattle.st_lines.specs.declared.facts.EntryDone.{EntryDone}
-use Rattle.st_tally.specs.Tally.{lost_by}
+use Rattle.st_tally.proofs.Common.{max, ◌≡◌, ℕ, ◌+◌, ◌-◌, ◌≤◌, false, List, [], ◌∷◌, inl, inr, refl, sym, ◌∙◌, ap, arith, charges_behind, is_stage, ticks_for, all_ticks, StagePart, Restart, Instruction, Address, Index, Preparing, Operand, Executing, reach-later, reach-end, lt-cases, charges_of_entry, EntryDone, lost_by}
 
 -- a stage other than EXECUTING has no ticks of it
 passed : (t u : ℕ) (x : StagePart) (xs : List StagePart) → is_stage Executing x.stage ≡ false → u ≡ max t x.end

@@ -1,18 +1,6 @@
 -- Lemmas on the sums of headings.
-use Rattle.std.specs.Prelude.{min, length, get_or, Option, None, Some}
-use Rattle.std.proofs.Common.{◌≡◌, ◌≢◌, ℕ, ◌+◌, ◌≤◌, ◌<◌, true, false, List, [], ◌∷◌, ◌++◌, inl, inr, refl, sym, ◌∙◌, ap, subst, arith}
-use Rattle.std.proofs.lemmas.Bool.{cases_Bool, eqb-true, eqb-false}
-use Rattle.std.proofs.lemmas.List.{length_push, get_or-set_same, get_or-set_other}
-use Rattle.std.proofs.lemmas.List.Sums.{sum_by_push}
-use Rattle.st_reasons.specs.declared.because.StallCause.{StallCause}
-use Rattle.st_reasons.specs.declared.because.StallCause.TheVariants.{Start, Prefetch as ForPrefetch, Earlier}
-use Rattle.st_lines.specs.declared.facts.EntryDone.{EntryDone}
-use Rattle.st_tally.specs.Headings.{heading_number, is_heading}
-use Rattle.st_tally.specs.Slots.{IsReasonSumWithin, IsInOrder, with_entry, with_reason}
-use Rattle.st_tally.specs.Tally.{TalliedRow, reason_of, lost_by, late_by, late_of, rows_for, lost_ticks, late_ticks, no_reason_sum, IsReasonSum}
-use Rattle.st_tally.specs.declared.headings.Heading.{Heading}
-use Rattle.st_tally.specs.declared.headings.Heading.TheVariants.{Run, Interrupt, Missed, Card, Serial, Store, Level, Forwarding, Bus, Prefetch, Order}
-use Rattle.st_tally.specs.declared.tables.ReasonSum.{ReasonSum}
+use Rattle.st_tally.proofs.Common.{min, length, get_or, Option, None, Some, ◌≡◌, ◌≢◌, ℕ, ◌+◌, ◌≤◌, ◌<◌, true, false, List, [], ◌∷◌, ◌++◌, inl, inr, refl, sym, ◌∙◌, ap, subst, arith, cases_Bool, eqb-true, eqb-false, length_push, get_or-set_same, get_or-set_other, sum_by_push, StallCause, Start, Earlier, EntryDone, heading_number, is_heading, IsReasonSumWithin, IsInOrder, with_entry, with_reason, TalliedRow, reason_of, lost_by, late_by, late_of, rows_for, lost_ticks, late_ticks, no_reason_sum, IsReasonSum, Heading, Run, Interrupt, Missed, Card, Serial, Store, Level, Forwarding, Bus, Prefetch, Order, ReasonSum}
+use Rattle.st_ledger.specs.declared.because.StallCause.TheVariants.{Prefetch as ForPrefetch}
 use Rattle.st_tally.proofs.CardLemmas.{filter-some, filter-none}
 
 number-inside : (h : Heading) → heading_number h < 11

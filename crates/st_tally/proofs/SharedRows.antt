@@ -1,18 +1,7 @@
 -- Lemmas on rows that cards or headings share.
-use Rattle.std.specs.Prelude.{Bool, nat_eq, if◌then◌else◌, Option, None, Some, All}
-use Rattle.std.specs.List.{filter, sum_by}
+use Rattle.st_tally.proofs.Common.{not, nat_eq, nat_lt, if◌then◌else◌, Option, None, Some, All, filter, sum_by, ◌≡◌, ◌≢◌, ℕ, zero, suc, ◌+◌, ◌<◌, List, [], ◌∷◌, inl, inr, refl, sym, ◌∙◌, ap, arith, cases_Bool, eqb_tells, All-head, All-tail, sum_by-cons, lt-cases, headings, heading_at, is_heading, sum_below, TalliedRow, card_of, reason_of, lost_by, rows_of_card, rows_elsewhere, rows_for, lost_ticks, Heading, Run, Interrupt, Missed, Card, Serial, Store, Level, Forwarding, Bus, Prefetch, Order}
+use Rattle.std.specs.Prelude.{Bool}
 use Rattle.std.specs.Option.{is_some}
-use Rattle.std.proofs.Common.{◌≡◌, ◌≢◌, ℕ, zero, suc, ◌+◌, ◌<◌, List, [], ◌∷◌, inl, inr, refl, sym, ◌∙◌, ap, arith}
-use Rattle.std.proofs.lemmas.Bool.{cases_Bool}
-use Rattle.std.proofs.lemmas.Bool.Decides.{eqb_tells}
-use Rattle.std.proofs.lemmas.List.Elements.{All-head, All-tail}
-use Rattle.std.proofs.lemmas.List.Sums.{sum_by-cons}
-use Rattle.st_ledger.proofs.Sums.{lt-cases}
-use Rattle.st_tally.specs.Headings.{headings, heading_at, is_heading}
-use Rattle.st_tally.specs.Laws.{sum_below}
-use Rattle.st_tally.specs.Tally.{TalliedRow, card_of, reason_of, lost_by, rows_of_card, rows_for, lost_ticks}
-use Rattle.st_tally.specs.declared.headings.Heading.{Heading}
-use Rattle.st_tally.specs.declared.headings.Heading.TheVariants.{Run, Interrupt, Missed, Card, Serial, Store, Level, Forwarding, Bus, Prefetch, Order}
 
 -- what the first row adds to a sum over the rows that a test takes
 first-row : (p : TalliedRow → Bool) (f : TalliedRow → ℕ) (x : TalliedRow) (xs : List TalliedRow)
@@ -27,7 +16,7 @@ first-row p f x xs = elim (cases_Bool (p x)) [
 
 -- ---- cards
 
-below-none : (g : ℕ → ℕ) (n : ℕ) → ((k : ℕ) → k < n → g k ≡ 0) → sum_below g n ≡ 0
+pub below-none : (g : ℕ → ℕ) (n : ℕ) → ((k : ℕ) → k < n → g k ≡ 0) → sum_below g n ≡ 0
 unfolding sum_below
 below-none g zero each = refl
 below-none g (suc n) each = omega (arith, below-none g n (λ k low. each k (omega (arith, low))), each n (omega arith))
@@ -78,6 +67,38 @@ cards-share f n (x ∷ xs) each =
     ∙ ap (λ m. m + sum_below (λ k. sum_by f (rows_of_card k xs)) n) (below-one (card_of x) (f x) n (All-head (λ y. card_of y < n) x xs each))
     ∙ ap (λ m. f x + m) (cards-share f n xs (All-tail (λ y. card_of y < n) x xs each))
     ∙ sym (sum_by-cons f x xs)
+
+-- ---- the slots: those of the cards below a number, and the one of all other rows
+
+first-elsewhere : (f : TalliedRow → ℕ) (n : ℕ) (x : TalliedRow) (xs : List TalliedRow)
+    → sum_by f (rows_elsewhere n (x ∷ xs)) ≡ (if not (nat_lt (card_of x) n) then f x else 0) + sum_by f (rows_elsewhere n xs)
+unfolding rows_elsewhere
+first-elsewhere f n x xs = first-row (λ (y : TalliedRow). not (nat_lt (card_of y) n)) f x xs
+
+none-elsewhere : (f : TalliedRow → ℕ) (n : ℕ) → sum_by f (rows_elsewhere n []) ≡ 0
+unfolding rows_elsewhere
+none-elsewhere f n = refl
+
+one-slot : (c a n : ℕ) → (if not (nat_lt c n) then a else 0) + sum_below (λ k. if nat_eq c k then a else 0) n ≡ a
+one-slot c a n = elim (lt-cases c n) [
+  | inl y ↦
+      let none : (if not (nat_lt c n) then a else 0) ≡ 0 = rw y.0 refl in
+      omega (arith, none, below-one c a n y.1)
+  | inr m ↦
+      let all : (if not (nat_lt c n) then a else 0) ≡ a = rw m.0 refl in
+      omega (arith, all, below-none (λ k. if nat_eq c k then a else 0) n (λ k less. share-apart c k a (λ at. absurd (omega (arith, less, at, m.1)))))
+]
+
+pub slots-share : (f : TalliedRow → ℕ) (n : ℕ) (xs : List TalliedRow)
+    → sum_by f (rows_elsewhere n xs) + sum_below (λ k. sum_by f (rows_of_card k xs)) n ≡ sum_by f xs
+slots-share f n [] = omega (arith, none-elsewhere f n, below-none (λ k. sum_by f (rows_of_card k [])) n (λ k low. no-rows f k))
+slots-share f n (x ∷ xs) =
+    let first : sum_below (λ k. sum_by f (rows_of_card k (x ∷ xs))) n
+    ≡ sum_below (λ k. if nat_eq (card_of x) k then f x else 0) n + sum_below (λ k. sum_by f (rows_of_card k xs)) n =
+    below-same (λ k. sum_by f (rows_of_card k (x ∷ xs))) (λ k. (if nat_eq (card_of x) k then f x else 0) + sum_by f (rows_of_card k xs)) n
+    (λ k. first-of-card f k x xs)
+    ∙ below-both (λ k. if nat_eq (card_of x) k then f x else 0) (λ k. sum_by f (rows_of_card k xs)) n in
+    omega (arith, first, first-elsewhere f n x xs, one-slot (card_of x) (f x) n, slots-share f n xs, sum_by-cons f x xs)
 
 -- ---- headings
 

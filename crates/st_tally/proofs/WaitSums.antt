@@ -1,22 +1,8 @@
 -- Lemmas on the waits of an entry and their sums.
-use Rattle.std.proofs.Common.{◌≡◌, ℕ, ◌+◌, ◌-◌, ◌≤◌, ◌<◌, ◌^◌, true, List, [], ◌∷◌, refl, ◌∙◌, ap, arith}
-use Rattle.std.proofs.lemmas.Bool.{cond_both}
-use Rattle.st_rows.specs.declared.uses.Use.{Use}
-use Rattle.st_ledger.specs.Charges.{is_stage, all_ticks}
-use Rattle.st_ledger.specs.declared.charges.Charge.{Charge}
-use Rattle.st_ledger.specs.declared.charges.Stage.{Stage}
-use Rattle.st_ledger.specs.declared.charges.Stage.TheVariants.{Restart, Instruction, Address, Index, Preparing, Operand, Executing}
-use Rattle.st_reasons.specs.Sums.{all_stalled, stalled_for, is_stall, row_stalled, share_at, waited_at, is_parted, AreSharesWithin, AreWaitsWithin}
-use Rattle.st_reasons.specs.Waits.{charge_waits}
-use Rattle.st_reasons.specs.Words.{AreWordsInTime}
-use Rattle.st_reasons.specs.declared.sums.Shares.{Shares}
-use Rattle.st_reasons.specs.declared.sums.WaitTotals.{WaitTotals}
-use Rattle.st_reasons.specs.declared.waits.Stall.{Stall}
-use Rattle.st_reasons.specs.declared.waits.Stall.TheVariants.{Turn, Bank, Storage}
-use Rattle.st_reasons.specs.declared.waits.Wait.{Wait}
-use Rattle.st_reasons.proofs.Laws.{waits_are_within_their_charge}
-use Rattle.st_lines.specs.Waited.{AddsWaits}
-use Rattle.st_tally.specs.Slots.{CanAddShares, CanAddWaits, both_shares, both_waits}
+use Rattle.st_tally.proofs.Common.{◌≡◌, ℕ, ◌+◌, ◌-◌, ◌≤◌, ◌<◌, ◌^◌, List, [], ◌∷◌, refl, arith, cond_both, Use, is_stage, all_ticks, Charge, Stage, Restart, Instruction, Address, Index, Preparing, Operand, Executing, all_stalled, stalled_for, is_stall, row_stalled, share_at, waited_at, AreSharesWithin, AreWaitsWithin, AreWordsInTime, Shares, WaitTotals, Stall, Turn, Bank, Storage, CanAddShares, CanAddWaits, both_shares, both_waits}
+use Rattle.st_ledger.specs.Waits.{charge_waits}
+use Rattle.st_ledger.specs.declared.waits.Wait.{Wait}
+use Rattle.st_ledger.proofs.Laws.{waits_are_within_their_charge}
 
 -- ---- the waits of an entry have at most as many ticks as its charges
 
@@ -28,7 +14,7 @@ stalled-most s (x ∷ xs) =
     (λ same. omega (arith, stalled-most s xs))
     (λ other. omega (arith, stalled-most s xs))
 
-row-most : (r : Stage) (s : Stall) (uses before : List Use) (xs : List Charge) → AreWordsInTime uses → AreWordsInTime before
+pub row-most : (r : Stage) (s : Stall) (uses before : List Use) (xs : List Charge) → AreWordsInTime uses → AreWordsInTime before
     → row_stalled r s uses before xs ≤ all_ticks xs
 unfolding row_stalled all_ticks
 row-most r s uses before [] used earlier = omega arith
@@ -41,15 +27,12 @@ row-most r s uses before (x ∷ xs) used earlier =
     (λ same. omega (arith, one, more))
     (λ other. omega (arith, more))
 
-shares-by : (t : ℕ) (a : Shares) → ((s : Stall) → share_at s a ≤ t) → AreSharesWithin t a
-shares-by t a each = record { turn = each Turn; bank = each Bank; storage = each Storage }
-
 share-most : (t : ℕ) (a : Shares) (s : Stall) → AreSharesWithin t a → share_at s a ≤ t
 share-most t a Turn is = is.turn
 share-most t a Bank is = is.bank
 share-most t a Storage is = is.storage
 
--- ---- found waits
+-- ---- no waits
 
 share-none : (a : Shares) (s : Stall) → AreSharesWithin 0 a → share_at s a ≡ 0
 share-none a s is = omega (arith, share-most 0 a s is)
@@ -62,22 +45,6 @@ waited-none sums Index s is = share-none sums.index s is.index
 waited-none sums Preparing s is = refl
 waited-none sums Operand s is = share-none sums.operand s is.operand
 waited-none sums Executing s is = refl
-
--- waits that are added to empty totals
-pub found-sums : (uses before : List Use) (from : ℕ) (xs : List Charge) (none found : WaitTotals) → AreWaitsWithin 0 none
-    → AddsWaits uses before from xs none found → (r : Stage) (s : Stall) → is_parted r ≡ true → waited_at r s found ≡ row_stalled r s uses before xs
-found-sums uses before from xs none found is adds r s parted = omega (arith, adds.sums r s parted, waited-none none r s is)
-
-pub found-within : (uses before : List Use) (from : ℕ) (xs : List Charge) (none found : WaitTotals) → AreWordsInTime uses → AreWordsInTime before
-    → AreWaitsWithin 0 none → AddsWaits uses before from xs none found → AreWaitsWithin (all_ticks xs) found
-found-within uses before from xs none found used earlier is adds =
-    let most : (r : Stage) (s : Stall) → is_parted r ≡ true → waited_at r s found ≤ all_ticks xs = λ r s parted.
-    omega (arith, found-sums uses before from xs none found is adds r s parted, row-most r s uses before xs used earlier) in
-    record {
-      instruction = shares-by (all_ticks xs) found.instruction (λ s. most Instruction s refl);
-      index = shares-by (all_ticks xs) found.index (λ s. most Index s refl);
-      operand = shares-by (all_ticks xs) found.operand (λ s. most Operand s refl);
-    }
 
 -- ---- the sums of two lists of waits
 
@@ -95,20 +62,6 @@ waits-fit t u a b few is more = record {
   operand = shares-fit t u a.operand b.operand few is.operand more.operand;
 }
 
-both-shares-within : (t u v : ℕ) (a b : Shares) → t + u ≡ v → AreSharesWithin t a → AreSharesWithin u b → AreSharesWithin v (both_shares a b)
-both-shares-within t u v a b all is more = record {
-  turn = omega (arith, all, is.turn, more.turn);
-  bank = omega (arith, all, is.bank, more.bank);
-  storage = omega (arith, all, is.storage, more.storage);
-}
-
-pub both-within : (t u v : ℕ) (a b : WaitTotals) → t + u ≡ v → AreWaitsWithin t a → AreWaitsWithin u b → AreWaitsWithin v (both_waits a b)
-both-within t u v a b all is more = record {
-  instruction = both-shares-within t u v a.instruction b.instruction all is.instruction more.instruction;
-  index = both-shares-within t u v a.index b.index all is.index more.index;
-  operand = both-shares-within t u v a.operand b.operand all is.operand more.operand;
-}
-
 both-share-at : (s : Stall) (a b : Shares) → share_at s (both_shares a b) ≡ share_at s a + share_at s b
 both-share-at Turn a b = refl
 both-share-at Bank a b = refl
@@ -122,13 +75,3 @@ both-at Index s a b = both-share-at s a.index b.index
 both-at Preparing s a b = refl
 both-at Operand s a b = both-share-at s a.operand b.operand
 both-at Executing s a b = refl
-
--- waits that are found and then added to totals
-pub found-added : (uses before : List Use) (from : ℕ) (xs : List Charge) (old new found : WaitTotals) → AreWaitsWithin from old
-    → AreWaitsWithin (all_ticks xs) found → ((r : Stage) (s : Stall) → is_parted r ≡ true → waited_at r s found ≡ row_stalled r s uses before xs)
-    → new ≡ both_waits old found → AddsWaits uses before from xs old new
-found-added uses before from xs old new found is few sums added = record {
-  within = rw added (both-within from (all_ticks xs) (from + all_ticks xs) old found refl is few);
-  sums = λ r s parted.
-      ap (waited_at r s) added ∙ both-at r s old found ∙ ap (λ n. waited_at r s old + n) (sums r s parted);
-}

@@ -9,10 +9,10 @@
 -- Change: the meaning is fixed by docs/ledger.md, since the contract of `st_account::ledger`
 -- unfolds to a definition here. The form is free, with the proofs that unfold it.
 use Rattle.std.specs.Prelude.{ℕ, Bool, false, nat_eq, nat_lt, if◌then◌else◌, List, [], ◌∷◌, Option, None, Some}
-use Rattle.st_reasons.specs.declared.because.Reason.{Reason}
-use Rattle.st_reasons.specs.declared.because.Reason.TheVariants.{Serial as ForSerial, Store as ForStore, Level as ForLevel, Forwarding as ForForwarding, Bus as ForBus, Order as ForOrder}
-use Rattle.st_reasons.specs.declared.because.StallCause.{StallCause}
-use Rattle.st_reasons.specs.declared.because.StallCause.TheVariants.{Start, Prefetch as ForPrefetch, Earlier}
+use Rattle.st_ledger.specs.declared.because.Reason.{Reason}
+use Rattle.st_ledger.specs.declared.because.Reason.TheVariants.{Serial as ForSerial, Store as ForStore, Level as ForLevel, Forwarding as ForForwarding, Bus as ForBus, Order as ForOrder}
+use Rattle.st_ledger.specs.declared.because.StallCause.{StallCause}
+use Rattle.st_ledger.specs.declared.because.StallCause.TheVariants.{Start, Prefetch as ForPrefetch, Earlier}
 use Rattle.st_lines.specs.declared.facts.EntryDone.{EntryDone}
 use Rattle.st_lines.specs.declared.lines.Why.{Why}
 use Rattle.st_lines.specs.declared.lines.Why.TheVariants.{Run as RunBegins, Interrupt as Interrupted, Mispredicted, Card as CardRead}

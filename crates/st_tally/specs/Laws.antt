@@ -1,6 +1,7 @@
 -- Laws of the tables of a run.
 --
 -- Proved: each law has its lemma in proofs/Laws.antt, with its name in small letters.
+-- Read by: definitions in Slots.
 -- Claimed: docs/CLAIMS.md names CardsShareTheRows, HeadingsShareTheLostTicks,
 -- HeadingsShareTheRowsWithReasons, LostTicksAreThoseOfOtherStages.
 -- Change: docs/promises.txt lists each law, and the gate compares the list with the laws.

@@ -9,5 +9,5 @@ pub use Rattle.st_ledger.specs.Totals
 pub use Rattle.st_lines.specs.EntryLines
 pub use Rattle.st_lines.specs.Waited
 pub use Rattle.st_lines.specs.WaitLines
-pub use Rattle.st_reasons.specs.Sums
+pub use Rattle.st_ledger.specs.Sums
 pub use Rattle.st_text.specs.Bytes

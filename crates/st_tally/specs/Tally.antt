@@ -1,7 +1,7 @@
 -- The tables of a run as sums over its rows.
 --
--- Proved: by their `ensures` clauses these calls do what definitions here say: `add` (tables.rt),
--- `add_card` (tables.rt), `write` (writing.rt), `card_of` (tables.rt), and others.
+-- Proved: by their `ensures` clauses these calls do what definitions here say: `stage_totals`
+-- (totals.rt), `wait_totals` (totals.rt), `add` (tables.rt), `add_card` (tables.rt), and others.
 -- Read by: definitions in TallyLines, Slots, Tallying of st_account, LedgerTables of st_account,
 -- and others.
 -- Laws: CardsShareTheRows (specs/Laws.antt), HeadingsShareTheLostTicks (specs/Laws.antt),
@@ -9,18 +9,18 @@
 -- (specs/Laws.antt), and others.
 -- Change: the meaning is fixed by docs/ledger.md, since the contract of `st_account::ledger`
 -- unfolds to a definition here. The form is free, with the proofs that unfold it.
-use Rattle.std.specs.Prelude.{ℕ, ◌≡◌, ◌-◌, ◌<◌, Bool, true, not, min, nat_eq, List, length, get_or, Option, None, Some}
+use Rattle.std.specs.Prelude.{ℕ, ◌≡◌, ◌-◌, ◌<◌, Bool, true, not, min, nat_eq, nat_lt, List, length, get_or, Option, None, Some}
 use Rattle.std.specs.List.{filter, sum_by}
 use Rattle.st_rows.specs.declared.uses.Use.{Use}
 use Rattle.st_ledger.specs.Charges.{ticks_for}
 use Rattle.st_ledger.specs.Totals.{sum_at}
 use Rattle.st_ledger.specs.declared.charges.Stage.{Stage}
 use Rattle.st_ledger.specs.declared.totals.Totals.{Totals}
-use Rattle.st_reasons.specs.Sums.{row_stalled, is_parted, waited_at}
-use Rattle.st_reasons.specs.declared.because.StallCause.{StallCause}
-use Rattle.st_reasons.specs.declared.because.StallCause.TheVariants.{Start, Prefetch, Earlier}
-use Rattle.st_reasons.specs.declared.sums.WaitTotals.{WaitTotals}
-use Rattle.st_reasons.specs.declared.waits.Stall.{Stall}
+use Rattle.st_ledger.specs.Sums.{row_stalled, is_parted, waited_at}
+use Rattle.st_ledger.specs.declared.because.StallCause.{StallCause}
+use Rattle.st_ledger.specs.declared.because.StallCause.TheVariants.{Start, Prefetch, Earlier}
+use Rattle.st_ledger.specs.declared.sums.WaitTotals.{WaitTotals}
+use Rattle.st_ledger.specs.declared.waits.Stall.{Stall}
 use Rattle.st_lines.specs.EntryLines.{charges_of_entry}
 use Rattle.st_lines.specs.declared.facts.EntryDone.{EntryDone}
 use Rattle.st_lines.specs.declared.lines.Why.{Why}
@@ -76,6 +76,10 @@ has_level_wait x = not (nat_eq x.done.row.level_wait 0)
 -- the rows of card k
 unfoldable pub rows_of_card : ℕ → List TalliedRow → List TalliedRow
 rows_of_card k xs = filter (λ x. nat_eq (card_of x) k) xs
+
+-- the rows whose card is none of those below n
+unfoldable pub rows_elsewhere : ℕ → List TalliedRow → List TalliedRow
+rows_elsewhere n xs = filter (λ x. not (nat_lt (card_of x) n)) xs
 
 -- the rows whose reason has a heading
 unfoldable pub rows_for : Heading → List TalliedRow → List TalliedRow
@@ -159,6 +163,7 @@ pub record IsReasonSum (xs : List TalliedRow) (sum : ReasonSum) : Type 0 where
 -- the tables are those of some rows
 pub record IsTally (xs : List TalliedRow) (t : Tables) : Type 0 where
   pub cards : (k : ℕ) → k < length t.cards.items → IsCardSum (rows_of_card k xs) (card_sum t k)
+  pub others : IsCardSum (rows_elsewhere (length t.cards.items) xs) t.others
   pub reasons : (h : Heading) → IsReasonSum (rows_for h xs) (reason_sum t h)
   pub mispredicted : t.mispredicted ≡ length (mispredicted_rows xs)
   pub level_rows : t.level_rows ≡ length (level_rows xs)

@@ -12,8 +12,8 @@ use Rattle.st_text.specs.Bytes.{lf}
 use Rattle.st_io.specs.Lines.{lines_for}
 use Rattle.st_ledger.specs.Totals.{stages, sums_by, sum_lines}
 use Rattle.st_ledger.specs.declared.charges.Stage.{Stage}
-use Rattle.st_reasons.specs.Sums.{wait_sums_by}
-use Rattle.st_reasons.specs.declared.waits.Stall.{Stall}
+use Rattle.st_ledger.specs.Sums.{wait_sums_by}
+use Rattle.st_ledger.specs.declared.waits.Stall.{Stall}
 use Rattle.st_lines.specs.WaitLines.{wait_sum_lines}
 use Rattle.st_tally.specs.Headings.{headings}
 use Rattle.st_tally.specs.Tally.{TalliedRow, rows_of_card, rows_for, stage_ticks, wait_ticks, lost_ticks, late_ticks, mispredicted_rows, level_rows, level_ticks}

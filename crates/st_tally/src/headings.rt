@@ -8,13 +8,13 @@
 //!
 //! Pinned, by `headings` of specs/Headings.antt and vectors/ledger/sums.txt: the eleven headings
 //! and their order, which is that of the lines. `all_headings` of writing.rt repeats it. A new
-//! `Reason` or `StallCause` of `st_reasons`, or a new `Why` of `st_lines`, needs its heading here
+//! `Reason` or `StallCause` of `st_ledger`, or a new `Why` of `st_lines`, needs its heading here
 //! and in specs/Headings.antt. Free: the split into functions.
 ghost use Rattle.std.specs.Prelude.{◌≡◌, ◌<◌};
 ghost use Rattle.st_tally.specs.Headings.{heading_number, heading_of_start as start_heading, heading_of_reason as reason_heading, heading_of as heading_by, heading_at as heading_for};
 
+use st_ledger::{Reason, StallCause};
 use st_lines::{EntryDone, Why};
-use st_reasons::{Reason, StallCause};
 
 /// The reason of a row; the start of its segment by why the segment begins.
 #[derive(Clone, Copy, Debug, PartialEq, Eq)]

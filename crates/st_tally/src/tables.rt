@@ -1,6 +1,7 @@
 //! The sums over the rows of a run, by card and by reason. docs/ledger.md has the tables ("Totals
 //! and tables"). `st_account` makes `Tables` with `new` (program.rt) and adds each completed entry
-//! with `add` (tallying.rt); writing.rt writes them. Sums are ticks and numbers of rows.
+//! with `add` (tallying.rt); writing.rt writes them. Sums are ticks and numbers of rows. Each row is
+//! added to one slot, that of its card; totals.rt adds up all slots.
 //!
 //! Proved: after each `add` the tables are the sums over one row more (clause `tally`, `IsTally` in
 //! specs/Tally.antt), and no sum overflows (`within`). Laws in specs/Laws.antt:
@@ -8,26 +9,22 @@
 //! the law `RowsComeFromTheCards` of `st_causes` (specs/CardLaws.antt there) gives the place.
 //!
 //! Pinned, by `IsTally`: index 0 is the sum of rows without a card; a row whose card has no place
-//! is left out. Free: the bodies, if proofs/tables follows.
+//! is in `others`, of which no line is written. Free: the bodies, if proofs/tables follows.
 ghost use Rattle.std.specs.Prelude.{◌≡◌, ◌≢◌, ◌+◌, ◌≤◌, ◌<◌, ◌^◌, ◌∷◌, ◌++◌, [], ℕ, List, true, if◌then◌else◌, not, nat_eq, length, get_or, IfOk};
-ghost use Rattle.st_ledger.specs.Charges.{all_ticks, ticks_for};
-ghost use Rattle.st_ledger.specs.Totals.{sum_at, AreWithin};
+ghost use Rattle.st_ledger.specs.Charges.{ticks_for};
+ghost use Rattle.st_ledger.specs.Totals.{sum_at as ticks_at, AreWithin};
 ghost use Rattle.st_ledger.specs.declared.charges.Stage.{Stage};
 ghost use Rattle.st_lines.specs.EntryLines.{charges_of_entry};
-ghost use Rattle.st_lines.specs.Waited.{AreWaitsReady, AddsWaits};
-ghost use Rattle.st_reasons.specs.Sums.{AreWaitsWithin, is_parted, waited_at, row_stalled};
-ghost use Rattle.st_reasons.specs.Words.{AreWordsInTime};
-ghost use Rattle.st_reasons.specs.declared.waits.Stall.{Stall};
+ghost use Rattle.st_ledger.specs.Words.{AreWordsInTime};
 ghost use Rattle.st_tally.specs.Headings.{heading_number, heading_at as heading_for};
 ghost use Rattle.st_tally.specs.declared.headings.Heading.{Heading};
-ghost use Rattle.st_tally.specs.Tally.{TalliedRow, card_by_origin, late_by as late_for, no_card_sum, no_reason_sum, no_waits, IsTally};
-ghost use Rattle.st_tally.specs.Slots.{IsCardSumWithin, IsReasonSumWithin, AreTablesWithin, IsInOrder, CanAddShares, CanAddWaits, both_shares, both_waits, OnlyExecutes, AddsCard, with_entry, with_reason};
+ghost use Rattle.st_tally.specs.Tally.{TalliedRow, card_by_origin, late_by as late_for, no_card_sum, no_reason_sum, IsTally};
+ghost use Rattle.st_tally.specs.Slots.{IsCardSumWithin, IsReasonSumWithin, AreTablesWithin, AreTablesOfNone, IsInOrder, OnlyExecutes, AddsCard, with_entry, with_reason};
 
 use crate::headings::{HEADINGS, heading_at};
 use st_bits::NoMemory;
-use st_ledger::Totals;
-use st_lines::{EntryDone, Origin, RowTelling, Why, add_waits};
-use st_reasons::{Shares, StallCause, WaitTotals, Waits};
+use st_ledger::{StallCause, Totals, WaitTotals, Waits};
+use st_lines::{EntryDone, Origin, Why, add_waits};
 use st_rows::Use;
 use std::alloc::Global;
 
@@ -58,6 +55,8 @@ pub struct ReasonSum {
 pub struct Tables {
     /// The sums of each card by its number; at 0 those of the rows that come from no card.
     pub cards: Vec<CardSum>,
+    /// The sums of the rows whose card has no place in `cards`; no run has such rows.
+    pub others: CardSum,
     /// The sums of each heading, in the order of the headings.
     pub reasons: [ReasonSum; HEADINGS],
     /// The number of mispredicted branches.
@@ -68,37 +67,6 @@ pub struct Tables {
     pub level_ticks: u64,
 }
 
-// Adds the ticks of waits in a stage.
-fn add_shares(shares: &mut Shares, more: &Shares)
-    requires { CanAddShares shares.old more.now }
-    ensures { shares.new ≡ both_shares shares.old more.now }
-{
-    shares.turn += more.turn;
-    shares.bank += more.bank;
-    shares.storage += more.storage;
-}
-
-// Adds the ticks of waits.
-fn add_found(waits: &mut WaitTotals, more: &WaitTotals)
-    requires { CanAddWaits waits.old more.now }
-    ensures { waits.new ≡ both_waits waits.old more.now }
-{
-    add_shares(&mut waits.instruction, &more.instruction);
-    add_shares(&mut waits.index, &more.index);
-    add_shares(&mut waits.operand, &more.operand);
-}
-
-// Adds the ticks of the waits of an entry, which has none if it only executes.
-fn add_waits_of(executes: bool, waits: &mut WaitTotals, more: &WaitTotals)
-    requires none { executes ≡ true → more.now ≡ no_waits }
-    requires fit { CanAddWaits waits.old more.now }
-    ensures { waits.new ≡ both_waits waits.old more.now }
-{
-    if !executes {
-        add_found(waits, more);
-    }
-}
-
 // Whether an entry only executes: its other stages end before its charges begin.
 fn only_executes(done: &EntryDone) -> bool
     ensures { result ≡ true → OnlyExecutes done.now }
@@ -107,67 +75,71 @@ fn only_executes(done: &EntryDone) -> bool
     done.start.max(ticks.a).max(ticks.p).max(ticks.r) <= done.before
 }
 
-// The ticks of the waits of an entry, which has none if it only executes; `waits` lends its room.
-fn find_waits(
-    executes: bool,
-    done: &EntryDone,
-    uses: &[Use],
-    before: &[Use],
-    waits: &mut Waits,
-) -> WaitTotals
-    requires executes { executes ≡ true → OnlyExecutes done.now }
-    requires later { done.now.before < done.now.row.ticks.c }
-    requires used { AreWordsInTime uses.now }
-    requires earlier { AreWordsInTime before.now }
-    ensures sums { (r : Stage) (s : Stall) → is_parted r ≡ true →
-        waited_at r s result ≡ row_stalled r s uses.now before.now (charges_of_entry done.now) }
-    ensures within { AreWaitsWithin (all_ticks (charges_of_entry done.now)) result }
-    ensures none { executes ≡ true → result ≡ no_waits }
-{
-    let mut found = WaitTotals::default();
-    if executes {
-        return found;
-    }
-    add_waits(
-        done.before,
-        done.start,
-        &done.row.ticks,
-        uses,
-        before,
-        waits,
-        &mut found,
-    );
-    found
-}
-
 // Adds the ticks of an entry that only executes.
 fn add_executing(sums: &mut Totals, done: &EntryDone)
     requires executes { OnlyExecutes done.now }
     requires order { IsInOrder done.now }
     requires within { AreWithin done.now.before sums.old }
-    ensures sums { (s : Stage) → sum_at s sums.new
-        ≡ sum_at s sums.old + ticks_for s (charges_of_entry done.now) }
+    ensures sums { (s : Stage) → ticks_at s sums.new
+        ≡ ticks_at s sums.old + ticks_for s (charges_of_entry done.now) }
     ensures within { AreWithin done.now.row.ticks.c sums.new }
 {
     sums.executing += done.row.ticks.c - done.before;
 }
 
-// Adds an entry with its waits to the sums of a card.
-fn add_to_card(executes: bool, sum: &mut CardSum, done: &EntryDone, found: &WaitTotals)
+// Adds an entry with its waits to the sums of a card; `waits` lends its room.
+#[inline(always)]
+fn add_to_card(
+    executes: bool,
+    sum: &mut CardSum,
+    done: &EntryDone,
+    uses: &[Use],
+    before: &[Use],
+    waits: &mut Waits,
+)
     requires executes { executes ≡ true → OnlyExecutes done.now }
-    requires none { executes ≡ true → found.now ≡ no_waits }
     requires order { IsInOrder done.now }
     requires within { IsCardSumWithin done.now.before sum.old }
-    requires few { AreWaitsWithin (all_ticks (charges_of_entry done.now)) found.now }
-    ensures { AddsCard done.now found.now sum.old sum.new }
+    requires used { AreWordsInTime uses.now }
+    requires earlier { AreWordsInTime before.now }
+    ensures { AddsCard done.now uses.now before.now sum.old sum.new }
 {
     sum.rows += 1;
     if executes {
         add_executing(&mut sum.sums, done);
         return;
     }
-    sum.sums.add_row(&done.row.ticks, done.before, done.start);
-    add_found(&mut sum.waits, found);
+    let row = &done.row.ticks;
+    sum.sums.add_row(row, done.before, done.start);
+    add_waits(
+        done.before,
+        done.start,
+        row,
+        uses,
+        before,
+        waits,
+        &mut sum.waits,
+    );
+}
+
+// The same for an entry whose card has no place.
+#[inline(never)]
+fn add_to_others(
+    executes: bool,
+    sum: &mut CardSum,
+    done: &EntryDone,
+    uses: &[Use],
+    before: &[Use],
+    waits: &mut Waits,
+)
+    requires executes { executes ≡ true → OnlyExecutes done.now }
+    requires order { IsInOrder done.now }
+    requires within { IsCardSumWithin done.now.before sum.old }
+    requires used { AreWordsInTime uses.now }
+    requires earlier { AreWordsInTime before.now }
+    ensures { AddsCard done.now uses.now before.now sum.old sum.new }
+{
+    add_to_card(executes, sum, done, uses, before, waits);
 }
 
 // The number of the card that an entry comes from; 0 without one.
@@ -180,26 +152,41 @@ fn card_of(origin: Option<Origin>) -> u32
     }
 }
 
-// Adds an entry with its waits to the sums of its card, if the table has that card.
-fn add_card(executes: bool, cards: &mut Vec<CardSum>, done: &EntryDone, found: &WaitTotals)
-    requires executes { executes ≡ true → OnlyExecutes done.now }
-    requires none { executes ≡ true → found.now ≡ no_waits }
+// Adds an entry with its waits to the sums of its card, or to those of the other rows if the table
+// does not have that card; `waits` lends its room.
+fn add_card(
+    cards: &mut Vec<CardSum>,
+    others: &mut CardSum,
+    done: &EntryDone,
+    uses: &[Use],
+    before: &[Use],
+    waits: &mut Waits,
+)
     requires order { IsInOrder done.now }
     requires within { (k : ℕ) → k < length cards.old.items →
         IsCardSumWithin done.now.before (get_or cards.old.items k no_card_sum) }
-    requires few { AreWaitsWithin (all_ticks (charges_of_entry done.now)) found.now }
+    requires rest { IsCardSumWithin done.now.before others.old }
+    requires used { AreWordsInTime uses.now }
+    requires earlier { AreWordsInTime before.now }
 
     ensures size { length cards.new.items ≡ length cards.old.items }
     ensures own { let k = card_by_origin done.now.origin in
-        k < length cards.old.items → AddsCard done.now found.now
+        k < length cards.old.items → AddsCard done.now uses.now before.now
         (get_or cards.old.items k no_card_sum) (get_or cards.new.items k no_card_sum) }
     ensures others { (k : ℕ) → k ≢ card_by_origin done.now.origin →
         get_or cards.new.items k no_card_sum ≡ get_or cards.old.items k no_card_sum }
+    ensures kept { card_by_origin done.now.origin < length cards.old.items →
+        others.new ≡ others.old }
+    ensures rest { length cards.old.items ≤ card_by_origin done.now.origin →
+        AddsCard done.now uses.now before.now others.old others.new }
 {
+    let executes = only_executes(done);
     let k = card_of(done.origin) as usize;
     if k < cards.len() {
-        add_to_card(executes, &mut cards[k], done, found);
+        add_to_card(executes, &mut cards[k], done, uses, before, waits);
+        return;
     }
+    add_to_others(executes, others, done, uses, before, waits);
 }
 
 // The ticks by which an entry that lost some ticks was later for its cause, at most these.
@@ -239,6 +226,14 @@ fn add_reason(reasons: &mut [ReasonSum; HEADINGS], why: Why, done: &EntryDone)
     }
 }
 
+/// The sums of a card.
+pub(crate) fn sum_at(cards: &Vec<CardSum>, k: usize) -> &CardSum
+    requires { k < length cards.now.items }
+    ensures { result.now ≡ get_or cards.now.items k no_card_sum }
+{
+    &cards[k]
+}
+
 // The number of places of a table with so many cards.
 fn places(cards: u32) -> usize
     ensures { result ≡ cards + 1 }
@@ -249,13 +244,14 @@ fn places(cards: u32) -> usize
 // The tables of no rows, for the cards 1 to `cards`.
 fn no_tables(alloc: Global, cards: u32) -> Result<Tables, NoMemory>
     ensures size { IfOk result (λ t. length t.cards.items ≡ cards + 1) }
-    ensures none { IfOk result (λ t. AreTablesWithin 0 t × (t.level_ticks ≡ 0)) }
+    ensures none { IfOk result AreTablesOfNone }
 {
     let Ok(cards) = vec![in alloc; CardSum::default(); places(cards)] else {
         return Err(NoMemory);
     };
     Ok(Tables {
         cards,
+        others: CardSum::default(),
         reasons: [ReasonSum::default(); HEADINGS],
         mispredicted: 0,
         level_rows: 0,
@@ -306,22 +302,23 @@ impl Tables {
     }
 
     /// Adds a completed entry, whose segment begins for the reason `why`. The entry uses the words
-    /// `uses`, and the entry before it in its segment the words `before`. Its waits are added to
-    /// the totals in `waiting` too. Of the entry neither number, address, end of the segment nor the
-    /// KEPT of its line LAID matter, and its cause only if it lost ticks. No number may be greater
-    /// than the tick at which the entry before completed, except the ticks of waits for a level.
+    /// `uses`, and the entry before it in its segment the words `before`; `waits` lends its room. Of
+    /// the entry neither number, address, end of the segment nor the KEPT of its line LAID matter,
+    /// and its cause only if it lost ticks. No number may be greater than the tick at which the entry
+    /// before completed, except the ticks of waits for a level.
     pub fn add(
         &mut self,
         done: &EntryDone,
         why: Why,
         uses: &[Use],
         before: &[Use],
-        waiting: &mut RowTelling,
+        waits: &mut Waits,
     )
         requires order { IsInOrder done.now }
         requires ticks { self.old.level_ticks + done.now.row.level_wait < 2 ^ 64 }
         requires within { AreTablesWithin done.now.before self.old }
-        requires waits { AreWaitsReady uses.now before.now done.now.before waiting.old.totals }
+        requires used { AreWordsInTime uses.now }
+        requires earlier { AreWordsInTime before.now }
 
         ensures tally { (xs : List TalliedRow) → IsTally xs self.old → IsTally (xs
             ++ record { done = done.now; why = why; uses = uses.now; before = before.now } ∷ [])
@@ -329,13 +326,8 @@ impl Tables {
         ensures size { length self.new.cards.items ≡ length self.old.cards.items }
         ensures ticks { self.new.level_ticks ≡ self.old.level_ticks + done.now.row.level_wait }
         ensures within { AreTablesWithin done.now.row.ticks.c self.new }
-        ensures waits { AddsWaits uses.now before.now done.now.before (charges_of_entry done.now)
-            waiting.old.totals waiting.new.totals }
     {
-        let executes = only_executes(done);
-        let found = find_waits(executes, done, uses, before, &mut waiting.waits);
-        add_waits_of(executes, &mut waiting.totals, &found);
-        add_card(executes, &mut self.cards, done, &found);
+        add_card(&mut self.cards, &mut self.others, done, uses, before, waits);
         add_reason(&mut self.reasons, why, done);
         self.count(done);
     }

@@ -10,16 +10,16 @@
 //! Pinned, by `table_lines`, docs/ledger.md and vectors/ledger/sums.txt: the order of lines.
 //! Pinned, by `st_ledger` and `st_lines`: the fifteen lines `SUM` after a card. Free: the split
 //! into functions, if proofs/writing follows.
-ghost use Rattle.std.specs.Prelude.{◌≡◌, ◌+◌, ◌<◌, ◌∷◌, [], List, length, get_or};
+ghost use Rattle.std.specs.Prelude.{◌≡◌, ◌+◌, ◌∷◌, [], List, length};
 ghost use Rattle.st_io.specs.Lines.{WritesLines, lines_for};
 ghost use Rattle.st_tally.specs.Headings.{headings};
 ghost use Rattle.st_tally.specs.Slots.{slot_lines, reason_sum_line, tables_lines};
-ghost use Rattle.st_tally.specs.Tally.{TalliedRow, no_card_sum, card_sum, reason_sum, IsTally};
+ghost use Rattle.st_tally.specs.Tally.{TalliedRow, card_sum, reason_sum, IsTally};
 ghost use Rattle.st_tally.specs.TallyLines.{card_line, lines_by_heading, count_lines, missed_count_line, level_count_line, drop_count_line, table_lines};
 
 use crate::headings::Heading;
 use crate::lines::{fill_card, fill_dropped, fill_level, fill_missed, fill_reason};
-use crate::tables::{CardSum, ReasonSum, Tables};
+use crate::tables::{CardSum, Tables, sum_at};
 use st_io::{Failed, Sink, write_line};
 use st_ledger::write_sums;
 use st_lines::write_wait_sums;
@@ -45,14 +45,6 @@ fn write_slot<K: Sink>(out: &mut K, card: u64, sum: &CardSum) -> Result<(), Fail
     write_card(out, card, sum.rows)?;
     write_sums(out, &sum.sums)?;
     write_wait_sums(out, &sum.waits)
-}
-
-// The sums of a card.
-fn sum_at(cards: &Vec<CardSum>, k: usize) -> &CardSum
-    requires { k < length cards.now.items }
-    ensures { result.now ≡ get_or cards.now.items k no_card_sum }
-{
-    &cards[k]
 }
 
 // Writes the lines of all cards.

@@ -1,7 +1,4 @@
-use Rattle.std.specs.Prelude.{All}
-use Rattle.std.proofs.Common.{sym, subst}
-use Rattle.st_reasons.specs.Words.{IsReadInTime}
-use Rattle.st_lines.proofs.LineLemmas.{same_lines, no_lines}
+use Rattle.st_account.proofs.Common.{All, sym, subst, IsReadInTime, same_lines, no_lines}
 use Rattle.st_account.proofs.EntryLemmas.{kept-none, kept-row}
 use Rattle.st_account.proofs.StallLemmas.{adds-none, adds-some}
 use Rattle.st_account.proofs.account.write_row.Goals as goal
@@ -15,17 +12,17 @@ returns-then-k-eq0-clause-waits g c good = adds-none c.args.k c.args.last.now _ 
 pub write_done-requires : goal.write_done-requires
 write_done-requires g c = record {
   used = record { few = c.as_slice.ensures.fits; each = subst (All IsReadInTime) (sym c.as_slice.ensures.value) c.requires.uses };
-  earlier = record { few = c.as_slice-2.ensures.fits; each = subst (All IsReadInTime) (sym c.as_slice-2.ensures.value) c.requires.before };
+  earlier = record { few = c.before-2.ensures.fits; each = subst (All IsReadInTime) (sym c.before-2.ensures.value) c.requires.before };
   within = c.requires.within;
 }
 
 pub returns-clause-lines : goal.returns-clause-lines
 returns-clause-lines g c =
     same_lines _ _ _ _ _
-    (kept-row c.args.k c.args.last.now c.args.end c.as_slice.result.now c.as_slice-2.result.now c.if-k-eq0.false c.as_slice.ensures.value c.as_slice-2.ensures.value)
+    (kept-row c.args.k c.args.last.now c.args.end c.as_slice.result.now c.before-2.result.now c.if-k-eq0.false c.as_slice.ensures.value c.before-2.ensures.value)
     c.write_done.ensures.lines
 
 pub returns-clause-waits : goal.returns-clause-waits
 returns-clause-waits g c good =
-    adds-some c.args.k c.args.last.now _ _ _ _ c.if-k-eq0.false c.requires.reach c.as_slice.ensures.value c.as_slice-2.ensures.value
+    adds-some c.args.k c.args.last.now _ _ _ _ c.if-k-eq0.false c.requires.reach c.as_slice.ensures.value c.before-2.ensures.value
     (c.write_done.ensures.waits good)

@@ -1,4 +1,4 @@
-use Rattle.std.proofs.Common.{sym}
+use Rattle.st_account.proofs.Common.{sym}
 use Rattle.st_account.proofs.FirstLemmas.{first-skipped, row-entered}
 use Rattle.st_account.proofs.origins.enter_row.Goals as goal
 

@@ -1,6 +1,4 @@
-use Rattle.st_io.proofs.Progress.{lines_cut, lines_then}
-use Rattle.st_lines.specs.BorderLines.{whole_state_lines}
-use Rattle.st_account.specs.Passing.{line_of_start}
+use Rattle.st_account.proofs.Common.{lines_cut, lines_then, whole_state_lines, line_of_start}
 use Rattle.st_account.proofs.passing.write_first.Goals as goal
 
 pub returns-in_err-write_whole_state : goal.returns-in_err-write_whole_state

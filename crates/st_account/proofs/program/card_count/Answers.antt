@@ -1,4 +1,4 @@
-use Rattle.std.proofs.Common.{length, ap, arith}
+use Rattle.st_account.proofs.Common.{length, ap, arith}
 use Rattle.st_asm.proofs.KeptLemmas.{few-cards}
 use Rattle.st_account.proofs.program.card_count.Goals as goal
 

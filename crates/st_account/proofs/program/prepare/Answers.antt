@@ -1,6 +1,4 @@
-use Rattle.std.proofs.Common.{refl, ◌∙◌, ap}
-use Rattle.st_asm.specs.Assembly.{assembly_parts}
-use Rattle.st_account.specs.FirstCards.{first_card}
+use Rattle.st_account.proofs.Common.{refl, ◌∙◌, ap, assembly_parts, first_card}
 use Rattle.st_account.proofs.FirstLemmas.{origins-are}
 use Rattle.st_account.proofs.program.prepare.Goals as goal
 

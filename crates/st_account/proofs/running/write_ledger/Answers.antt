@@ -1,8 +1,4 @@
-use Rattle.std.proofs.Common.{refl, sym, ◌∙◌, ap}
-use Rattle.st_lines.specs.Origins.{origin_at}
-use Rattle.st_account.specs.Passing.{lines_until}
-use Rattle.st_account.specs.Settling.{at_hand}
-use Rattle.st_account.specs.Text.{ledger}
+use Rattle.st_account.proofs.Common.{refl, sym, ◌∙◌, ap, origin_at, lines_until, at_hand, ledger}
 use Rattle.st_account.proofs.LedgerLemmas.{ledger-is, machine-fails, run-fails, sums-fail, all-written}
 use Rattle.st_account.proofs.running.write_ledger.Goals as goal
 
@@ -35,7 +31,7 @@ returns-in_err-write_sums g c =
     ∙ ledger-is (origin_at c.args.ready.origins) c.args.ready.delays.list c.args.ready.levels c.budget.result
     (at_hand c.args.ready.state c.args.controls.now.signals c.args.ready.cards)) _ _ _ (c.delays.ensures ∙ sym c.requires.delays)
     _ _ _ _ c.in_ok-write_machine.ensures c.in_ok-write_run.ensures.lines c.write_run.new.sums
-    (λ stage. c.in_ok-write_run.ensures.sums stage refl)
+    (c.in_ok-write_run.ensures.totals refl).charged
     _ c.from_residual-in_err-write_sums.result c.from_residual-in_err-write_sums.ensures.0 c.in_err-write_sums.ensures
 
 pub returns : goal.returns
@@ -48,6 +44,6 @@ returns g c =
     ∙ ledger-is (origin_at c.args.ready.origins) c.args.ready.delays.list c.args.ready.levels c.budget.result
     (at_hand c.args.ready.state c.args.controls.now.signals c.args.ready.cards)) _ _ _ (c.delays.ensures ∙ sym c.requires.delays)
     _ _ _ _ c.in_ok-write_machine.ensures c.in_ok-write_run.ensures.lines c.write_run.new.sums
-    (λ stage. c.in_ok-write_run.ensures.sums stage refl)
+    (c.in_ok-write_run.ensures.totals refl).charged
     _ _ c.write_wait_sums.result c.write_run.new.waits c.in_ok-write_sums.ensures
-    (λ r s parted. c.in_ok-write_run.ensures.waits r s parted refl) c.write_wait_sums.ensures
+    (c.in_ok-write_run.ensures.totals refl).waited c.write_wait_sums.ensures

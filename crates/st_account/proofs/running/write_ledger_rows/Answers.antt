@@ -1,7 +1,4 @@
-use Rattle.std.specs.Prelude.{min}
-use Rattle.std.proofs.Common.{sym, ◌∙◌}
-use Rattle.st_lines.specs.Origins.{origin_at}
-use Rattle.st_account.specs.Settling.{at_hand}
+use Rattle.st_account.proofs.Common.{min, sym, ◌∙◌, origin_at, at_hand}
 use Rattle.st_account.proofs.RoundLemmas.{rows-fail, rows-written}
 use Rattle.st_account.proofs.running.write_ledger_rows.Goals as goal
 

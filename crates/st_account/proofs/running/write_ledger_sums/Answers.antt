@@ -1,10 +1,4 @@
-use Rattle.std.proofs.Common.{length, refl, ◌∙◌, ap}
-use Rattle.st_io.proofs.Progress.{lines_cut, lines_then}
-use Rattle.st_lines.proofs.LineLemmas.{same_lines}
-use Rattle.st_lines.specs.Origins.{origin_at}
-use Rattle.st_tally.specs.TallyLines.{table_lines}
-use Rattle.st_account.specs.LedgerTables.{tallied_of, dropped_of}
-use Rattle.st_account.specs.Settling.{at_hand}
+use Rattle.st_account.proofs.Common.{length, refl, ◌∙◌, ap, lines_cut, lines_then, same_lines, origin_at, table_lines, tallied_of, dropped_of, at_hand}
 use Rattle.st_account.proofs.LedgerLemmas.{tables-behind}
 use Rattle.st_account.proofs.running.write_ledger_sums.Goals as goal
 

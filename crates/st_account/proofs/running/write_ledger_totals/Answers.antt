@@ -1,5 +1,5 @@
-use Rattle.std.proofs.Common.{sym, ◌∙◌}
-use Rattle.st_account.specs.Settling.{at_hand}
+use Rattle.st_account.proofs.Common.{sym, ◌∙◌, sum_at, waited_at, origin_at, at_hand}
+use Rattle.st_account.proofs.RowTotals.{charges-are, waits-are}
 use Rattle.st_account.proofs.LedgerLemmas.{sums-is, machine-fails, run-fails, sums-fail, all-written}
 use Rattle.st_account.proofs.running.write_ledger_totals.Goals as goal
 
@@ -25,8 +25,9 @@ returns-in_err-write_sums-clause-lines g c =
     (at_hand c.args.ready.state c.args.controls.now.signals c.args.ready.cards)
     (sums-is c.args.ready.delays.list c.args.ready.levels c.args.controls.now.budget
     (at_hand c.args.ready.state c.args.controls.now.signals c.args.ready.cards)) _ _ _ (c.delays.ensures ∙ sym c.requires.delays)
-    _ _ _ _ c.in_ok-write_machine.ensures c.in_ok-add_run.ensures.lines c.add_run.new.sums
-    c.in_ok-add_run.ensures.sums
+    _ _ _ _ c.in_ok-write_machine.ensures c.in_ok-add_run.ensures.lines c.stage_totals.result
+    (charges-are (origin_at c.args.ready.origins) c.args.ready.delays.list c.args.ready.levels c.args.controls.now.budget
+    (at_hand c.args.ready.state c.args.controls.now.signals c.args.ready.cards) (λ x. sum_at x c.stage_totals.result) (λ x. c.stage_totals.ensures _ x c.in_ok-add_run.ensures.tables))
     _ c.from_residual-in_err-write_sums.result c.from_residual-in_err-write_sums.ensures.0 c.in_err-write_sums.ensures
 
 pub returns-clause-lines : goal.returns-clause-lines
@@ -35,7 +36,10 @@ returns-clause-lines g c =
     (at_hand c.args.ready.state c.args.controls.now.signals c.args.ready.cards)
     (sums-is c.args.ready.delays.list c.args.ready.levels c.args.controls.now.budget
     (at_hand c.args.ready.state c.args.controls.now.signals c.args.ready.cards)) _ _ _ (c.delays.ensures ∙ sym c.requires.delays)
-    _ _ _ _ c.in_ok-write_machine.ensures c.in_ok-add_run.ensures.lines c.add_run.new.sums
-    c.in_ok-add_run.ensures.sums
-    _ _ c.write_wait_sums.result c.add_run.new.waits c.in_ok-write_sums.ensures
-    c.in_ok-add_run.ensures.waits c.write_wait_sums.ensures
+    _ _ _ _ c.in_ok-write_machine.ensures c.in_ok-add_run.ensures.lines c.stage_totals.result
+    (charges-are (origin_at c.args.ready.origins) c.args.ready.delays.list c.args.ready.levels c.args.controls.now.budget
+    (at_hand c.args.ready.state c.args.controls.now.signals c.args.ready.cards) (λ x. sum_at x c.stage_totals.result) (λ x. c.stage_totals.ensures _ x c.in_ok-add_run.ensures.tables))
+    _ _ c.write_wait_sums.result c.wait_totals.result c.in_ok-write_sums.ensures
+    (waits-are (origin_at c.args.ready.origins) c.args.ready.delays.list c.args.ready.levels c.args.controls.now.budget
+    (at_hand c.args.ready.state c.args.controls.now.signals c.args.ready.cards) (λ r s. waited_at r s c.wait_totals.result)
+    (λ r s parted. c.wait_totals.ensures _ r s parted c.in_ok-add_run.ensures.tables)) c.write_wait_sums.ensures

@@ -1,11 +1,5 @@
+use Rattle.st_account.proofs.Common.{moment_at_start, ticks_for, entries_from, all_charges, origin_at, at_hand, stalled_from, lines_until}
 use Rattle.std.specs.Prelude.{[]}
-use Rattle.st_run.specs.Moments.{moment_at_start}
-use Rattle.st_ledger.specs.Charges.{ticks_for}
-use Rattle.st_ledger.specs.Ledger.{entries_from, all_charges}
-use Rattle.st_lines.specs.Origins.{origin_at}
-use Rattle.st_account.specs.Settling.{at_hand}
-use Rattle.st_account.specs.Text.{stalled_from}
-use Rattle.st_account.specs.Passing.{lines_until}
 use Rattle.st_account.proofs.RoundLemmas.{IsRunning}
 use Rattle.st_account.proofs.running.write_run.Given as goal
 
@@ -16,7 +10,7 @@ invariant-entries g l =
     l.fn.ready.delays.list l.fn.ready.levels
     (λ x. ticks_for x (all_charges l.fn.ready.delays.list l.fn.ready.levels (entries_from l.fn.ready.delays.list l.fn.ready.levels l.budget c)))
     (λ r s. stalled_from r s l.fn.ready.delays.list l.fn.ready.levels l.budget [] c)
-    l.account l.pending.signals l.pending.cards l.left l.until l.start
+    l.account l.pending l.left l.until l.start
 
 abbrev pub decreases-entries : goal.decreases-entries
 decreases-entries g l = l.left

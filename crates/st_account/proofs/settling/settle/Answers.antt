@@ -1,6 +1,4 @@
-use Rattle.std.proofs.Common.{◌∙◌, ap, sym, subst, ◌++◌, [], ◌∷◌, length}
-use Rattle.st_run.specs.ExternalEvents.{ArePrinted, scene_at}
-use Rattle.st_run.specs.Run.{Transition, interlude}
+use Rattle.st_account.proofs.Common.{◌∙◌, ap, sym, subst, ◌++◌, [], ◌∷◌, length, ArePrinted, scene_at, Transition, interlude}
 use Rattle.st_run.proofs.PrintLemmas.{settled-one}
 use Rattle.st_account.proofs.RunLemmas.{not-less, interlude-still, waited-still}
 use Rattle.st_account.proofs.PrintLemmas.{none-printed, some-printed}

@@ -1,5 +1,5 @@
-use Rattle.std.proofs.Common.{◌∙◌, ap, if◌then◌else◌}
-use Rattle.st_prep.specs.declared.entries.Prepared.{Prepared}
+use Rattle.st_account.proofs.Common.{◌∙◌, ap, Prepared}
+use Rattle.std.proofs.Common.{if◌then◌else◌}
 use Rattle.st_account.proofs.LastLemmas.{prediction-is}
 use Rattle.st_account.proofs.stepping.execute.Goals as goal
 

@@ -1,8 +1,5 @@
-use Rattle.std.proofs.Common.{◌≤◌, ◌++◌, ◌∙◌, ap, length, codes, decimal, arith}
-use Rattle.std.proofs.lemmas.Fmt.{length-decimal-le}
+use Rattle.st_ledger.proofs.Common.{◌≤◌, ◌++◌, ◌∙◌, ap, length, codes, decimal, arith, length-decimal-le, lf, half_address}
 use Rattle.std.proofs.lemmas.List.{length-append}
-use Rattle.st_text.specs.Bytes.{lf}
-use Rattle.st_text.specs.Numerals.{half_address}
 use Rattle.st_ledger.proofs.FromEnd.{thirteen_pieces, short_half}
 use Rattle.st_ledger.proofs.lines.fill_row.Goals as goal
 

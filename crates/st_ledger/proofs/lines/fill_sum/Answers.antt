@@ -1,6 +1,4 @@
-use Rattle.std.proofs.Common.{codes, decimal}
-use Rattle.st_text.specs.Bytes.{lf}
-use Rattle.st_ledger.specs.Lines.{stage_name}
+use Rattle.st_ledger.proofs.Common.{codes, decimal, lf, stage_name}
 use Rattle.st_ledger.proofs.FromEnd.{five_pieces}
 use Rattle.st_ledger.proofs.lines.fill_sum.Goals as goal
 

@@ -1,4 +1,4 @@
-use Rattle.std.proofs.lemmas.List.{nil_from_length}
+use Rattle.st_ledger.proofs.Common.{nil_from_length}
 use Rattle.st_ledger.proofs.Added.{sums_cut, sums_then, sums_none}
 use Rattle.st_ledger.proofs.totals.+write_each.Goals as goal
 

@@ -1,4 +1,4 @@
-use Rattle.std.proofs.Common.{length}
+use Rattle.st_ledger.proofs.Common.{length}
 use Rattle.st_ledger.proofs.totals.+write_each.Given as goal
 
 abbrev pub decreases-write_each : goal.decreases-write_each

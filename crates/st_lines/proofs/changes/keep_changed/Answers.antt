@@ -1,5 +1,4 @@
-use Rattle.std.specs.Prelude.{slice_set}
-use Rattle.std.proofs.Common.{ap, ◌∙◌, arith}
+use Rattle.st_lines.proofs.Common.{slice_set, ap, ◌∙◌, arith}
 use Rattle.st_lines.proofs.ChangeLemmas.{IsCopying, copy-registers, copy-passes, copy-made, copy-left, copy-ends}
 use Rattle.st_lines.proofs.changes.keep_changed.Goals as goal
 

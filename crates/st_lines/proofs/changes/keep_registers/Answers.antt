@@ -1,5 +1,4 @@
-use Rattle.std.proofs.Common.{length, ap, arith}
-use Rattle.st_bits.specs.Storage.{words_of_storage_is}
+use Rattle.st_lines.proofs.Common.{length, ap, arith, words_of_storage_is}
 use Rattle.st_lines.proofs.ChangeLemmas.{front-kept}
 use Rattle.st_lines.proofs.changes.keep_registers.Goals as goal
 

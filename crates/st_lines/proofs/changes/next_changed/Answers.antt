@@ -1,5 +1,4 @@
-use Rattle.std.proofs.Common.{inl, inr, arith}
-use Rattle.std.proofs.lemmas.Bool.Decides.{leb_tells}
+use Rattle.st_lines.proofs.Common.{inl, inr, arith, leb_tells}
 use Rattle.st_lines.proofs.changes.next_changed.Goals as goal
 
 pub returns-clause-between : goal.returns-clause-between

@@ -1,4 +1,4 @@
-use Rattle.std.proofs.Common.{inl, arith}
+use Rattle.st_lines.proofs.Common.{inl, arith}
 use Rattle.st_lines.proofs.changes.next_in.Goals as goal
 
 pub returns-clause-between : goal.returns-clause-between

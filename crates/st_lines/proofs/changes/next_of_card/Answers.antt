@@ -1,5 +1,4 @@
-use Rattle.std.proofs.Common.{sym, subst}
-use Rattle.st_lines.specs.Changes.{IsOutsideArea}
+use Rattle.st_lines.proofs.Common.{sym, subst, IsOutsideArea}
 use Rattle.st_lines.proofs.changes.next_of_card.Goals as goal
 
 pub returns-in-Some-clause-between : goal.returns-in-Some-clause-between

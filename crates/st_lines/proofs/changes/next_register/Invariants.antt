@@ -1,4 +1,4 @@
-use Rattle.std.proofs.Common.{◌-◌}
+use Rattle.st_lines.proofs.Common.{◌-◌}
 use Rattle.st_lines.proofs.ChangeLemmas.{AreSame}
 use Rattle.st_lines.proofs.changes.next_register.Given as goal
 

@@ -1,4 +1,4 @@
-use Rattle.std.proofs.Common.{arith}
+use Rattle.st_lines.proofs.Common.{arith}
 use Rattle.st_lines.proofs.changes.next_word.Goals as goal
 
 pub returns-clause-between : goal.returns-clause-between

@@ -1,5 +1,4 @@
-use Rattle.std.proofs.Common.{◌-◌}
-use Rattle.st_bits.specs.declared.limits.TheConstants.{WORDS}
+use Rattle.st_lines.proofs.Common.{◌-◌, WORDS}
 use Rattle.st_lines.proofs.ChangeLemmas.{IsChanging}
 use Rattle.st_lines.proofs.changes.write_changed.Given as goal
 

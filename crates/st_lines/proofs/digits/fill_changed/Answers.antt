@@ -1,7 +1,4 @@
-use Rattle.std.proofs.Common.{◌++◌, ◌∙◌, ap, codes, decimal}
-use Rattle.st_text.specs.Bytes.{lf}
-use Rattle.st_text.specs.Numerals.{hex_word}
-use Rattle.st_ledger.proofs.FromEnd.{seven_pieces}
+use Rattle.st_lines.proofs.Common.{◌++◌, ◌∙◌, ap, codes, decimal, lf, hex_word, seven_pieces}
 use Rattle.st_lines.proofs.digits.fill_changed.Goals as goal
 
 pub returns : goal.returns

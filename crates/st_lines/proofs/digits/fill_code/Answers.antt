@@ -1,7 +1,4 @@
-use Rattle.std.proofs.Common.{◌++◌, ◌∙◌, ap, codes}
-use Rattle.st_text.specs.Bytes.{lf}
-use Rattle.st_text.specs.Numerals.{hex_text}
-use Rattle.st_lines.specs.Lines.{second_half_text}
+use Rattle.st_lines.proofs.Common.{◌++◌, ◌∙◌, ap, codes, lf, hex_text, second_half_text}
 use Rattle.st_lines.proofs.DigitLemmas.{four_pieces}
 use Rattle.st_lines.proofs.digits.fill_code.Goals as goal
 

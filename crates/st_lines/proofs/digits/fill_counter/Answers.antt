@@ -1,6 +1,4 @@
-use Rattle.std.proofs.Common.{codes}
-use Rattle.st_text.specs.Bytes.{lf}
-use Rattle.st_text.specs.Numerals.{half_address}
+use Rattle.st_lines.proofs.Common.{codes, lf, half_address}
 use Rattle.st_lines.proofs.DigitLemmas.{three_pieces}
 use Rattle.st_lines.proofs.digits.fill_counter.Goals as goal
 

@@ -1,5 +1,4 @@
-use Rattle.std.proofs.Common.{◌++◌, ◌∙◌, ap, codes, decimal}
-use Rattle.st_text.specs.Bytes.{lf}
+use Rattle.st_lines.proofs.Common.{◌++◌, ◌∙◌, ap, codes, decimal, lf}
 use Rattle.st_report.proofs.FromEndLemmas.{five_pieces}
 use Rattle.st_lines.proofs.digits.fill_writes.Goals as goal
 

@@ -1,4 +1,4 @@
-use Rattle.std.proofs.Common.{arith}
+use Rattle.st_lines.proofs.Common.{arith}
 use Rattle.st_lines.proofs.DigitLemmas.{digit_pieces}
 use Rattle.st_lines.proofs.digits.put_digits.Goals as goal
 

@@ -1,4 +1,4 @@
-use Rattle.std.proofs.Common.{arith}
+use Rattle.st_lines.proofs.Common.{arith}
 use Rattle.st_lines.proofs.DigitLemmas.{word_pieces}
 use Rattle.st_lines.proofs.digits.put_hex.Goals as goal
 

@@ -1,4 +1,4 @@
-use Rattle.st_io.proofs.Progress.{lines_then, lines_cut}
+use Rattle.st_lines.proofs.Common.{lines_then, lines_cut}
 use Rattle.st_lines.proofs.facts.write_known.Goals as goal
 
 pub returns-in_err-write_missed : goal.returns-in_err-write_missed

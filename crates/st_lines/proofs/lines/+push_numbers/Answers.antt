@@ -1,4 +1,4 @@
-use Rattle.std.proofs.lemmas.List.{nil_from_length}
+use Rattle.st_lines.proofs.Common.{nil_from_length}
 use Rattle.st_lines.proofs.LineLemmas.{numbers-first, numbers-none}
 use Rattle.st_lines.proofs.lines.+push_numbers.Goals as goal
 
@@ -6,4 +6,6 @@ pub returns-in_default-clause-bytes : goal.returns-in_default-clause-bytes
 returns-in_default-clause-bytes t c = numbers-none _ c.args.ns.now (nil_from_length _ c.in_default.ensures.cases)
 
 pub returns-clause-bytes : goal.returns-clause-bytes
-returns-clause-bytes t c = numbers-first _ _ _ c.args.ns.now _ _ c.in-Some.ensures.cases.0 c.push_number.ensures.bytes c.push_numbers.ensures.bytes
+returns-clause-bytes t c =
+    numbers-first _ _ _ _ c.args.ns.now _ _ _ c.in-Some.ensures.cases.0 c.push_str.ensures.bytes c.push_short_decimal.ensures.bytes c.from.ensures
+    c.push_numbers.ensures.bytes

@@ -1,6 +1,4 @@
-use Rattle.std.proofs.Common.{◌++◌, ◌∙◌, ap, codes, decimal}
-use Rattle.st_text.specs.Bytes.{lf}
-use Rattle.st_text.specs.Numerals.{flag}
+use Rattle.st_lines.proofs.Common.{◌++◌, ◌∙◌, ap, codes, decimal, lf, flag}
 use Rattle.st_lines.proofs.OriginLemmas.{emitted_pieces}
 use Rattle.st_lines.proofs.origins.fill_emitted.Goals as goal
 

@@ -1,6 +1,4 @@
-use Rattle.std.proofs.Common.{◌++◌, ◌∙◌, ap, codes, decimal}
-use Rattle.st_text.specs.Bytes.{lf}
-use Rattle.st_lines.specs.UseLines.{role_text, supply_text}
+use Rattle.st_lines.proofs.Common.{◌++◌, ◌∙◌, ap, codes, decimal, lf, role_text, supply_text}
 use Rattle.st_lines.proofs.UseLemmas.{six_pieces}
 use Rattle.st_lines.proofs.uses.fill_use.Goals as goal
 

@@ -1,4 +1,4 @@
-use Rattle.std.proofs.Common.{arith}
+use Rattle.st_lines.proofs.Common.{arith}
 use Rattle.st_lines.proofs.UseLemmas.{bank_digit}
 use Rattle.st_lines.proofs.uses.put_bank.Goals as goal
 

@@ -1,8 +1,4 @@
-use Rattle.std.specs.Prelude.{Bool}
-use Rattle.std.proofs.Common.{◌++◌, ◌∙◌, ap, codes, decimal}
-use Rattle.st_text.specs.Numerals.{flag}
-use Rattle.st_banks.specs.Bank.{bank_of}
-use Rattle.st_lines.specs.UseLines.{is_before}
+use Rattle.st_lines.proofs.Common.{Bool, ◌++◌, ◌∙◌, ap, codes, decimal, flag, bank_of, is_before}
 use Rattle.st_lines.proofs.UseLemmas.{seven_pairs}
 use Rattle.st_lines.proofs.uses.put_read.Goals as goal
 

@@ -1,4 +1,4 @@
-use Rattle.std.proofs.Common.{◌++◌, ◌-◌, ◌∙◌, ap, codes, decimal}
+use Rattle.st_lines.proofs.Common.{◌++◌, ◌-◌, ◌∙◌, ap, codes, decimal}
 use Rattle.st_lines.proofs.UseLemmas.{four_before}
 use Rattle.st_lines.proofs.uses.put_writer.Goals as goal
 

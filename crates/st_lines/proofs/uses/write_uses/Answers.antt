@@ -1,4 +1,4 @@
-use Rattle.st_io.proofs.Progress.{lines_more, lines_failed}
+use Rattle.st_lines.proofs.Common.{lines_more, lines_failed}
 use Rattle.st_lines.proofs.UseLemmas.{uses_next, uses_whole}
 use Rattle.st_lines.proofs.uses.write_uses.Goals as goal
 

@@ -1,6 +1,4 @@
-use Rattle.std.proofs.Common.{drop}
-use Rattle.st_io.proofs.Progress.{LinesSoFar}
-use Rattle.st_lines.specs.UseLines.{use_lines}
+use Rattle.st_lines.proofs.Common.{drop, LinesSoFar, use_lines}
 use Rattle.st_lines.proofs.uses.write_uses.Given as goal
 
 abbrev pub invariant-loop-used : goal.invariant-loop-used

@@ -1,5 +1,4 @@
-use Rattle.std.proofs.lemmas.List.{nil_from_length}
-use Rattle.std.proofs.Common.{refl, rules}
+use Rattle.st_lines.proofs.Common.{nil_from_length, refl, rules}
 use Rattle.st_lines.proofs.WaitLemmas.{charged_cut, charged_then, charged_none, parts_passed, parts_taken, next_within}
 use Rattle.st_lines.proofs.waits.+write_parts.Goals as goal
 

@@ -1,4 +1,4 @@
-use Rattle.std.proofs.Common.{◌∙◌, arith}
+use Rattle.st_lines.proofs.Common.{◌∙◌, arith}
 use Rattle.st_lines.proofs.WaitLemmas.{part_passed, part_few, part_taken}
 use Rattle.st_lines.proofs.waits.add_part.Goals as goal
 

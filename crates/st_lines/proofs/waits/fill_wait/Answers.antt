@@ -1,8 +1,4 @@
-use Rattle.std.proofs.Common.{◌++◌, ◌∙◌, refl, ap, codes, decimal}
-use Rattle.st_text.specs.Bytes.{lf}
-use Rattle.st_banks.specs.Bank.{bank_of}
-use Rattle.st_ledger.proofs.FromEnd.{thirteen_pieces}
-use Rattle.st_lines.specs.WaitLines.{stall_name}
+use Rattle.st_lines.proofs.Common.{◌++◌, ◌∙◌, refl, ap, codes, decimal, lf, bank_of, thirteen_pieces, stall_name}
 use Rattle.st_lines.proofs.waits.fill_wait.Goals as goal
 
 pub returns : goal.returns

@@ -1,8 +1,4 @@
-use Rattle.std.proofs.Common.{codes, decimal}
-use Rattle.st_text.specs.Bytes.{lf}
-use Rattle.st_ledger.specs.Lines.{stage_name}
-use Rattle.st_ledger.proofs.FromEnd.{seven_pieces}
-use Rattle.st_lines.specs.WaitLines.{stall_name}
+use Rattle.st_lines.proofs.Common.{codes, decimal, lf, stage_name, seven_pieces, stall_name}
 use Rattle.st_lines.proofs.waits.fill_wait_sum.Goals as goal
 
 pub returns : goal.returns

@@ -1,4 +1,5 @@
-use Rattle.std.proofs.Common.{◌∙◌, refl, arith}
+use Rattle.st_lines.proofs.Common.{◌∙◌, refl, arith}
+use Rattle.st_lines.proofs.LineLemmas.{put_then, put_cut}
 use Rattle.st_lines.proofs.WaitLemmas.{part_left, part_passed, part_few, part_told, part_taken}
 use Rattle.st_lines.proofs.waits.write_part.Goals as goal
 
@@ -18,7 +19,13 @@ add-requires-clause-few g c =
 pub returns-clause-lines : goal.returns-clause-lines
 returns-clause-lines g c =
     part_told _ _ c.args.entry.now.uses.now c.args.entry.now.before.now c.args.from c.args.part _ _ _ (omega (arith, c.if-part-from.false)) refl
-    (c.as_slice-2.ensures.value ∙ c.fill_waits.ensures) c.write_charge_with.ensures
+    (c.as_slice-2.ensures.value ∙ c.fill_waits.ensures)
+    (put_then _ _ _ _ _ _ _ _ _ (c.as_bytes.ensures ∙ c.fill_charge.ensures) refl c.in_ok-write_line.ensures c.write_each_wait.ensures)
+
+pub returns-in_err-write_line-clause-lines : goal.returns-in_err-write_line-clause-lines
+returns-in_err-write_line-clause-lines g c =
+    part_told _ _ c.args.entry.now.uses.now c.args.entry.now.before.now c.args.from c.args.part _ _ _ (omega (arith, c.if-part-from.false)) refl refl
+    (put_cut _ _ _ _ _ _ _ c.from_residual.ensures.0 (c.as_bytes.ensures ∙ c.fill_charge.ensures) c.in_err-write_line.ensures)
 
 pub returns-clause-waits : goal.returns-clause-waits
 returns-clause-waits g c ok =

@@ -1,4 +1,4 @@
-use Rattle.std.proofs.Common.{length}
+use Rattle.st_lines.proofs.Common.{length}
 use Rattle.st_lines.proofs.writing.+write_delays.Given as goal
 
 abbrev pub decreases-write_delays : goal.decreases-write_delays

@@ -1,4 +1,4 @@
-use Rattle.std.proofs.Common.{length}
+use Rattle.st_lines.proofs.Common.{length}
 use Rattle.st_lines.proofs.writing.+write_drops.Given as goal
 
 abbrev pub decreases-write_drops : goal.decreases-write_drops

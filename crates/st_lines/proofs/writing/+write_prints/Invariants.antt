@@ -1,4 +1,4 @@
-use Rattle.std.proofs.Common.{length}
+use Rattle.st_lines.proofs.Common.{length}
 use Rattle.st_lines.proofs.writing.+write_prints.Given as goal
 
 abbrev pub decreases-write_prints : goal.decreases-write_prints

@@ -1,5 +1,4 @@
-use Rattle.std.proofs.Common.{Some, ap}
-use Rattle.st_lines.specs.EntryLines.{facts_lines}
+use Rattle.st_lines.proofs.Common.{Some, ap, facts_lines}
 use Rattle.st_lines.proofs.LineLemmas.{same_lines}
 use Rattle.st_lines.proofs.writing.write_ahead_facts.Goals as goal
 

@@ -1,6 +1,4 @@
-use Rattle.st_bits.specs.declared.limits.TheConstants.{WORDS}
-use Rattle.st_io.proofs.Progress.{lines_more, lines_failed, lines_for_next, lines_for_whole}
-use Rattle.st_lines.specs.BorderLines.{nonzero_word_lines}
+use Rattle.st_lines.proofs.Common.{WORDS, lines_more, lines_failed, lines_for_next, lines_for_whole, nonzero_word_lines}
 use Rattle.st_lines.proofs.writing.write_each_word.Goals as goal
 
 pub returns-in_err-write_word : goal.returns-in_err-write_word

@@ -1,8 +1,4 @@
-use Rattle.std.proofs.Common.{◌-◌}
-use Rattle.st_bits.specs.declared.limits.TheConstants.{WORDS}
-use Rattle.st_io.specs.Lines.{lines_for}
-use Rattle.st_io.proofs.Progress.{LinesSoFar}
-use Rattle.st_lines.specs.BorderLines.{nonzero_word_lines}
+use Rattle.st_lines.proofs.Common.{◌-◌, WORDS, lines_for, LinesSoFar, nonzero_word_lines}
 use Rattle.st_lines.proofs.writing.write_each_word.Given as goal
 
 abbrev pub invariant-loop-w : goal.invariant-loop-w

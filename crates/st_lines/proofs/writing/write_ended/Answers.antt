@@ -1,4 +1,4 @@
-use Rattle.std.proofs.Common.{refl}
+use Rattle.st_lines.proofs.Common.{refl}
 use Rattle.st_lines.proofs.LineLemmas.{none_if, some_if}
 use Rattle.st_lines.proofs.writing.write_ended.Goals as goal
 

@@ -1,8 +1,5 @@
-use Rattle.std.proofs.Common.{ℕ, Bool, false, [], ◌∷◌, ◌∙◌, ap, refl}
-use Rattle.st_bits.specs.declared.limits.TheConstants.{WORDS}
-use Rattle.st_io.specs.Lines.{lines_for}
-use Rattle.st_report.specs.Line.{ic_line, en_line}
-use Rattle.st_lines.specs.BorderLines.{en_lines, nonzero_word_lines, whole_state_lines}
+use Rattle.st_lines.proofs.Common.{ℕ, false, [], ◌∷◌, ◌∙◌, ap, refl, WORDS, lines_for, ic_line, en_line, en_lines, nonzero_word_lines, whole_state_lines}
+use Rattle.std.proofs.Common.{Bool}
 use Rattle.st_lines.proofs.LineLemmas.{both_then, both_cut}
 use Rattle.st_lines.proofs.writing.write_whole_state.Goals as goal
 

@@ -1,4 +1,4 @@
-use Rattle.std.proofs.Common.{arith}
+use Rattle.st_tally.proofs.Common.{arith}
 use Rattle.st_tally.proofs.tables.add_to_reason.Goals as goal
 
 pub overflow_add-sum : goal.overflow_add-sum

@@ -1,6 +1,4 @@
-use Rattle.std.proofs.lemmas.List.{nil_from_length}
-use Rattle.st_tally.specs.Slots.{reason_sum_line}
-use Rattle.st_tally.specs.Tally.{reason_sum}
+use Rattle.st_tally.proofs.Common.{nil_from_length, reason_sum_line, reason_sum}
 use Rattle.st_tally.proofs.LineLemmas.{headings_cut, headings_then, headings_none}
 use Rattle.st_tally.proofs.writing.+write_each.Goals as goal
 

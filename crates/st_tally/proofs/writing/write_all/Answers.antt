@@ -1,5 +1,4 @@
-use Rattle.st_io.proofs.Progress.{lines_then}
-use Rattle.st_lines.proofs.LineLemmas.{first_cut, second_cut}
+use Rattle.st_tally.proofs.Common.{lines_then, first_cut, second_cut}
 use Rattle.st_tally.proofs.writing.write_all.Goals as goal
 
 pub returns-in_err-write_cards : goal.returns-in_err-write_cards

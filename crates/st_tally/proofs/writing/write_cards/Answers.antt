@@ -1,4 +1,4 @@
-use Rattle.std.proofs.Common.{arith}
+use Rattle.st_tally.proofs.Common.{arith}
 use Rattle.st_tally.proofs.LineLemmas.{cards_start, cards_next, cards_fail, cards_end}
 use Rattle.st_tally.proofs.writing.write_cards.Goals as goal
 

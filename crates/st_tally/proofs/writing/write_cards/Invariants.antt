@@ -1,4 +1,5 @@
-use Rattle.std.proofs.Common.{◌-◌, length}
+use Rattle.st_tally.proofs.Common.{◌-◌}
+use Rattle.std.proofs.Common.{length}
 use Rattle.st_tally.proofs.LineLemmas.{AreCardsWritten}
 use Rattle.st_tally.proofs.writing.write_cards.Given as goal
 

@@ -1,6 +1,4 @@
-use Rattle.std.proofs.Common.{[], ◌∷◌}
-use Rattle.st_lines.proofs.LineLemmas.{three_then, three_cut}
-use Rattle.st_tally.specs.TallyLines.{missed_count_line, level_count_line, drop_count_line}
+use Rattle.st_tally.proofs.Common.{[], ◌∷◌, three_then, three_cut, missed_count_line, level_count_line, drop_count_line}
 use Rattle.st_tally.proofs.writing.write_counts.Goals as goal
 
 pub returns-in_err-write_missed : goal.returns-in_err-write_missed

@@ -1,4 +1,4 @@
-use Rattle.std.proofs.Common.{arith}
+use Rattle.st_tally.proofs.Common.{arith}
 use Rattle.st_tally.proofs.LineLemmas.{slot_cut, slot_cut_later, slot_then}
 use Rattle.st_tally.proofs.writing.write_slot.Goals as goal
 

@@ -1,4 +1,4 @@
-use Rattle.std.proofs.lemmas.List.{nil_from_length}
+use Rattle.st_ledger.proofs.Common.{nil_from_length}
 use Rattle.st_ledger.proofs.Added.{parts-none, parts-more, reach-more}
 use Rattle.st_ledger.proofs.totals.Totals.+add_parts.Goals as goal
 

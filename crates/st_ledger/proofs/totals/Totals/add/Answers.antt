@@ -1,4 +1,5 @@
-use Rattle.st_ledger.specs.declared.charges.Stage.TheVariants.{Restart, Instruction, Address, Index, Preparing, Operand, Executing}
+use Rattle.st_ledger.proofs.Common.{Restart, Address, Preparing, Executing}
+use Rattle.st_ledger.specs.declared.charges.Stage.TheVariants.{Instruction, Index, Operand}
 use Rattle.st_ledger.proofs.Added.{charge-added}
 use Rattle.st_ledger.proofs.totals.Totals.add.Goals as goal
 

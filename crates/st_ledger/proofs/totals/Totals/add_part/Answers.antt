@@ -1,4 +1,4 @@
-use Rattle.std.proofs.Common.{arith}
+use Rattle.st_ledger.proofs.Common.{arith}
 use Rattle.st_ledger.proofs.Added.{part-none}
 use Rattle.st_ledger.proofs.totals.Totals.add_part.Goals as goal
 

@@ -1,5 +1,4 @@
-use Rattle.std.proofs.Common.{ℕ, List, ◌∙◌, ap}
-use Rattle.st_lines.specs.Origins.{is_kept}
+use Rattle.st_lines.proofs.Common.{ℕ, List, ◌∙◌, ap, is_kept}
 use Rattle.st_lines.proofs.OriginLemmas.{origin_none, origin_some}
 use Rattle.st_lines.proofs.origins.Origins.at.Goals as goal
 

@@ -1,6 +1,4 @@
-use Rattle.std.proofs.Common.{false, ap}
-use Rattle.std.specs.Prelude.{option_map}
-use Rattle.st_lines.specs.declared.origins.Origin.{Origin}
+use Rattle.st_lines.proofs.Common.{false, ap, option_map, Origin}
 use Rattle.st_lines.proofs.OriginLemmas.{card_none, card_some}
 use Rattle.st_lines.proofs.origins.Origins.at_if.Goals as goal
 

@@ -1,4 +1,4 @@
-use Rattle.std.proofs.Common.{arith}
+use Rattle.st_tally.proofs.Common.{arith}
 use Rattle.st_tally.proofs.tables.Tables.count.Goals as goal
 
 pub overflow_add-self : goal.overflow_add-self

@@ -1,4 +1,4 @@
-use Rattle.st_lines.proofs.LineLemmas.{same_lines}
+use Rattle.st_tally.proofs.Common.{same_lines}
 use Rattle.st_tally.proofs.LineLemmas.{tables-same}
 use Rattle.st_tally.proofs.tables.Tables.write.Goals as goal
 

@@ -1,5 +1,0 @@
-use Rattle.std.proofs.Common.{length}
-use Rattle.st_reasons.proofs.because.+of_words.Given as goal
-
-abbrev pub decreases-of_words : goal.decreases-of_words
-decreases-of_words l = length l.words.now

@@ -1,5 +1,0 @@
-use Rattle.std.proofs.Common.{length}
-use Rattle.st_reasons.proofs.sums.Shares.+add.Given as goal
-
-abbrev pub decreases-add : goal.decreases-add
-decreases-add l = length l.waits.now

@@ -1,5 +1,0 @@
-use Rattle.std.proofs.Common.{length}
-use Rattle.st_reasons.proofs.waits.+add_bus.Given as goal
-
-abbrev pub decreases-add_bus : goal.decreases-add_bus
-decreases-add_bus l = length l.before.now

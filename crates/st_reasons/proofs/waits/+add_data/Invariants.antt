@@ -1,5 +1,0 @@
-use Rattle.std.proofs.Common.{length}
-use Rattle.st_reasons.proofs.waits.+add_data.Given as goal
-
-abbrev pub decreases-add_data : goal.decreases-add_data
-decreases-add_data l = length l.uses.now
