@@ -1,20 +1,9 @@
 -- Consequences of a statement without a fault in the value pass.
-use Rattle.std.proofs.Common.{◌≡◌, ◌≤◌, ◌<◌, ◌+◌, ◌*◌, ◌==◌, ◌^◌, ◌&&◌, ℕ, ℤ, pos, negsuc, Bool, true, false, not, List, [], ◌∷◌, None, nat_lt, nat_le, length, is_some, unsigned_abs, refl, arith}
+use Rattle.st_asm.proofs.Common.{◌≡◌, ◌≤◌, ◌<◌, ◌+◌, ◌*◌, ◌==◌, ◌^◌, ◌&&◌, ℕ, ℤ, pos, negsuc, Bool, true, false, not, List, [], ◌∷◌, None, nat_lt, nat_le, length, is_some, unsigned_abs, refl, arith, first_fault, Fault, NameTwice, UndefinedSymbol, SymbolNotEarlier, TooManyNames, Statement, Named, is_name_taken, is_known, is_earlier, name_fault, table, ReadCard, is_address, in_range, fits, on_boundary, in_storage, extent, value_fault, placing_of, length_in, Placing, Emits, Passes, Sets, Names, Ends}
 use Rattle.std.proofs.lemmas.Bool.{and_parts as both}
-use Rattle.st_card.specs.Cards.{first_fault}
-use Rattle.st_card.specs.declared.faults.Fault.{Fault}
-use Rattle.st_card.specs.declared.faults.Fault.TheVariants.{NameTwice, UndefinedSymbol, SymbolNotEarlier, TooManyNames}
 use Rattle.st_strap.proofs.StatementLemmas.{either as either-true}
-use Rattle.st_strap.specs.Statements.{Statement}
 use Rattle.st_strap.specs.declared.statement.Statement.TheVariants.{IndexWord}
-use Rattle.st_asm.specs.Naming.{Named, is_name_taken, is_known, is_earlier, name_fault}
-use Rattle.st_asm.specs.Symbols.{table}
-use Rattle.st_asm.specs.declared.line.ReadCard.{ReadCard}
-use Rattle.st_asm.specs.Checks.{is_address, in_range, fits, on_boundary, in_storage, extent, value_fault}
-use Rattle.st_asm.specs.Places.{placing_of, length_in}
 use Rattle.st_asm.specs.declared.values.Values.{Values}
-use Rattle.st_asm.specs.declared.places.Placing.{Placing}
-use Rattle.st_asm.specs.declared.places.Placing.TheVariants.{Emits, Passes, Sets, Names, Ends}
 
 none_of : (a b c d : Bool) (e f g h : Fault) →
     first_fault ((not a, e) ∷ (not b, f) ∷ (not c, g) ∷ (not d, h) ∷ []) ≡ None →

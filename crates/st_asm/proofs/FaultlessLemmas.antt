@@ -1,14 +1,6 @@
 -- No card of a job that is assembled has a fault by itself.
-use Rattle.std.proofs.Common.{◌≡◌, ℕ, List, [], ◌∷◌, Bool, true, false, Option, Some, None, Result, Ok, Err, All, length, refl, if◌then◌else◌}
-use Rattle.std.proofs.lemmas.List.Elements.{All-cons, All-nil}
-use Rattle.st_card.specs.Cards.{text_in}
-use Rattle.st_card.specs.declared.cards.Card.{Card}
-use Rattle.st_card.specs.declared.cards.CardKind.{CardKind}
-use Rattle.st_card.specs.declared.cards.CardKind.TheVariants.{Comment, Control, Statement as StatementCard}
-use Rattle.st_card.specs.declared.faults.Fault.{Fault}
-use Rattle.st_card.specs.declared.faults.Fault.TheVariants.{CardAfterEnd}
-use Rattle.st_asm.specs.Pass.{Refusal, pass, onward, unless_faulty, pass_then}
-use Rattle.st_asm.specs.Forming.{Found, first_fault_of, before_end, form_kind, form_statement, form_card, form_pass, found_at_start, with_end}
+use Rattle.st_asm.proofs.Common.{◌≡◌, ℕ, List, [], ◌∷◌, Bool, true, false, Option, Some, None, Result, Ok, Err, All, length, refl, if◌then◌else◌, All-cons, All-nil, text_in, Card, CardKind, Comment, Control, Fault, CardAfterEnd, Refusal, pass, onward, unless_faulty, pass_then, Found, first_fault_of, before_end, form_kind, form_statement, form_card, form_pass, found_at_start, with_end}
+use Rattle.st_card.specs.declared.cards.CardKind.TheVariants.{Statement as StatementCard}
 
 -- a result after an optional fault is good only if there is no fault
 unless-none : {S : Type 0} (o : Option Fault) (r : Result S Fault) (s : S) → unless_faulty o r ≡ Ok s → (o ≡ None) × (r ≡ Ok s)

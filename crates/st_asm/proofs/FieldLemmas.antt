@@ -1,14 +1,11 @@
 -- Lemmas on numbers that are combined into fields.
-use Rattle.std.proofs.Common.{mod-eq_of_lt, ◌≡◌, ◌≤◌, ◌<◌, ◌+◌, ◌-◌, ◌*◌, ◌/◌, ◌%◌, ◌^◌, ◌&&◌, ◌||◌, ◌==◌, ℕ, zero, suc, Bool, true, false, not, nat_lt, subst, refl, ap, sym, ◌∙◌, arith, if◌then◌else◌}
+use Rattle.st_asm.proofs.Common.{mod-eq_of_lt, ◌≡◌, ◌≤◌, ◌<◌, ◌+◌, ◌-◌, ◌*◌, ◌/◌, ◌%◌, ◌^◌, ◌&&◌, ◌||◌, ◌==◌, ℕ, zero, suc, Bool, true, false, not, nat_lt, subst, refl, ap, sym, ◌∙◌, arith, if◌then◌else◌, IsTrue, IsFalse, holds, packed_digits, capacity, magnitude_bits_of, IsNumberForm}
 use Rattle.std.proofs.lemmas.Bool.{not-false as not_true, or_parts as either_false}
 use Rattle.std.proofs.Math.Pow.{pow_mono, pow-lt}
 use Rattle.std.proofs.Math.Nat.{mod-le, add-mod_left}
-use Rattle.std.specs.Bool.{IsTrue, IsFalse}
 use Rattle.st_bits.proofs.WordFields.{below-joined}
 use Rattle.st_format.specs.Validity.{misfits}
 use Rattle.st_mnemonic.specs.declared.form.Form.{Form}
-use Rattle.st_asm.specs.Numbers.{holds, packed_digits, capacity, magnitude_bits_of}
-use Rattle.st_strap.specs.WellFormed.{IsNumberForm}
 
 -- a high part of m bits before n low bits: no bit is lost, and the combination has k bits
 pub joined-parts : (h l m n k : ℕ) → h < 2 ^ m → l < 2 ^ n → k ≡ m + n → k ≤ 64 →

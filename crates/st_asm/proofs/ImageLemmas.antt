@@ -1,9 +1,7 @@
 -- Lemmas on the image after a card's bits are written into it.
-use Rattle.std.proofs.Common.{◌≡◌, ◌≤◌, ◌<◌, ◌+◌, ◌*◌, ◌^◌, ◌==◌, ℕ, false, List, length, get_or, ap, sym, ◌∙◌, arith, if◌then◌else◌}
+use Rattle.st_asm.proofs.Common.{◌≡◌, ◌≤◌, ◌<◌, ◌+◌, ◌*◌, ◌^◌, ◌==◌, ℕ, false, List, length, get_or, ap, sym, ◌∙◌, arith, if◌then◌else◌, image_with, IsImage}
 use Rattle.st_bits.specs.Bits.{bits, all_bits, put, words_of}
 use Rattle.st_bits.proofs.Windows.{words_of-all_bits}
-use Rattle.st_asm.specs.Valuing.{image_with}
-use Rattle.st_bits.specs.Storage.{IsImage}
 
 -- words whose bits are the old ones with a number written into them
 pub image-put : (old new : List ℕ) (place count number : ℕ) → (count ≡ 0 → ⊥) → length new ≡ length old →

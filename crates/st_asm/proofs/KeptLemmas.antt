@@ -1,45 +1,17 @@
 -- Invariants of the passes.
-use Rattle.std.proofs.Common.{◌≡◌, ◌≤◌, ◌<◌, ◌+◌, ◌-◌, ◌^◌, ◌&&◌, ◌==◌, ℕ, zero, suc, ℤ, pos, negsuc, Bool, true, false, not, nat_le, List, [], ◌∷◌, ◌++◌, length, map, get_or, replicate, Option, Some, None, unwrap_or, Result, Ok, Err, refl, ap, sym, ◌∙◌, subst, append_assoc, append-nil, length-append, lit≤, lit<, arith, if◌then◌else◌}
+use Rattle.st_asm.proofs.Common.{◌≡◌, ◌≤◌, ◌<◌, ◌+◌, ◌-◌, ◌^◌, ◌&&◌, ◌==◌, ℕ, zero, suc, ℤ, pos, negsuc, Bool, true, false, not, nat_le, List, [], ◌∷◌, ◌++◌, length, map, get_or, replicate, Option, Some, None, unwrap_or, Result, Ok, Err, refl, ap, sym, ◌∙◌, subst, append_assoc, append-nil, length-append, lit≤, lit<, arith, if◌then◌else◌, zip, list_all, length-take, get_or-take, IfSome, IfOk, All-nil, All-cons, All-head, All-tail, All-push, All-append, text_in, card_at, cards_from, cards_of, Asked, asked_with_card, is_in_range, Card, CardKind, Comment, Control, Fault, BadControlCard, CardAfterEnd, next_reading, reading_map, statement_of, Statement, read-is, read-named, Refusal, onward, pass, unless_faulty, pass_then, name_field, statement_field, name_in, silent_line, saying, Found, found_at_start, first_fault_of, with_statement, with_control, with_end, form_control, form_statement, form_kind, form_card, form_pass, table, value_fault, placing_of, place_in, Named, naming_at_start, name_fault, name_step, name_card, name_pass, place_of_card, symbol_of, Emitted, emitting_at_start, value_statement, value_saying, value_card, value_pass, together, with_defaults, IsLocation, IsSymbol, IsAssemblySound, IsReadCard, IsDeck, IsNamed, IsSoundLayout, ReadCard, Placing, Emits, Passes, Sets, Names, Ends}
 use Rattle.std.proofs.lemmas.Bool.{and_parts as both}
-use Rattle.std.specs.List.{All, zip, list_all}
+use Rattle.std.specs.List.{All}
 use Rattle.std.specs.Str.{IsAscii}
 use Rattle.std.specs.Char.{is_ascii_uppercase}
 use Rattle.std.proofs.lemmas.Bool.Decides.{nat_tests}
-use Rattle.std.proofs.lemmas.List.{length-take, get_or-take}
-use Rattle.std.specs.Option.{IfSome}
-use Rattle.std.specs.Result.{IfOk}
-use Rattle.std.proofs.lemmas.List.Elements.{All-nil, All-cons, All-head, All-tail, All-push, All-append}
 use Rattle.st_text.specs.Number.{is_filled}
-use Rattle.st_card.specs.Cards.{text_in, card_at, cards_from, cards_of}
 use Rattle.st_text.specs.Pieces.{pieces_of}
-use Rattle.st_card.specs.Controls.{Asked, asked_with_card, is_in_range}
 use Rattle.st_card.specs.Limits.{IsWithinLimits, AreDelays}
-use Rattle.st_card.specs.declared.cards.Card.{Card}
-use Rattle.st_card.specs.declared.cards.CardKind.{CardKind}
-use Rattle.st_card.specs.declared.cards.CardKind.TheVariants.{Comment, Control, Statement as StatementCard}
-use Rattle.st_card.specs.declared.faults.Fault.{Fault}
-use Rattle.st_card.specs.declared.faults.Fault.TheVariants.{BadControlCard, CardAfterEnd}
+use Rattle.st_card.specs.declared.cards.CardKind.TheVariants.{Statement as StatementCard}
 use Rattle.st_card.proofs.LimitLemmas.{added-kept, nothing-within, others-within}
 use Rattle.st_expr.specs.Name.{is_name, is_name_byte, padded_name}
-use Rattle.st_strap.specs.Order.{next_reading, reading_map}
-use Rattle.st_strap.specs.Saying.{statement_of}
-use Rattle.st_strap.specs.Statements.{Statement}
-use Rattle.st_strap.proofs.StatementLemmas.{read-is, read-named}
-use Rattle.st_asm.specs.Pass.{Refusal, onward, pass, unless_faulty, pass_then}
-use Rattle.st_asm.specs.Lines.{name_field, statement_field, name_in, silent_line, saying}
-use Rattle.st_asm.specs.Forming.{Found, found_at_start, first_fault_of, with_statement, with_control, with_end, form_control, form_statement, form_kind, form_card, form_pass}
-use Rattle.st_asm.specs.Symbols.{table}
 use Rattle.st_asm.specs.Values.{value_modulo, values_of}
-use Rattle.st_asm.specs.Checks.{value_fault}
-use Rattle.st_asm.specs.Places.{placing_of, place_in}
-use Rattle.st_asm.specs.Naming.{Named, naming_at_start, name_fault, name_step, name_card, name_pass, place_of_card, symbol_of}
-use Rattle.st_asm.specs.Valuing.{Emitted, emitting_at_start, value_statement, value_saying, value_card, value_pass}
-use Rattle.st_asm.specs.Assembly.{together, with_defaults}
-use Rattle.st_asm.specs.Sound.{IsLocation, IsSymbol, IsAssemblySound}
-use Rattle.st_asm.specs.Kept.{IsReadCard, IsDeck, IsNamed, IsSoundLayout}
-use Rattle.st_asm.specs.declared.line.ReadCard.{ReadCard}
-use Rattle.st_asm.specs.declared.places.Placing.{Placing}
-use Rattle.st_asm.specs.declared.places.Placing.TheVariants.{Emits, Passes, Sets, Names, Ends}
 use Rattle.st_asm.specs.declared.valuing.Listed.{Listed}
 
 -- the numbers of the cards of lines

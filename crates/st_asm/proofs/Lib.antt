@@ -1,3 +1,4 @@
+pub mod Common
 pub mod PassLemmas
 pub mod StopLemmas
 pub mod TableLemmas

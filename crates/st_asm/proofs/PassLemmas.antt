@@ -1,5 +1,5 @@
 -- Lemmas on lists in the form that slice patterns give.
-use Rattle.std.proofs.Common.{◌≡◌, ◌≤◌, ◌<◌, ◌-◌, refl, List, [], ◌∷◌, length, get_or, take, drop, ap, sym, ◌∙◌, arith}
+use Rattle.st_asm.proofs.Common.{◌≡◌, ◌≤◌, ◌<◌, ◌-◌, refl, List, [], ◌∷◌, length, get_or, take, drop, ap, sym, ◌∙◌, arith}
 use Rattle.st_text.proofs.ListLemmas.{first_and_rest}
 
 -- a nonempty list in the form that a slice pattern gives

@@ -1,26 +1,9 @@
 -- A pass stops at the first faulty card.
-use Rattle.std.proofs.Common.{◌≡◌, ◌⊎◌, inl, inr, ℕ, ◌+◌, Bool, true, false, List, [], ◌∷◌, ◌++◌, length, Option, Some, None, Result, Ok, Err, refl, ap, sym, ◌∙◌, if◌then◌else◌}
-use Rattle.std.specs.Option.{option_or}
-use Rattle.st_card.specs.Cards.{first_fault, cards_of, text_in}
-use Rattle.st_card.specs.Controls.{Asked, asked_with_card}
-use Rattle.st_card.specs.declared.cards.Card.{Card}
-use Rattle.st_card.specs.declared.cards.CardKind.{CardKind}
-use Rattle.st_card.specs.declared.cards.CardKind.TheVariants.{Comment, Control, Statement as StatementCard}
-use Rattle.st_card.specs.declared.faults.Fault.{Fault}
-use Rattle.st_card.specs.declared.faults.Fault.TheVariants.{BadControlCard, CardAfterEnd, NoEnd}
+use Rattle.st_asm.proofs.Common.{◌≡◌, ◌⊎◌, inl, inr, ℕ, ◌+◌, Bool, true, false, List, [], ◌∷◌, ◌++◌, length, Option, Some, None, Result, Ok, Err, refl, ap, sym, ◌∙◌, if◌then◌else◌, option_or, first_fault, cards_of, text_in, Asked, asked_with_card, Card, CardKind, Comment, Control, Fault, BadControlCard, CardAfterEnd, NoEnd, next_reading, reading_map, statement_of, Refusal, onward, pass, pass_then, unless_faulty, name_field, statement_field, Found, found_at_start, before_end, first_fault_of, with_end, with_control, with_statement, form_control, form_statement, form_kind, form_card, form_pass, table, Named, name_pass, Emitted, value_pass, Assembly, together, assembly, result_err}
+use Rattle.st_card.specs.declared.cards.CardKind.TheVariants.{Statement as StatementCard}
 use Rattle.st_strap.specs.Faults.{faults_on}
-use Rattle.st_strap.specs.Order.{next_reading, reading_map}
-use Rattle.st_strap.specs.Saying.{statement_of}
 use Rattle.st_strap.proofs.FaultLemmas.{card-fault, fault-mapped}
-use Rattle.st_asm.specs.Pass.{Refusal, onward, pass, pass_then, unless_faulty}
-use Rattle.st_asm.specs.Lines.{name_field, statement_field}
-use Rattle.st_asm.specs.Forming.{Found, found_at_start, before_end, first_fault_of, with_end, with_control, with_statement, form_control, form_statement, form_kind, form_card, form_pass}
-use Rattle.st_asm.specs.Symbols.{table}
-use Rattle.st_asm.specs.Naming.{Named, name_pass}
-use Rattle.st_asm.specs.Valuing.{Emitted, value_pass}
-use Rattle.st_asm.specs.Assembly.{Assembly, together, assembly}
 use Rattle.st_asm.specs.Stops.{Leads, HasFirst, StopsAtFirst, LacksEnd, StopsForm, StopsAtNames, StopsAtValues, StopsInOrder, asking_fault, form_fault}
-use Rattle.std.specs.Result.{result_err}
 
 -- the refusal in a result, or a default
 abbrev refusal-in : {S : Type 0} → Refusal → Result S Refusal → Refusal

@@ -1,11 +1,7 @@
 -- Lemmas on tables of names and on the names in them.
-use Rattle.std.proofs.Common.{◌≡◌, ◌||◌, ℕ, Bool, true, false, cond, List, [], ◌∷◌, ◌++◌, Some, None, is_some, refl, ap, sym, ◌∙◌}
-use Rattle.std.specs.List.{cons_option}
+use Rattle.st_asm.proofs.Common.{◌≡◌, ◌||◌, ℕ, Bool, true, false, cond, List, [], ◌∷◌, ◌++◌, Some, None, is_some, refl, ap, sym, ◌∙◌, cons_option, Defines, has_name, is_defined, names_of, ReadCard}
 use Rattle.st_text.specs.Tables.{is_same, row_of}
-use Rattle.st_expr.specs.Value.{Defines}
 use Rattle.st_mnemonic.proofs.Apart.{same_words}
-use Rattle.st_asm.specs.Symbols.{has_name, is_defined, names_of}
-use Rattle.st_asm.specs.declared.line.ReadCard.{ReadCard}
 
 -- looking up a name after another one was appended to a table
 pub defined-behind : (table : List (List ℕ × ℕ)) (name query : List ℕ) (value : ℕ) →

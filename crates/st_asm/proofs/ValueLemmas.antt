@@ -1,11 +1,8 @@
 -- An expression has a value if its names are defined.
-use Rattle.std.proofs.Common.{◌≡◌, ◌&&◌, ℕ, ℤ, List, [], ◌∷◌, Option, Some, None, is_some, refl, ap, ◌∙◌}
-use Rattle.std.specs.Option.{option_map}
-use Rattle.st_expr.specs.Value.{atom_value, signed_value, plus, sum_of_terms}
+use Rattle.st_asm.proofs.Common.{◌≡◌, ◌&&◌, ℕ, ℤ, List, [], ◌∷◌, Option, Some, None, is_some, refl, ap, ◌∙◌, option_map, atom_value, signed_value, plus, sum_of_terms, accepts, accepts_atom, is_defined}
 use Rattle.st_expr.specs.declared.terms.Term.{Term}
 use Rattle.st_expr.specs.declared.terms.Atom.{Atom}
 use Rattle.st_expr.specs.declared.terms.Atom.TheVariants.{Number, Name}
-use Rattle.st_asm.specs.Symbols.{accepts, accepts_atom, is_defined}
 
 atom-known : (symbols : List (List ℕ × ℕ)) (atom : Atom) → is_some (atom_value symbols atom) ≡ accepts_atom (is_defined symbols) atom
 atom-known symbols (Number n) = refl

@@ -1,8 +1,7 @@
 -- The faults of the value pass.
 --
 -- Proved: by their `ensures` clauses these calls do what definitions here say: `extent`
--- (checks.rt), `fits` (checks.rt), `fits_index_word` (checks.rt), `in_range` (checks.rt), and
--- others.
+-- (checks.rt), `fits` (checks.rt), `in_range` (checks.rt), `in_storage` (checks.rt), and others.
 -- Read by: definitions in Alone, Valuing.
 -- Laws: SizesOfStorageAgree (specs/Laws.antt of st_laws).
 -- Change: the meaning is fixed by docs/strap.md, since the contracts of `st_top::stretch` and

@@ -13,7 +13,7 @@
 //! `Assembled`, by `st_top`, `st_account` and the laws of `st_dis`. Free: the bodies, if
 //! proofs/assembling follows.
 
-ghost use Rattle.std.specs.Prelude.{◌≡◌, ◌<◌, ◌^◌, All, None, IfOk, IfErr, length, ◌==◌, if◌then◌else◌};
+ghost use Rattle.std.specs.Prelude.{◌≡◌, ◌<◌, ◌^◌, All, None, IfOk, IfErr, length, ◌==◌};
 ghost use Rattle.st_card.specs.Cards.{cards_of};
 ghost use Rattle.st_asm.specs.Answers.{Explains};
 ghost use Rattle.st_asm.specs.Assembly as spec;
@@ -113,16 +113,11 @@ fn with_defaults(mut controls: Controls) -> Result<Controls, AsmError>
     ensures defaults { IfOk result (λ c. c ≡ spec.with_defaults controls) }
     ensures err { IfErr result (λ e. e ≡ AsmError.NoMemory) }
 {
-    controls.budget = budget_or_usual(controls.budget);
+    if controls.budget == 0 {
+        controls.budget = USUAL_BUDGET;
+    }
     if controls.delays.is_empty() && controls.delays.push(USUAL_DELAY).is_err() {
         return Err(AsmError::NoMemory);
     }
     Ok(controls)
-}
-
-// The budget, or the usual one if none is set.
-fn budget_or_usual(budget: u64) -> u64
-    ensures { result ≡ (if budget == 0 then 1000 else budget) }
-{
-    if budget == 0 { USUAL_BUDGET } else { budget }
 }

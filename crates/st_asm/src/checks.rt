@@ -98,16 +98,11 @@ fn fits(s: &CompactStatement, v: Values) -> bool
             minus,
             number,
         } => holds(*form, *minus, *number),
-        Statement::IndexWord { count, flags, .. } => fits_index_word(v.first, *count, *flags),
+        Statement::IndexWord { count, flags, .. } => {
+            v.first.unsigned_abs() < ADDRESSES && *count <= MOST_COUNT && *flags <= MOST_FLAGS
+        }
         _ => true,
     }
-}
-
-// Whether the value, the count and the flags of an index word fit in their fields.
-fn fits_index_word(value: i64, count: u64, flags: u64) -> bool
-    ensures { result ≡ spec.fits_index_word value count flags }
-{
-    value.unsigned_abs() < ADDRESSES && count <= MOST_COUNT && flags <= MOST_FLAGS
 }
 
 // Whether each address of a statement is on the boundary that its use requires.

@@ -1,10 +1,6 @@
 -- The list of bits of a number: parts of it, the number it encodes, and its fields.
-use Rattle.std.proofs.Common.{◌≡◌, ℕ, zero, suc, ◌+◌, ◌-◌, ◌*◌, ◌/◌, ◌%◌, ◌^◌, ◌<◌, ◌≤◌, List, [], ◌∷◌, ◌++◌, length, take, drop, refl, sym, ◌∙◌, ap, subst, arith, zero-add, add_assoc, mul_comm, length-append, append_assoc}
+use Rattle.st_bits.proofs.Common.{◌≡◌, ℕ, zero, suc, ◌+◌, ◌-◌, ◌*◌, ◌/◌, ◌%◌, ◌^◌, ◌<◌, ◌≤◌, List, [], ◌∷◌, ◌++◌, length, take, drop, refl, sym, ◌∙◌, ap, subst, arith, zero-add, add_assoc, mul_comm, length-append, append_assoc, take_at, drop_at, shr-shr, mod-pow-add, pow-add, shr_high, shr_split, mod_below, pow_pos, mul-add-lt, bit_at_cat_low, bits, num, field, put, part, with_part}
 use Rattle.std.specs.Int.{bit_at}
-use Rattle.std.proofs.lemmas.List.{take_at, drop_at}
-use Rattle.std.proofs.lemmas.Nat.{shr-shr, mod-pow-add, pow-add, shr_high, shr_split, mod_below, pow_pos, mul-add-lt}
-use Rattle.std.proofs.lemmas.Nat.Bits.{bit_at_cat_low}
-use Rattle.st_bits.specs.Bits.{bits, num, field, put, part, with_part}
 
 joined : (b p q m n : ℕ) → b * (p * q) + (m * q + n) ≡ (b * p + m) * q + n
 joined b p q m n = omega arith

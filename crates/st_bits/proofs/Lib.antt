@@ -1,3 +1,4 @@
+pub mod Common
 pub mod BitLists
 pub mod Windows
 pub mod WordFields

@@ -1,9 +1,6 @@
 -- The shifts and masks of the code in arithmetic.
-use Rattle.std.proofs.Common.{◌≡◌, ℕ, ◌+◌, ◌-◌, ◌*◌, ◌/◌, ◌%◌, ◌^◌, ◌<◌, ◌≤◌, sym, ◌∙◌, ap, subst, arith, bit_and, bit_or, add-zero}
-use Rattle.std.proofs.lemmas.Nat.{field_of, shr-shr, shl-shr, shr_split, and_block, or_block, or_shifted, and_mask, pow-add, shl_whole, shr_below, mod_below, pow_pos}
-use Rattle.std.proofs.lemmas.Nat.Bits.{ones_shr}
+use Rattle.st_bits.proofs.Common.{◌≡◌, ℕ, ◌+◌, ◌-◌, ◌*◌, ◌/◌, ◌%◌, ◌^◌, ◌<◌, ◌≤◌, sym, ◌∙◌, ap, subst, arith, bit_and, bit_or, add-zero, field_of, shr-shr, shl-shr, shr_split, and_block, or_block, or_shifted, and_mask, pow-add, shl_whole, shr_below, mod_below, pow_pos, ones_shr, mod-eq_of_lt}
 use Rattle.std.specs.Int.Bits.{or_zero_r}
-use Rattle.std.proofs.Math.Nat.{mod-eq_of_lt}
 use Rattle.std.proofs.Math.Pow.{mod-mod-pow, pow_mono}
 
 mask_arith : (whole low_ones low high_ones run : ℕ) → low_ones + low ≡ run → high_ones + run ≡ whole → 0 < low

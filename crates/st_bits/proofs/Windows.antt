@@ -1,9 +1,5 @@
 -- Words that are read from a list, changed in a short list and stored again.
-use Rattle.std.proofs.Common.{◌≡◌, ℕ, zero, suc, ◌+◌, ◌*◌, ◌^◌, ◌<◌, ◌≤◌, List, [], ◌∷◌, ◌++◌, length, take, drop, get_or, refl, sym, ◌∙◌, ap, arith, length-append, append_assoc}
-use Rattle.std.proofs.Math.ListN.{set}
-use Rattle.std.proofs.Math.Nat.{mod-eq_of_lt}
-use Rattle.std.proofs.lemmas.List.{append-nil, take_at, drop_at}
-use Rattle.st_bits.specs.Bits.{bits, num, all_bits, field, put, words_of}
+use Rattle.st_bits.proofs.Common.{◌≡◌, ℕ, zero, suc, ◌+◌, ◌*◌, ◌^◌, ◌<◌, ◌≤◌, List, [], ◌∷◌, ◌++◌, length, take, drop, get_or, refl, sym, ◌∙◌, ap, arith, length-append, append_assoc, set, mod-eq_of_lt, append-nil, take_at, drop_at, bits, num, all_bits, field, put, words_of}
 use Rattle.st_bits.specs.Registers.{register_word, fixed_from}
 use Rattle.st_bits.proofs.BitLists.{length-bits, num-bits}
 use Rattle.st_bits.proofs.WordFields.{field-beyond, field-within, put-beyond, put-within, put-in_word, next_place}

@@ -1,10 +1,6 @@
 -- Fields of a list of words: within one word, and across the border of two.
-use Rattle.std.proofs.Common.{◌≡◌, ℕ, zero, suc, ◌+◌, ◌-◌, ◌*◌, ◌/◌, ◌%◌, ◌^◌, ◌<◌, ◌≤◌, List, [], ◌∷◌, ◌++◌, length, take, drop, get_or, sym, ◌∙◌, ap, subst, arith, mul_comm, length-append, append_assoc}
-use Rattle.std.proofs.Math.ListN.{set}
-use Rattle.std.proofs.lemmas.List.{append-nil, take-append-le, drop-append-le, take_all, drop_all, length-drop}
-use Rattle.std.proofs.lemmas.Nat.{shr_below, mod_below, pow_pos, pow-add, mul-add-lt}
+use Rattle.st_bits.proofs.Common.{◌≡◌, ℕ, zero, suc, ◌+◌, ◌-◌, ◌*◌, ◌/◌, ◌%◌, ◌^◌, ◌<◌, ◌≤◌, List, [], ◌∷◌, ◌++◌, length, take, drop, get_or, sym, ◌∙◌, ap, subst, arith, mul_comm, length-append, append_assoc, bit_or, set, append-nil, take-append-le, drop-append-le, take_all, drop_all, length-drop, shr_below, mod_below, pow_pos, pow-add, mul-add-lt, shl_whole, or_shifted, bits, num, all_bits, field, put, part, with_part}
 use Rattle.std.proofs.Math.Seq.{drop-append-add, take-append-add}
-use Rattle.st_bits.specs.Bits.{bits, num, all_bits, field, put, part, with_part}
 use Rattle.st_bits.proofs.BitLists.{length-bits, bits-add, bits-mod, num-append, num-field, field-word, put-word}
 
 -- a field past the first part of a list is a field of the second part
@@ -229,6 +225,10 @@ put-at_two ws a n v over few inside fits =
     k
     (with_part (get_or ws k 0) 0 (n - m) (v % 2 ^ (n - m)))))
     next
+
+-- the bits of h followed by n bits, those of l
+pub or-joined : (h l m n : ℕ) → h < 2 ^ m → l < 2 ^ n → m + n ≤ 64 → bit_or (h * 2 ^ n % 2 ^ 64) l ≡ h * 2 ^ n + l
+or-joined h l m n high low room = ap (λ y. bit_or y l) (shl_whole h m n 64 high room) ∙ or_shifted h n l low
 
 -- the bound of the number of two adjacent bit strings
 pub below-joined : (h l m n k : ℕ) → h < 2 ^ m → l < 2 ^ n → k ≡ m + n → h * 2 ^ n + l < 2 ^ k

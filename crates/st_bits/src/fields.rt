@@ -7,8 +7,8 @@
 //! within the words. Not proved: speed. Pinned: the results, by specs/Bits.antt, docs/machine.md
 //! and vectors/forms.txt; the definitions of `st_exec`, `st_state` and `st_asm` rest on them. Free:
 //! the bodies, which use that a field touches at most two words, if proofs/fields follows
-//! `get_field`, `put_field` and `joined`.
-ghost use Rattle.std.specs.Prelude.{◌≡◌, ℕ, ◌+◌, ◌-◌, ◌*◌, ◌<◌, ◌≤◌, ◌^◌, length, slice_index};
+//! `get_field` and `put_field`.
+ghost use Rattle.std.specs.Prelude.{◌≡◌, ℕ, ◌+◌, ◌*◌, ◌<◌, ◌≤◌, ◌^◌, length, slice_index};
 ghost use Rattle.st_bits.specs.Bits.{all_bits, bits as bits_of, field, num, put};
 
 use crate::parts::{part, with_part};
@@ -30,11 +30,9 @@ pub fn get_field(words: &[u64], a: u32, n: u8) -> u64
         part(words[word], first, count)
     } else {
         let rest = count - here;
-        joined(
-            part(words[word], first, here),
-            part(words[word + 1], 0, rest),
-            rest,
-        )
+        let high = part(words[word], first, here);
+        let low = part(words[word + 1], 0, rest);
+        high << rest | low
     }
 }
 
@@ -62,14 +60,4 @@ pub fn put_field(words: &mut [u64], a: u32, n: u8, bits: u64)
         words[word] = with_part(words[word], first, here, bits >> rest);
         words[word + 1] = with_part(words[word + 1], 0, rest, part(bits, 64 - rest, rest));
     }
-}
-
-// The bits of `high` followed by the low `count` bits, those of `low`.
-fn joined(high: u64, low: u64, count: u32) -> u64
-    requires few { count < 64 }
-    requires high_fits { high < 2 ^ (64 - count) }
-    requires low_fits { low < 2 ^ count }
-    ensures { result ≡ high * 2 ^ count + low }
-{
-    high << count | low
 }

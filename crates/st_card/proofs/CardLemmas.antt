@@ -1,14 +1,7 @@
 -- Lemmas on reading cards line by line.
-use Rattle.std.proofs.Common.{◌≡◌, ◌≤◌, ◌<◌, ◌+◌, ◌-◌, ℕ, List, [], ◌∷◌, ◌++◌, length, take, All, refl, ap, sym, subst, ◌∙◌, arith, append_assoc, append-nil}
-use Rattle.std.proofs.lemmas.List.{take_all}
-use Rattle.std.proofs.Math.Seq.{take-append_seam}
-use Rattle.std.specs.Str.Lines.{strip_carriage_return}
-use Rattle.std.proofs.lemmas.List.Elements.{All-push}
-use Rattle.st_text.specs.Pieces.{pieces_of, IsFront, IsBehind}
+use Rattle.st_card.proofs.Common.{◌≡◌, ◌≤◌, ◌<◌, ◌+◌, ◌-◌, ℕ, List, [], ◌∷◌, ◌++◌, length, take, All, refl, ap, sym, subst, ◌∙◌, arith, append_assoc, append-nil, take_all, take-append_seam, strip_carriage_return, All-push, pieces_of, IsFront, IsBehind, card_at, cards_from, IsCardOf, Card}
 use Rattle.st_text.proofs.PieceLemmas.{first_piece}
 use Rattle.st_card.proofs.TextLemmas.{card_described}
-use Rattle.st_card.specs.Cards.{card_at, cards_from, IsCardOf}
-use Rattle.st_card.specs.declared.cards.Card.{Card}
 
 -- a line with a line end becomes a card
 pub card_first : (text line shown after : List ℕ) → pieces_of 10 text ≡ line ∷ pieces_of 10 after →

@@ -1,3 +1,4 @@
+pub mod Common
 pub mod CardLemmas
 pub mod TextLemmas
 pub mod LimitLemmas

@@ -1,30 +1,12 @@
 -- Adding a control card keeps the limits.
-use Rattle.std.proofs.Common.{◌≡◌, ◌≤◌, ◌<◌, ◌+◌, ◌-◌, ◌&&◌, ℕ, Bool, true, false, nat_le, nat_lt, List, [], ◌∷◌, ◌++◌, Option, Some, None, if◌then◌else◌, length, get_or, refl, ap, sym, subst, ◌∙◌, arith, lit≤, length-append}
+use Rattle.st_card.proofs.Common.{◌≡◌, ◌≤◌, ◌<◌, ◌+◌, ◌-◌, ◌&&◌, ℕ, Bool, true, false, nat_le, nat_lt, List, [], ◌∷◌, ◌++◌, Option, Some, None, if◌then◌else◌, length, get_or, refl, ap, sym, subst, ◌∙◌, arith, lit≤, length-append, AllPass, option_map_or, IsStrictlyIncreasing, slice_get-get_or, get_or-append_seam, All-nil, All-append, Asked, nothing_asked, is_in_range, last_passes, keyword_in, keyword_order, numbers_before, card_number, card_numbers, number_if_good, is_number, digits_value, reading, words, columns, is_signal, is_part, is_tick, AreDelays, IsWithinLimits, Signal, Keyword, Listing, Mark, Number, Pair, Trace, Time, Chart, Budget, Delays, Snap, Back, Signals, Dump}
 use Rattle.std.proofs.lemmas.Bool.{and_parts as both, leb-true as at_most, ltb-false as not_below, ltb-true as below}
-use Rattle.std.specs.List.{AllPass}
-use Rattle.std.specs.Option.{option_map_or}
-use Rattle.std.specs.List.Sorted.{IsStrictlyIncreasing}
-use Rattle.std.proofs.lemmas.Option.{slice_get-get_or}
 use Rattle.std.proofs.Math.ListN.{get_or-append}
-use Rattle.std.proofs.Math.Seq.{get_or-append_seam}
-use Rattle.std.proofs.lemmas.List.Elements.{All-nil, All-append}
 use Rattle.std.proofs.lemmas.List.Sums.{AllPass-from_list_all}
 use Rattle.std.proofs.lemmas.List.Sorted.{IsNonDecreasingBy-push}
-use Rattle.st_card.specs.Controls as spec
-use Rattle.st_card.specs.Controls.{Asked, nothing_asked, is_in_range, last_passes}
-use Rattle.st_card.specs.Keywords.{keyword_in, keyword_order, numbers_before, card_number, card_numbers}
-use Rattle.st_text.specs.Number.{number_if_good, is_number, digits_value, reading}
-use Rattle.st_text.specs.Pieces.{words}
-use Rattle.st_card.specs.Cards.{columns}
 use Rattle.st_text.specs.declared.numbers.Reading.TheVariants.{Bad, Large, Good}
-use Rattle.st_card.specs.Limits.{is_signal, is_part, is_tick, AreDelays, IsWithinLimits}
-use Rattle.st_card.specs.declared.control_cards.Signal.{Signal}
-use Rattle.st_card.specs.declared.keywords.Keyword.{Keyword}
-use Rattle.st_card.specs.declared.keywords.Keyword.TheVariants.{Listing, Mark, Number, Pair}
-use Rattle.st_card.specs.declared.keywords.Mark.TheVariants.{Trace, Time, Chart}
-use Rattle.st_card.specs.declared.keywords.Number.TheVariants.{Budget, Delays, Snap, Back}
-use Rattle.st_card.specs.declared.keywords.Pair.TheVariants.{Signals, Dump}
 use Rattle.st_card.specs.declared.keywords.ControlForm.TheVariants.{Card}
+use Rattle.st_card.specs.Controls as spec
 
 -- a conditional result is present only if its test is true
 given : (b : Bool) (x new : Asked) → (if b then Some x else None) ≡ Some new → (b ≡ true) × (x ≡ new)

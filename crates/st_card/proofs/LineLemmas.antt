@@ -1,10 +1,6 @@
 -- Lemmas on lines that are appended in consecutive groups.
-use Rattle.std.proofs.Common.{◌≡◌, ◌+◌, ℕ, suc, zero, List, [], ◌∷◌, ◌++◌, map, take, Some, Result, Ok, Err, OnOk, ap, sym, ◌∙◌, append_assoc, arith}
-use Rattle.std.specs.Prelude.{slice_get}
-use Rattle.std.proofs.lemmas.List.{map-append}
-use Rattle.std.specs.List.{flat_map}
+use Rattle.st_card.proofs.Common.{◌≡◌, ◌+◌, ℕ, suc, zero, List, [], ◌∷◌, ◌++◌, map, take, Some, Result, Ok, Err, OnOk, ap, sym, ◌∙◌, append_assoc, arith, slice_get, map-append, flat_map, text_of_lines}
 use Rattle.std.proofs.lemmas.List.Concat.{flat_map-append}
-use Rattle.st_card.specs.Written.{text_of_lines}
 
 module _ {X E : Type 0} (f : X → List ℕ) where
   -- the text of three groups, if memory sufficed for the last

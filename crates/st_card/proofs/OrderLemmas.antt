@@ -1,15 +1,6 @@
 -- Requests within their limits can be added one by one.
-use Rattle.std.proofs.Common.{◌≡◌, ◌≤◌, ◌<◌, ◌+◌, ◌-◌, ◌==◌, ℕ, Bool, true, false, nat_le, nat_lt, List, [], ◌∷◌, ◌++◌, length, get_or, Option, Some, None, if◌then◌else◌, refl, ap, sym, ◌∙◌, length-append, arith}
-use Rattle.std.specs.List.{AllPass}
-use Rattle.std.specs.List.Sorted.{IsNonDecreasingBy, IsStrictlyIncreasing}
-use Rattle.std.specs.Option.{option_map_or}
+use Rattle.st_card.proofs.Common.{◌≡◌, ◌≤◌, ◌<◌, ◌+◌, ◌-◌, ◌==◌, ℕ, Bool, true, false, nat_le, nat_lt, List, [], ◌∷◌, ◌++◌, length, get_or, Option, Some, None, if◌then◌else◌, refl, ap, sym, ◌∙◌, length-append, arith, AllPass, IsNonDecreasingBy, IsStrictlyIncreasing, option_map_or, slice_get-get_or, get_or_append_left, get_or_at, get_or_default, Asked, is_in_range, last_passes, with_budget, with_delays, with_signal, with_dump, with_snap, with_back, is_signal, is_part, is_tick, AreDelays, AreSignals, AreDumps, AreSnaps, IsShort, Signal}
 use Rattle.std.proofs.lemmas.Bool.{and_from as both_true, and_parts as holds_both, le-leb as at_most, leb-true as is_at_most, lt-ltb as below}
-use Rattle.std.proofs.lemmas.Option.{slice_get-get_or}
-use Rattle.std.proofs.lemmas.List.{get_or_append_left, get_or_at, get_or_default}
-use Rattle.st_card.specs.Controls.{Asked, is_in_range, last_passes, with_budget, with_delays, with_signal, with_dump, with_snap, with_back}
-use Rattle.st_card.specs.Limits.{is_signal, is_part, is_tick, AreDelays, AreSignals, AreDumps, AreSnaps}
-use Rattle.st_card.specs.Written.{IsShort}
-use Rattle.st_card.specs.declared.control_cards.Signal.{Signal}
 
 -- a conditional result is present if its test is true
 taken : (test : Bool) (new : Asked) → test ≡ true → (if test then Some new else None) ≡ Some new

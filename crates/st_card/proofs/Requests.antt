@@ -1,27 +1,12 @@
 -- Requests with a line: what adding one changes, and that requests within their limits can be added
 -- one by one.
-use Rattle.std.proofs.Common.{◌≡◌, ◌≤◌, ◌+◌, ◌==◌, ◌&&◌, ℕ, Bool, true, false, nat_le, nat_lt, List, [], ◌∷◌, ◌++◌, length, map, Some, if◌then◌else◌, refl, ap, sym, subst, arith, append_assoc, append-nil}
-use Rattle.std.specs.List.{All, flat_map}
+use Rattle.st_card.proofs.Common.{◌≡◌, ◌≤◌, ◌+◌, ◌==◌, ◌&&◌, ℕ, Bool, true, false, nat_le, nat_lt, List, [], ◌∷◌, ◌++◌, length, map, Some, if◌then◌else◌, refl, ap, sym, subst, arith, append_assoc, append-nil, flat_map, nat_tests, map-append, length-map, All-nil, All-cons, All-append, is_filled, lacks, keyword_order, place, keyword_of, keyword_text, keyword_in, numbers_of, control_of, Asked, nothing_asked, with_control, AreDelays, AreSignals, AreDumps, AreSnaps, IsWithinLimits, where_asked, unless_zero, asked_by, requests, IsShortControl, Signal, Trace, Time, Chart, Budget, Delays, Snap, Back, Signals, Dump, Keyword, Listing, Mark, Number, Pair}
+use Rattle.std.specs.List.{All}
 use Rattle.std.proofs.lemmas.Bool.{cond_both, eqb-true as same_number}
-use Rattle.std.proofs.lemmas.Bool.Decides.{nat_tests}
-use Rattle.std.proofs.lemmas.List.{map-append, length-map}
-use Rattle.std.proofs.lemmas.List.Elements.{All-nil, All-cons, All-append}
-use Rattle.st_text.specs.Number.{is_filled}
-use Rattle.st_text.specs.Pieces.{lacks}
-use Rattle.st_card.specs.Keywords.{keyword_order, place, keyword_of, keyword_text, keyword_in, numbers_of, control_of}
-use Rattle.st_card.specs.Controls.{Asked, nothing_asked, with_control}
-use Rattle.st_card.specs.Limits.{AreDelays, AreSignals, AreDumps, AreSnaps, IsWithinLimits}
-use Rattle.st_card.specs.Written.{where_asked, unless_zero, asked_by, requests, IsShortControl}
-use Rattle.st_card.specs.declared.control_cards.Signal.{Signal}
-use Rattle.st_card.specs.declared.keywords.Mark.TheVariants.{Trace, Time, Chart}
-use Rattle.st_card.specs.declared.keywords.Number.TheVariants.{Budget, Delays, Snap, Back}
-use Rattle.st_card.specs.declared.keywords.Pair.TheVariants.{Signals, Dump}
-use Rattle.st_card.specs.declared.keywords.Keyword.{Keyword}
-use Rattle.st_card.specs.declared.keywords.Keyword.TheVariants.{Listing, Mark, Number, Pair}
 use Rattle.st_card.specs.declared.keywords.Control.{Control}
-use Rattle.st_card.specs.declared.keywords.Control.TheVariants as asks
 use Rattle.st_card.specs.declared.keywords.ControlForm.{ControlForm}
 use Rattle.st_card.proofs.OrderLemmas.{budget-asked, delay-asked, signal-asked, dump-asked, snap-asked, back-asked, delay-short, signal-short, dump-short, snap-short}
+use Rattle.st_card.specs.declared.keywords.Control.TheVariants as asks
 
 -- ---- words
 

@@ -1,13 +1,6 @@
 -- Each card of a job lies within the job.
-use Rattle.std.proofs.Common.{◌≡◌, ◌⊎◌, inl, inr, ◌<◌, ◌+◌, ◌-◌, ◌==◌, ℕ, zero, suc, true, false, List, [], ◌∷◌, ◌++◌, length, take, All, refl, ap, sym, subst, arith, length-append, if◌then◌else◌}
-use Rattle.std.specs.Prelude.{slice_index}
-use Rattle.std.specs.Str.Lines.{strip_carriage_return}
-use Rattle.std.proofs.lemmas.List.Elements.{All-nil, All-cons, All-take}
-use Rattle.st_text.specs.Pieces.{onto_first, pieces_of, IsFront, IsBehind}
-use Rattle.st_card.specs.Cards.{card_at, cards_from, cards_of, IsCardOf}
-use Rattle.st_card.specs.declared.cards.Card.{Card}
+use Rattle.st_card.proofs.Common.{◌≡◌, ◌⊎◌, inl, inr, ◌<◌, ◌+◌, ◌-◌, ◌==◌, ℕ, zero, suc, true, false, List, [], ◌∷◌, ◌++◌, length, take, All, refl, ap, sym, subst, arith, length-append, if◌then◌else◌, slice_index, strip_carriage_return, All-nil, All-cons, All-take, onto_first, pieces_of, IsFront, IsBehind, card_at, cards_from, cards_of, IsCardOf, Card, front_of_front, front_of_whole, front_itself, front_taken, behind_whole, behind_behind, behind_itself}
 use Rattle.st_card.proofs.CardLemmas.{card_first}
-use Rattle.st_text.proofs.FrontLemmas.{front_of_front, front_of_whole, front_itself, front_taken, behind_whole, behind_behind, behind_itself}
 use Rattle.st_card.proofs.TextLemmas.{card_described}
 
 -- a line without its carriage return is a prefix of the line

@@ -1,11 +1,7 @@
 -- Lemmas on the position of a card's text in its job.
-use Rattle.std.proofs.Common.{◌≡◌, ◌≤◌, ◌-◌, ◌==◌, ◌||◌, ℕ, Bool, nat_lt, List, [], ◌∷◌, true, false, not, Option, Some, None, if◌then◌else◌, length, take, min, refl, ap, sym, ◌∙◌, arith}
+use Rattle.st_card.proofs.Common.{◌≡◌, ◌≤◌, ◌-◌, ◌==◌, ◌||◌, ℕ, Bool, nat_lt, List, [], ◌∷◌, true, false, not, Option, Some, None, if◌then◌else◌, length, take, min, refl, ap, sym, ◌∙◌, arith, take_all, take_min, take-take, nat_tests, IsFront, IsBehind, first_column, columns, is_blank, kind_of, fault_of, card_at, text_in, IsCardOf}
 use Rattle.std.proofs.lemmas.Bool.{not-false as not_false}
-use Rattle.std.proofs.lemmas.List.{take_all, take_min, take-take}
-use Rattle.std.proofs.lemmas.Bool.Decides.{nat_tests}
 use Rattle.st_bits.specs.declared.limits.TheConstants.{MOST_CARDS}
-use Rattle.st_text.specs.Pieces.{IsFront, IsBehind}
-use Rattle.st_card.specs.Cards.{first_column, columns, is_blank, kind_of, fault_of, card_at, text_in, IsCardOf}
 use Rattle.st_text.specs.Bytes.{is_printable}
 use Rattle.st_card.specs.declared.faults.Fault.{Fault}
 use Rattle.st_card.specs.declared.faults.Fault.TheVariants.{NotAscii, CardTooLong, TooManyCards}

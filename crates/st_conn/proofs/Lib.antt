@@ -1,3 +1,4 @@
+pub mod Common
 pub mod Weights
 pub mod TableRows
 pub mod Places

@@ -1,16 +1,7 @@
 -- Bits shifted to their places, and ones whose place is beyond weight 127.
-use Rattle.std.proofs.Common.{◌≡◌, ℕ, suc, ◌+◌, ◌-◌, ◌*◌, ◌%◌, ◌^◌, ◌<◌, ◌≤◌, Bool, true, false, cond, ltb, Decides, refl, sym, ◌∙◌, ap, arith, inl, inr, add-zero, min, max, bit_and, bit_or}
+use Rattle.st_conn.proofs.Common.{◌≡◌, ℕ, suc, ◌+◌, ◌-◌, ◌*◌, ◌%◌, ◌^◌, ◌<◌, ◌≤◌, Bool, true, false, cond, ltb, Decides, refl, sym, ◌∙◌, ap, arith, inl, inr, add-zero, min, max, bit_and, bit_or, bit_at, w128, bit_not, count_leading_zeros, cases_lt, nat_tests, Decides-like, Decides-ltb, Decides-eqb, Decides-below_or, pow_pos, shr_high, leading_top, leading_length, bit_at-lt, bit_at-zero, bit_at_above, bit_at_cat_low, bit_at_cat_high, bit_at_ones, bit_at_ones_above, bit_at_and, bit_at_or, bit_at_not, pow-suc, pow_mono, by_weight, is_covered, inserted_at, bit_past, is_one_lost}
 use Rattle.std.specs.Prelude.{◌==◌}
-use Rattle.std.specs.Int.{bit_at, w128, bit_not}
-use Rattle.std.specs.Int.Count.{count_leading_zeros}
 use Rattle.std.specs.List.{list_any}
-use Rattle.std.proofs.lemmas.Bool.{cases_lt}
-use Rattle.std.proofs.lemmas.Bool.Decides.{nat_tests, Decides-like, Decides-ltb, Decides-eqb, Decides-below_or}
-use Rattle.std.proofs.lemmas.Nat.{pow_pos, shr_high, leading_top, leading_length}
-use Rattle.std.proofs.lemmas.Nat.Bits.{bit_at-lt, bit_at-zero, bit_at_above, bit_at_cat_low, bit_at_cat_high, bit_at_ones, bit_at_ones_above, bit_at_and, bit_at_or, bit_at_not}
-use Rattle.std.proofs.Math.Nat.{pow-suc}
-use Rattle.std.proofs.Math.Pow.{pow_mono}
-use Rattle.st_conn.specs.Connective.{by_weight, is_covered, inserted_at, bit_past, is_one_lost}
 use Rattle.st_conn.proofs.TableRows.{bit_at-mod}
 
 pub covered-below : (offset n i : ℕ) → i < offset → is_covered offset n i ≡ false

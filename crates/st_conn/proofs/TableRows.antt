@@ -1,9 +1,5 @@
 -- A truth table by and, or and not on whole words.
-use Rattle.std.proofs.Common.{◌≡◌, ℕ, zero, suc, ◌-◌, ◌*◌, ◌/◌, ◌%◌, ◌^◌, ◌<◌, min, max, sym, ◌∙◌, ap, arith}
-use Rattle.std.specs.Int.{bit_at}
-use Rattle.std.proofs.lemmas.Nat.{shr_split}
-use Rattle.std.proofs.lemmas.Nat.Bits.{bit_at-lt, bit_at_cat_low, bit_at-zero}
-use Rattle.st_conn.specs.Connective.{truth_bit}
+use Rattle.st_conn.proofs.Common.{◌≡◌, ℕ, zero, suc, ◌-◌, ◌*◌, ◌/◌, ◌%◌, ◌^◌, ◌<◌, min, max, sym, ◌∙◌, ap, arith, bit_at, shr_split, bit_at-lt, bit_at_cat_low, bit_at-zero, truth_bit}
 
 -- the low bits of a remainder are those of the number
 pub bit_at-mod : (x w i : ℕ) → i < w → bit_at (x % 2 ^ w) i ≡ bit_at x i

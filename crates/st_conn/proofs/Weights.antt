@@ -1,15 +1,6 @@
 -- The list of the bits of a number by weight, with its leading zeros and ones counted.
-use Rattle.std.proofs.Common.{◌≡◌, ℕ, zero, suc, ◌+◌, ◌-◌, ◌*◌, ◌%◌, ◌^◌, ◌<◌, ◌≤◌, List, ◌∷◌, sum, refl, sym, ◌∙◌, ap, subst, arith, inl, inr}
-use Rattle.std.specs.Int.{bit_at}
-use Rattle.std.specs.Int.Count.{ones, count_leading_zeros}
-use Rattle.std.proofs.lemmas.Bool.{cases_order}
+use Rattle.st_conn.proofs.Common.{◌≡◌, ℕ, zero, suc, ◌+◌, ◌-◌, ◌*◌, ◌%◌, ◌^◌, ◌<◌, ◌≤◌, List, ◌∷◌, sum, refl, sym, ◌∙◌, ap, subst, arith, inl, inr, bit_at, ones, count_leading_zeros, cases_order, mod-pow-add, ones_cat, mod_below, pow_pos, leading_length, bit_at-lt, pow-suc, mod-eq_of_lt, pow_mono, bits, by_weight, leading_zeros}
 use Rattle.std.proofs.lemmas.List.Sums.{sum_by-cons}
-use Rattle.std.proofs.lemmas.Nat.{mod-pow-add, ones_cat, mod_below, pow_pos, leading_length}
-use Rattle.std.proofs.lemmas.Nat.Bits.{bit_at-lt}
-use Rattle.std.proofs.Math.Nat.{pow-suc, mod-eq_of_lt}
-use Rattle.std.proofs.Math.Pow.{pow_mono}
-use Rattle.st_bits.specs.Bits.{bits}
-use Rattle.st_conn.specs.Connective.{by_weight, leading_zeros}
 
 -- a list by weight of bits that equal those of a number is the list of its bits
 pub by_weight-bits : (bit : ℕ → ℕ) (x n : ℕ) → ((j : ℕ) → j < n → bit j ≡ bit_at x j) → by_weight bit n ≡ bits n x

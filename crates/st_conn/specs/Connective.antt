@@ -3,7 +3,7 @@
 -- most.
 --
 -- Proved: by their `ensures` clauses these calls do what definitions here say: `connect`
--- (logic.rt), `put_acc` (placement.rt), `combined` (logic.rt), `results` (logic.rt), and others.
+-- (logic.rt), `put_acc` (placement.rt), `combined` (logic.rt), `results` (logic.rt).
 -- Read by: definitions in Connection.
 -- Laws: CountsAgree (specs/Laws.antt of st_laws).
 -- Change: the meaning is fixed by docs/connectives.md, since the contracts of `st_top::stretch` and

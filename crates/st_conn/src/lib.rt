@@ -13,5 +13,3 @@ mod logic;
 mod placement;
 
 pub use connections::{ConnShape, connective};
-pub use logic::{Conn, connect};
-pub use placement::put_acc;

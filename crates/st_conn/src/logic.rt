@@ -26,7 +26,7 @@ pub struct Conn {
 /// 8, 4, 2 and 1 of `table`, below 16, are the results for the field bit and accumulator bit 00,
 /// 01, 10 and 11. The field's bit of weight j is combined with the accumulator's bit of weight
 /// `offset` + j, which is zero beyond weight 127. `offset` is 0 to 127, and `field` below 2^n.
-pub fn connect(table: u8, acc: u128, offset: u8, field: u64, n: u8) -> Conn
+pub(crate) fn connect(table: u8, acc: u128, offset: u8, field: u64, n: u8) -> Conn
     requires table { table < 16 }
     requires offset { offset ≤ 127 }
     requires some { 1 ≤ n }
@@ -43,8 +43,8 @@ pub fn connect(table: u8, acc: u128, offset: u8, field: u64, n: u8) -> Conn
     let bits = results(table, acc, offset, field, n);
     Conn {
         bits,
-        lzc: zeros_of(bits, n),
-        aoc: ones_of(bits, n),
+        lzc: (bits.leading_zeros() - (64 - u32::from(n))) as u8,
+        aoc: bits.count_ones() as u8,
     }
 }
 
@@ -94,24 +94,4 @@ fn low_bits(bits: u64, n: u8) -> u64
     ensures bound { result < 2 ^ n }
 {
     bits & u64::MAX >> (64 - n)
-}
-
-// The number of leading zeros of a number of `n` bits.
-fn zeros_of(bits: u64, n: u8) -> u8
-    requires few { n ≤ 64 }
-    requires fits { bits < 2 ^ n }
-    ensures zeros { result ≡ leading_zeros (bits_of n bits) }
-    ensures bound { result ≤ n }
-{
-    (bits.leading_zeros() - (64 - u32::from(n))) as u8
-}
-
-// The number of ones of a number of `n` bits.
-fn ones_of(bits: u64, n: u8) -> u8
-    requires few { n ≤ 64 }
-    requires fits { bits < 2 ^ n }
-    ensures ones { result ≡ sum (bits_of n bits) }
-    ensures bound { result ≤ n }
-{
-    bits.count_ones() as u8
 }

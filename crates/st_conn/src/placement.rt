@@ -6,15 +6,15 @@
 //! by single bits; the clause `lost_where` says by places when a one is lost. Pinned: the results,
 //! by specs/Connective.antt, docs/connectives.md and vectors/connectives.txt. Free: the shifts and
 //! masks, if proofs/placement and proofs/Places.antt follow.
-ghost use Rattle.std.specs.Prelude.{◌≡◌, ℕ, ◌+◌, ◌<◌, ◌≤◌, ◌^◌, ◌↔◌, IsTrue, if◌then◌else◌};
+ghost use Rattle.std.specs.Prelude.{◌≡◌, ℕ, ◌+◌, ◌<◌, ◌≤◌, ◌^◌, ◌↔◌, IsTrue};
 ghost use Rattle.std.specs.Int.{bit_at};
 ghost use Rattle.st_bits.specs.Bits.{num};
-ghost use Rattle.st_conn.specs.Connective.{is_covered, is_one_lost, accumulator_bits};
+ghost use Rattle.st_conn.specs.Connective.{is_one_lost, accumulator_bits};
 
 /// The accumulator with its bits from weight `offset`, 0 to 127, replaced by the `n` bits, 1 to 64,
 /// of the number `bits`, below 2^n; and whether a one was lost because its place would be beyond
 /// weight 127. Lost zeros do not count.
-pub fn put_acc(acc: u128, offset: u8, bits: u64, n: u8) -> (u128, bool)
+pub(crate) fn put_acc(acc: u128, offset: u8, bits: u64, n: u8) -> (u128, bool)
     requires offset { offset ≤ 127 }
     requires some { 1 ≤ n }
     requires few { n ≤ 64 }
@@ -25,25 +25,9 @@ pub fn put_acc(acc: u128, offset: u8, bits: u64, n: u8) -> (u128, bool)
     // A one is lost if and only if a bit of `bits` that is one has its place beyond weight 127.
     ensures lost_where { IsTrue result.1 ↔ ((j : ℕ) × (127 < offset + j) × (bit_at bits j ≡ 1)) }
 {
-    let kept = acc & !places(offset, n);
-    (kept | u128::from(bits) << offset, loses_one(offset, bits))
-}
-
-// Ones at the `n` weights from `offset`, up to weight 127.
-fn places(offset: u8, n: u8) -> u128
-    requires offset { offset ≤ 127 }
-    requires some { 1 ≤ n }
-    requires few { n ≤ 64 }
-    ensures { (i : ℕ) → i < 128 → bit_at result i ≡ (if is_covered offset n i then 1 else 0) }
-{
-    u128::MAX >> (128 - n) << offset
-}
-
-// Whether a one of `bits` would be beyond weight 127 if inserted from weight `offset`.
-fn loses_one(offset: u8, bits: u64) -> bool
-    requires { offset ≤ 127 }
-    ensures lost { result ≡ is_one_lost offset bits }
-    ensures lost_where { IsTrue result ↔ ((j : ℕ) × (127 < offset + j) × (bit_at bits j ≡ 1)) }
-{
-    u128::from(bits).leading_zeros() < u32::from(offset)
+    // Ones at the `n` weights from `offset`, up to weight 127.
+    let places = u128::MAX >> (128 - n) << offset;
+    let kept = acc & !places;
+    let is_one_lost = u128::from(bits).leading_zeros() < u32::from(offset);
+    (kept | u128::from(bits) << offset, is_one_lost)
 }

@@ -1,12 +1,6 @@
 -- Lists of digits and their numbers.
-use Rattle.std.proofs.Common.{◌≡◌, ℕ, zero, suc, ◌+◌, ◌*◌, ◌/◌, ◌%◌, ◌^◌, ◌<◌, ◌≤◌, List, [], ◌∷◌, length, refl, sym, arith}
-use native.Mathlib.Numerals.{unary_clauses}
-use Rattle.std.proofs.Math.Nat.{pow-suc, pow-succ', div-div-eq-div-mul}
-use Rattle.std.proofs.Math.Pow.{pow_pos}
+use Rattle.st_dec.proofs.Common.{◌≡◌, ℕ, zero, suc, ◌+◌, ◌*◌, ◌/◌, ◌%◌, ◌^◌, ◌<◌, ◌≤◌, List, [], ◌∷◌, length, refl, sym, arith, unary_clauses, pow-suc, pow-succ', div-div-eq-div-mul, pow_pos, pow-add, code_at, value_of_digits, digits_of, bytes, number_of_bytes, codes_value, decimal}
 use Rattle.std.proofs.Math.Arith.{mod-mul}
-use Rattle.std.proofs.lemmas.Nat.{pow-add}
-use Rattle.st_field.specs.Digits.{code_at, value_of_digits, digits_of}
-use Rattle.st_dec.specs.DigitLists.{bytes, number_of_bytes, codes_value, decimal}
 
 -- all digits of the list fit in b bits
 abbrev pub AllBelow : ℕ → List ℕ → Type 0

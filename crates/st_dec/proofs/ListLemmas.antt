@@ -1,13 +1,6 @@
 -- Parts of lists of digits, and their numbers.
-use Rattle.std.proofs.Common.{◌≡◌, ℕ, zero, suc, ◌+◌, ◌*◌, ◌/◌, ◌%◌, ◌^◌, ◌<◌, ◌≤◌, List, [], ◌∷◌, ◌++◌, length, map, take, drop, replicate, ◌||◌, refl, sym, ap, arith, ltb, leb}
-use native.Mathlib.Numerals.{unary_clauses}
-use Rattle.std.proofs.Math.Nat.{mod-eq_of_lt, div-div-eq-div-mul, div-eq_of_lt}
-use Rattle.std.proofs.Math.Pow.{pow_pos}
-use Rattle.std.proofs.lemmas.Nat.{le-div}
+use Rattle.st_dec.proofs.Common.{◌≡◌, ℕ, zero, suc, ◌+◌, ◌*◌, ◌/◌, ◌%◌, ◌^◌, ◌<◌, ◌≤◌, List, [], ◌∷◌, ◌++◌, length, map, take, drop, replicate, ◌||◌, refl, sym, ap, arith, ltb, leb, unary_clauses, mod-eq_of_lt, div-div-eq-div-mul, div-eq_of_lt, pow_pos, le-div, value_of_digits, bytes, number_of_bytes, codes_value, decimal, any_code}
 use Rattle.std.proofs.lemmas.Bool.Decides.{nat_tests}
-use Rattle.st_field.specs.Digits.{value_of_digits}
-use Rattle.st_dec.specs.DigitLists.{bytes, number_of_bytes, codes_value, decimal}
-use Rattle.st_dec.specs.DecimalOperand.{any_code}
 use Rattle.st_dec.proofs.DigitLemmas.{AllBelow, next_power, digit_and_rest, value_of-first}
 
 -- the number of bytes in the list

@@ -1,10 +1,5 @@
 -- The loops over digits, which add each digit at its place, from the right.
-use Rattle.std.proofs.Common.{◌≡◌, ℕ, suc, ◌+◌, ◌-◌, ◌*◌, ◌/◌, ◌%◌, ◌^◌, ◌<◌, ◌≤◌, map, refl, ap, subst, ◌∙◌, arith, add-one}
-use Rattle.std.proofs.Math.Nat.{mod-eq_of_lt}
-use Rattle.std.proofs.Math.Pow.{pow_pos, pow_mono, mod-mod-pow}
-use Rattle.std.proofs.lemmas.Nat.{pow-add}
-use Rattle.st_dec.specs.DigitLists.{bytes, number_of_bytes}
-use Rattle.st_dec.specs.DecimalOperand.{codes_with_zones}
+use Rattle.st_dec.proofs.Common.{◌≡◌, ℕ, suc, ◌+◌, ◌-◌, ◌*◌, ◌/◌, ◌%◌, ◌^◌, ◌<◌, ◌≤◌, map, refl, ap, subst, ◌∙◌, arith, add-one, mod-eq_of_lt, pow_pos, pow_mono, mod-mod-pow, pow-add, bytes, number_of_bytes, codes_with_zones}
 use Rattle.st_dec.proofs.DigitLemmas.{next_power}
 
 digit_in_place : (d w x p : ℕ) → d < w → x < p → x + d * p < p * w

@@ -1,16 +1,7 @@
 -- The digits of fields and of the accumulator as the code stores them: four bits each, in one
 -- number.
-use Rattle.std.proofs.Common.{◌≡◌, ℕ, ◌+◌, ◌*◌, ◌/◌, ◌%◌, ◌^◌, ◌<◌, ◌≤◌, List, [], ◌∷◌, ◌++◌, length, map, take, drop, replicate, refl, sym, subst, ◌∙◌, arith, lit≤, leb}
-use Rattle.std.proofs.lemmas.List.{length-map, length-append, length-replicate, length-take, length-drop}
-use Rattle.std.proofs.Math.Nat.{mod-eq_of_lt, mul-le-mul_right}
-use Rattle.std.proofs.Math.Pow.{pow_mono}
-use Rattle.st_field.specs.Digits.{value_of_digits}
-use Rattle.st_field.proofs.DigitLemmas.{value_of-bound}
-use Rattle.st_dec.specs.DigitLists.{bytes, number_of_bytes, codes_value}
+use Rattle.st_dec.proofs.Common.{◌≡◌, ℕ, ◌+◌, ◌*◌, ◌/◌, ◌%◌, ◌^◌, ◌<◌, ◌≤◌, List, [], ◌∷◌, ◌++◌, length, map, take, drop, replicate, refl, sym, subst, ◌∙◌, arith, lit≤, leb, length-map, length-append, length-replicate, length-take, length-drop, mod-eq_of_lt, mul-le-mul_right, pow_mono, value_of_digits, value_of-bound, bytes, number_of_bytes, codes_value, Shape, magnitude_bits, IsDecimalShape, digit_count, field_value, any_code}
 use Rattle.st_field.specs.declared.fields.Field.{Field}
-use Rattle.st_field.specs.declared.fields.Shape.{Shape}
-use Rattle.st_field.specs.Fields.{magnitude_bits}
-use Rattle.st_dec.specs.DecimalOperand.{IsDecimalShape, digit_count, field_value, any_code}
 use Rattle.st_dec.proofs.ShapeLemmas.{digits-whole}
 use Rattle.st_dec.proofs.DigitLemmas.{AllBelow, joined-below, joined-bytes, value-joined}
 use Rattle.st_dec.proofs.ListLemmas.{length-bytes, bytes-below, codes-below, zeros-below, append-below, take-below, drop-below, joined-take, joined-drop, joined-zeros-append, joined-append-zeros, any_code-drop}

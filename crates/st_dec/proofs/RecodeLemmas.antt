@@ -1,12 +1,5 @@
 -- The codes in the bytes of a field replaced, and numbers in decimal digits.
-use Rattle.std.proofs.Common.{◌≡◌, ℕ, zero, suc, ◌+◌, ◌-◌, ◌*◌, ◌/◌, ◌%◌, ◌^◌, ◌<◌, ◌≤◌, List, [], ◌∷◌, length, map, refl, sym, ap, subst, ◌∙◌, arith, lit<, lit≤}
-use Rattle.std.proofs.lemmas.List.{length-map}
-use Rattle.std.proofs.Math.Nat.{mod-eq_of_lt, mul-le-mul_left, pow-suc, mod-lt, pow-le-pow_right}
-use Rattle.std.proofs.lemmas.Nat.{pow-add}
-use Rattle.st_field.specs.Digits.{digits_of}
-use Rattle.st_field.proofs.DigitLemmas.{power_above_zero}
-use Rattle.st_dec.specs.DigitLists.{bytes, number_of_bytes, decimal}
-use Rattle.st_dec.specs.DecimalOperand.{bytes_with_codes, codes_with_zones}
+use Rattle.st_dec.proofs.Common.{◌≡◌, ℕ, zero, suc, ◌+◌, ◌-◌, ◌*◌, ◌/◌, ◌%◌, ◌^◌, ◌<◌, ◌≤◌, List, [], ◌∷◌, length, map, refl, sym, ap, subst, ◌∙◌, arith, lit<, lit≤, length-map, mod-eq_of_lt, mul-le-mul_left, pow-suc, mod-lt, pow-le-pow_right, pow-add, digits_of, power_above_zero, bytes, number_of_bytes, decimal, bytes_with_codes, codes_with_zones}
 use Rattle.st_dec.proofs.DigitLemmas.{AllBelow, joined-below, joined-bytes, joined-decimal, digit_and_rest}
 use Rattle.st_dec.proofs.ListLemmas.{length-bytes, length-decimal, bytes-below, decimal-below, codes-below, bytes-joined}
 use Rattle.st_dec.proofs.LoopLemmas.{byte_below}

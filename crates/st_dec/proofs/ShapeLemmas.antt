@@ -1,9 +1,6 @@
 -- The number of digits of a field.
-use Rattle.std.proofs.Common.{◌≡◌, ℕ, ◌-◌, ◌*◌, ◌/◌, ◌%◌, ◌≤◌, arith, Bool, true, false, if◌then◌else◌}
-use Rattle.st_field.specs.declared.fields.Shape.{Shape}
-use Rattle.st_field.specs.Fields.{magnitude_bits}
+use Rattle.st_dec.proofs.Common.{◌≡◌, ℕ, ◌-◌, ◌*◌, ◌/◌, ◌%◌, ◌≤◌, arith, Bool, true, false, if◌then◌else◌, Shape, magnitude_bits, IsDecimalShape, digit_count}
 use Rattle.st_field.proofs.FieldLemmas.{each_byte}
-use Rattle.st_dec.specs.DecimalOperand.{IsDecimalShape, digit_count}
 
 pub few : (m b : ℕ) → 1 ≤ b → b ≤ 8 → 4 ≤ b → m ≤ 64 → m / b ≤ 16
 few m b =

@@ -11,8 +11,8 @@
 //!
 //! Pinned, by these definitions, docs/variable-fields.md and vectors/decimal.txt: the results.
 //! Free: the bodies, if proofs/stores follows.
-ghost use Rattle.std.specs.Prelude.{◌≡◌, ◌<◌, ◌-◌, ◌%◌, ◌^◌, drop};
-ghost use Rattle.st_field.specs.Fields.{magnitude_bits as magnitude_bits_of, zone_of};
+ghost use Rattle.std.specs.Prelude.{◌≡◌, ◌<◌, ◌^◌, drop};
+ghost use Rattle.st_field.specs.Fields.{magnitude_bits as magnitude_bits_of};
 ghost use Rattle.st_dec.specs.DecimalOperand.{IsDecimalShape, digit_count as digit_count_of, codes_from_place as codes_from_place_of, any_code};
 ghost use Rattle.st_dec.specs.DecimalResult.{stored_magnitude as stored_magnitude_of};
 
@@ -22,22 +22,15 @@ use st_field::Acc;
 use st_field::fields::Shape;
 use st_field::signed::exceeds;
 
-// The zone of the accumulator, with as many bits as a byte has room for.
-fn stored_zone(acc: &Acc, shape: &Shape) -> u64
-    requires { IsDecimalShape shape.now }
-    ensures value { result ≡ zone_of acc.now.sb % 2 ^ (shape.now.byte - 4) }
-    ensures fits { result < 2 ^ (shape.now.byte - 4) }
-{
-    u64::from(acc.sb / 16 % (1 << (shape.byte - 4)))
-}
-
 /// The magnitude of the field that stores the accumulator from the digit place.
 pub fn stored_magnitude(acc: &Acc, shape: &Shape) -> u64
     requires { IsDecimalShape shape.now }
     ensures value { result ≡ stored_magnitude_of acc.now shape.now }
     ensures fits { result < 2 ^ magnitude_bits_of shape.now }
 {
-    spread(field_codes(acc, shape), stored_zone(acc, shape), shape)
+    // The zone, with as many bits as a byte has room for.
+    let zone = u64::from(acc.sb / 16 % (1 << (shape.byte - 4)));
+    spread(field_codes(acc, shape), zone, shape)
 }
 
 /// Whether the accumulator has a nonzero code to the left of those that the field stores.

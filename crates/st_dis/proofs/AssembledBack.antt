@@ -1,8 +1,5 @@
 -- The deck of a program assembles to that program.
-use Rattle.std.proofs.Common.{◌≡◌, ◌≤◌, length, Ok}
-use Rattle.st_asm.specs.Assembly.{Assembly, together, assembly}
-use Rattle.st_object.specs.Object.{Program, IsProgram, AreWords}
-use Rattle.st_dis.specs.Deck.{control_cards, deck_text, card_count}
+use Rattle.st_dis.proofs.Common.{◌≡◌, ◌≤◌, length, Ok, Assembly, together, assembly, Program, IsProgram, AreWords, control_cards, deck_text, card_count}
 use Rattle.st_dis.proofs.FormPass.{found_in_job}
 use Rattle.st_dis.proofs.DeckCards.{form-passes}
 use Rattle.st_dis.proofs.PassesLead.{statements-give}

@@ -1,27 +1,10 @@
 -- The control cards of a deck, added one by one, make the requests of the program.
-use Rattle.std.proofs.Common.{◌≡◌, ◌≤◌, ◌<◌, ◌==◌, ℕ, Bool, true, false, not, nat_lt, List, [], ◌∷◌, ◌++◌, Option, Some, None, if◌then◌else◌, length, map, filter, decimal, refl, ap, sym, subst, ◌∙◌, append_assoc, length-append, arith}
-use Rattle.std.proofs.lemmas.Bool.Decides.{nat_tests}
-use Rattle.std.proofs.lemmas.List.{take_all}
-use Rattle.std.proofs.lemmas.Fmt.{length-decimal-le}
-use Rattle.std.proofs.lemmas.Bool.{leb-true}
-use Rattle.std.proofs.lemmas.List.{map-append}
-use Rattle.st_card.specs.Keywords.{keyword_text, card_number, numbers_before, card_numbers}
-use Rattle.st_card.specs.Written.{control_line, IsShort, IsShortControl}
-use Rattle.st_card.specs.declared.keywords.Keyword.{Keyword}
-use Rattle.st_card.specs.declared.keywords.Keyword.TheVariants as keywords
-use Rattle.st_card.specs.declared.keywords.Control.{Control}
-use Rattle.st_card.specs.declared.keywords.Control.TheVariants as asks
-use Rattle.st_card.specs.declared.keywords.ControlForm.TheVariants.{Card}
+use Rattle.st_dis.proofs.Common.{◌≡◌, ◌≤◌, ◌<◌, ◌==◌, ℕ, Bool, true, false, not, nat_lt, List, [], ◌∷◌, ◌++◌, Option, Some, None, if◌then◌else◌, length, map, filter, decimal, refl, ap, sym, subst, ◌∙◌, append_assoc, length-append, arith, nat_tests, take_all, length-decimal-le, leb-true, map-append, keyword_text, card_number, numbers_before, card_numbers, control_line, IsShort, IsShortControl, Keyword, Control, Card, pieces_of, lacks, words, columns, Asked, nothing_asked, with_keyword, with_card, with_words, asked_with_card, IsWithinLimits, keyword-found, is-word, Steps, steps-of, all-steps, parted-once, control_cards, CardsLead}
 use Rattle.st_text.specs.Number.{is_filled, reading, number_if_good}
-use Rattle.st_text.specs.Pieces.{pieces_of, lacks, words}
-use Rattle.st_card.specs.Cards.{columns}
-use Rattle.st_card.specs.Controls.{Asked, nothing_asked, with_keyword, with_control, with_card, with_words, asked_with_card}
-use Rattle.st_card.specs.Limits.{IsWithinLimits}
-use Rattle.st_card.proofs.Requests.{keyword-found, is-word, Steps, steps-of, all-steps}
+use Rattle.st_card.specs.Controls.{with_control}
 use Rattle.st_mnemonic.proofs.Digits.{decimal-digits, reading-decimal, digits-lack, low_other, lacks-parted}
-use Rattle.st_strap.proofs.PlaceCards.{parted-once}
-use Rattle.st_dis.specs.Deck.{control_cards}
-use Rattle.st_dis.specs.Read.{CardsLead}
+use Rattle.st_card.specs.declared.keywords.Keyword.TheVariants as keywords
+use Rattle.st_card.specs.declared.keywords.Control.TheVariants as asks
 
 decimal-short : (n : ℕ) → IsShort n → length (decimal n) ≤ 12
 decimal-short n short = length-decimal-le 12 n (omega arith) (omega (arith, short)) (omega (arith, short))

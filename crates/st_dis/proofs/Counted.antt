@@ -1,12 +1,5 @@
 -- Lemmas on the number of cards of words.
-use Rattle.std.proofs.Common.{◌≡◌, ◌≤◌, ◌+◌, ◌-◌, ◌==◌, ◌++◌, ℕ, true, false, List, [], ◌∷◌, length, map, take, drop, get_or, if◌then◌else◌, refl, ap, sym, ◌∙◌, length-append, arith}
-use Rattle.std.specs.List.{flat_map}
-use Rattle.std.proofs.lemmas.List.{take_all}
-use Rattle.st_card.specs.Controls.{Asked}
-use Rattle.st_card.specs.Written.{asked_by}
-use Rattle.st_card.specs.declared.keywords.Keyword.{Keyword}
-use Rattle.st_dis.specs.Deck.{statement_card, location_statement, location_cards, cards_of_word, word_cards}
-use Rattle.st_dis.specs.Spelling.{statements_of}
+use Rattle.st_dis.proofs.Common.{◌≡◌, ◌≤◌, ◌+◌, ◌-◌, ◌==◌, ◌++◌, ℕ, true, false, List, [], ◌∷◌, length, map, take, drop, get_or, if◌then◌else◌, refl, ap, sym, ◌∙◌, length-append, arith, flat_map, take_all, Asked, asked_by, Keyword, statement_card, location_statement, location_cards, cards_of_word, word_cards, statements_of}
 
 -- the number of a word's cards does not depend on its address
 location_cards-length : (v w before : ℕ) → length (location_cards v before) ≡ length (location_cards w before)

@@ -1,23 +1,9 @@
 -- A deck is split into its cards; each has its text and no fault by itself.
-use Rattle.std.proofs.Common.{◌≡◌, ◌≤◌, ◌+◌, ◌-◌, ◌==◌, ◌++◌, ℕ, zero, suc, Bool, true, false, not, nat_lt, min, List, [], ◌∷◌, length, map, take, drop, None, if◌then◌else◌, refl, sym, ◌∙◌, ap, subst, append_assoc, length-append, arith}
-use Rattle.std.proofs.Math.Seq.{drop-append_seam}
-use Rattle.std.proofs.lemmas.List.{take_at, take_all, length-map}
-use Rattle.std.proofs.lemmas.List.Elements.{All-nil, All-cons, All-head, All-tail}
-use Rattle.std.proofs.lemmas.Bool.{and_parts}
-use Rattle.std.proofs.lemmas.Bool.Decides.{nat_tests}
-use Rattle.std.specs.List.{All, list_all}
-use Rattle.std.specs.Prelude.{slice_index}
+use Rattle.st_dis.proofs.Common.{◌≡◌, ◌≤◌, ◌+◌, ◌-◌, ◌==◌, ◌++◌, ℕ, zero, suc, Bool, true, false, not, nat_lt, min, List, [], ◌∷◌, length, map, take, drop, None, if◌then◌else◌, refl, sym, ◌∙◌, ap, subst, append_assoc, length-append, arith, drop-append_seam, take_at, take_all, length-map, All-nil, All-cons, All-head, All-tail, and_parts, nat_tests, All, list_all, slice_index, lf, is_printable, first_fault, fault_of, kind_of, card_at, cards_from, cards_of, text_in, is_column_1, first_column, Fault, NotAscii, CardTooLong, BadName, TooManyCards, Program, IsProgram, AreWords, deck_cards, deck_text, card_count, text_of_lines}
 use Rattle.std.specs.Str.Lines.{strip_carriage_return}
-use Rattle.st_text.specs.Bytes.{lf, is_printable}
-use Rattle.st_card.specs.Cards.{first_fault, fault_of, kind_of, card_at, cards_from, cards_of, text_in, is_column_1, first_column}
 use Rattle.st_card.specs.declared.cards.Card.{Card}
-use Rattle.st_card.specs.declared.faults.Fault.{Fault}
-use Rattle.st_card.specs.declared.faults.Fault.TheVariants.{NotAscii, CardTooLong, BadName, TooManyCards}
-use Rattle.st_object.specs.Object.{Program, IsProgram, AreWords}
-use Rattle.st_dis.specs.Deck.{deck_cards, deck_text, card_count}
 use Rattle.st_dis.proofs.Printable.{IsPlain, is_plain, IsWritten, pieces, deck_written}
 use Rattle.st_dis.proofs.Lengths.{IsCard, deck_cards-short}
-use Rattle.st_card.specs.Written.{text_of_lines}
 
 -- no byte of a printable text is a carriage return
 plain_at : (text : List ℕ) (k : ℕ) → IsPlain text → (slice_index text k == 13) ≡ false

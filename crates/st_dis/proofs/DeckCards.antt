@@ -1,34 +1,6 @@
 -- The cards of a deck are its statements and its control cards, and the form pass reads all of
 -- them.
-use Rattle.std.proofs.Common.{◌≡◌, ◌<◌, ◌≤◌, ◌+◌, ◌*◌, ◌/◌, ◌%◌, ◌^◌, ◌==◌, ℕ, Bool, true, false, List, [], ◌∷◌, ◌++◌, length, map, Some, None, Result, Ok, Err, is_none, if◌then◌else◌, refl, sym, ap, subst, ◌∙◌, arith}
-use Rattle.std.specs.List.{All}
-use Rattle.std.proofs.lemmas.List.{map-append}
-use Rattle.std.proofs.lemmas.List.Elements.{All-nil, All-cons, All-head, All-tail, All-append}
-use Rattle.st_card.specs.Cards.{cards_of}
-use Rattle.st_card.specs.Controls.{Asked}
-use Rattle.st_card.specs.Written.{control_line, requests, text_of_lines}
-use Rattle.st_card.specs.declared.keywords.Control.{Control}
-use Rattle.st_card.specs.declared.keywords.Control.TheVariants as asks
-use Rattle.st_card.specs.declared.keywords.ControlForm.TheVariants.{Card}
-use Rattle.st_card.specs.declared.faults.Fault.{Fault}
-use Rattle.st_bits.specs.Storage.{words_of_storage_is}
-use Rattle.st_strap.specs.Reading.{number_expr}
-use Rattle.st_strap.specs.Saying.{statement_of}
-use Rattle.st_strap.specs.Statements.{Statement}
-use Rattle.st_strap.specs.declared.statement.Statement.TheVariants.{Half, Sum, Refill, Branch, Floating, Vfl, Connect, Move, BitBranch, IndBranch, StoreCounter, Transfer, Data, IndexWord, Synonym, SetLocation, Reserve, End}
-use Rattle.st_strap.proofs.NumberCards.{word_form, data-read}
-use Rattle.st_asm.specs.Symbols.{accepts_all, is_defined}
-use Rattle.st_asm.specs.Values.{values_of}
-use Rattle.st_asm.specs.Places.{placing_of, length_in}
-use Rattle.st_asm.specs.Naming.{naming_at_start}
-use Rattle.st_asm.specs.Checks.{value_fault}
-use Rattle.st_asm.specs.Emitting.{bits_of}
-use Rattle.st_asm.specs.Forming.{form_pass}
-use Rattle.st_asm.specs.Alone.{emitted_alone, emitted_if_read, emitted_by}
-use Rattle.st_asm.specs.declared.alone.EmittedBits.{EmittedBits}
-use Rattle.st_object.specs.Object.{Program, IsProgram, AreWords}
-use Rattle.st_dis.specs.Spelling.{number_text, statements_of}
-use Rattle.st_dis.specs.Deck.{statement_card, location_statement, location_cards, cards_of_word, word_cards, end_text, control_cards, deck_cards, deck_text, card_count}
+use Rattle.st_dis.proofs.Common.{◌≡◌, ◌<◌, ◌≤◌, ◌+◌, ◌*◌, ◌/◌, ◌%◌, ◌^◌, ◌==◌, ℕ, Bool, true, false, List, [], ◌∷◌, ◌++◌, length, map, Some, None, Result, Ok, Err, is_none, if◌then◌else◌, refl, sym, ap, subst, ◌∙◌, arith, All, map-append, All-nil, All-cons, All-head, All-tail, All-append, cards_of, Asked, control_line, requests, text_of_lines, Control, Card, Fault, words_of_storage_is, number_expr, statement_of, Statement, Half, Sum, Refill, Branch, Floating, Vfl, Connect, Move, BitBranch, IndBranch, StoreCounter, Transfer, Data, IndexWord, Synonym, SetLocation, Reserve, End, word_form, data-read, accepts_all, is_defined, values_of, placing_of, length_in, naming_at_start, value_fault, bits_of, form_pass, emitted_alone, emitted_if_read, emitted_by, EmittedBits, Program, IsProgram, AreWords, number_text, statements_of, statement_card, location_statement, location_cards, cards_of_word, word_cards, end_text, control_cards, deck_cards, deck_text, card_count}
 use Rattle.st_dis.proofs.Spelled.{statements-cases, whole_bits, half_bits}
 use Rattle.st_dis.proofs.WordRead.{says-emits}
 use Rattle.st_dis.proofs.Printable.{IsWritten, deck_written}
@@ -37,6 +9,7 @@ use Rattle.st_dis.proofs.ControlsRead.{controls-read}
 use Rattle.st_dis.proofs.FormPass.{IsOpen, IsControl, IsJob, job_cards, found_in_job, job-formed, read-append}
 use Rattle.st_dis.proofs.PlacesRead.{location-read, start-read}
 use Rattle.st_dis.proofs.Said.{word_statements, statements_from, deck_statements, AreRead}
+use Rattle.st_card.specs.declared.keywords.Control.TheVariants as asks
 
 -- ---- the cards
 

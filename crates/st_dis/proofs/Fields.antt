@@ -1,6 +1,5 @@
 -- Lemmas on the fields of a list of index words, by the last one.
-use Rattle.std.proofs.Common.{◌≡◌, ◌<◌, ◌-◌, ◌++◌, ℕ, suc, zero, [], if◌then◌else◌, refl, arith}
-use Rattle.st_dis.specs.Texts.{index_field_text, has_index, listed_fields}
+use Rattle.st_dis.proofs.Common.{◌≡◌, ◌<◌, ◌-◌, ◌++◌, ℕ, suc, zero, [], if◌then◌else◌, refl, arith, index_field_text, has_index, listed_fields}
 
 -- a list of no index words has no fields
 pub listed_fields-none : (n address : ℕ) → n ≡ 0 → listed_fields n address ≡ []

@@ -1,31 +1,15 @@
 -- The form pass over statement cards without names, followed by control cards.
-use Rattle.std.proofs.Common.{◌≡◌, ◌≤◌, ◌+◌, ◌==◌, ℕ, zero, suc, Bool, true, false, not, List, [], ◌∷◌, ◌++◌, length, map, filter, take, Option, Some, None, Result, Ok, Err, if◌then◌else◌, refl, sym, ap, subst, ◌∙◌, append_assoc, append-nil, length-append, arith}
-use Rattle.std.specs.List.{All}
-use Rattle.std.proofs.lemmas.List.{take_all, length-map, map-append}
-use Rattle.std.proofs.lemmas.List.Elements.{All-nil, All-cons, All-head, All-tail}
-use Rattle.std.proofs.lemmas.Bool.{and_parts}
-use Rattle.st_card.specs.Cards.{is_blank, kind_of, cards_of, text_in}
-use Rattle.st_card.specs.Controls.{Asked, nothing_asked, asked_with_card}
+use Rattle.st_dis.proofs.Common.{◌≡◌, ◌≤◌, ◌+◌, ◌==◌, ℕ, zero, suc, Bool, true, false, not, List, [], ◌∷◌, ◌++◌, length, map, filter, take, Option, Some, None, Result, Ok, Err, if◌then◌else◌, refl, sym, ap, subst, ◌∙◌, append_assoc, append-nil, length-append, arith, All, take_all, length-map, map-append, All-nil, All-cons, All-head, All-tail, and_parts, is_blank, kind_of, cards_of, text_in, Asked, nothing_asked, asked_with_card, Fault, BadName, UnknownOperation, BadControlCard, reading_of_operation, is_misnamed, clean_statement_of, statement_of, Statement, Refusal, onward, pass, pass_then, unless_faulty, name_field, statement_field, name_in, silent_line, saying, Found, found_at_start, first_fault_of, is_end, with_statement, with_control, form_control, form_statement, form_kind, form_card, with_end, form_pass, statement_card, CardsLead, text_of_lines}
 use Rattle.st_card.specs.declared.cards.Card.{Card}
 use Rattle.st_card.specs.declared.cards.CardKind.{CardKind}
 use Rattle.st_card.specs.declared.cards.CardKind.TheVariants.{Comment, Control, Statement as StatementCard}
-use Rattle.st_card.specs.declared.faults.Fault.{Fault}
-use Rattle.st_card.specs.declared.faults.Fault.TheVariants.{BadName, UnknownOperation, BadControlCard}
 use Rattle.st_strap.specs.Order.{next_reading, reading_map}
 use Rattle.st_mnemonic.specs.Table.{operation_of_word, other_operations, index_operations, field_operations, negated_operation, connective, connective_kinds, truth_tables}
 use Rattle.st_mnemonic.specs.Text.{statement_text, stop}
-use Rattle.st_strap.specs.Saying.{reading_of_operation, is_misnamed, clean_statement_of, statement_of}
-use Rattle.st_strap.specs.Statements.{Statement}
-use Rattle.st_asm.specs.Pass.{Refusal, onward, pass, pass_then, unless_faulty}
-use Rattle.st_asm.specs.Lines.{name_field, statement_field, name_in, silent_line, saying}
-use Rattle.st_asm.specs.Forming.{Found, found_at_start, first_fault_of, is_end, with_statement, with_control, form_control, form_statement, form_kind, form_card, with_end, form_pass}
-use Rattle.st_dis.specs.Deck.{statement_card}
-use Rattle.st_dis.specs.Read.{CardsLead}
 use Rattle.st_dis.proofs.Printable.{IsWritten}
 use Rattle.st_dis.proofs.Cutting.{IsCardAs, AreCardsAs, lines_cut}
 use Rattle.st_dis.proofs.Lengths.{IsCard, IsShort}
 use Rattle.st_dis.proofs.Said.{ReadCard, AreRead, spoken_lines, silent_lines}
-use Rattle.st_card.specs.Written.{text_of_lines}
 
 -- ---- the cards as texts
 

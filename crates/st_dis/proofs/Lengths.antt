@@ -1,26 +1,8 @@
 -- Bounds on the lengths of a deck and of its cards.
-use Rattle.std.proofs.Common.{◌≤◌, ◌<◌, ◌+◌, ◌*◌, ◌/◌, ◌%◌, ◌^◌, ◌==◌, ◌++◌, ℕ, true, false, List, [], ◌∷◌, length, map, codes, decimal, if◌then◌else◌, length-append, arith}
-use Rattle.std.specs.List.{All}
-use Rattle.std.proofs.lemmas.List.Elements.{All-nil, All-cons, All-head, All-tail, All-append}
-use Rattle.std.proofs.lemmas.Bool.{leb-true}
-use Rattle.std.proofs.lemmas.Fmt.{length-decimal-le}
-use Rattle.st_text.specs.Bytes.{lf}
-use Rattle.st_text.specs.Numerals.{half_address}
-use Rattle.st_bits.specs.Storage.{words_of_storage_is}
-use Rattle.st_card.specs.Controls.{Asked}
-use Rattle.st_card.specs.Limits.{IsWithinLimits}
-use Rattle.st_card.specs.Keywords.{keyword_text}
-use Rattle.st_card.specs.Written.{control_line, requests, IsShortControl, text_of_lines}
-use Rattle.st_card.specs.declared.keywords.Keyword.{Keyword}
-use Rattle.st_card.specs.declared.keywords.Keyword.TheVariants as keywords
-use Rattle.st_card.specs.declared.keywords.Control.{Control}
-use Rattle.st_card.specs.declared.keywords.Control.TheVariants as asks
-use Rattle.st_card.specs.declared.keywords.ControlForm.TheVariants.{Card}
-use Rattle.st_card.proofs.Requests.{is-word, requests-short}
-use Rattle.st_object.specs.Object.{Program, IsProgram, AreWords}
-use Rattle.st_dis.specs.Spelling.{number_text, statements_of}
-use Rattle.st_dis.specs.Deck.{statement_card, location_statement, location_cards, cards_of_word, word_cards, end_text, control_cards, deck_cards, deck_text, card_count}
+use Rattle.st_dis.proofs.Common.{◌≤◌, ◌<◌, ◌+◌, ◌*◌, ◌/◌, ◌%◌, ◌^◌, ◌==◌, ◌++◌, ℕ, true, false, List, [], ◌∷◌, length, map, codes, decimal, if◌then◌else◌, length-append, arith, All, All-nil, All-cons, All-head, All-tail, All-append, leb-true, length-decimal-le, lf, half_address, words_of_storage_is, Asked, IsWithinLimits, keyword_text, control_line, requests, IsShortControl, text_of_lines, Keyword, Control, Card, is-word, requests-short, Program, IsProgram, AreWords, number_text, statements_of, statement_card, location_statement, location_cards, cards_of_word, word_cards, end_text, control_cards, deck_cards, deck_text, card_count}
 use Rattle.st_dis.proofs.Spelled.{statements-cases, says-short, whole_bits, half_bits}
+use Rattle.st_card.specs.declared.keywords.Keyword.TheVariants as keywords
+use Rattle.st_card.specs.declared.keywords.Control.TheVariants as asks
 
 -- a statement has at most 63 characters, and a card at most 72
 abbrev pub IsShort : List ℕ → Type 0

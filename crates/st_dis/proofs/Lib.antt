@@ -1,3 +1,4 @@
+pub mod Common
 pub mod Fields
 pub mod Counted
 pub mod Spelled

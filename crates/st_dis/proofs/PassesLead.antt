@@ -1,20 +1,5 @@
 -- The name pass and the value pass over statements that lead from one state to another.
-use Rattle.std.proofs.Common.{◌≡◌, ℕ, zero, suc, ◌+◌, Bool, true, false, not, List, [], ◌∷◌, ◌++◌, length, Option, None, Some, Ok, if◌then◌else◌, refl, ap, sym, ◌∙◌, append_assoc, append-nil, subst, replicate}
-use Rattle.std.specs.List.{zip}
-use Rattle.st_card.specs.Cards.{first_fault}
-use Rattle.st_card.specs.declared.faults.Fault.TheVariants.{NameTwice, UndefinedSymbol, SymbolNotEarlier, TooManyNames}
-use Rattle.st_bits.specs.Storage.{words_of_storage}
-use Rattle.st_strap.specs.Statements.{Statement}
-use Rattle.st_object.specs.Object.{Program, IsProgram, AreWords}
-use Rattle.st_asm.specs.Pass.{pass, onward, unless_faulty}
-use Rattle.st_asm.specs.Lines.{silent_line, saying}
-use Rattle.st_asm.specs.Symbols.{table, accepts_all, has_name, is_defined, names_of}
-use Rattle.st_asm.specs.Values.{values_of}
-use Rattle.st_asm.specs.Places.{placing_of, length_in, needs_earlier}
-use Rattle.st_asm.specs.Naming.{Named, naming_at_start, is_earlier, name_fault, name_step, name_card, name_pass}
-use Rattle.st_asm.specs.Forming.{is_end}
-use Rattle.st_asm.specs.Emitting.{half_word_bits, bits_of}
-use Rattle.st_asm.specs.Valuing.{Emitted, with_emitted, value_statement, value_card, value_pass}
+use Rattle.st_dis.proofs.Common.{◌≡◌, ℕ, zero, suc, ◌+◌, Bool, true, false, not, List, [], ◌∷◌, ◌++◌, length, Option, None, Some, Ok, if◌then◌else◌, refl, ap, sym, ◌∙◌, append_assoc, append-nil, subst, replicate, zip, first_fault, NameTwice, UndefinedSymbol, SymbolNotEarlier, TooManyNames, words_of_storage, Statement, Program, IsProgram, AreWords, pass, onward, unless_faulty, silent_line, saying, table, accepts_all, has_name, is_defined, names_of, values_of, placing_of, length_in, needs_earlier, Named, naming_at_start, is_earlier, name_fault, name_step, name_card, name_pass, is_end, half_word_bits, bits_of, Emitted, with_emitted, value_statement, value_card, value_pass}
 use Rattle.st_asm.specs.declared.valuing.Listed.{Listed}
 use Rattle.st_dis.proofs.Said.{ReadCard, deck_statements, AreRead, spoken_lines, silent_lines}
 use Rattle.st_dis.proofs.StatementSteps.{Stand, stand, Steps, place_at}

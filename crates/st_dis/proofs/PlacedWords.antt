@@ -1,12 +1,8 @@
 -- Lemmas on writing a word of the image, as a whole or by its halves.
-use Rattle.std.proofs.Common.{◌≡◌, ℕ, zero, suc, ◌≤◌, ◌<◌, ◌+◌, ◌*◌, ◌/◌, ◌%◌, ◌^◌, List, [], ◌∷◌, ◌++◌, length, get_or, ap, sym, ◌∙◌, length-append, arith}
+use Rattle.st_dis.proofs.Common.{◌≡◌, ℕ, zero, suc, ◌≤◌, ◌<◌, ◌+◌, ◌*◌, ◌/◌, ◌%◌, ◌^◌, List, [], ◌∷◌, ◌++◌, length, get_or, ap, sym, ◌∙◌, length-append, arith, get_or-append_seam, set-append_seam, All-append, All-cons, All-head, All-tail, AreWords, image_with}
 use Rattle.std.proofs.Math.ListN.{set}
-use Rattle.std.proofs.Math.Seq.{get_or-append_seam, set-append_seam}
-use Rattle.std.proofs.lemmas.List.Elements.{All-append, All-cons, All-head, All-tail}
 use Rattle.st_bits.specs.Bits.{bits, all_bits, put, with_part}
 use Rattle.st_bits.proofs.WordFields.{put-part}
-use Rattle.st_object.specs.Object.{AreWords}
-use Rattle.st_asm.specs.Valuing.{image_with}
 use Rattle.st_asm.proofs.ImageLemmas.{image-put}
 
 abbrev IsWord : ℕ → Type 0

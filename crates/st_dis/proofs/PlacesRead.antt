@@ -1,11 +1,5 @@
 -- The cards that set the location counter and that end the program are read with their operands.
-use Rattle.std.proofs.Common.{◌≡◌, ◌<◌, ◌+◌, ◌*◌, ◌/◌, ◌%◌, ◌^◌, ℕ, List, [], ◌∷◌, ◌++◌, codes, decimal, Ok, refl, ap, sym, ◌∙◌, append_assoc, arith}
-use Rattle.std.proofs.lemmas.Fmt.{decimal_digit}
-use Rattle.st_strap.specs.Reading.{number_expr}
-use Rattle.st_strap.specs.Saying.{statement_of}
-use Rattle.st_strap.specs.declared.statement.Statement.TheVariants.{SetLocation, End}
-use Rattle.st_strap.proofs.PlaceCards.{set-read, end-read}
-use Rattle.st_dis.specs.Deck.{location_statement, end_text}
+use Rattle.st_dis.proofs.Common.{◌≡◌, ◌<◌, ◌+◌, ◌*◌, ◌/◌, ◌%◌, ◌^◌, ℕ, List, [], ◌∷◌, ◌++◌, codes, decimal, Ok, refl, ap, sym, ◌∙◌, append_assoc, arith, decimal_digit, number_expr, statement_of, SetLocation, End, set-read, end-read, location_statement, end_text}
 
 pub location-read : (w : ℕ) → w < 98304 → statement_of [] (location_statement w) ≡ Ok (SetLocation (number_expr (64 * w)))
 location-read w small =

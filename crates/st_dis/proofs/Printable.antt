@@ -1,10 +1,6 @@
 -- The cards of a deck have only blanks and visible ASCII characters.
-use Rattle.std.proofs.Common.{◌≡◌, ◌+◌, ◌*◌, ◌/◌, ◌%◌, ◌^◌, ◌==◌, ◌&&◌, ◌++◌, ℕ, zero, suc, Bool, true, false, not, nat_le, Option, Some, None, List, [], ◌∷◌, map, codes, decimal, slice_index_or, if◌then◌else◌, refl, ap, ◌∙◌, append_assoc, arith}
+use Rattle.st_dis.proofs.Common.{◌≡◌, ◌+◌, ◌*◌, ◌/◌, ◌%◌, ◌^◌, ◌==◌, ◌&&◌, ◌++◌, ℕ, zero, suc, Bool, true, false, not, nat_le, Option, Some, None, List, [], ◌∷◌, map, codes, decimal, slice_index_or, if◌then◌else◌, refl, ap, ◌∙◌, append_assoc, arith, All, list_all, and_from, and_parts, nat_tests, All-nil, All-cons, All-head, All-tail, All-append, is_full, instruction_of, is_valid, Instr, pieces_of, lacks, is_column_1, first_column, is_printable, bit_address, half_address, flag, place, Program, Asked, word, control_line, requests, text_of_lines, Keyword, Control, Card, EmittedBits, index_field_text, index_part_text, half_field, bit_field, second_field, number_field, offset_field, has_index, listed_fields, half_text, branch_text, description, operand_text, instruction_text, says, spelling_of, word_spelling, half_spelling, number_text, statements_by, statements_of, statement_card, location_statement, location_cards, cards_of_word, word_cards, end_text, control_cards, deck_cards, deck_text}
 use Rattle.std.specs.Fmt.{digits, digits_onto, digit_glyph}
-use Rattle.std.specs.List.{All, list_all}
-use Rattle.std.proofs.lemmas.Bool.{and_from, and_parts}
-use Rattle.std.proofs.lemmas.Bool.Decides.{nat_tests}
-use Rattle.std.proofs.lemmas.List.Elements.{All-nil, All-cons, All-head, All-tail, All-append}
 use Rattle.std.proofs.lemmas.List.Folds.{list_all-append}
 use Rattle.st_bits.specs.declared.operations.HalfOp.{HalfOp}
 use Rattle.st_bits.specs.declared.operations.HalfOp.TheVariants.{Lx, Lv, Lc, Lr, Sx, Sv, Sc, Sr, Sva, VPlus, VPlusC, Kv, Lvs, Lvi, Lci, Lri, VPlusI, VMinusI, VPlusIC, VPlusICR, Kvi, Kc, Kci, Cb, Cbr, R, Ex}
@@ -14,30 +10,12 @@ use Rattle.st_bits.specs.declared.operations.VflOp.{VflOp}
 use Rattle.st_bits.specs.declared.operations.VflOp.TheVariants.{L, Lwf, Ltrs, Lft, St, Add, AddMg, MAdd, MAddMg, MAdd1, K, Kf, Ke, Kfe, Kr, Kfr, Mul, MulAdd, Div, Lcv}
 use Rattle.st_bits.specs.declared.operations.ConnKind.{ConnKind}
 use Rattle.st_bits.specs.declared.operations.ConnKind.TheVariants.{C, Cm, Ct}
-use Rattle.st_format.specs.Halves.{is_full}
-use Rattle.st_format.specs.Formats.{instruction_of, is_valid}
-use Rattle.st_format.specs.declared.instruction.Instr.{Instr}
 use Rattle.st_format.specs.declared.instruction.Instr.TheVariants.{Half, Branch, Floating, Vfl, Connect, Move, BitBranch, IndBranch, StoreCounter, Transfer, Invalid}
-use Rattle.st_text.specs.Pieces.{pieces_of, lacks}
-use Rattle.st_card.specs.Cards.{is_column_1, first_column}
-use Rattle.st_text.specs.Bytes.{is_printable}
 use Rattle.st_object.proofs.ReadBack.{parted_line}
-use Rattle.st_text.specs.Numerals.{bit_address, half_address, flag, place}
-use Rattle.st_object.specs.Object.{Program}
-use Rattle.st_card.specs.Controls.{Asked}
-use Rattle.st_card.specs.Keywords.{word}
-use Rattle.st_card.specs.Written.{control_line, requests, text_of_lines}
-use Rattle.st_card.specs.declared.keywords.Keyword.{Keyword}
-use Rattle.st_card.specs.declared.keywords.Keyword.TheVariants as keywords
-use Rattle.st_card.specs.declared.keywords.Control.{Control}
-use Rattle.st_card.specs.declared.keywords.Control.TheVariants as asks
-use Rattle.st_card.specs.declared.keywords.ControlForm.TheVariants.{Card}
-use Rattle.st_asm.specs.declared.alone.EmittedBits.{EmittedBits}
 use Rattle.st_format.specs.Operations.{half_row, branch_row, vfl_row, conn_row}
 use Rattle.st_dis.specs.Names.{negation, truth_digits, move_name, change_name, turning, order_name, mode_name, form_name}
-use Rattle.st_dis.specs.Texts.{index_field_text, index_part_text, half_field, bit_field, second_field, number_field, offset_field, has_index, listed_fields, half_text, branch_text, description, operand_text, instruction_text}
-use Rattle.st_dis.specs.Spelling.{says, spelling_of, word_spelling, half_spelling, number_text, statements_by, statements_of}
-use Rattle.st_dis.specs.Deck.{statement_card, location_statement, location_cards, cards_of_word, word_cards, end_text, control_cards, deck_cards, deck_text}
+use Rattle.st_card.specs.declared.keywords.Keyword.TheVariants as keywords
+use Rattle.st_card.specs.declared.keywords.Control.TheVariants as asks
 
 -- a text of blanks and visible characters
 abbrev pub IsPlain : List ℕ → Type 0

@@ -1,12 +1,6 @@
 -- The statements of a deck's cards in order, and their lines in the passes.
-use Rattle.std.proofs.Common.{◌≡◌, ℕ, zero, suc, ◌+◌, ◌==◌, if◌then◌else◌}
+use Rattle.st_dis.proofs.Common.{◌≡◌, ℕ, zero, suc, ◌+◌, ◌==◌, if◌then◌else◌, Program, statement_of, Statement, silent_line, saying, location_statement, end_text, statements_of}
 use Rattle.std.specs.Prelude.{List, [], ◌∷◌, ◌++◌, Ok, None}
-use Rattle.st_object.specs.Object.{Program}
-use Rattle.st_strap.specs.Saying.{statement_of}
-use Rattle.st_strap.specs.Statements.{Statement}
-use Rattle.st_asm.specs.Lines.{silent_line, saying}
-use Rattle.st_dis.specs.Deck.{location_statement, end_text}
-use Rattle.st_dis.specs.Spelling.{statements_of}
 
 -- the type of a thing
 abbrev pub type_of : {X : Type 0} → X → Type 0

@@ -1,14 +1,6 @@
 -- Lemmas on the bits of a word's statements.
-use Rattle.std.proofs.Common.{◌≡◌, ◌≤◌, ◌+◌, ◌*◌, ◌/◌, ◌%◌, ◌^◌, ◌&&◌, ℕ, Bool, true, false, nat_le, List, [], ◌∷◌, length, Option, Some, None, if◌then◌else◌, refl, ap, sym, ◌∙◌, arith}
+use Rattle.st_dis.proofs.Common.{◌≡◌, ◌≤◌, ◌+◌, ◌*◌, ◌/◌, ◌%◌, ◌^◌, ◌&&◌, ℕ, Bool, true, false, nat_le, List, [], ◌∷◌, length, Option, Some, None, if◌then◌else◌, refl, ap, sym, ◌∙◌, arith, nat_tests, is_full, instruction_of, is_valid, Instr, emitted_alone, EmittedBits, instruction_text, is_emitted, says, spelling_of, word_spelling, half_spelling, number_text, statements_by, statements_of}
 use Rattle.std.proofs.lemmas.Bool.{and_parts as both}
-use Rattle.std.proofs.lemmas.Bool.Decides.{nat_tests}
-use Rattle.st_format.specs.Halves.{is_full}
-use Rattle.st_format.specs.Formats.{instruction_of, is_valid}
-use Rattle.st_format.specs.declared.instruction.Instr.{Instr}
-use Rattle.st_asm.specs.Alone.{emitted_alone}
-use Rattle.st_asm.specs.declared.alone.EmittedBits.{EmittedBits}
-use Rattle.st_dis.specs.Texts.{instruction_text}
-use Rattle.st_dis.specs.Spelling.{is_emitted, says, spelling_of, word_spelling, half_spelling, number_text, statements_by, statements_of}
 
 -- a word as 64 bits
 abbrev pub whole_bits : ℕ → EmittedBits

@@ -1,25 +1,7 @@
 -- The effect of a statement on the location counter, the image and the start, if its names are
 -- defined and it has no fault.
-use Rattle.std.proofs.Common.{◌≡◌, ℕ, ℤ, ◌≤◌, ◌<◌, ◌+◌, ◌*◌, ◌%◌, ◌^◌, ◌==◌, ◌&&◌, ◌||◌, Bool, true, false, nat_le, nat_lt, not, List, [], ◌∷◌, Option, Some, None, is_none, unwrap_or, Ok, if◌then◌else◌, refl, ap, sym, ◌∙◌, arith}
+use Rattle.st_dis.proofs.Common.{◌≡◌, ℕ, ℤ, ◌≤◌, ◌<◌, ◌+◌, ◌*◌, ◌%◌, ◌^◌, ◌==◌, ◌&&◌, ◌||◌, Bool, true, false, nat_le, nat_lt, not, List, [], ◌∷◌, Option, Some, None, is_none, unwrap_or, Ok, if◌then◌else◌, refl, ap, sym, ◌∙◌, arith, nat_tests, first_fault, Fault, AddressOutOfRange, ValueDoesNotFit, NotOnABoundary, LocationOutOfStorage, number_expr, statement_of, Statement, Half, Sum, Refill, Branch, Floating, Vfl, Connect, Move, BitBranch, IndBranch, StoreCounter, Transfer, Data, IndexWord, Synonym, SetLocation, Reserve, End, is_end, accepts_all, is_defined, values_of, value_modulo, placing_of, length_in, next_multiple, place_in, behind_in, naming_at_start, place_of_card, location_behind, in_range, fits, on_boundary, extent, in_storage, value_fault, half_word_bits, bits_of, image_with, emitted_if_read, emitted_by, emitted_alone, EmittedBits}
 use Rattle.std.proofs.lemmas.Bool.{and_from as both_true}
-use Rattle.std.proofs.lemmas.Bool.Decides.{nat_tests}
-use Rattle.st_card.specs.Cards.{first_fault}
-use Rattle.st_card.specs.declared.faults.Fault.{Fault}
-use Rattle.st_card.specs.declared.faults.Fault.TheVariants.{AddressOutOfRange, ValueDoesNotFit, NotOnABoundary, LocationOutOfStorage}
-use Rattle.st_strap.specs.Reading.{number_expr}
-use Rattle.st_strap.specs.Saying.{statement_of}
-use Rattle.st_strap.specs.Statements.{Statement}
-use Rattle.st_strap.specs.declared.statement.Statement.TheVariants.{Half, Sum, Refill, Branch, Floating, Vfl, Connect, Move, BitBranch, IndBranch, StoreCounter, Transfer, Data, IndexWord, Synonym, SetLocation, Reserve, End}
-use Rattle.st_asm.specs.Forming.{is_end}
-use Rattle.st_asm.specs.Symbols.{accepts_all, is_defined}
-use Rattle.st_asm.specs.Values.{values_of, value_modulo}
-use Rattle.st_asm.specs.Places.{placing_of, length_in, next_multiple, place_in, behind_in}
-use Rattle.st_asm.specs.Naming.{naming_at_start, place_of_card, location_behind}
-use Rattle.st_asm.specs.Checks.{in_range, fits, on_boundary, extent, in_storage, value_fault}
-use Rattle.st_asm.specs.Emitting.{half_word_bits, bits_of}
-use Rattle.st_asm.specs.Valuing.{image_with}
-use Rattle.st_asm.specs.Alone.{emitted_if_read, emitted_by, emitted_alone}
-use Rattle.st_asm.specs.declared.alone.EmittedBits.{EmittedBits}
 use Rattle.st_dis.proofs.Said.{type_of}
 
 -- the values of the expressions of a statement

@@ -1,14 +1,5 @@
 -- A job that passes the three passes is assembled.
-use Rattle.std.proofs.Common.{◌≡◌, ◌≤◌, ◌==◌, ℕ, Bool, false, List, [], ◌∷◌, length, Result, Ok, if◌then◌else◌, ap, ◌∙◌, arith}
-use Rattle.std.proofs.lemmas.Bool.Decides.{nat_tests}
-use Rattle.st_card.specs.Cards.{cards_of}
-use Rattle.st_card.specs.Controls.{Asked}
-use Rattle.st_asm.specs.Pass.{Refusal, pass_then}
-use Rattle.st_asm.specs.Symbols.{table}
-use Rattle.st_asm.specs.Forming.{Found, form_pass}
-use Rattle.st_asm.specs.Naming.{Named, name_pass}
-use Rattle.st_asm.specs.Valuing.{Emitted, value_pass}
-use Rattle.st_asm.specs.Assembly.{Assembly, with_defaults, together, assembly}
+use Rattle.st_dis.proofs.Common.{◌≡◌, ◌≤◌, ◌==◌, ℕ, Bool, false, List, [], ◌∷◌, length, Result, Ok, if◌then◌else◌, ap, ◌∙◌, arith, nat_tests, cards_of, Asked, Refusal, pass_then, table, Found, form_pass, Named, name_pass, Emitted, value_pass, Assembly, with_defaults, together, assembly}
 
 -- the assembly is the combined result of the passes
 pub assembled : (job : List ℕ) (found : Found) (named : Named) (emitted : Emitted) → form_pass job (cards_of job) ≡ Ok found →

@@ -1,20 +1,8 @@
 -- The bits of a word's statements, concatenated, are the word.
-use Rattle.std.proofs.Common.{◌≡◌, ◌<◌, ◌+◌, ◌*◌, ◌/◌, ◌%◌, ◌^◌, ◌==◌, ℕ, true, false, nat_le, nat_lt, List, [], ◌∷◌, length, Option, Some, None, if◌then◌else◌, is_none, refl, ap, ◌∙◌, arith}
+use Rattle.st_dis.proofs.Common.{◌≡◌, ◌<◌, ◌+◌, ◌*◌, ◌/◌, ◌%◌, ◌^◌, ◌==◌, ℕ, true, false, nat_le, nat_lt, List, [], ◌∷◌, length, Option, Some, None, if◌then◌else◌, is_none, refl, ap, ◌∙◌, arith, nat_tests, Data, accepts_all, values_of, naming_at_start, value_fault, in_range, fits, on_boundary, in_storage, bits_of, emitted_alone, emitted_if_read, emitted_by, EmittedBits, is_emitted, says, number_text, statements_of, bits_of_length, emitted_behind, emitted_together, word_form, data-read}
 use Rattle.std.proofs.lemmas.Bool.{and_parts as both}
-use Rattle.std.proofs.lemmas.Bool.Decides.{nat_tests}
-use Rattle.st_strap.specs.declared.statement.Statement.TheVariants.{Data}
-use Rattle.st_asm.specs.Symbols.{accepts_all}
-use Rattle.st_asm.specs.Values.{values_of}
 use Rattle.st_asm.specs.Numbers.{holds, field_bits_of}
-use Rattle.st_asm.specs.Naming.{naming_at_start}
-use Rattle.st_asm.specs.Checks.{value_fault, in_range, fits, on_boundary, in_storage}
-use Rattle.st_asm.specs.Emitting.{bits_of}
-use Rattle.st_asm.specs.Alone.{emitted_alone, emitted_if_read, emitted_by}
-use Rattle.st_asm.specs.declared.alone.EmittedBits.{EmittedBits}
-use Rattle.st_dis.specs.Spelling.{is_emitted, says, number_text, statements_of}
-use Rattle.st_dis.specs.Read.{bits_of_length, emitted_behind, emitted_together}
 use Rattle.st_dis.proofs.Spelled.{whole_bits, half_bits, statements-cases}
-use Rattle.st_strap.proofs.NumberCards.{word_form, data-read}
 
 -- bits with equal lengths and equal numbers are equal
 same_bits : (a b : EmittedBits) → (a.length == b.length) ≡ true → (a.bits == b.bits) ≡ true → a ≡ b

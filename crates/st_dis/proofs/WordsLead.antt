@@ -1,19 +1,5 @@
 -- The statements of a deck, in order, lead from an empty image to the words of the program.
-use Rattle.std.proofs.Common.{◌≡◌, ℕ, suc, ◌≤◌, ◌<◌, ◌+◌, ◌*◌, ◌/◌, ◌%◌, ◌^◌, ◌==◌, Bool, true, false, List, [], ◌∷◌, ◌++◌, length, replicate, get_or, Some, Result, Ok, if◌then◌else◌, refl, ap, sym, subst, ◌∙◌, append_assoc, length-append, arith, zero, ◌⊎◌, inl, inr, nat_lt}
-use Rattle.std.proofs.Math.Seq.{get_or-append_seam}
-use Rattle.std.proofs.lemmas.Bool.Decides.{nat_tests}
-use Rattle.std.proofs.lemmas.List.Elements.{All-append, All-cons, All-nil, All-head, All-tail, All-replicate}
-use Rattle.st_card.specs.declared.faults.Fault.{Fault}
-use Rattle.st_object.specs.Object.{Program, IsProgram, AreWords}
-use Rattle.st_bits.specs.Storage.{words_of_storage, words_of_storage_is}
-use Rattle.st_strap.specs.Reading.{number_expr}
-use Rattle.st_strap.specs.Saying.{statement_of}
-use Rattle.st_strap.specs.Statements.{Statement}
-use Rattle.st_strap.specs.declared.statement.Statement.TheVariants.{SetLocation, End}
-use Rattle.st_asm.specs.Alone.{emitted_alone}
-use Rattle.st_asm.specs.Valuing.{image_with}
-use Rattle.st_dis.specs.Deck.{location_statement, end_text}
-use Rattle.st_dis.specs.Spelling.{number_text, statements_of}
+use Rattle.st_dis.proofs.Common.{◌≡◌, ℕ, suc, ◌≤◌, ◌<◌, ◌+◌, ◌*◌, ◌/◌, ◌%◌, ◌^◌, ◌==◌, Bool, true, false, List, [], ◌∷◌, ◌++◌, length, replicate, get_or, Some, Result, Ok, if◌then◌else◌, refl, ap, sym, subst, ◌∙◌, append_assoc, length-append, arith, zero, ◌⊎◌, inl, inr, nat_lt, get_or-append_seam, nat_tests, All-append, All-cons, All-nil, All-head, All-tail, All-replicate, Fault, Program, IsProgram, AreWords, words_of_storage, words_of_storage_is, number_expr, statement_of, Statement, SetLocation, End, emitted_alone, image_with, location_statement, end_text, number_text, statements_of}
 use Rattle.st_dis.proofs.Said.{word_statements, statements_from, deck_statements, AreRead}
 use Rattle.st_dis.proofs.Spelled.{whole_bits, half_bits, statements-cases}
 use Rattle.st_dis.proofs.WordRead.{says-emits, data-emits}

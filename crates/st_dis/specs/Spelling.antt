@@ -1,8 +1,8 @@
 -- The choice of instructions that have a spelling, and the statements of a word.
 --
--- Proved: by their `ensures` clauses these calls do what definitions here say: `count_filled`
--- (counting.rt), `is_pair` (counting.rt), `half_spelling` (spelling.rt), `says` (spelling.rt), and
--- others.
+-- Proved: by their `ensures` clauses these calls do what definitions here say: `is_pair`
+-- (counting.rt), `half_spelling` (spelling.rt), `says` (spelling.rt), `spelling_of` (spelling.rt),
+-- and others.
 -- Read by: definitions in Deck.
 -- Laws: StatementsEmitTheirWord (specs/Laws.antt).
 -- Change: the meaning is fixed by docs/disassembly.md, since the contract of `st_top::stretch`

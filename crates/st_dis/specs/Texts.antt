@@ -1,7 +1,7 @@
 -- The texts that the disassembler writes for instructions.
 --
 -- Proved: by their `ensures` clauses these calls do what definitions here say: `push_listed_field`
--- (pieces.rt), `has_index` (pieces.rt), `push_bit_field` (pieces.rt), `push_description`
+-- (pieces.rt), `push_bit_field` (pieces.rt), `push_description` (pieces.rt), `push_half_field`
 -- (pieces.rt), and others.
 -- Read by: definitions in Spelling.
 -- Laws: none names a definition of this file itself.

@@ -34,17 +34,8 @@ fn is_pair(symbols: &Symbols, word: u64) -> bool
         && half_spelling(symbols, right_half(word)).is_some()
 }
 
-// The number of cards of a word that is not zero, at most one location card and two statements;
-// `before` is the word before it.
-fn count_filled(symbols: &Symbols, before: u64, word: u64) -> u32
-    requires { symbols.now ≡ [] }
-    ensures count { result ≡ length (spec.location_cards 0 before) + length (statements_of word) }
-    ensures few { result ≤ 3 }
-{
-    u32::from(before == 0) + if is_pair(symbols, word) { 2 } else { 1 }
-}
-
-// The number of cards of a word; `before` is the word before it.
+// The number of cards of a word, at most one location card and two statements; `before` is the word
+// before it.
 fn count_placed(symbols: &Symbols, before: u64, word: u64) -> u32
     requires { symbols.now ≡ [] }
     ensures count { result ≡ length (spec.cards_of_word 0 before word) }
@@ -53,7 +44,7 @@ fn count_placed(symbols: &Symbols, before: u64, word: u64) -> u32
     if word == 0 {
         return 0;
     }
-    count_filled(symbols, before, word)
+    u32::from(before == 0) + if is_pair(symbols, word) { 2 } else { 1 }
 }
 
 // The number of cards of words. The word before the first counts as zero, so a location card begins

@@ -105,15 +105,6 @@ fn push_offset_field(line: &mut Line, offset: u8)
     push_number_field(line, u32::from(offset));
 }
 
-// Whether a list of index words has index word k. A list is an address of 19 bits, the first of
-// which is that of index word 0.
-fn has_index(address: u32, k: u8) -> bool
-    requires { k ≤ 18 }
-    ensures { result ≡ spec.has_index address k }
-{
-    (address >> (18 - k)) % 2 == 1
-}
-
 // Appends as fields those of the first `count` index words that a list contains.
 pub(crate) fn push_listed_fields(line: &mut Line, count: u8, address: u32)
     requires few { count ≤ 16 }
@@ -128,7 +119,8 @@ pub(crate) fn push_listed_fields(line: &mut Line, count: u8, address: u32)
     push_listed_field(line, count - 1, address);
 }
 
-// Appends index word k as a field, if a list contains it.
+// Appends index word k as a field, if a list contains it. A list is an address of 19 bits, the first
+// of which is that of index word 0.
 fn push_listed_field(line: &mut Line, k: u8, address: u32)
     requires few { k < 16 }
     requires room { array_string_len line.old + 6 ≤ 128 }
@@ -136,7 +128,7 @@ fn push_listed_field(line: &mut Line, k: u8, address: u32)
         ++ (if spec.has_index address k then spec.index_field_text k else []) }
     ensures room { array_string_len line.new ≤ array_string_len line.old + 6 }
 {
-    if !has_index(address, k) {
+    if (address >> (18 - k)) % 2 == 0 {
         return;
     }
     push_index_field(line, k);

@@ -11,7 +11,7 @@
 //! or a number; BLANKS, the nine blanks of `statement_card`. Free: the split into functions, if
 //! proofs/writing follows the loop of `push_words`.
 
-ghost use Rattle.std.specs.Prelude.{◌≡◌, ◌≤◌, ◌++◌, [], ◌∷◌, OnOk, map, codes, decimal, length};
+ghost use Rattle.std.specs.Prelude.{◌≡◌, ◌≤◌, ◌++◌, [], ◌∷◌, OnOk, map, length};
 ghost use Rattle.st_bits.specs.declared.limits.TheConstants.{WORDS};
 ghost use Rattle.st_card.specs.Written.{text_of_lines};
 ghost use Rattle.st_dis.specs.Deck as spec;
@@ -26,30 +26,14 @@ use std::alloc::AllocError;
 // The columns before a statement, which begins in column 10; pinned by `statement_card`.
 const BLANKS: &[u8] = b"         ";
 
-// Appends a card.
-fn push_card(deck: &mut Vec<u8>, card: &[u8]) -> Result<(), AllocError>
-    ensures { OnOk result (deck.new.items ≡ deck.old.items ++ text_of_lines (card.now ∷ [])) }
-{
-    deck.extend_from_slice(card)?;
-    deck.extend_from_slice(b"\n")
-}
-
 // Appends a statement card.
 fn push_statement(deck: &mut Vec<u8>, text: &Line) -> Result<(), AllocError>
     ensures { OnOk result (deck.new.items
         ≡ deck.old.items ++ text_of_lines (spec.statement_card text.now.bytes ∷ [])) }
 {
     deck.extend_from_slice(BLANKS)?;
-    push_card(deck, text.as_str().as_bytes())
-}
-
-// A word as a `DD` statement.
-fn number_text(word: u64) -> Line
-    ensures { result.bytes ≡ codes "DD(BU,64)," ++ decimal word }
-{
-    let mut text = open_line("DD(BU,64),");
-    push_decimal(&mut text, word);
-    text
+    deck.extend_from_slice(text.as_str().as_bytes())?;
+    deck.extend_from_slice(b"\n")
 }
 
 // Appends the statements of a word.
@@ -68,7 +52,11 @@ fn push_statements(deck: &mut Vec<u8>, symbols: &Symbols, word: u64) -> Result<(
             push_statement(deck, &first)?;
             push_statement(deck, &second)
         }
-        _ => push_statement(deck, &number_text(word)),
+        _ => {
+            let mut text = open_line("DD(BU,64),");
+            push_decimal(&mut text, word);
+            push_statement(deck, &text)
+        }
     }
 }
 

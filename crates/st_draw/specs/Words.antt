@@ -1,7 +1,7 @@
 -- The meaning of the words of the command line.
 --
 -- Proved: by their `ensures` clauses these calls do what definitions here say: `draw` (program.rt),
--- `chosen` (words.rt), `kind_named` (words.rt), `part_between` (words.rt), and others.
+-- `kind_named` (words.rt), `part_between` (words.rt), `part_named` (words.rt), and others.
 -- Laws: none names a definition of this file itself.
 -- Change: the meaning is fixed by docs/chart.md, since the contract of `st_draw::draw` unfolds to a
 -- definition here. The form is free, with the proofs that unfold it.

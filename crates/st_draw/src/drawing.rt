@@ -12,8 +12,8 @@
 //! and `push_waiting_keys`.
 #![tactic(auto, unfolding(crate::specs::Drawing::bars, crate::specs::Drawing::caption, crate::specs::Drawing::chart, crate::specs::Drawing::drawing, crate::specs::Drawing::ending_keys, crate::specs::Drawing::foot, crate::specs::Drawing::legend, crate::specs::Drawing::line_keys, crate::specs::Drawing::mark, crate::specs::Drawing::picture_front, crate::specs::Drawing::remark, crate::specs::Drawing::row_elements, crate::specs::Drawing::svg, crate::specs::Drawing::waiting_keys), using(crate::proofs::Elements::elements_joined, crate::proofs::Elements::elements_one))]
 
-ghost use Rattle.std.specs.Prelude.{◌≡◌, ◌+◌, ◌^◌, ◌≤◌, ◌<◌, ◌++◌, IfOk, codes, decimal, max, ◌-◌};
-ghost use Rattle.st_draw.specs.Element.{elements_text, element_text, Line, Text};
+ghost use Rattle.std.specs.Prelude.{◌≡◌, ◌+◌, ◌^◌, ◌<◌, ◌++◌, IfOk, max, ◌-◌};
+ghost use Rattle.st_draw.specs.Element.{elements_text, element_text, Line};
 ghost use Rattle.st_draw.specs.Drawing as spec;
 ghost use Rattle.st_draw.specs.Drawing.{IsSheet};
 
@@ -49,16 +49,6 @@ fn push_down(out: &mut Vec<u8>, class: &[u8], sheet: &Sheet, x: u128) -> Result<
     push_line(out, class, area)
 }
 
-// Appends a number as a text element.
-fn push_number(alloc: Global, out: &mut Vec<u8>, x: u128, n: u64) -> Result<(), AllocError>
-    ensures { IfOk result (λ _. out.new.items ≡ out.old.items
-        ++ element_text (Text (codes "m") x 22 (decimal n))) }
-{
-    let mut number = Vec::new(alloc);
-    push_decimal(&mut number, u128::from(n))?;
-    push_text(out, b"m", Point { x, y: 22 }, number.as_slice())
-}
-
 // Appends a marked tick: a vertical line across the sheet with its number above.
 fn push_mark(alloc: Global, out: &mut Vec<u8>, sheet: &Sheet, tick: u64) -> Result<(), AllocError>
     requires { IsSheet sheet.now }
@@ -67,7 +57,9 @@ fn push_mark(alloc: Global, out: &mut Vec<u8>, sheet: &Sheet, tick: u64) -> Resu
 {
     let x = across(sheet, tick);
     push_down(out, b"g", sheet, x)?;
-    push_number(alloc, out, x, tick)
+    let mut number = Vec::new(alloc);
+    push_decimal(&mut number, u128::from(tick))?;
+    push_text(out, b"m", Point { x, y: 22 }, number.as_slice())
 }
 
 // Appends marked ticks.

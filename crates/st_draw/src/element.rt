@@ -55,24 +55,6 @@ fn push_shown_card(out: &mut Vec<u8>, text: &[u8]) -> Result<(), AllocError>
     out.extend_from_slice("…".as_bytes())
 }
 
-// Appends a card's text, and the end of its element.
-fn push_card_content(out: &mut Vec<u8>, text: &[u8]) -> Result<(), AllocError>
-    ensures { IfOk result (λ _. out.new.items ≡ out.old.items ++ card_content text.now) }
-{
-    out.extend_from_slice(b">")?;
-    push_shown_card(out, text)?;
-    out.extend_from_slice(b"</text>\n")
-}
-
-// Appends the contents of a text element, and its end.
-fn push_content(out: &mut Vec<u8>, text: &[u8]) -> Result<(), AllocError>
-    ensures { IfOk result (λ _. out.new.items ≡ out.old.items ++ content text.now) }
-{
-    out.extend_from_slice(b">")?;
-    push_escaped(out, text)?;
-    out.extend_from_slice(b"</text>\n")
-}
-
 /// Appends a box.
 pub fn push_box(out: &mut Vec<u8>, class: &[u8], area: Area) -> Result<(), AllocError>
     ensures { IfOk result (λ _. out.new.items ≡ out.old.items
@@ -117,7 +99,9 @@ pub fn push_text(
 {
     push_front(out, b"<text", class)?;
     push_corner(out, spot.x, spot.y)?;
-    push_content(out, text)
+    out.extend_from_slice(b">")?;
+    push_escaped(out, text)?;
+    out.extend_from_slice(b"</text>\n")
 }
 
 /// Appends the text of a card.
@@ -127,5 +111,7 @@ pub fn push_card(out: &mut Vec<u8>, spot: Point, text: &[u8]) -> Result<(), Allo
 {
     push_front(out, b"<text", b"c")?;
     push_corner(out, spot.x, spot.y)?;
-    push_card_content(out, text)
+    out.extend_from_slice(b">")?;
+    push_shown_card(out, text)?;
+    out.extend_from_slice(b"</text>\n")
 }

@@ -47,14 +47,6 @@ fn push_right(out: &mut Vec<u8>, width: usize, text: &[u8]) -> Result<(), AllocE
     out.extend_from_slice(text)
 }
 
-// Appends a text, left-aligned in `width` characters.
-fn push_left(out: &mut Vec<u8>, width: usize, text: &[u8]) -> Result<(), AllocError>
-    ensures { IfOk result (λ _. out.new.items ≡ out.old.items ++ spec.text_at_left width text.now) }
-{
-    push_plain(out, text)?;
-    push_many(out, width.saturating_sub(text.len()), b' ')
-}
-
 // Appends three texts in columns; the last one is left-aligned in `width` characters.
 fn push_columns(
     out: &mut Vec<u8>,
@@ -69,7 +61,8 @@ fn push_columns(
     push_right(out, 7, first)?;
     push_right(out, 10, second)?;
     out.extend_from_slice(b" ")?;
-    push_left(out, places, third)?;
+    push_plain(out, third)?;
+    push_many(out, places.saturating_sub(third.len()), b' ')?;
     out.extend_from_slice(b" ")
 }
 

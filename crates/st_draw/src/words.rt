@@ -76,15 +76,6 @@ fn part_named(from: &str, to: &str) -> Option<RowRange>
     part_between(from, to)
 }
 
-// The chart that a word and two numbers request.
-fn chosen(word: &str, from: &str, to: &str) -> Option<Choice>
-    ensures { result ≡ spec.choice_of_words word.now from.now to.now }
-{
-    let kind = kind_named(word)?;
-    let part = part_named(from, to)?;
-    Some(Choice { kind, part })
-}
-
 /// The chart that the words request; `None` if they are invalid.
 pub fn read_words(words: &[String]) -> Option<Choice>
     ensures { result ≡ spec.picture_choice (map string_bytes words.now) }
@@ -102,7 +93,10 @@ pub fn read_words(words: &[String]) -> Option<Choice>
             kind: PictureKind::Svg,
             part: part_named(from.as_str(), to.as_str())?,
         }),
-        [word, from, to] => chosen(word.as_str(), from.as_str(), to.as_str()),
+        [word, from, to] => Some(Choice {
+            kind: kind_named(word.as_str())?,
+            part: part_named(from.as_str(), to.as_str())?,
+        }),
         _ => None,
     }
 }

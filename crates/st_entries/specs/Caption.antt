@@ -1,8 +1,8 @@
 -- The texts of an entry: the three in front of its bars, and the title of its bars.
 --
 -- Proved: by their `ensures` clauses these calls do what definitions here say: `first_text`
--- (caption.rt), `indicator` (caption.rt), `indicator_names` (caption.rt), `place_text`
--- (caption.rt), and others.
+-- (caption.rt), `indicator` (caption.rt), `place_text` (caption.rt), `push_numbered` (caption.rt),
+-- and others.
 -- Read by: definitions in Log, Drawing of st_draw, Terminal of st_draw, Element of st_draw.
 -- Laws: SymbolsAgree (specs/Laws.antt of st_laws).
 -- Change: the meaning is fixed by docs/chart.md, since the contract of `st_draw::draw` unfolds to a

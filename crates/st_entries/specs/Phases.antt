@@ -1,7 +1,7 @@
 -- The phases of an entry: the meaning of each of its bars, with its first and its last tick.
 --
--- Proved: by their `ensures` clauses these calls do what definitions here say: `sort_entries`
--- (moments.rt), `first_tick` (timetable.rt).
+-- Proved: by their `ensures` clauses these calls do what definitions here say: `first_tick`
+-- (timetable.rt).
 -- Read by: definitions in Moments, Timetable, Terminal of st_draw, Drawing of st_draw, and others.
 -- Laws: OneExecutesAtATick (specs/Laws.antt).
 -- Change: the meaning is fixed by docs/chart.md, since the contract of `st_draw::draw` unfolds to a

@@ -2,7 +2,7 @@
 -- blanks.
 --
 -- Proved: by their `ensures` clauses these calls do what definitions here say: `is_place`
--- (label.rt), `dropped` (report.rt), `has` (report.rt), `is_row` (report.rt), and others.
+-- (label.rt), `has` (report.rt), `item_of` (report.rt), `number` (report.rt), and others.
 -- Read by: definitions in Label, Completions, Timetable.
 -- Laws: none names a definition of this file itself.
 -- Change: the meaning is fixed by docs/chart.md, since the contract of `st_draw::draw` unfolds to a

@@ -29,13 +29,6 @@ const INDICATOR_NAMES: &[u8; 256] =
     TF  UF  VF  XF  BTR DTR PG0 PG1 PG2 PG3 PG4 PG5 PG6 XCZ XVLZXVZ \
     XVGZXL  XE  XH  MOP RLZ RZ  RGZ RN  AL  AE  AH      ";
 
-// The names of the indicators as one text.
-fn indicator_names() -> &'static [u8]
-    ensures { result.now ≡ spec.indicator_names }
-{
-    INDICATOR_NAMES
-}
-
 // The name of an indicator in four characters: blanks if it has none, an empty text for a number
 // above 63.
 fn indicator(i: u64) -> &'static [u8]
@@ -44,7 +37,7 @@ fn indicator(i: u64) -> &'static [u8]
     if 64 <= i {
         return &[];
     }
-    front(behind(indicator_names(), 4 * i as usize), 4)
+    front(behind(INDICATOR_NAMES, 4 * i as usize), 4)
 }
 
 // A number in decimal.

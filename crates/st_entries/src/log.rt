@@ -94,14 +94,6 @@ fn push_change(out: &mut Vec<u8>, number: u64, from: &[u8], to: &[u8]) -> Result
     push_stage(out, b"S", number, to)
 }
 
-// Appends the lines of an entry that ends.
-fn push_end(out: &mut Vec<u8>, number: u64, entry: DrawnEntry) -> Result<(), AllocError>
-    ensures { IfOk result (λ _. out.new.items ≡ out.old.items ++ spec.log_end_lines number entry) }
-{
-    push_stage(out, b"E", number, last_stage(entry))?;
-    push_end_line(out, number, row_number(entry), retire_type(entry))
-}
-
 // Appends the lines of a step of an entry.
 fn push_step(
     alloc: Global,
@@ -116,23 +108,12 @@ fn push_step(
         LogStep::Begin => push_begin(alloc, out, report, moment.number, moment.entry),
         LogStep::Ready => push_change(out, moment.number, b"W", b"T"),
         LogStep::Turn => push_change(out, moment.number, b"T", b"X"),
-        LogStep::End => push_end(out, moment.number, moment.entry),
+        LogStep::End => {
+            let LogMoment { number, entry, .. } = *moment;
+            push_stage(out, b"E", number, last_stage(entry))?;
+            push_end_line(out, number, row_number(entry), retire_type(entry))
+        }
     }
-}
-
-// Appends the lines of a moment, given the tick of the moment before it.
-fn push_moment(
-    alloc: Global,
-    out: &mut Vec<u8>,
-    report: &[u8],
-    tick: u64,
-    moment: &LogMoment,
-) -> Result<(), AllocError>
-    ensures { IfOk result (λ _. out.new.items ≡ out.old.items
-        ++ spec.moment_lines report.now tick moment.now) }
-{
-    push_cycles(out, tick, moment.tick)?;
-    push_step(alloc, out, report, moment)
 }
 
 // Appends the lines of moments in order, given the tick of the moment before them.
@@ -150,7 +131,8 @@ fn push_moments(
     let mut rest = moments;
     // Proofs name the loop by its label.
     'moments: while let [moment, after @ ..] = rest {
-        push_moment(alloc, out, report, tick, moment)?;
+        push_cycles(out, tick, moment.tick)?;
+        push_step(alloc, out, report, moment)?;
         tick = moment.tick;
         rest = after;
     }

@@ -8,10 +8,8 @@
 //!
 //! Pinned, by this definition and the files .kanata of vectors/pictures: events at equal ticks keep
 //! their order; an interrupt and a snapshot last one tick. Free: the sorting call, as long as it is
-//! stable, and the bodies, if proofs/moments follows `moments_of`, `sort_entries` and
-//! `sort_moments`.
+//! stable, and the bodies, if proofs/moments follows `moments_of` and `happenings`.
 ghost use Rattle.std.specs.Prelude.{◌≡◌, ◌++◌, ◌∷◌, [], IfOk};
-ghost use Rattle.st_entries.specs.Phases.{first_tick as first_tick_of};
 ghost use Rattle.st_entries.specs.Moments as spec;
 ghost use Rattle.st_entries.specs.declared.moments.LogMoment.{LogMoment};
 
@@ -143,19 +141,6 @@ fn push_waits(out: &mut Vec<LogMoment>, number: u64, entry: DrawnEntry) -> Resul
     }
 }
 
-// Appends all events of the entry with a number.
-fn push_moments_of(
-    out: &mut Vec<LogMoment>,
-    number: u64,
-    entry: DrawnEntry,
-) -> Result<(), AllocError>
-    ensures { IfOk result (λ _. out.new.items ≡ out.old.items ++ spec.moments_of number entry) }
-{
-    push(out, number, LogStep::Begin, entry)?;
-    push_waits(out, number, entry)?;
-    push(out, number, LogStep::End, entry)
-}
-
 // All events of entries, numbered from 0 on.
 fn moments_of(alloc: Global, entries: &[DrawnEntry]) -> Result<Vec<LogMoment>, AllocError>
     ensures { IfOk result (λ out. out.items ≡ spec.moments 0 entries.now) }
@@ -165,28 +150,13 @@ fn moments_of(alloc: Global, entries: &[DrawnEntry]) -> Result<Vec<LogMoment>, A
     let mut rest = entries;
     // Proofs name the loop by its label.
     'entries: while let [entry, after @ ..] = rest {
-        push_moments_of(&mut out, number, *entry)?;
+        push(&mut out, number, LogStep::Begin, *entry)?;
+        push_waits(&mut out, number, *entry)?;
+        push(&mut out, number, LogStep::End, *entry)?;
         number += 1;
         rest = after;
     }
     Ok(out)
-}
-
-// Sorts entries by the tick at which they begin; entries with equal ticks keep their order.
-fn sort_entries(entries: &mut Vec<DrawnEntry>) -> Result<(), AllocError>
-    ensures { IfOk result (λ _. entries.new.items ≡ spec.in_order first_tick_of entries.old.items) }
-{
-    entries.sort_by_key(|entry| first_tick(entry))?;
-    Ok(())
-}
-
-// Sorts moments by their ticks; moments with equal ticks keep their order.
-fn sort_moments(moments: &mut Vec<LogMoment>) -> Result<(), AllocError>
-    ensures { IfOk result (λ _. moments.new.items
-        ≡ spec.in_order (λ (m : LogMoment). m.tick) moments.old.items) }
-{
-    moments.sort_by_key(|moment| moment.tick)?;
-    Ok(())
 }
 
 /// The events of entries in the order of ticks; the entries are numbered from 0 on in the order in
@@ -195,8 +165,8 @@ pub fn happenings(alloc: Global, entries: &[DrawnEntry]) -> Result<Vec<LogMoment
     ensures { IfOk result (λ out. out.items ≡ spec.happenings entries.now) }
 {
     let mut begun = Vec::from_slice(alloc, entries)?;
-    sort_entries(&mut begun)?;
+    begun.sort_by_key(|entry| first_tick(entry))?;
     let mut moments = moments_of(alloc, begun.as_slice())?;
-    sort_moments(&mut moments)?;
+    moments.sort_by_key(|moment| moment.tick)?;
     Ok(moments)
 }

@@ -112,31 +112,18 @@ fn row(line: &[u8]) -> Option<TimetableLine>
     })
 }
 
-// Parses the line of a dropped entry.
-fn dropped(line: &[u8]) -> Option<TimetableLine>
-    ensures { result ≡ spec.dropped_item line.now }
-{
-    let place = place_of(word(line, 1))?;
-    let prepared = number(word(line, 3))?;
-    Some(TimetableLine::Drop { place, prepared })
-}
-
-// Whether a line has the keywords of a completed entry.
-fn is_row(line: &[u8]) -> bool
-    ensures { result ≡ spec.is_row line.now }
-{
-    has(line, 0, b"ROW") && has(line, 3, b"P") && has(line, 5, b"R") && has(line, 7, b"C")
-}
-
 /// Parses a line; `None` if it does not describe the timetable.
 pub fn item_of(line: &[u8]) -> Option<TimetableLine>
     ensures { result ≡ spec.item line.now }
 {
-    if is_row(line) {
+    if has(line, 0, b"ROW") && has(line, 3, b"P") && has(line, 5, b"R") && has(line, 7, b"C") {
         return row(line);
     }
     if has(line, 0, b"DROP") && has(line, 2, b"P") {
-        return dropped(line);
+        return Some(TimetableLine::Drop {
+            place: place_of(word(line, 1))?,
+            prepared: number(word(line, 3))?,
+        });
     }
     if has(line, 0, b"INT") && has(line, 2, b"AFTER") {
         return Some(TimetableLine::Interrupt {

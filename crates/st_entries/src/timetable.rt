@@ -88,13 +88,6 @@ pub fn first_tick(entry: &DrawnEntry) -> u64
     }
 }
 
-// Whether a row is in a part.
-fn is_in(part: RowRange, n: u64) -> bool
-    ensures { result ≡ spec.is_in_part part n }
-{
-    part.from <= n && n <= part.to
-}
-
 // Appends an entry that belongs to a row, if the row is in the part.
 fn push_in_part(
     part: RowRange,
@@ -105,7 +98,7 @@ fn push_in_part(
     ensures { IfOk result
         (λ _. entries.new.items ≡ spec.entries_with part n entry entries.old.items) }
 {
-    if is_in(part, n) {
+    if part.from <= n && n <= part.to {
         entries.push(entry)?;
     }
     Ok(())

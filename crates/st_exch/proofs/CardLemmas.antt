@@ -1,10 +1,6 @@
 -- Each card of the reader has eight words.
+use Rattle.st_exch.proofs.Common.{◌≡◌, ℕ, zero, suc, ◌+◌, ◌<◌, ◌^◌, List, [], ◌∷◌, length, take, drop, refl, arith, All-nil, All-cons, All-head, All-tail, cards_of, text_in, Card, column_of_card, word_from, card_words, is_comment, behind_statements, texts_in, reader_cards}
 use Rattle.std.specs.Prelude.{All, map, filter, slice_index_or}
-use Rattle.std.proofs.Common.{◌≡◌, ℕ, zero, suc, ◌+◌, ◌<◌, ◌^◌, List, [], ◌∷◌, length, take, drop, refl, arith}
-use Rattle.std.proofs.lemmas.List.Elements.{All-nil, All-cons, All-head, All-tail}
-use Rattle.st_card.specs.Cards.{cards_of, text_in}
-use Rattle.st_card.specs.declared.cards.Card.{Card}
-use Rattle.st_exch.specs.Reader.{column_of_card, word_from, card_words, is_comment, behind_statements, texts_in, reader_cards}
 
 abbrev AreBytes : List ℕ → Type 0
 AreBytes = All (λ x. x < 256)

@@ -1,3 +1,4 @@
+pub mod Common
 pub mod ReaderLemmas
 pub mod PrinterLemmas
 pub mod CardLemmas

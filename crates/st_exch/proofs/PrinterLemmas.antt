@@ -1,10 +1,7 @@
 -- Printed text.
-use Rattle.std.proofs.Common.{◌≡◌, ◌-◌, ◌==◌, ◌&&◌, ℕ, zero, suc, Bool, true, false, List, [], ◌∷◌, length, take, map, refl, ◌∙◌, nat_le, if◌then◌else◌}
+use Rattle.st_exch.proofs.Common.{◌≡◌, ◌-◌, ◌==◌, ◌&&◌, ℕ, zero, suc, Bool, true, false, List, [], ◌∷◌, length, take, map, refl, ◌∙◌, nat_le, if◌then◌else◌, flat_map, suffix_len, is_printable, bytes_of, character, characters_of, line_of_words}
 use Rattle.std.proofs.lemmas.Bool.{and_from as all-both}
 use Rattle.std.proofs.lemmas.List.Folds.{list_all-append}
-use Rattle.std.specs.List.{flat_map, suffix_len}
-use Rattle.st_text.specs.Bytes.{is_printable}
-use Rattle.st_exch.specs.Printer.{bytes_of, character, characters_of, line_of_words}
 
 -- each character is printable
 character-printable : (b : ℕ) → (nat_le 32 (character b) && nat_le (character b) 126) ≡ true

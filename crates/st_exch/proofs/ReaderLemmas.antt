@@ -1,10 +1,5 @@
 -- The reader's cards, card by card.
-use Rattle.std.proofs.Common.{◌≡◌, ◌-◌, ◌<◌, ◌≤◌, ◌||◌, ℕ, zero, suc, Bool, true, false, List, [], ◌∷◌, ◌++◌, length, drop, get_or, map, filter, refl, sym, ap, ◌∙◌, arith, All, if◌then◌else◌}
-use Rattle.std.proofs.lemmas.List.{map-append}
-use Rattle.std.proofs.lemmas.List.Elements.{filter-append, All-tail}
-use Rattle.st_card.specs.Cards.{text_in}
-use Rattle.st_card.specs.declared.cards.Card.{Card}
-use Rattle.st_exch.specs.Reader.{is_comment, is_statement, has_statement, behind_statements, card_words, texts_in}
+use Rattle.st_exch.proofs.Common.{◌≡◌, ◌-◌, ◌<◌, ◌≤◌, ◌||◌, ℕ, zero, suc, Bool, true, false, List, [], ◌∷◌, ◌++◌, length, drop, get_or, map, filter, refl, sym, ap, ◌∙◌, arith, All, if◌then◌else◌, map-append, filter-append, All-tail, text_in, Card, is_comment, is_statement, has_statement, behind_statements, card_words, texts_in}
 
 or-true : (b : Bool) → (b || true) ≡ true
 or-true true = refl

@@ -1,8 +1,7 @@
 -- The text that the printer prints of a list of words; an order prints eight.
 --
--- Proved: by their `ensures` clauses these calls do what definitions here say: `character`
--- (printer.rt), `print_text` (printer.rt), `push_word` (printer.rt), `text_of` (leaving.rt of
--- st_run), and others.
+-- Proved: by their `ensures` clauses these calls do what definitions here say: `print_text`
+-- (printer.rt), `push_word` (printer.rt), `text_of` (leaving.rt of st_run).
 -- Read by: definitions in ReportedEvents of st_run, Serving of st_run, BorderLines of st_lines.
 -- Laws: none names a definition of this file itself.
 -- Change: the meaning is fixed by docs/machine.md, since the contracts of `st_top::stretch` and

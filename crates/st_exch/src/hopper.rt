@@ -123,16 +123,11 @@ fn stack(waiting: &mut VecDeque<[u64; 8]>, job: &[u8], card: Card) -> Result<(),
         (waiting.new.items ≡ waiting.old.items ++ spec.texts_in job.now (card ∷ [])) }
 {
     match card.kind {
-        CardKind::Comment => push_card(waiting, card_words(card.text(job))),
+        CardKind::Comment => waiting
+            .push_back(card_words(card.text(job)))
+            .map_err(|_| NoMemory),
         CardKind::Control | CardKind::Statement => Ok(()),
     }
-}
-
-// Appends a card.
-fn push_card(cards: &mut VecDeque<[u64; 8]>, card: [u64; 8]) -> Result<(), NoMemory>
-    ensures { OnOk result (cards.new.items ≡ cards.old.items ++ card ∷ []) }
-{
-    cards.push_back(card).map_err(|_| NoMemory)
 }
 
 // The eight words that the reader reads from a card's text.

@@ -38,14 +38,7 @@ fn push_word(text: &mut ArrayString<64>, word: u64)
     ensures room { array_string_len text.new ≡ array_string_len text.old + 8 }
 {
     for byte in word.to_be_bytes() {
-        text.push(char::from(character(byte)));
+        let shown = if is_printable_byte(byte) { byte } else { b' ' };
+        text.push(char::from(shown));
     }
-}
-
-// The character of a byte, a blank if the byte is not printable.
-fn character(byte: u8) -> u8
-    ensures value { result ≡ spec.character byte }
-    ensures ascii { result < 128 }
-{
-    if is_printable_byte(byte) { byte } else { b' ' }
 }

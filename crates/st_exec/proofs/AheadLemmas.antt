@@ -1,28 +1,5 @@
 -- The state after a non-serializing entry, and the entries that can be mispredicted.
-use Rattle.std.proofs.Common.{◌≡◌, ◌≢◌, ℕ, ◌+◌, ◌^◌, ◌<◌, ◌≤◌, ◌⊎◌, inl, inr, Bool, true, false, not, ◌&&◌, if◌then◌else◌, Option, None, Some, List, length, refl, sym, ◌∙◌, ap, subst, arith, get_or, get_or-set_other, drop}
-use Rattle.std.specs.Prelude.{IfSome}
-use Rattle.std.proofs.Math.ListN.{set}
-use Rattle.std.proofs.lemmas.List.{length-set, get_or-set_same, length-take, length-drop, get_or-take, get_or-drop}
-use Rattle.std.proofs.lemmas.Bool.Decides.{leb_tells, eqb_tells}
-use Rattle.st_bits.specs.Registers.{register_word}
-use Rattle.st_bits.specs.Storage.{words_of_storage, words_of_storage_is}
-use Rattle.st_bits.proofs.RegisterLaws.{fixed-index}
-use Rattle.st_format.specs.declared.instruction.Instr.{Instr}
-use Rattle.st_format.specs.declared.instruction.Instr.TheVariants.{Half, Branch, Floating, Vfl, Connect, Move, BitBranch, IndBranch, StoreCounter, Transfer, Invalid}
-use Rattle.st_state.specs.Machine.{Machine, IsMachine, word, state_with_store}
-use Rattle.st_state.proofs.Placed.{fixed-word}
-use Rattle.st_prep.specs.declared.entries.IndexChange.{IndexChange}
-use Rattle.st_prep.specs.declared.entries.Words.{Words}
-use Rattle.st_prep.specs.declared.entries.Prepared.{Prepared}
-use Rattle.st_prep.specs.SpeculativeChanges.{words_after}
-use Rattle.st_prep.specs.Entry.{is_serial_operation}
-use Rattle.st_prep.specs.Fetch.{index_words}
-use Rattle.st_prep.specs.Plan.{state_at_entry}
-use Rattle.st_prep.specs.Ranges.{IsChange, AreAbove, IsPrepared}
-use Rattle.st_prep.proofs.IndexWords.{are_index_words}
-use Rattle.st_exec.specs.Effect.{effect, carried_out}
-use Rattle.st_exec.specs.Completion.{with_change, state_with_speculative_changes, is_taken, counter, state_counted_on, state_after_effect, state_after_completion, predicted_state, is_mispredicted}
-use Rattle.st_exec.specs.Ahead.{IsNotAmong, IsPast, is_indicator_branch}
+use Rattle.st_exec.proofs.Common.{◌≡◌, ◌≢◌, ℕ, ◌+◌, ◌^◌, ◌<◌, ◌≤◌, ◌⊎◌, inl, inr, Bool, true, false, not, ◌&&◌, if◌then◌else◌, Option, None, Some, List, length, refl, sym, ◌∙◌, ap, subst, arith, get_or, get_or-set_other, drop, IfSome, set, length-set, get_or-set_same, length-take, length-drop, get_or-take, get_or-drop, leb_tells, eqb_tells, register_word, words_of_storage, words_of_storage_is, fixed-index, Instr, Half, Branch, Floating, Vfl, Connect, Move, BitBranch, IndBranch, StoreCounter, Transfer, Invalid, Machine, IsMachine, word, state_with_store, fixed-word, IndexChange, Words, Prepared, words_after, is_serial_operation, index_words, state_at_entry, IsChange, AreAbove, IsPrepared, are_index_words, effect, carried_out, with_change, state_with_speculative_changes, is_taken, counter, state_counted_on, state_after_effect, state_after_completion, predicted_state, is_mispredicted, IsNotAmong, IsPast, is_indicator_branch}
 use Rattle.st_exec.proofs.Unchanged.{stored-other, early-above, early-done, done-done}
 use Rattle.st_exec.proofs.SparedLemmas.{HasMarks, marks-same, marks-then, marks-words, marks-done, quiet-effect, spares-effect, IsKept, kept-below, kept-above, kept-mask, Stands, done-keeps}
 

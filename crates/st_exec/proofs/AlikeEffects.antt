@@ -1,47 +1,13 @@
 -- In states that differ only in indicators, a non-serializing entry has the same effect except on
 -- indicators.
-use Rattle.std.proofs.Common.{◌≡◌, ℕ, ◌+◌, ◌*◌, ◌/◌, ◌%◌, ◌≤◌, Bool, true, false, ◌==◌, if◌then◌else◌, Option, None, Some, length, refl, sym, ◌∙◌, ap, subst, arith}
-use Rattle.std.specs.Prelude.{IfSome, nat_le}
-use Rattle.st_bits.specs.Bits.{bits, part}
-use Rattle.st_bits.specs.Storage.{words_of_storage}
-use Rattle.st_bits.specs.declared.operations.HalfOp.{HalfOp}
-use Rattle.st_bits.specs.declared.operations.HalfOp.TheVariants.{Sx, Sv, Sc, Sr, Sva}
-use Rattle.st_bits.specs.declared.operations.ConnKind.{ConnKind}
-use Rattle.st_bits.specs.declared.operations.BranchOp.{BranchOp}
-use Rattle.st_bits.specs.declared.operations.BranchOp.TheVariants.{Be, Bd, Bew}
-use Rattle.st_bits.specs.declared.operations.VflOp.{VflOp}
-use Rattle.st_bits.specs.declared.operations.VflOp.TheVariants.{Ke, Kfe, Kr, Kfr}
-use Rattle.std.proofs.lemmas.List.{length-set}
-use Rattle.st_bits.proofs.BitLists.{length-bits}
-use Rattle.st_format.specs.declared.operations.FullOp.TheVariants.{Variable, Connective}
-use Rattle.st_format.specs.declared.instruction.Instr.{Instr}
-use Rattle.st_format.specs.declared.instruction.Instr.TheVariants.{Half, Branch, Floating, Vfl, Connect, Move, BitBranch, IndBranch, StoreCounter, Transfer, Invalid}
-use Rattle.st_format.specs.Operations.{writes_field}
-use Rattle.st_state.specs.Machine.{Machine, IsMachine, word}
-use Rattle.st_state.specs.Interrupts.{state_with_indicators}
-use Rattle.st_field.specs.declared.accumulator.Acc.{Acc}
-use Rattle.st_field.specs.declared.base.Taken.{Taken}
-use Rattle.st_field.specs.Bases.{InBase, result_of}
-use Rattle.st_field.specs.declared.fields.Shape.{Shape}
-use Rattle.st_field.specs.declared.outcome.Done.{Done}
-use Rattle.st_bin.specs.BinaryResult as binary
-use Rattle.st_dec.specs.DecimalResult as decimal
-use Rattle.st_prep.specs.Alike.{AreAlike}
-use Rattle.st_prep.specs.declared.entries.IndexChange.{IndexChange}
-use Rattle.st_prep.specs.declared.entries.Prepared.{Prepared}
-use Rattle.st_prep.specs.Entry.{no_words, one_run, field_words, operand_words, is_index_store, reads_field, reads, words_written, is_serial_branch, is_serial_operation}
-use Rattle.st_prep.specs.Ranges.{HasFields, AreInside, AreAbove, IsPrepared}
-use Rattle.st_exec.specs.Operand.{field_at, operand_bits, accumulator}
-use Rattle.st_conn.specs.Connection.{connection}
-use Rattle.st_exec.specs.Outcome.{bits_taken, result_by, operation_outcome, connects, with_register, with_accumulator, with_registers, with_field, with_result, shape_of}
-use Rattle.st_field.specs.declared.outcome.Done.{Done}
-use Rattle.st_exec.specs.Effect.{index_effect, branch_effect, indicator_effect, effect_of, carried_out}
-use Rattle.st_exec.specs.Completion.{with_change, state_with_speculative_changes, state_counted_on, state_after_completion, predicted_state, is_mispredicted, counter}
+use Rattle.st_exec.proofs.Common.{◌≡◌, ℕ, ◌+◌, ◌*◌, ◌/◌, ◌%◌, ◌≤◌, Bool, true, false, ◌==◌, if◌then◌else◌, Option, None, Some, length, refl, sym, ◌∙◌, ap, subst, arith, IfSome, nat_le, bits, part, words_of_storage, HalfOp, Sx, Sv, Sc, Sr, Sva, ConnKind, BranchOp, Be, Bd, Bew, VflOp, Ke, Kfe, Kr, Kfr, length-set, length-bits, Variable, Connective, Instr, Half, Branch, Floating, Vfl, Connect, Move, BitBranch, IndBranch, StoreCounter, Transfer, Invalid, writes_field, Machine, IsMachine, word, state_with_indicators, Acc, Taken, InBase, result_of, Shape, Done, AreAlike, IndexChange, Prepared, no_words, one_run, field_words, operand_words, is_index_store, reads_field, reads, words_written, is_serial_branch, is_serial_operation, HasFields, AreInside, AreAbove, IsPrepared, field_at, operand_bits, accumulator, connection, bits_taken, result_by, operation_outcome, connects, with_register, with_accumulator, with_registers, with_field, with_result, shape_of, index_effect, branch_effect, indicator_effect, effect_of, carried_out, with_change, state_with_speculative_changes, state_counted_on, state_after_completion, predicted_state, is_mispredicted, counter}
 use Rattle.st_exec.proofs.AlikeStates.{alike-stored, alike-indicators, alike-placed, alike-field_at, alike-accumulator}
 use Rattle.st_exec.proofs.FieldLemmas.{result-field, connection-field}
 use Rattle.st_exec.proofs.InsideLemmas.{some_words, inside-field, inside-field_if}
 use Rattle.st_exec.proofs.SparedLemmas.{marks-registers}
 use Rattle.st_exec.proofs.AheadLemmas.{late, completed-late, speculative-marks, predicted-right}
+use Rattle.st_bin.specs.BinaryResult as binary
+use Rattle.st_dec.specs.DecimalResult as decimal
 
 -- ---- results
 

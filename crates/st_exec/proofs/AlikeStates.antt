@@ -1,14 +1,5 @@
 -- States that differ only in their indicators, and changes of both.
-use Rattle.std.proofs.Common.{◌≡◌, ◌≢◌, ℕ, ◌+◌, ◌-◌, ◌*◌, ◌/◌, ◌%◌, ◌^◌, ◌<◌, ◌≤◌, inl, inr, List, length, take, drop, ◌++◌, sym, ◌∙◌, ap, arith, get_or, get_or-set_other, length-append}
-use Rattle.std.proofs.Math.ListN.{set}
-use Rattle.std.proofs.lemmas.List.{length-set, get_or-set_same, get_or_past, length-take, length-drop, get_or-take, get_or-drop, get_or_append_left, get_or-append_right, ext_get_or}
-use Rattle.std.proofs.lemmas.Bool.Decides.{leb_tells, eqb_tells}
-use Rattle.st_bits.specs.Bits.{bits, num, all_bits, field, put, part}
-use Rattle.st_bits.specs.Registers.{register_word}
-use Rattle.st_bits.proofs.WordFields.{field-in_word}
-use Rattle.st_state.specs.Machine.{Machine, word, with_word, state_with_store, state_with_bits}
-use Rattle.st_prep.specs.Alike.{AreAlike}
-use Rattle.st_exec.specs.Operand.{field_at, accumulator}
+use Rattle.st_exec.proofs.Common.{◌≡◌, ◌≢◌, ℕ, ◌+◌, ◌-◌, ◌*◌, ◌/◌, ◌%◌, ◌^◌, ◌<◌, ◌≤◌, inl, inr, List, length, take, drop, ◌++◌, sym, ◌∙◌, ap, arith, get_or, get_or-set_other, length-append, set, length-set, get_or-set_same, get_or_past, length-take, length-drop, get_or-take, get_or-drop, get_or_append_left, get_or-append_right, ext_get_or, leb_tells, eqb_tells, bits, num, all_bits, field, put, part, register_word, field-in_word, Machine, word, with_word, state_with_store, state_with_bits, AreAlike, field_at, accumulator}
 use Rattle.st_exec.proofs.ApartLemmas.{length-all_bits, length-placed, word-placed_by}
 
 -- ---- lists of bits with equal parts

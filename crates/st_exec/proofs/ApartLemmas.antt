@@ -1,11 +1,5 @@
 -- A field write to storage leaves each word unchanged that has no bit of the field.
-use Rattle.std.proofs.Common.{◌≡◌, ℕ, zero, suc, ◌+◌, ◌-◌, ◌*◌, ◌/◌, ◌%◌, ◌^◌, ◌<◌, ◌≤◌, ◌⊎◌, inl, inr, List, [], ◌∷◌, ◌++◌, length, take, drop, refl, sym, ◌∙◌, ap, arith, get_or, append_assoc, length-append, zero-add}
-use Rattle.std.proofs.lemmas.List.{drop-drop, take-append-drop, length-take}
-use Rattle.st_bits.specs.Bits.{bits, num, all_bits, field, put, words_of}
-use Rattle.st_bits.specs.Registers.{register_word, fixed_from}
-use Rattle.st_bits.proofs.BitLists.{length-bits}
-use Rattle.st_bits.proofs.WordFields.{field-within, field-beyond, num-in_word}
-use Rattle.st_state.specs.Machine.{Machine, word, state_with_bits}
+use Rattle.st_exec.proofs.Common.{◌≡◌, ℕ, zero, suc, ◌+◌, ◌-◌, ◌*◌, ◌/◌, ◌%◌, ◌^◌, ◌<◌, ◌≤◌, ◌⊎◌, inl, inr, List, [], ◌∷◌, ◌++◌, length, take, drop, refl, sym, ◌∙◌, ap, arith, get_or, append_assoc, length-append, zero-add, drop-drop, take-append-drop, length-take, bits, num, all_bits, field, put, words_of, register_word, fixed_from, length-bits, field-within, field-beyond, num-in_word, Machine, word, state_with_bits}
 
 -- ---- lengths
 

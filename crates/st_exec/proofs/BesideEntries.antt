@@ -1,25 +1,7 @@
 -- The predicted state after a non-serializing entry does not depend on the orders.
-use Rattle.std.proofs.Common.{◌≡◌, ℕ, Bool, true, false, if◌then◌else◌, Option, None, Some, refl, sym, ◌∙◌, ap, subst, get_or-set_other}
-use Rattle.std.proofs.lemmas.List.{length-set}
-use Rattle.st_format.specs.declared.instruction.Instr.{Instr}
-use Rattle.st_format.specs.declared.instruction.Instr.TheVariants.{Half, Branch, Floating, Vfl, Connect, Move, BitBranch, IndBranch, StoreCounter, Transfer, Invalid}
-use Rattle.st_state.specs.Machine.{Machine, IsMachine, with_word}
-use Rattle.st_state.specs.Interrupts.{state_with_indicators, state_with_signal}
-use Rattle.st_state.specs.declared.devices.Order.{Order}
-use Rattle.st_prep.specs.Alike.{AreAlike}
+use Rattle.st_exec.proofs.Common.{◌≡◌, ℕ, Bool, true, false, if◌then◌else◌, Option, None, Some, refl, sym, ◌∙◌, ap, subst, get_or-set_other, length-set, Instr, Half, Branch, Floating, Vfl, Connect, Move, BitBranch, IndBranch, StoreCounter, Transfer, Invalid, Machine, IsMachine, with_word, state_with_indicators, state_with_signal, Order, AreAlike, IndexChange, Prepared, is_serial_operation, IsPrepared, operation_outcome, connects, with_accumulator, with_register, with_registers, with_field, with_result, Done, effect_of, effect, carried_out, Effect, Rest, Put, Copy, Exchange, TurnOff, Enable, Wait, Give, Leave, with_change, state_with_speculative_changes, counter, state_counted_on, predicted_state, read_in, printed_out}
 use Rattle.st_prep.specs.BesideOrders.{AreAlikeBesideOrders}
-use Rattle.st_prep.specs.declared.entries.IndexChange.{IndexChange}
-use Rattle.st_prep.specs.declared.entries.Prepared.{Prepared}
-use Rattle.st_prep.specs.Entry.{is_serial_operation}
-use Rattle.st_prep.specs.Ranges.{IsPrepared}
 use Rattle.st_prep.proofs.BesideLemmas.{with_orders, alike-orders}
-use Rattle.st_exec.specs.Outcome.{operation_outcome, connects, with_accumulator, with_register, with_registers, with_field, with_result}
-use Rattle.st_field.specs.declared.outcome.Done.{Done}
-use Rattle.st_exec.specs.Effect.{effect_of, effect, carried_out}
-use Rattle.st_exec.specs.declared.effects.Effect.{Effect}
-use Rattle.st_exec.specs.declared.effects.Effect.TheVariants.{Rest, Put, Copy, Exchange, TurnOff, Enable, Wait, Give, Leave}
-use Rattle.st_exec.specs.Completion.{with_change, state_with_speculative_changes, counter, state_counted_on, predicted_state}
-use Rattle.st_exec.specs.Transfer.{read_in, printed_out}
 use Rattle.st_exec.proofs.SparedLemmas.{IsQuiet, quiet-effect}
 use Rattle.st_exec.proofs.AheadLemmas.{late}
 use Rattle.st_exec.proofs.AlikeEffects.{predicted-late, predicted-alike}

@@ -1,12 +1,7 @@
 -- Bounds of the numbers that lists of bits encode.
-use Rattle.std.proofs.Common.{◌≡◌, ℕ, zero, suc, ◌+◌, ◌^◌, ◌<◌, ◌≤◌, List, [], ◌∷◌, ◌++◌, length, take, drop, get_or, refl, sym, ap, subst, arith}
+use Rattle.st_exec.proofs.Common.{◌≡◌, ℕ, zero, suc, ◌+◌, ◌^◌, ◌<◌, ◌≤◌, List, [], ◌∷◌, ◌++◌, length, take, drop, get_or, refl, sym, ap, subst, arith, bit_at-lt, get_or-drop, length-take, pow-succ', pow-le-pow_right, bits, num, all_bits, field, put, by_weight}
 use Rattle.std.specs.Int.{bit_at}
-use Rattle.std.proofs.lemmas.Nat.Bits.{bit_at-lt}
-use Rattle.std.proofs.lemmas.List.{get_or-drop, length-take}
-use Rattle.std.proofs.Math.Nat.{pow-succ', pow-le-pow_right}
-use Rattle.st_bits.specs.Bits.{bits, num, all_bits, field, put}
 use Rattle.st_state.proofs.TurnedLemmas.{one_more as one_digit}
-use Rattle.st_conn.specs.Connective.{by_weight}
 
 -- each item of a list is zero or one
 pub record AreBits (xs : List ℕ) : Type 0 where

@@ -1,26 +1,8 @@
 -- An operation that returns a field is one that writes it.
-use Rattle.std.proofs.Common.{◌≡◌, ℕ, ◌^◌, ◌<◌, ◌≤◌, Bool, true, false, ◌==◌, if◌then◌else◌, Option, None, Some, refl}
-use Rattle.std.specs.Prelude.{IfSome}
-use Rattle.st_bits.specs.declared.operations.ConnKind.{ConnKind}
-use Rattle.st_bits.specs.declared.operations.ConnKind.TheVariants.{C, Cm, Ct}
-use Rattle.st_bits.specs.declared.operations.VflOp.{VflOp}
-use Rattle.st_bits.specs.declared.operations.VflOp.TheVariants.{L, Lwf, Ltrs, Lft, St, Add, AddMg, MAdd, MAddMg, MAdd1, K, Kf, Ke, Kfe, Kr, Kfr, Mul, MulAdd, Div, Lcv}
-use Rattle.st_format.specs.declared.operations.FullOp.TheVariants.{Variable, Connective}
-use Rattle.st_format.specs.Operations.{writes_field}
-use Rattle.st_field.specs.declared.accumulator.Acc.{Acc}
-use Rattle.st_field.specs.declared.base.Taken.{Taken}
-use Rattle.st_field.specs.declared.fields.Shape.{Shape}
-use Rattle.st_field.specs.declared.outcome.Done.{Done}
-use Rattle.st_field.specs.Bases.{InBase, operand_taken, result_of, store_result}
+use Rattle.st_exec.proofs.Common.{◌≡◌, ℕ, ◌^◌, ◌<◌, ◌≤◌, Bool, true, false, ◌==◌, if◌then◌else◌, Option, None, Some, refl, IfSome, ConnKind, C, Cm, Ct, VflOp, L, Lwf, Ltrs, Lft, St, Add, AddMg, MAdd, MAddMg, MAdd1, K, Kf, Ke, Kfe, Kr, Kfr, Mul, MulAdd, Div, Lcv, Variable, Connective, writes_field, Acc, Taken, Shape, Done, InBase, operand_taken, result_of, store_result, no_words, field_words, AreInside, of_choice, connection, result_by, IsField}
+use Rattle.st_exec.proofs.InsideLemmas.{inside-field_if}
 use Rattle.st_bin.specs.BinaryResult as binary
 use Rattle.st_dec.specs.DecimalResult as decimal
-use Rattle.st_prep.specs.Entry.{no_words, field_words}
-use Rattle.st_prep.specs.Ranges.{AreInside}
-use Rattle.st_prep.proofs.Choices.{of_choice}
-use Rattle.st_conn.specs.Connection.{connection}
-use Rattle.st_exec.specs.Outcome.{result_by}
-use Rattle.st_exec.specs.Effect.{IsField}
-use Rattle.st_exec.proofs.InsideLemmas.{inside-field_if}
 
 -- a result contains a field only if the test holds
 abbrev pub OnlyIf : Bool → Done → Type 0

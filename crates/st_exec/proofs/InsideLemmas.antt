@@ -1,16 +1,6 @@
 -- The storage that an effect needs lies within the words of the instruction.
-use Rattle.std.proofs.Common.{◌≡◌, ◌≢◌, ℕ, ◌+◌, ◌*◌, ◌/◌, ◌%◌, ◌^◌, ◌<◌, ◌≤◌, Bool, true, false, ◌==◌, if◌then◌else◌, refl, sym, ap, subst, arith}
-use Rattle.std.specs.Prelude.{nat_le, List}
-use Rattle.std.proofs.lemmas.Bool.{leb-true, leb-false, eqb-true}
-use Rattle.st_bits.specs.Storage.{words_of_storage}
-use Rattle.st_bits.specs.declared.operations.HalfOp.{HalfOp}
-use Rattle.st_format.specs.declared.instruction.Instr.TheVariants.{Half, Move, BitBranch, StoreCounter}
-use Rattle.st_state.specs.Machine.{Machine}
-use Rattle.st_prep.specs.declared.entries.Words.{Words}
-use Rattle.st_prep.specs.Entry.{no_words, one_run, field_words, operand_words, is_index_store, reads, words_written}
-use Rattle.st_prep.specs.Ranges.{AreInside}
-use Rattle.st_exec.specs.Operand.{AreRead}
-use Rattle.st_exec.specs.Effect.{IsField, AreRuns}
+use Rattle.st_exec.proofs.Common.{◌≡◌, ◌≢◌, ℕ, ◌+◌, ◌*◌, ◌/◌, ◌%◌, ◌^◌, ◌<◌, ◌≤◌, Bool, true, false, ◌==◌, if◌then◌else◌, refl, sym, ap, subst, arith, nat_le, leb-true, leb-false, eqb-true, words_of_storage, HalfOp, Half, Move, BitBranch, StoreCounter, Machine, Words, no_words, one_run, field_words, operand_words, is_index_store, reads, words_written, AreInside, AreRead, IsField, AreRuns}
+use Rattle.std.specs.Prelude.{List}
 
 -- words that are chosen by a test, when the test holds
 inside_if : (b : Bool) (w : Words) → AreInside (if b then w else no_words) → b ≡ true → AreInside w

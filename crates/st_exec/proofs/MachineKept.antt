@@ -1,40 +1,7 @@
 -- The completion of an entry keeps the invariant of the state.
-use Rattle.std.proofs.Common.{◌≡◌, ℕ, zero, suc, ◌+◌, ◌*◌, ◌/◌, ◌%◌, ◌^◌, ◌<◌, ◌≤◌, inl, inr, Bool, true, false, ◌==◌, if◌then◌else◌, Option, None, Some, length, refl, sym, ◌∙◌, ap, subst, arith}
-use Rattle.std.specs.Prelude.{IfSome, is_some}
-use Rattle.std.proofs.lemmas.List.{get_or_past}
-use Rattle.std.proofs.lemmas.Bool.Decides.{leb_tells}
-use Rattle.std.proofs.Math.Nat.{mod-lt, pow-le-pow_right}
-use Rattle.std.proofs.lemmas.Nat.{pow_pos}
-use Rattle.st_bits.specs.Bits.{bits, num, all_bits, field, put, part}
-use Rattle.st_bits.specs.Registers.{register_word}
-use Rattle.st_bits.specs.Storage.{words_of_storage, words_of_storage_is}
-use Rattle.st_bits.specs.declared.operations.HalfOp.{HalfOp}
-use Rattle.st_bits.specs.declared.operations.HalfOp.TheVariants.{Sx, Sv, Sc, Sr, Sva}
-use Rattle.st_bits.specs.declared.operations.BranchOp.{BranchOp}
-use Rattle.st_bits.specs.declared.operations.BranchOp.TheVariants.{Be, Bd, Bew}
-use Rattle.st_bits.proofs.RegisterLaws.{fixed-twice, fixed_below}
-use Rattle.st_format.specs.declared.instruction.Instr.{Instr}
-use Rattle.st_format.specs.declared.instruction.Instr.TheVariants.{Half, Branch, Floating, Vfl, Connect, Move, BitBranch, IndBranch, StoreCounter, Transfer, Invalid}
-use Rattle.st_state.specs.Machine.{Machine, IsMachine, HasArea, word, state_with_store, state_with_bits}
-use Rattle.st_state.specs.Interrupts.{indicator_word, state_with_indicators}
-use Rattle.st_state.specs.declared.devices.Order.{Order}
+use Rattle.st_exec.proofs.Common.{◌≡◌, ℕ, zero, suc, ◌+◌, ◌*◌, ◌/◌, ◌%◌, ◌^◌, ◌<◌, ◌≤◌, inl, inr, Bool, true, false, ◌==◌, if◌then◌else◌, Option, None, Some, length, refl, sym, ◌∙◌, ap, subst, arith, IfSome, is_some, get_or_past, leb_tells, mod-lt, pow-le-pow_right, pow_pos, bits, num, all_bits, field, put, part, register_word, words_of_storage, words_of_storage_is, HalfOp, Sx, Sv, Sc, Sr, Sva, BranchOp, Be, Bd, Bew, fixed-twice, fixed_below, Instr, Half, Branch, Floating, Vfl, Connect, Move, BitBranch, IndBranch, StoreCounter, Transfer, Invalid, Machine, IsMachine, HasArea, word, state_with_store, state_with_bits, indicator_word, state_with_indicators, Order, Acc, IndexChange, Prepared, reads_field, reads, words_written, state_at_entry, HasFields, AreInside, HasRoomInStorage, IsChange, IsPrepared, of_choice, fixed-indicators, is_machine-opened, field_at, operand_bits, accumulator, bits_taken, operation_outcome, connects, shape_of, with_accumulator, with_register, with_registers, with_field, with_result, Done, AreRuns, state_with_copy, state_with_exchange, index_effect, branch_effect, bit_effect, indicator_effect, move_effect, order_standing, machine_with_order, state_with_order, effect_of, effect, carried_out, with_change, state_with_speculative_changes, is_taken, target, counter, state_counted_on, state_after_effect, state_after_completion, Effect, Rest, Put, Copy, Exchange, TurnOff, Enable, Wait, Give, Leave}
 use Rattle.st_state.proofs.Kept.{is_machine-with_word}
 use Rattle.st_state.proofs.TurnedLemmas.{turned_below}
-use Rattle.st_field.specs.declared.accumulator.Acc.{Acc}
-use Rattle.st_prep.specs.declared.entries.IndexChange.{IndexChange}
-use Rattle.st_prep.specs.declared.entries.Prepared.{Prepared}
-use Rattle.st_prep.specs.Entry.{reads_field, reads, words_written}
-use Rattle.st_prep.specs.Plan.{state_at_entry}
-use Rattle.st_prep.specs.Ranges.{HasFields, AreInside, HasRoomInStorage, IsChange, IsPrepared}
-use Rattle.st_prep.proofs.Choices.{of_choice}
-use Rattle.st_prep.proofs.PlanLemmas.{fixed-indicators, is_machine-opened}
-use Rattle.st_exec.specs.Operand.{field_at, operand_bits, accumulator}
-use Rattle.st_exec.specs.Outcome.{bits_taken, operation_outcome, connects, shape_of, with_accumulator, with_register, with_registers, with_field, with_result}
-use Rattle.st_field.specs.declared.outcome.Done.{Done}
-use Rattle.st_exec.specs.Effect.{AreRuns, state_with_copy, state_with_exchange, index_effect, branch_effect, bit_effect, indicator_effect, move_effect, order_standing, machine_with_order, state_with_order, effect_of, effect, carried_out}
-use Rattle.st_exec.specs.Completion.{with_change, state_with_speculative_changes, is_taken, target, counter, state_counted_on, state_after_effect, state_after_completion}
-use Rattle.st_exec.specs.declared.effects.Effect.{Effect}
-use Rattle.st_exec.specs.declared.effects.Effect.TheVariants.{Rest, Put, Copy, Exchange, TurnOff, Enable, Wait, Give, Leave}
 use Rattle.st_exec.proofs.ApartLemmas.{length-placed, word-placed_by}
 use Rattle.st_exec.proofs.BitBounds.{field-below, field-put_below}
 use Rattle.st_exec.proofs.InsideLemmas.{inside-move}

@@ -1,18 +1,6 @@
 -- When an entry is mispredicted, by its instruction and the indicators.
-use Rattle.std.proofs.Common.{◌≡◌, ℕ, Bool, false, not, ◌&&◌, ◌==◌, ◌%◌, refl, ◌∙◌, ap, arith, get_or-set_same}
-use Rattle.st_bits.specs.Bits.{part}
-use Rattle.st_bits.specs.Storage.{words_of_storage_is}
-use Rattle.st_format.specs.Formats.{bit_of}
-use Rattle.st_format.specs.declared.instruction.Instr.{Instr}
-use Rattle.st_format.specs.declared.instruction.Instr.TheVariants.{BitBranch, IndBranch}
-use Rattle.st_state.specs.Interrupts.{indicator_word}
-use Rattle.st_state.specs.Machine.{Machine, IsMachine, word}
-use Rattle.st_prep.specs.declared.entries.Prepared.{Prepared}
-use Rattle.st_prep.specs.Entry.{is_serial_operation}
-use Rattle.st_prep.specs.Plan.{state_at_entry}
-use Rattle.st_prep.specs.Ranges.{IsPrepared}
-use Rattle.st_exec.specs.Ahead.{is_indicator_branch}
-use Rattle.st_exec.specs.Completion.{with_change, state_with_speculative_changes, is_taken, is_mispredicted}
+use Rattle.st_exec.proofs.Common.{◌≡◌, ℕ, Bool, false, not, ◌&&◌, ◌==◌, ◌%◌, refl, ◌∙◌, ap, arith, part, words_of_storage_is, bit_of, Instr, BitBranch, IndBranch, indicator_word, Machine, IsMachine, word, Prepared, is_serial_operation, state_at_entry, IsPrepared, is_indicator_branch, with_change, state_with_speculative_changes, is_taken, is_mispredicted}
+use Rattle.std.proofs.Common.{get_or-set_same}
 use Rattle.st_exec.proofs.AheadLemmas.{change-low, change-marks}
 
 -- the indicator register after the speculative change

@@ -1,7 +1,5 @@
 -- Words that are copied or exchanged one at a time: the rest of the move after k of n words.
-use Rattle.std.proofs.Common.{◌≡◌, ℕ, zero, suc, ◌+◌, ◌-◌, ◌<◌, ◌≤◌, refl, sym, ◌∙◌, ap, arith}
-use Rattle.st_state.specs.Machine.{Machine, word, state_with_store}
-use Rattle.st_exec.specs.Effect.{state_with_copy, state_with_exchange}
+use Rattle.st_exec.proofs.Common.{◌≡◌, ℕ, zero, suc, ◌+◌, ◌-◌, ◌<◌, ◌≤◌, refl, sym, ◌∙◌, ap, arith, Machine, word, state_with_store, state_with_copy, state_with_exchange}
 
 -- a move between two word addresses, with the number of words
 abbrev pub Move : Type 0

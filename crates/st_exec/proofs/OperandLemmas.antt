@@ -1,13 +1,5 @@
 -- The operand words contain the field of storage.
-use Rattle.std.proofs.Common.{◌≡◌, ℕ, zero, suc, ◌+◌, ◌-◌, ◌*◌, ◌/◌, ◌%◌, ◌<◌, ◌≤◌, ◌^◌, List, [], ◌∷◌, length, Bool, true, false, if◌then◌else◌, refl, sym, ◌∙◌, ap, arith, get_or}
-use Rattle.std.specs.Prelude.{nat_le}
-use Rattle.std.proofs.lemmas.Bool.{leb-true}
-use Rattle.st_bits.specs.Bits.{all_bits, field, num, part}
-use Rattle.st_bits.proofs.WordFields.{num-at_word, num-at_two}
-use Rattle.st_state.specs.Machine.{Machine, word}
-use Rattle.st_prep.specs.Entry.{field_words}
-use Rattle.st_prep.specs.declared.entries.Words.{Words}
-use Rattle.st_exec.specs.Operand.{AreOperands, AreFirstOperands, AreRead}
+use Rattle.st_exec.proofs.Common.{◌≡◌, ℕ, zero, suc, ◌+◌, ◌-◌, ◌*◌, ◌/◌, ◌%◌, ◌<◌, ◌≤◌, ◌^◌, List, [], ◌∷◌, length, Bool, true, false, if◌then◌else◌, refl, sym, ◌∙◌, ap, arith, get_or, nat_le, leb-true, all_bits, field, num, part, num-at_word, num-at_two, Machine, word, field_words, Words, AreOperands, AreFirstOperands, AreRead}
 
 -- ---- windows
 

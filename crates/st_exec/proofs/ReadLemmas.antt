@@ -1,7 +1,5 @@
 -- Operand words that are read one at a time.
-use Rattle.std.proofs.Common.{◌≡◌, ℕ, ◌+◌, ◌-◌, ◌<◌, ◌≤◌, List, length, get_or}
-use Rattle.st_state.specs.Machine.{Machine, word}
-use Rattle.st_prep.specs.declared.entries.Words.{Words}
+use Rattle.st_exec.proofs.Common.{◌≡◌, ℕ, ◌+◌, ◌-◌, ◌<◌, ◌≤◌, List, length, get_or, Machine, word, Words}
 
 -- the item in place k is an operand, or zero past the last operand
 pub record IsOperand (w : Words) (s : Machine) (k x : ℕ) : Type 0 where

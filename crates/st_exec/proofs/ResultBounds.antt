@@ -1,29 +1,12 @@
 -- The results of operations on fields fit the registers.
-use Rattle.std.proofs.Common.{◌≡◌, ◌≢◌, ℕ, ◌-◌, ◌*◌, ◌/◌, ◌%◌, ◌^◌, ◌<◌, ◌≤◌, Bool, true, false, not, ◌&&◌, ◌||◌, ◌==◌, Option, None, length, refl, sym, subst, arith}
-use Rattle.std.specs.Prelude.{IfSome, nat_lt}
-use Rattle.std.proofs.lemmas.Bool.{ltb-false, eqb-true, eqb-false, not-false as not-not}
-use Rattle.std.proofs.lemmas.Nat.{mul-lt}
-use Rattle.std.proofs.lemmas.Nat.Bits.{bit_at-lt}
-use Rattle.std.proofs.Math.Nat.{div-le_self, mod-lt, pow-le-pow_right}
-use Rattle.st_bits.specs.declared.operations.ConnKind.{ConnKind}
-use Rattle.st_bits.specs.declared.operations.ConnKind.TheVariants.{C, Cm, Ct}
-use Rattle.st_bits.specs.declared.operations.VflOp.{VflOp}
-use Rattle.st_bits.specs.declared.operations.VflOp.TheVariants.{L, Lwf, Ltrs, Lft, St, Add, AddMg, MAdd, MAddMg, MAdd1, K, Kf, Ke, Kfe, Kr, Kfr, Mul, MulAdd, Div, Lcv}
-use Rattle.st_bits.specs.Bits.{num}
+use Rattle.st_exec.proofs.Common.{◌≡◌, ◌≢◌, ℕ, ◌-◌, ◌*◌, ◌/◌, ◌%◌, ◌^◌, ◌<◌, ◌≤◌, Bool, true, false, not, ◌&&◌, ◌||◌, ◌==◌, Option, None, length, refl, sym, subst, arith, IfSome, nat_lt, ltb-false, eqb-true, eqb-false, mul-lt, bit_at-lt, div-le_self, mod-lt, pow-le-pow_right, ConnKind, C, Cm, Ct, VflOp, L, Lwf, Ltrs, Lft, St, Add, AddMg, MAdd, MAddMg, MAdd1, K, Kf, Ke, Kfe, Kr, Kfr, Mul, MulAdd, Div, Lcv, num, FitsField, Acc, Taken, InBase, operand_taken, result_of, store_result, Shape, Done, connective_bits, is_covered, inserted_at, accumulator_bits, connection, of_choice, result_by, shape_of}
+use Rattle.std.proofs.lemmas.Bool.{not-false as not-not}
 use Rattle.st_format.proofs.Spelled.{of_choice as of_test, or-left, or-right}
-use Rattle.st_format.specs.Formats.{FitsField}
 use Rattle.st_format.specs.Validity.{misfits}
-use Rattle.st_field.specs.declared.accumulator.Acc.{Acc}
-use Rattle.st_field.specs.declared.base.Taken.{Taken}
-use Rattle.st_field.specs.Bases.{InBase, operand_taken, result_of, store_result}
 use Rattle.st_field.specs.declared.fields.Field.{Field}
-use Rattle.st_field.specs.declared.fields.Shape.{Shape}
-use Rattle.st_field.specs.declared.outcome.Done.{Done}
 use Rattle.st_field.specs.Fields.{IsBinaryShape, field_of}
-use Rattle.st_bin.specs.BinaryResult as binary
 use Rattle.st_field.specs.Digits.{digits_of}
 use Rattle.st_field.proofs.DigitLemmas.{digits_of-below}
-use Rattle.st_dec.specs.DecimalResult as decimal
 use Rattle.st_dec.specs.DecimalOperand.{IsDecimalShape, digit_count, digit_bytes, codes, last_digit_place}
 use Rattle.st_dec.specs.DigitLists.{number_of_bytes}
 use Rattle.st_dec.proofs.DigitLemmas.{joined-below}
@@ -31,11 +14,9 @@ use Rattle.st_dec.proofs.ListLemmas.{codes-below}
 use Rattle.st_dec.proofs.PartLemmas.{length-codes, joined-at_place}
 use Rattle.st_dec.proofs.RecodeLemmas.{decimal_fits}
 use Rattle.st_dec.proofs.ShapeLemmas.{count-few}
-use Rattle.st_conn.specs.Connective.{connective_bits, is_covered, inserted_at, accumulator_bits}
-use Rattle.st_conn.specs.Connection.{connection}
-use Rattle.st_prep.proofs.Choices.{of_choice}
-use Rattle.st_exec.specs.Outcome.{result_by, shape_of}
 use Rattle.st_exec.proofs.BitBounds.{num-by_weight}
+use Rattle.st_bin.specs.BinaryResult as binary
+use Rattle.st_dec.specs.DecimalResult as decimal
 
 -- the magnitude of the accumulator has at most 128 bits, and each register of the result at most 64
 pub record FitsRegisters (d : Done) : Type 0 where

@@ -1,33 +1,5 @@
 -- The parts of the state that the effect of a non-serializing operation leaves unchanged.
-use Rattle.std.proofs.Common.{◌≡◌, ◌≢◌, ℕ, ◌+◌, ◌*◌, ◌/◌, ◌%◌, ◌^◌, ◌<◌, ◌≤◌, ◌⊎◌, inl, inr, Bool, true, false, if◌then◌else◌, Option, None, Some, List, length, refl, sym, ◌∙◌, ap, subst, arith, get_or-set_other}
-use Rattle.std.specs.Prelude.{IfSome, nat_le}
-use Rattle.std.proofs.lemmas.Bool.{leb-true}
-use Rattle.std.proofs.lemmas.Bool.Decides.{leb_tells}
-use Rattle.std.proofs.lemmas.List.{length-set, get_or_past}
-use Rattle.std.proofs.Math.Nat.{mod-eq_of_lt}
-use Rattle.st_bits.specs.Bits.{bits}
-use Rattle.st_bits.specs.Registers.{register_word}
-use Rattle.st_bits.specs.Storage.{words_of_storage}
-use Rattle.st_bits.specs.declared.operations.HalfOp.{HalfOp}
-use Rattle.st_bits.specs.declared.operations.HalfOp.TheVariants.{Sx, Sv, Sc, Sr, Sva}
-use Rattle.st_bits.specs.declared.operations.BranchOp.{BranchOp}
-use Rattle.st_bits.specs.declared.operations.BranchOp.TheVariants.{Be, Bd, Bew}
-use Rattle.st_bits.proofs.BitLists.{length-bits}
-use Rattle.st_format.specs.declared.operations.FullOp.TheVariants.{Variable, Connective}
-use Rattle.st_format.specs.declared.instruction.Instr.{Instr}
-use Rattle.st_format.specs.declared.instruction.Instr.TheVariants.{Half, Branch, Floating, Vfl, Connect, Move, BitBranch, IndBranch, StoreCounter, Transfer, Invalid}
-use Rattle.st_format.specs.Operations.{writes_field}
-use Rattle.st_state.specs.Machine.{Machine, word, state_with_bits, state_with_store}
-use Rattle.st_state.specs.Interrupts.{state_with_indicators}
-use Rattle.st_field.specs.declared.accumulator.Acc.{Acc}
-use Rattle.st_prep.specs.Entry.{no_words, one_run, field_words, is_index_store, words_written, is_serial_branch, is_serial_operation}
-use Rattle.st_prep.specs.Ranges.{HasFields, AreInside}
-use Rattle.st_exec.specs.Outcome.{with_accumulator, with_register, with_registers, with_field, with_result, operation_outcome, connects}
-use Rattle.st_field.specs.declared.outcome.Done.{Done}
-use Rattle.st_exec.specs.Effect.{index_effect, branch_effect, indicator_effect, effect_of, carried_out}
-use Rattle.st_exec.specs.Ahead.{IsNotAmong}
-use Rattle.st_exec.specs.declared.effects.Effect.{Effect}
-use Rattle.st_exec.specs.declared.effects.Effect.TheVariants.{Rest, Put, Copy, Exchange, TurnOff, Enable, Wait, Give, Leave}
+use Rattle.st_exec.proofs.Common.{◌≡◌, ◌≢◌, ℕ, ◌+◌, ◌*◌, ◌/◌, ◌%◌, ◌^◌, ◌<◌, ◌≤◌, ◌⊎◌, inl, inr, Bool, true, false, if◌then◌else◌, Option, None, Some, List, length, refl, sym, ◌∙◌, ap, subst, arith, get_or-set_other, IfSome, nat_le, leb-true, leb_tells, length-set, get_or_past, mod-eq_of_lt, bits, register_word, words_of_storage, HalfOp, Sx, Sv, Sc, Sr, Sva, BranchOp, Be, Bd, Bew, length-bits, Variable, Connective, Instr, Half, Branch, Floating, Vfl, Connect, Move, BitBranch, IndBranch, StoreCounter, Transfer, Invalid, writes_field, Machine, word, state_with_bits, state_with_store, state_with_indicators, Acc, no_words, one_run, field_words, is_index_store, words_written, is_serial_branch, is_serial_operation, HasFields, AreInside, with_accumulator, with_register, with_registers, with_field, with_result, operation_outcome, connects, Done, index_effect, branch_effect, indicator_effect, effect_of, carried_out, IsNotAmong, Effect, Rest, Put, Copy, Exchange, TurnOff, Enable, Wait, Give, Leave}
 use Rattle.st_exec.proofs.ApartLemmas.{length-placed, word-placed}
 use Rattle.st_exec.proofs.FieldLemmas.{result-field, connection-field}
 use Rattle.st_exec.proofs.Unchanged.{stored-other}

@@ -1,7 +1,5 @@
 -- The step that a call makes is the next one, and counts as one instruction.
-use Rattle.std.proofs.Common.{◌≡◌, ◌+◌, false}
-use Rattle.st_state.specs.Machine.{Machine}
-use Rattle.st_prep.specs.Plan.{plan}
+use Rattle.st_exec.proofs.Common.{◌≡◌, ◌+◌, false, Machine, plan}
 use Rattle.st_exec.specs.Step.{interrupt, step, rests, IsStep}
 use Rattle.st_exec.proofs.Unchanged.{completed-done}
 use Rattle.st_exec.specs.declared.step.Step.{Step}

@@ -1,9 +1,6 @@
 -- The words of a card are written to storage one at a time, and the words of a line are read from
 -- it.
-use Rattle.std.proofs.Common.{◌≡◌, ℕ, zero, suc, ◌+◌, ◌<◌, ◌≤◌, List, [], ◌∷◌, length, get_or, drop, refl, sym, ◌∙◌, ap, arith}
-use Rattle.std.proofs.lemmas.List.{drop_more, length-drop}
-use Rattle.st_state.specs.Machine.{Machine, word, state_with_store}
-use Rattle.st_exec.specs.Transfer.{all_stored, words_from}
+use Rattle.st_exec.proofs.Common.{◌≡◌, ℕ, zero, suc, ◌+◌, ◌<◌, ◌≤◌, List, [], ◌∷◌, length, get_or, drop, refl, sym, ◌∙◌, ap, arith, drop_more, length-drop, Machine, word, state_with_store, all_stored, words_from}
 
 -- the rest of a card after k words
 pub all_stored-next : (s : Machine) (w k : ℕ) (xs : List ℕ) → k < length xs

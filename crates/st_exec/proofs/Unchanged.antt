@@ -1,22 +1,6 @@
 -- The parts of the state that a step leaves unchanged: the count of completed instructions, and
 -- words that it does not name.
-use Rattle.std.proofs.Common.{◌≡◌, ◌≢◌, ℕ, zero, suc, ◌+◌, ◌<◌, ◌≤◌, Bool, true, false, if◌then◌else◌, List, Option, None, Some, refl, sym, ◌∙◌, ap, arith, get_or-set_other}
-use Rattle.std.specs.Prelude.{IfSome}
-use Rattle.st_bits.specs.Registers.{register_word}
-use Rattle.st_state.specs.Machine.{Machine, word, state_with_store}
-use Rattle.st_state.specs.declared.devices.Order.{Order}
-use Rattle.st_prep.specs.declared.entries.IndexChange.{IndexChange}
-use Rattle.st_prep.specs.declared.entries.Prepared.{Prepared}
-use Rattle.st_prep.specs.Plan.{state_at_entry}
-use Rattle.st_prep.specs.Ranges.{IsChange, IsPrepared}
-use Rattle.st_prep.proofs.Choices.{of_choice}
-use Rattle.st_exec.specs.Operand.{AreFirstOperands, AreRead}
-use Rattle.st_exec.specs.Outcome.{with_register, with_registers, with_field, with_result}
-use Rattle.st_field.specs.declared.outcome.Done.{Done}
-use Rattle.st_exec.specs.Effect.{state_with_copy, state_with_exchange, machine_with_order, state_with_order, effect, carried_out}
-use Rattle.st_exec.specs.Completion.{with_change, state_with_speculative_changes, counter, state_counted_on, state_after_effect, state_after_completion}
-use Rattle.st_exec.specs.declared.effects.Effect.{Effect}
-use Rattle.st_exec.specs.declared.effects.Effect.TheVariants.{Rest, Put, Copy, Exchange, TurnOff, Enable, Wait, Give, Leave}
+use Rattle.st_exec.proofs.Common.{◌≡◌, ◌≢◌, ℕ, zero, suc, ◌+◌, ◌<◌, ◌≤◌, Bool, true, false, if◌then◌else◌, List, Option, None, Some, refl, sym, ◌∙◌, ap, arith, get_or-set_other, IfSome, register_word, Machine, word, state_with_store, Order, IndexChange, Prepared, state_at_entry, IsChange, IsPrepared, of_choice, AreFirstOperands, AreRead, with_register, with_registers, with_field, with_result, Done, state_with_copy, state_with_exchange, machine_with_order, state_with_order, effect, carried_out, with_change, state_with_speculative_changes, counter, state_counted_on, state_after_effect, state_after_completion, Effect, Rest, Put, Copy, Exchange, TurnOff, Enable, Wait, Give, Leave}
 
 -- ---- the count of completed instructions
 

@@ -1,29 +1,5 @@
 -- The words that an entry, serializing or not, leaves unchanged, also in the predicted state.
-use Rattle.std.proofs.Common.{◌≡◌, ◌≢◌, ℕ, zero, suc, ◌+◌, ◌*◌, ◌/◌, ◌^◌, ◌<◌, ◌≤◌, ◌⊎◌, inl, inr, Bool, true, false, ◌==◌, if◌then◌else◌, Option, None, Some, length, refl, sym, ◌∙◌, ap, subst, arith, get_or-set_other}
-use Rattle.std.specs.Prelude.{IfSome, is_some}
-use Rattle.std.proofs.lemmas.Bool.Decides.{nat_tests}
-use Rattle.st_bits.specs.Storage.{words_of_storage, words_of_storage_is}
-use Rattle.st_bits.specs.declared.operations.BranchOp.{BranchOp}
-use Rattle.st_bits.specs.declared.operations.BranchOp.TheVariants.{Be, Bd, Bew}
-use Rattle.st_format.specs.declared.instruction.Instr.{Instr}
-use Rattle.st_format.specs.declared.instruction.Instr.TheVariants.{Half, Branch, Floating, Vfl, Connect, Move, BitBranch, IndBranch, StoreCounter, Transfer, Invalid}
-use Rattle.st_state.specs.Machine.{Machine, IsMachine, word, state_with_store}
-use Rattle.st_state.specs.declared.devices.Order.{Order}
-use Rattle.st_state.proofs.Placed.{fixed-word}
-use Rattle.st_prep.specs.declared.entries.Prepared.{Prepared}
-use Rattle.st_prep.specs.SpeculativeChanges.{words_after}
-use Rattle.st_prep.specs.Entry.{no_words, one_run, words_moved_to, words_written, is_serial_operation}
-use Rattle.st_prep.specs.Fetch.{index_words}
-use Rattle.st_prep.specs.Plan.{state_at_entry}
-use Rattle.st_prep.specs.Ranges.{HasFields, AreInside, IsPrepared}
-use Rattle.st_prep.proofs.Choices.{of_choice}
-use Rattle.st_prep.proofs.IndexWords.{are_index_words}
-use Rattle.st_prep.proofs.PlanLemmas.{is_machine-opened}
-use Rattle.st_exec.specs.Effect.{state_with_copy, state_with_exchange, order_standing, machine_with_order, state_with_order, branch_effect, bit_effect, move_effect, effect_of, effect, carried_out}
-use Rattle.st_exec.specs.Completion.{state_with_speculative_changes, counter, state_counted_on, state_after_effect, state_after_completion, predicted_state}
-use Rattle.st_exec.specs.Ahead.{IsNotAmong, IsPast}
-use Rattle.st_exec.specs.declared.effects.Effect.{Effect}
-use Rattle.st_exec.specs.declared.effects.Effect.TheVariants.{Rest, Put, Copy, Exchange, TurnOff, Enable, Wait, Give, Leave}
+use Rattle.st_exec.proofs.Common.{◌≡◌, ◌≢◌, ℕ, zero, suc, ◌+◌, ◌*◌, ◌/◌, ◌^◌, ◌<◌, ◌≤◌, ◌⊎◌, inl, inr, Bool, true, false, ◌==◌, if◌then◌else◌, Option, None, Some, length, refl, sym, ◌∙◌, ap, subst, arith, get_or-set_other, IfSome, is_some, nat_tests, words_of_storage, words_of_storage_is, BranchOp, Be, Bd, Bew, Instr, Half, Branch, Floating, Vfl, Connect, Move, BitBranch, IndBranch, StoreCounter, Transfer, Invalid, Machine, IsMachine, word, state_with_store, Order, fixed-word, Prepared, words_after, no_words, one_run, words_moved_to, words_written, is_serial_operation, index_words, state_at_entry, HasFields, AreInside, IsPrepared, of_choice, are_index_words, is_machine-opened, state_with_copy, state_with_exchange, order_standing, machine_with_order, state_with_order, branch_effect, bit_effect, move_effect, effect_of, effect, carried_out, state_with_speculative_changes, counter, state_counted_on, state_after_effect, state_after_completion, predicted_state, IsNotAmong, IsPast, Effect, Rest, Put, Copy, Exchange, TurnOff, Enable, Wait, Give, Leave}
 use Rattle.st_exec.proofs.AheadLemmas.{speculative-marks, speculative-index, index-at, length-index_words, length-words_after, completed-past}
 use Rattle.st_exec.proofs.MachineKept.{kept-early, kept-completed}
 use Rattle.st_exec.proofs.SparedLemmas.{IsApart, Spares, apart-word, spares-effect, kept-above, Stands, done-keeps}

@@ -1,9 +1,8 @@
 -- The parts of the state that a non-serializing entry leaves unchanged, so that later entries can
 -- be prepared before it completes.
 --
--- Proved: by their `ensures` clauses these calls do what definitions here say: `step` (account.rt
--- of st_account).
--- Read by: definitions in Changes of st_lines, Standing of st_account.
+-- Proved: no `ensures` clause names a definition of this file.
+-- Read by: definitions in Changes of st_lines, Rounds of st_account, Standing of st_account.
 -- Laws: EntriesAheadLeaveTheRest (specs/Laws.antt), EntriesLeaveWhatTheyDoNotWrite
 -- (specs/Laws.antt), OnlyIndicatorBranchesAreMispredicted (specs/Laws.antt), PredictionsLeaveStates
 -- (specs/Laws.antt).

@@ -1,5 +1,5 @@
 //! Comparisons of the accumulator with a field, given their order as numbers. Only operations.rt
-//! calls these functions, which are exported. Indicators are bits of a word, indicator n the bit of
+//! calls these functions. Indicators are bits of a word, indicator n the bit of
 //! value 2^(63 - n). docs/variable-fields.md has the rules.
 //!
 //! Proved: the results are `compared_by` of specs/Comparisons.antt, with the orders `by_order`,
@@ -27,7 +27,7 @@ pub struct Compared {
 }
 
 /// Compare: exactly one of AL, AE and AH is turned on.
-pub fn compare(acc: &Acc, sides: Compared) -> Done
+pub(crate) fn compare(acc: &Acc, sides: Compared) -> Done
     requires { sides.on < 2 ^ 63 }
     ensures { result ≡ compared_by by_order_of acc.now sides }
 {
@@ -35,7 +35,7 @@ pub fn compare(acc: &Acc, sides: Compared) -> Done
 }
 
 /// Compare if equal: as `compare`, but compares only if AE is on in `ind`.
-pub fn compare_if_equal(acc: &Acc, sides: Compared, ind: u64) -> Done
+pub(crate) fn compare_if_equal(acc: &Acc, sides: Compared, ind: u64) -> Done
     requires { sides.on < 2 ^ 63 }
     ensures { result ≡ compared_by (by_order_if_equal_of ind) acc.now sides }
 {
@@ -43,7 +43,7 @@ pub fn compare_if_equal(acc: &Acc, sides: Compared, ind: u64) -> Done
 }
 
 /// Compare for range: the operand is the upper end of a range. Compares only if AL is off in `ind`.
-pub fn compare_for_range(acc: &Acc, sides: Compared, ind: u64) -> Done
+pub(crate) fn compare_for_range(acc: &Acc, sides: Compared, ind: u64) -> Done
     requires { sides.on < 2 ^ 63 }
     ensures { result ≡ compared_by (by_range_of ind) acc.now sides }
 {

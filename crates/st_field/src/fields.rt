@@ -12,10 +12,10 @@
 //! Proved: reading is `field_of`, writing `field_bits` of specs/Fields.antt for `IsBinaryShape`; a
 //! field that is read is written with the same bits. Pinned, by these definitions,
 //! docs/variable-fields.md, vectors/binary.txt and vectors/decimal.txt: this layout. Free: the
-//! bodies, if proofs/fields follows `read_field`, `write_field`, `last_byte` and `byte_bits`.
+//! bodies, if proofs/fields follows `read_field`, `write_field` and `byte_bits`.
 ghost use Rattle.std.specs.Prelude.{◌≡◌, ◌<◌, ◌≤◌, ◌^◌};
 ghost use Rattle.st_field.specs.Fields.{IsBinaryShape, HasRoom, magnitude_bits as magnitude_bits_of};
-ghost use Rattle.st_field.specs.Fields.{sign_of, sign_byte as sign_byte_of, last_byte as last_byte_of};
+ghost use Rattle.st_field.specs.Fields.{sign_of, sign_byte as sign_byte_of};
 ghost use Rattle.st_field.specs.Fields.{byte_bits as byte_bits_of, field_of, field_bits};
 
 /// The parts of a field.
@@ -75,16 +75,6 @@ pub fn sign_byte(zone: u8, negative: bool, flags: u8) -> u8
     zone * 16 + if negative { 8 } else { 0 } + flags
 }
 
-// The last byte of a field as a sign byte. The missing bits on the right of a short byte are 0.
-fn last_byte(bits: u64, byte: u8) -> u8
-    requires some { 1 ≤ byte }
-    requires small { byte ≤ 8 }
-    ensures { result ≡ last_byte_of bits byte }
-{
-    let last = (bits % (1 << byte)) as u8;
-    last << 4u8.saturating_sub(byte)
-}
-
 /// The parts of a field with the bits `bits`, below 2^length.
 pub fn read_field(bits: u64, shape: &Shape) -> Field
     requires shape { IsBinaryShape shape.now }
@@ -101,7 +91,9 @@ pub fn read_field(bits: u64, shape: &Shape) -> Field
             zone: 0,
         };
     }
-    let sign = last_byte(bits, shape.byte);
+    // The missing bits on the right of a short byte are 0.
+    let last = (bits % (1 << shape.byte)) as u8;
+    let sign = last << 4u8.saturating_sub(shape.byte);
     Field {
         mag: bits >> shape.byte,
         negative: is_minus(sign),

@@ -24,7 +24,6 @@ pub mod signed;
 
 pub use accumulator::Acc;
 pub use base::{Base, Taken, take};
-pub use comparisons::{Compared, compare, compare_for_range, compare_if_equal};
 pub use digits::{digits_value, power_of_ten, to_digits};
 pub use fields::{Field, Shape, read_field, write_field};
 pub use loads::{load, load_factor, load_transit, load_with_flags};

@@ -1,3 +1,4 @@
+pub mod Common
 pub mod Shifts
 pub mod Tables
 pub mod Windows

@@ -1,18 +1,9 @@
 -- Different operations have different numbers, and each number in use determines its operation.
-use Rattle.std.proofs.Common.{◌≡◌, ℕ, ◌%◌, ◌<◌, ◌==◌, ◌||◌, Bool, true, false, Option, None, Some, refl, sym, ◌∙◌, ap, lit<}
-use Rattle.std.specs.Prelude.{nat_le, is_some}
-use Rattle.std.proofs.lemmas.Bool.{leb-false}
-use Rattle.st_bits.specs.declared.operations.HalfOp.{HalfOp}
+use Rattle.st_format.proofs.Common.{◌≡◌, ℕ, ◌%◌, ◌<◌, ◌==◌, ◌||◌, Bool, true, false, Option, None, Some, refl, sym, ◌∙◌, ap, lit<, nat_le, is_some, leb-false, HalfOp, BranchOp, VflOp, ConnKind, FullOp, Variable, Transmission, Order, half_ops, branch_ops, full_ops, kinds, numbered_op, half_op, branch_op, kind, half_number, branch_number, vfl_number, kind_number, full_number}
 use Rattle.st_bits.specs.declared.operations.HalfOp.TheVariants.{Lx}
-use Rattle.st_bits.specs.declared.operations.BranchOp.{BranchOp}
 use Rattle.st_bits.specs.declared.operations.BranchOp.TheVariants.{B}
-use Rattle.st_bits.specs.declared.operations.VflOp.{VflOp}
 use Rattle.st_bits.specs.declared.operations.VflOp.TheVariants.{L}
-use Rattle.st_bits.specs.declared.operations.ConnKind.{ConnKind}
 use Rattle.st_bits.specs.declared.operations.ConnKind.TheVariants.{C}
-use Rattle.st_format.specs.declared.operations.FullOp.{FullOp}
-use Rattle.st_format.specs.declared.operations.FullOp.TheVariants.{Variable, Transmission, Order}
-use Rattle.st_format.specs.Operations.{half_ops, branch_ops, full_ops, kinds, numbered_op, half_op, branch_op, kind, half_number, branch_number, vfl_number, kind_number, full_number}
 use Rattle.st_format.proofs.Tables.{number-numbered, passes}
 
 -- ---- the operation of an operation's number

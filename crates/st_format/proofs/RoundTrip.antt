@@ -1,20 +1,7 @@
 -- The encoding of an instruction with its fields in range decodes to that instruction.
-use Rattle.std.proofs.Common.{◌≡◌, ℕ, ◌+◌, ◌*◌, ◌%◌, ◌^◌, ◌<◌, ◌≤◌, ◌==◌, ◌&&◌, ◌||◌, Bool, true, false, if◌then◌else◌, Option, None, Some, refl, sym, ◌∙◌, ap, lit<, arith}
-use Rattle.std.specs.Prelude.{nat_lt, nat_le, unwrap_or, is_some}
-use Rattle.std.specs.Option.{option_map}
-use Rattle.std.proofs.lemmas.Bool.{eqb-true, ne_eqb, le-ltb}
-use Rattle.st_bits.specs.declared.operations.BranchOp.{BranchOp}
-use Rattle.st_bits.specs.declared.operations.HalfOp.{HalfOp}
-use Rattle.st_bits.specs.declared.operations.VflOp.{VflOp}
-use Rattle.st_bits.specs.declared.operations.ConnKind.{ConnKind}
-use Rattle.st_format.specs.declared.operations.FullOp.{FullOp}
-use Rattle.st_format.specs.declared.operations.FullOp.TheVariants.{Variable, Connective, Transmission, BitTest, IndicatorTest, Order, CounterStore}
-use Rattle.st_format.specs.declared.instruction.Instr.{Instr}
+use Rattle.st_format.proofs.Common.{◌≡◌, ℕ, ◌+◌, ◌*◌, ◌%◌, ◌^◌, ◌<◌, ◌≤◌, ◌==◌, ◌&&◌, ◌||◌, Bool, true, false, if◌then◌else◌, Option, None, Some, refl, sym, ◌∙◌, ap, lit<, arith, nat_lt, nat_le, is_some, option_map, eqb-true, ne_eqb, le-ltb, BranchOp, HalfOp, VflOp, ConnKind, FullOp, Variable, Connective, Transmission, BitTest, IndicatorTest, Order, CounterStore, Instr, later, is_one, is_full, i_of, address_of, j_of, operation_of, bit_address_of, second_address_of, p_of, length_of, byte_of, offset_of, k_of, words_moved, half_bits, first_bits, second_half_bits, second_bits, full_ops, numbered_op, half_op, branch_op, kind, full_op, half_number, branch_number, kind_number, vfl_number, full_number, writes_field, is_invalid_half, breaks_rules, is_invalid, is_refused, misfits, misuses_p, miscounts, branch_instruction, index_instruction, half_word, full_word_instruction, full_word, instruction_of, first_half, second_half, bit_of, FitsHalf, FitsFull, FitsField, IsRefusal, IsShape}
+use Rattle.std.specs.Prelude.{unwrap_or}
 use Rattle.st_format.specs.declared.instruction.Instr.TheVariants.{Half, Branch, Floating, Vfl, Connect, Move, BitBranch, IndBranch, StoreCounter, Transfer, Invalid}
-use Rattle.st_format.specs.Halves.{later, is_one, is_full, i_of, address_of, j_of, operation_of, bit_address_of, second_address_of, p_of, length_of, byte_of, offset_of, k_of, words_moved, half_bits, first_bits, second_half_bits, second_bits}
-use Rattle.st_format.specs.Operations.{full_ops, numbered_op, half_op, branch_op, kind, full_op, half_number, branch_number, kind_number, vfl_number, full_number, writes_field}
-use Rattle.st_format.specs.Validity.{is_invalid_half, breaks_rules, is_invalid, is_refused, misfits, misuses_p, miscounts}
-use Rattle.st_format.specs.Formats.{branch_instruction, index_instruction, half_word, full_word_instruction, full_word, instruction_of, first_half, second_half, bit_of, FitsHalf, FitsFull, FitsField, IsRefusal, IsShape}
 use Rattle.st_format.proofs.Windows.{address-half_bits, j-half_bits, operation-half_bits, i-half_bits, is_full-half_bits, address-first_bits, i-first_bits, is_full-first_bits, p-field_bits, length-field_bits, byte-field_bits, offset-field_bits, operation-field_bits, k-field_bits, second-second_bits, operation-second_bits, k-second_bits, count-second_bits}
 use Rattle.st_format.proofs.Numbers.{half_op-number, branch_op-number, kind-number, numbered_op-vfl_number, half_number-bound, half_number-short, branch_number-bound, vfl_number-bound, kind_number-bound, half_number-floating, half_number-branch, swap-bound, order-bound, half_op-unused, branch_op-late}
 use Rattle.st_format.proofs.Shapes.{invalid-full, invalid-half}

@@ -1,17 +1,6 @@
 -- A decoded instruction has its fields in range, and is invalid if and only if the bits break a
 -- rule.
-use Rattle.std.proofs.Common.{◌≡◌, ℕ, ◌%◌, ◌^◌, ◌<◌, ◌≤◌, ◌==◌, ◌&&◌, ◌||◌, Bool, true, false, if◌then◌else◌, Option, None, Some, refl, sym, ◌∙◌, ap, lit<, arith}
-use Rattle.std.specs.Prelude.{nat_lt, nat_le}
-use Rattle.std.proofs.lemmas.Bool.{eqb-true, eqb-false, ltb-false}
-use Rattle.st_bits.specs.declared.operations.BranchOp.{BranchOp}
-use Rattle.st_bits.specs.declared.operations.HalfOp.{HalfOp}
-use Rattle.st_format.specs.declared.operations.FullOp.{FullOp}
-use Rattle.st_format.specs.declared.operations.FullOp.TheVariants.{Variable, Connective, Transmission, BitTest, IndicatorTest, Order, CounterStore}
-use Rattle.st_format.specs.declared.instruction.Instr.{Instr}
-use Rattle.st_format.specs.Halves.{half_word_part, later, is_full, i_of, address_of, j_of, operation_of, bit_address_of, second_address_of, p_of, length_of, byte_of, offset_of, k_of, words_moved, or_greatest}
-use Rattle.st_format.specs.Operations.{half_op, branch_op, full_op, half_number}
-use Rattle.st_format.specs.Validity.{is_invalid_half, breaks_rules, is_invalid, is_refused, miscounts}
-use Rattle.st_format.specs.Formats.{branch_instruction, index_instruction, half_word, full_word_instruction, full_word, instruction_of, FitsHalf, FitsFull, FitsField, IsRefusal, IsShape, is_no_instruction}
+use Rattle.st_format.proofs.Common.{◌≡◌, ℕ, ◌%◌, ◌^◌, ◌<◌, ◌≤◌, ◌==◌, ◌&&◌, ◌||◌, Bool, true, false, if◌then◌else◌, Option, None, Some, refl, sym, ◌∙◌, ap, lit<, arith, nat_lt, nat_le, eqb-true, eqb-false, ltb-false, BranchOp, HalfOp, FullOp, Variable, Connective, Transmission, BitTest, IndicatorTest, Order, CounterStore, Instr, half_word_part, later, is_full, i_of, address_of, j_of, operation_of, bit_address_of, second_address_of, p_of, length_of, byte_of, offset_of, k_of, words_moved, or_greatest, half_op, branch_op, full_op, half_number, is_invalid_half, breaks_rules, is_invalid, is_refused, miscounts, branch_instruction, index_instruction, half_word, full_word_instruction, full_word, instruction_of, FitsHalf, FitsFull, FitsField, IsRefusal, IsShape, is_no_instruction}
 use Rattle.st_format.proofs.Numbers.{half_op-none, branch_op-none, branch_op-some, half_number-unused, number-half_op}
 use Rattle.st_format.proofs.Spelled.{of_choice, or-left, or-right, KeepsRules, keeps}
 

@@ -1,5 +1,5 @@
 -- The shifts of the code in arithmetic.
-use Rattle.std.proofs.Common.{◌≡◌, ℕ, ◌+◌, ◌-◌, ◌*◌, ◌/◌, ◌%◌, ◌^◌, ◌≤◌, ◌∙◌, ap, arith}
+use Rattle.st_format.proofs.Common.{◌≡◌, ℕ, ◌+◌, ◌-◌, ◌*◌, ◌/◌, ◌%◌, ◌^◌, ◌≤◌, ◌∙◌, ap, arith}
 use Rattle.st_bits.proofs.Shifts.{run_by_shifts}
 
 -- n bits of a half-word that a left shift and a right shift extract

@@ -1,17 +1,5 @@
 -- A decoded instruction is encoded in the bits that were decoded.
-use Rattle.std.proofs.Common.{◌≡◌, ℕ, ◌^◌, ◌<◌, ◌==◌, ◌||◌, not, Bool, true, false, if◌then◌else◌, Option, None, Some, refl, sym, ◌∙◌, ap, lit<, arith}
-use Rattle.std.specs.Option.{option_map}
-use Rattle.std.proofs.lemmas.Bool.{eqb-true, eqb-false}
-use Rattle.st_bits.specs.declared.operations.BranchOp.{BranchOp}
-use Rattle.st_bits.specs.declared.operations.HalfOp.{HalfOp}
-use Rattle.st_bits.specs.declared.operations.ConnKind.{ConnKind}
-use Rattle.st_format.specs.declared.operations.FullOp.{FullOp}
-use Rattle.st_format.specs.declared.operations.FullOp.TheVariants.{Variable, Connective, Transmission, BitTest, IndicatorTest, Order, CounterStore}
-use Rattle.st_format.specs.declared.instruction.Instr.{Instr}
-use Rattle.st_format.specs.Halves.{later, is_one, is_full, i_of, address_of, j_of, operation_of, second_address_of, p_of, length_of, byte_of, offset_of, k_of, half_bits, second_half_bits, second_bits}
-use Rattle.st_format.specs.Operations.{numbered_op, half_op, branch_op, kind, full_op, kind_number, full_number}
-use Rattle.st_format.specs.Validity.{unused_in_kind, unused_k, unused_marks, has_misfit, has_misused_p, has_miscount, breaks_rules}
-use Rattle.st_format.specs.Formats.{branch_instruction, index_instruction, half_word, full_word_instruction, full_word, instruction_of, first_half, second_half, bit_of}
+use Rattle.st_format.proofs.Common.{◌≡◌, ℕ, ◌^◌, ◌<◌, ◌==◌, ◌||◌, not, Bool, true, false, if◌then◌else◌, Option, None, Some, refl, sym, ◌∙◌, ap, lit<, arith, option_map, eqb-true, eqb-false, BranchOp, HalfOp, ConnKind, FullOp, Variable, Connective, Transmission, BitTest, IndicatorTest, Order, CounterStore, Instr, later, is_one, is_full, i_of, address_of, j_of, operation_of, second_address_of, p_of, length_of, byte_of, offset_of, k_of, half_bits, second_half_bits, second_bits, numbered_op, half_op, branch_op, kind, full_op, kind_number, full_number, unused_in_kind, unused_k, unused_marks, has_misfit, has_misused_p, has_miscount, breaks_rules, branch_instruction, index_instruction, half_word, full_word_instruction, full_word, instruction_of, first_half, second_half, bit_of}
 use Rattle.st_format.proofs.Windows.{half_bits-fields, first_bits-fields, field_bits-fields, second_bits-fields, count_of-mod}
 use Rattle.st_format.proofs.Numbers.{number-half_op, number-branch_op, number-kind, number-numbered_op, vfl_number-bound, swap-bound, order-bound}
 

@@ -1,7 +1,5 @@
 -- Tables of operations and their numbers.
-use Rattle.std.proofs.Common.{◌≡◌, ℕ, zero, suc, ◌<◌, ◌==◌, ◌&&◌, Bool, true, false, List, [], ◌∷◌, Some, refl, sym, ◌∙◌, ap, if◌then◌else◌, arith}
-use Rattle.std.proofs.lemmas.Bool.{eqb-true}
-use Rattle.st_format.specs.Operations.{operation_at}
+use Rattle.st_format.proofs.Common.{◌≡◌, ℕ, zero, suc, ◌<◌, ◌==◌, ◌&&◌, Bool, true, false, List, [], ◌∷◌, Some, refl, sym, ◌∙◌, ap, if◌then◌else◌, arith, eqb-true, operation_at}
 
 -- the operation that a table has for a number has that number
 pub number-numbered : {A : Type 0} (number : A → ℕ) (ops : List A) (n : ℕ) (x : A)

@@ -55,7 +55,6 @@ pub fn decode_as(format: Format, first: u32, second: u32) -> Decoded
 }
 
 /// The number of half-words of the instruction that begins with this half-word, 1 or 2.
-#[inline(always)]
 pub fn length_in_halves(first: u32) -> u8
     ensures { result ≡ (if has_ones first then 2 else 1) }
 {
@@ -122,7 +121,6 @@ fn ruled(op: FullOp, first: u32, second: u32) -> Format
 }
 
 // The format of a full word with this operation: `NoWhole` if its bits break a rule.
-#[inline(always)]
 fn checked(op: FullOp, first: u32, second: u32) -> Format
     ensures { spelled_as result first second ≡ full_word (Some op) first second }
 {

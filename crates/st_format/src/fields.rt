@@ -10,7 +10,6 @@ ghost use Rattle.std.specs.Prelude.{◌≡◌, ◌+◌, ◌<◌, ◌≤◌, ◌^
 ghost use Rattle.st_format.specs.Halves.{half_word_part as part_of, later as later_of, is_full as is_full_of, i_of, address_of, j_of, operation_of, bit_address_of, second_address_of, p_of, length_of, byte_of, offset_of, k_of, words_moved, or_greatest as or_greatest_of};
 
 /// The number in `count` bits of a half-word from bit `first`.
-#[inline(always)]
 pub fn part(half: u32, first: u32, count: u32) -> u32
     requires some { 1 ≤ count }
     requires inside { first + count ≤ 32 }
@@ -21,7 +20,6 @@ pub fn part(half: u32, first: u32, count: u32) -> u32
 }
 
 /// The number in `count` bits of a second half-word from bit `first`.
-#[inline(always)]
 pub fn later(second: u32, first: u32, count: u32) -> u32
     requires some { 1 ≤ count }
     requires behind { 32 ≤ first }
@@ -33,7 +31,6 @@ pub fn later(second: u32, first: u32, count: u32) -> u32
 }
 
 /// Whether a first half-word begins a full word.
-#[inline(always)]
 pub fn is_full(first: u32) -> bool
     ensures { result ≡ is_full_of first }
 {
@@ -41,7 +38,6 @@ pub fn is_full(first: u32) -> bool
 }
 
 /// The I field: the number of the index word that modifies the address, 0 to 15.
-#[inline(always)]
 pub fn index_field(first: u32) -> u8
     ensures value { result ≡ i_of first }
     ensures bound { result < 16 }
@@ -50,7 +46,6 @@ pub fn index_field(first: u32) -> u8
 }
 
 /// The half-word address of a half-word instruction, below 2^19.
-#[inline(always)]
 pub fn half_address(first: u32) -> u32
     ensures value { result ≡ address_of first }
     ensures bound { result < 2 ^ 19 }
@@ -59,7 +54,6 @@ pub fn half_address(first: u32) -> u32
 }
 
 /// The J field: the number of the index word that a half-word instruction works on, 0 to 15.
-#[inline(always)]
 pub fn register_field(first: u32) -> u8
     ensures value { result ≡ j_of first }
     ensures bound { result < 16 }
@@ -68,7 +62,6 @@ pub fn register_field(first: u32) -> u8
 }
 
 /// The operation number of a half-word instruction, 0 to 31.
-#[inline(always)]
 pub fn operation_field(first: u32) -> u8
     ensures value { result ≡ operation_of first }
     ensures bound { result < 32 }
@@ -77,7 +70,6 @@ pub fn operation_field(first: u32) -> u8
 }
 
 /// The bit address of a full-word instruction, below 2^24.
-#[inline(always)]
 pub fn bit_address(first: u32) -> u32
     ensures value { result ≡ bit_address_of first }
     ensures bound { result < 2 ^ 24 }
@@ -86,7 +78,6 @@ pub fn bit_address(first: u32) -> u32
 }
 
 /// The second address of a full-word instruction, a half-word address below 2^19.
-#[inline(always)]
 pub fn second_address(second: u32) -> u32
     ensures value { result ≡ second_address_of second }
     ensures bound { result < 2 ^ 19 }
@@ -95,7 +86,6 @@ pub fn second_address(second: u32) -> u32
 }
 
 /// The progressive form, 0 to 7.
-#[inline(always)]
 pub fn progressive_form(second: u32) -> u8
     ensures value { result ≡ p_of second }
     ensures bound { result < 8 }
@@ -104,7 +94,6 @@ pub fn progressive_form(second: u32) -> u8
 }
 
 /// The length of a field, 1 to 64.
-#[inline(always)]
 pub fn field_length(second: u32) -> u8
     ensures value { result ≡ length_of second }
     ensures some { 1 ≤ result }
@@ -114,7 +103,6 @@ pub fn field_length(second: u32) -> u8
 }
 
 /// The size of a field's bytes, 1 to 8.
-#[inline(always)]
 pub fn byte_size(second: u32) -> u8
     ensures value { result ≡ byte_of second }
     ensures some { 1 ≤ result }
@@ -124,7 +112,6 @@ pub fn byte_size(second: u32) -> u8
 }
 
 /// The offset of a field in the accumulator, 0 to 127.
-#[inline(always)]
 pub fn offset(second: u32) -> u8
     ensures value { result ≡ offset_of second }
     ensures bound { result < 128 }
@@ -133,7 +120,6 @@ pub fn offset(second: u32) -> u8
 }
 
 /// The K field: the last four bits.
-#[inline(always)]
 pub fn last_field(second: u32) -> u8
     ensures value { result ≡ k_of second }
     ensures bound { result < 16 }
@@ -142,7 +128,6 @@ pub fn last_field(second: u32) -> u8
 }
 
 /// The number of words of a transmission, 1 to 16.
-#[inline(always)]
 pub fn word_count(second: u32) -> u8
     ensures value { result ≡ words_moved second }
     ensures some { 1 ≤ result }
@@ -152,7 +137,6 @@ pub fn word_count(second: u32) -> u8
 }
 
 // The value of a field in which zero encodes the greatest number.
-#[inline(always)]
 fn or_greatest(greatest: u8, number: u8) -> u8
     ensures value { result ≡ or_greatest_of greatest number }
     ensures some { 1 ≤ greatest → 1 ≤ result }

@@ -82,7 +82,6 @@ pub fn half_op(number: u8) -> Option<HalfOp>
 }
 
 /// The branch with this number.
-#[inline(always)]
 pub fn branch_op(number: u8) -> Option<BranchOp>
     ensures { result ≡ branch_op_of number }
 {
@@ -98,7 +97,6 @@ pub fn branch_op(number: u8) -> Option<BranchOp>
 }
 
 /// The operation of a full word with this second half-word.
-#[inline(always)]
 pub fn full_op(second: u32) -> Option<FullOp>
     ensures { result ≡ full_op_of second }
 {
@@ -148,7 +146,6 @@ fn numbered_op(number: u32) -> Option<FullOp>
 }
 
 // The kind of connective with this number in bits 56-57.
-#[inline(always)]
 fn kind(number: u32) -> Option<ConnKind>
     requires { number < 4 }
     ensures { result ≡ kind_of number }
@@ -194,7 +191,6 @@ pub fn kind_number(kind: ConnKind) -> u32
 }
 
 /// Whether an operation writes its field.
-#[inline(always)]
 pub fn writes_field(op: FullOp) -> bool
     ensures { result ≡ writes_field_of op }
 {

@@ -10,7 +10,7 @@
 //! bodies, and the split into private functions together with their definitions. A new rule is a
 //! definition and a case of `breaks_rules` in specs/Validity.antt, and a function and a case here.
 ghost use Rattle.std.specs.Prelude.{◌≡◌};
-ghost use Rattle.st_format.specs.Validity.{breaks_rules as breaks_rules_of, unused_in_kind as unused_in_kind_of, unused_k as unused_k_of, unused_marks as unused_marks_of, misfits, has_misfit as has_misfit_of, misuses_p, has_misused_p as has_misused_p_of, miscounts, has_miscount as has_miscount_of};
+ghost use Rattle.st_format.specs.Validity.{breaks_rules as breaks_rules_of, unused_in_kind as unused_in_kind_of, unused_k as unused_k_of, unused_marks as unused_marks_of, misfits, has_misfit as has_misfit_of, misuses_p, has_misused_p as has_misused_p_of, has_miscount as has_miscount_of};
 
 use crate::fields::{
     byte_size, field_length, index_field, last_field, later, progressive_form, second_address,
@@ -31,7 +31,6 @@ pub fn breaks_rules(op: FullOp, first: u32, second: u32) -> bool
 }
 
 // Bits 58-59 of a connective, which must be zero; 0 for other operations.
-#[inline(always)]
 fn unused_in_kind(op: FullOp, second: u32) -> u32
     ensures { result ≡ unused_in_kind_of op second }
 {
@@ -42,7 +41,6 @@ fn unused_in_kind(op: FullOp, second: u32) -> u32
 }
 
 // The K field, which must be zero except in a transmission; 0 for a transmission.
-#[inline(always)]
 fn unused_k(op: FullOp, second: u32) -> u8
     ensures { result ≡ unused_k_of op second }
 {
@@ -53,7 +51,6 @@ fn unused_k(op: FullOp, second: u32) -> u8
 }
 
 // Those of bits 52-54 that the operation does not use, which must be zero.
-#[inline(always)]
 fn unused_marks(op: FullOp, second: u32) -> u32
     ensures { result ≡ unused_marks_of op second }
 {
@@ -67,7 +64,6 @@ fn unused_marks(op: FullOp, second: u32) -> u32
 }
 
 // Whether the field of an operation on a field has a wrong size; false for other operations.
-#[inline(always)]
 fn has_misfit(op: FullOp, second: u32) -> bool
     ensures { result ≡ has_misfit_of op second }
 {
@@ -93,7 +89,6 @@ pub fn misfits_field(decimal: bool, unsigned: bool, length: u8, byte: u8) -> boo
 }
 
 // Whether the progressive form of an operation on a field is wrong; false for other operations.
-#[inline(always)]
 fn has_misused_p(op: FullOp, first: u32, second: u32) -> bool
     ensures { result ≡ has_misused_p_of op first second }
 {
@@ -117,21 +112,15 @@ fn misuses_form(writes: bool, p: u8, length: u8, i: u8) -> bool
     (p == 1 && (writes || length > 24)) || (p >= 2 && i == 0)
 }
 
-// Whether the count of an order is out of range; false for other operations.
-#[inline(always)]
+// Whether the count of an order is outside 1 to 1,000; false for other operations.
 fn has_miscount(op: FullOp, second: u32) -> bool
     ensures { result ≡ has_miscount_of op second }
 {
     match op {
-        FullOp::Order { .. } => is_miscount(second_address(second)),
+        FullOp::Order { .. } => {
+            let count = second_address(second);
+            count == 0 || count > 1000
+        }
         _ => false,
     }
-}
-
-// Whether the count of an order is outside 1 to 1,000.
-#[inline(always)]
-fn is_miscount(count: u32) -> bool
-    ensures { result ≡ miscounts count }
-{
-    count == 0 || count > 1000
 }

@@ -1,8 +1,8 @@
 -- The generated deck: the cards of a seed and a number of cards.
 --
 -- Proved: by their `ensures` clauses these calls do what definitions here say: `draw_statement`
--- (statement.rt), `push_delay_card` (deck.rt), `push_drawn_card` (deck.rt), `push_drawn_cards`
--- (deck.rt), and others.
+-- (statement.rt), `push_drawn_cards` (deck.rt), `draw` (generator.rt), `add_one` (statement.rt),
+-- and others.
 -- Read by: definitions in Output of st_top.
 -- Laws: MadeDecksAreNotRefused (specs/Laws.antt of st_laws).
 -- Change: the meaning is fixed by docs/deck.md, since the contract of `st_top::stretch` unfolds to

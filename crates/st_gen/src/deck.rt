@@ -12,7 +12,7 @@
 //! `push_delay_cards` and `make_deck`.
 
 ghost use Rattle.std.specs.Prelude.{◌≡◌, ◌+◌, ◌*◌, ◌≤◌, ◌++◌, OnOk, IfOk, length};
-ghost use Rattle.st_gen.specs.Deck.{next_number, after_card, after_cards, card, drawn_card, drawn_cards, control, delay_card, delay_cards, closing_cards, made_deck};
+ghost use Rattle.st_gen.specs.Deck.{after_cards, card, drawn_cards, control, delay_cards, closing_cards, made_deck};
 
 use crate::form::form_of;
 use crate::generator::Generator;
@@ -31,16 +31,6 @@ fn push_card(deck: &mut Vec<u8>, text: &str) -> Result<(), AllocError>
     deck.extend_from_slice(b"\n")
 }
 
-// Appends the next drawn card.
-fn push_drawn_card(deck: &mut Vec<u8>, generator: &mut Generator) -> Result<(), AllocError>
-    ensures drawn { generator.new.x ≡ after_card generator.old.x }
-    ensures ok { OnOk result (deck.new.items ≡ deck.old.items ++ drawn_card generator.old.x) }
-{
-    let form = form_of(generator.draw(8));
-    let text = draw_statement(form, generator);
-    push_card(deck, text.as_str())
-}
-
 // Appends this number of drawn cards.
 fn push_drawn_cards(
     deck: &mut Vec<u8>,
@@ -53,7 +43,9 @@ fn push_drawn_cards(
 {
     // Proofs name the loops by their labels.
     'cards: for _ in 0..count {
-        push_drawn_card(deck, generator)?;
+        let form = form_of(generator.draw(8));
+        let text = draw_statement(form, generator);
+        push_card(deck, text.as_str())?;
     }
     Ok(())
 }
@@ -66,16 +58,6 @@ fn push_control(deck: &mut Vec<u8>, text: &str) -> Result<(), AllocError>
     deck.extend_from_slice(b"\n")
 }
 
-// Appends a card with the next delay.
-fn push_delay_card(deck: &mut Vec<u8>, generator: &mut Generator) -> Result<(), AllocError>
-    ensures drawn { generator.new.x ≡ next_number generator.old.x }
-    ensures ok { OnOk result (deck.new.items ≡ deck.old.items ++ delay_card generator.new.x) }
-{
-    let mut text = open_line("/DELAYS ");
-    push_short_decimal(&mut text, 1 + generator.draw(20));
-    push_control(deck, text.as_str())
-}
-
 // Appends this number of cards, each with a delay.
 fn push_delay_cards(
     deck: &mut Vec<u8>,
@@ -85,7 +67,9 @@ fn push_delay_cards(
     ensures { OnOk result (deck.new.items ≡ deck.old.items ++ delay_cards count generator.old.x) }
 {
     'delays: for _ in 0..count {
-        push_delay_card(deck, generator)?;
+        let mut text = open_line("/DELAYS ");
+        push_short_decimal(&mut text, 1 + generator.draw(20));
+        push_control(deck, text.as_str())?;
     }
     Ok(())
 }

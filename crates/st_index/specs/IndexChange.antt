@@ -1,7 +1,7 @@
 -- Index arithmetic: the effective address, changes of value and count, and the index indicators.
 --
 -- Proved: by their `ensures` clauses these calls do what definitions here say: `count_down`
--- (change.rt), `add_value` (change.rt), `advance` (change.rt), `counts` (change.rt), and others.
+-- (change.rt), `add_value` (change.rt), `counts` (change.rt), `effective` (change.rt), and others.
 -- Read by: definitions in SpeculativeChanges of st_prep, Entry of st_prep.
 -- Laws: none names a definition of this file itself.
 -- Change: the meaning is fixed by docs/index-words.md, since the contracts of `st_top::stretch` and

@@ -15,7 +15,7 @@ ghost use Rattle.std.specs.Prelude.{◌≡◌, ◌<◌, ◌≤◌, ◌^◌, unsi
 ghost use Rattle.st_bits.specs.Bits.{part};
 ghost use Rattle.st_bits.specs.IndexWord.{index_value as value, count_of as count};
 ghost use Rattle.st_index.specs.IndexChange.{effective_address, with_added, one_less, with_lower_count};
-ghost use Rattle.st_index.specs.IndexChange.{increment_of, is_counting, is_refilling, progressive_word, progression};
+ghost use Rattle.st_index.specs.IndexChange.{increment_of, is_counting, is_refilling, progression};
 
 use crate::results::index_result;
 use st_bits::{Ind, count_of, value_of, with_count, with_value};
@@ -52,22 +52,15 @@ pub fn add_value(x: u64, d: i32) -> u64
     with_value(x, value_of(x) + d)
 }
 
-// The count minus one, modulo 2^18: zero becomes 262,143.
-fn lower(count: u32) -> u32
-    requires { count < 2 ^ 18 }
-    ensures value { result ≡ one_less count }
-    ensures bound { result < 2 ^ 18 }
-{
-    if count == 0 { (1 << 18) - 1 } else { count - 1 }
-}
-
 /// The index word with its count decremented, modulo 2^18.
 pub fn count_down(x: u64) -> u64
     ensures word { result ≡ with_lower_count x }
     ensures count { count result ≡ one_less (count x) }
     ensures value { value result ≡ value x }
 {
-    with_count(x, lower(count_of(x)))
+    let count = count_of(x);
+    let lower = if count == 0 { (1 << 18) - 1 } else { count - 1 };
+    with_count(x, lower)
 }
 
 // The number that a progressive form adds to the value: the increment, negated in the V- forms.
@@ -97,15 +90,6 @@ fn refills(form: u8, count: u32) -> bool
     matches!(form, 4 | 7) && count == 0
 }
 
-// The index word `x` after a progressive form, before a refill.
-fn advance(form: u8, x: u64, increment: u32) -> u64
-    requires { increment < 2 ^ 24 }
-    ensures { result ≡ progressive_word form x increment }
-{
-    let word = add_value(x, signed(form, increment));
-    if counts(form) { count_down(word) } else { word }
-}
-
 /// The change of the index word `x` by a progressive form: 2 to 7 are V+I, V+IC, V+ICR, V-I, V-IC
 /// and V-ICR. The increment, below 2^24, is added to the value or subtracted from it. The C forms
 /// then decrement the count. The R forms are followed by a refill if the count became zero.
@@ -115,7 +99,8 @@ pub fn progress(form: u8, x: u64, increment: u32) -> Changed
     requires increment { increment < 2 ^ 24 }
     ensures { result ≡ progression form x increment }
 {
-    let word = advance(form, x, increment);
+    let sum = add_value(x, signed(form, increment));
+    let word = if counts(form) { count_down(sum) } else { sum };
     Changed {
         word,
         refill: refills(form, count_of(word)),

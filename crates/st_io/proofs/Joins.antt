@@ -1,11 +1,6 @@
 -- The effect of two successive reads or writes.
-use Rattle.std.proofs.Common.{◌≡◌, ℕ, ◌+◌, ◌≤◌, List, [], ◌∷◌, ◌++◌, length, take, drop, refl, sym, ◌∙◌, ap, append_assoc, arith, length-append}
-use Rattle.std.specs.Prelude.{Option, None, Some}
-use Rattle.std.proofs.lemmas.List.{take-append-drop, append-nil, length-take-le}
+use Rattle.st_io.proofs.Common.{◌≡◌, ℕ, ◌+◌, ◌≤◌, List, [], ◌∷◌, ◌++◌, length, take, drop, refl, sym, ◌∙◌, ap, append_assoc, arith, length-append, Option, None, Some, take-append-drop, append-nil, length-take-le, count_after, OutputState, Appends, Wrote, InputState, Came, Gave}
 use Rattle.std.specs.Io.KnownBytes.{Consumes}
-use Rattle.st_io.specs.Count.{count_after}
-use Rattle.st_io.specs.Output.{OutputState, Appends, Wrote}
-use Rattle.st_io.specs.Input.{InputState, Came, Gave}
 
 -- a prefix of the piece was written, and the rest remains
 pub record WritesSoFar (s t : OutputState) (piece rest : List ℕ) : Type 0 where

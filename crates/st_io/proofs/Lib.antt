@@ -1,3 +1,4 @@
+pub mod Common
 pub mod Joins
 pub mod MemoryLemmas
 pub mod Writing

@@ -1,8 +1,6 @@
 -- The result of a read from bytes in memory.
-use Rattle.std.proofs.Common.{◌≡◌, ℕ, ◌+◌, ◌-◌, ◌^◌, ◌<◌, ◌≤◌, min, List, ◌++◌, length, take, drop, refl, sym, ap, ◌∙◌, arith, length-append, length-drop, take_at, drop-drop}
+use Rattle.st_io.proofs.Common.{◌≡◌, ℕ, ◌+◌, ◌-◌, ◌^◌, ◌<◌, ◌≤◌, min, List, ◌++◌, length, take, drop, refl, sym, ap, ◌∙◌, arith, length-append, length-drop, take_at, drop-drop, take-append-drop, take_all, length-take-le, Gave}
 use Rattle.std.proofs.Math.ListN.{drop_of_length-le}
-use Rattle.std.proofs.lemmas.List.{take-append-drop, take_all, length-take-le}
-use Rattle.st_io.specs.Input.{Gave}
 use Rattle.st_io.specs.Memory.{sure_input}
 
 -- the first remaining bytes, as many as the buffer has room for

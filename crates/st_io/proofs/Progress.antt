@@ -1,12 +1,6 @@
 -- The progress of the writing of lines or of events.
-use Rattle.std.proofs.Common.{◌≡◌, ℕ, zero, suc, ◌+◌, ◌-◌, ◌<◌, ◌≤◌, List, [], ◌++◌, refl, sym, ◌∙◌, ap, subst, append_assoc, arith}
-use Rattle.std.proofs.lemmas.List.{append-nil}
-use Rattle.std.specs.Prelude.{Result, Ok, Err, IsErr}
-use Rattle.st_io.specs.declared.Failed.{Failed}
-use Rattle.st_io.specs.Output.{OutputState, Wrote}
+use Rattle.st_io.proofs.Common.{◌≡◌, ℕ, zero, suc, ◌+◌, ◌-◌, ◌<◌, ◌≤◌, List, [], ◌++◌, refl, sym, ◌∙◌, ap, subst, append_assoc, arith, append-nil, Result, Ok, Err, IsErr, Failed, OutputState, Wrote, text, lines_for, StoppedIn, WritesLines, Event, lines_of, StoppedAt}
 use Rattle.st_io.proofs.Joins.{Appends_none}
-use Rattle.st_io.specs.Lines.{text, lines_for, StoppedIn, WritesLines}
-use Rattle.st_io.specs.Event.{Event, lines_of, StoppedAt}
 use Rattle.st_io.proofs.Writing.{wrote_more, stopped_before, stopped_after, wrote_events, events_before, events_after}
 
 -- the first of the lines are written, and the rest remains

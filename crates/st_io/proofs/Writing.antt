@@ -1,14 +1,7 @@
 -- The writing of successive lines: the lines written so far, and the one in which the writing
 -- stopped.
-use Rattle.std.proofs.Common.{◌≡◌, ℕ, List, [], ◌∷◌, ◌++◌, refl, sym, ◌∙◌, ap, subst, append_assoc}
-use Rattle.std.proofs.lemmas.List.{append-nil}
-use Rattle.std.specs.Prelude.{Result, Ok, Err, MatchResult}
-use Rattle.st_io.specs.Count.{HasRisen}
-use Rattle.st_io.specs.Output.{OutputState, Appends, Wrote, WroteFront}
-use Rattle.st_io.specs.declared.Failed.{Failed}
+use Rattle.st_io.proofs.Common.{◌≡◌, ℕ, List, [], ◌∷◌, ◌++◌, refl, sym, ◌∙◌, ap, subst, append_assoc, append-nil, Result, Ok, Err, MatchResult, HasRisen, OutputState, Appends, Wrote, WroteFront, Failed, text, StoppedIn, WritesLines, Event, lines_of, at_moment, StoppedAt}
 use Rattle.st_io.proofs.Joins.{Appends-join, Wrote_join}
-use Rattle.st_io.specs.Lines.{text, StoppedIn, WritesLines}
-use Rattle.st_io.specs.Event.{Event, lines_of, at_moment, StoppedAt}
 
 pub text-append : (xs ys : List (List ℕ)) → text (xs ++ ys) ≡ text xs ++ text ys
 text-append [] ys = refl

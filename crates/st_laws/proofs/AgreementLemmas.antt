@@ -1,25 +1,19 @@
 -- Rules that are defined in two crates are the same.
-use Rattle.std.proofs.Common.{◌≡◌, ◌≤◌, ◌<◌, ◌+◌, ◌-◌, ◌*◌, ◌/◌, ◌%◌, ◌^◌, ◌==◌, ◌&&◌, ◌||◌, ℕ, zero, suc, Bool, true, false, nat_le, nat_lt, List, [], ◌∷◌, length, take, get_or, sum, decimal, None, if◌then◌else◌, refl, ap, sym, ◌∙◌, arith, rules}
-use Rattle.std.specs.List.{list_all}
-use Rattle.std.proofs.lemmas.Bool.Decides.{nat_tests}
+use Rattle.st_laws.proofs.Common.{◌≡◌, ◌≤◌, ◌<◌, ◌+◌, ◌-◌, ◌*◌, ◌/◌, ◌%◌, ◌^◌, ◌==◌, ◌&&◌, ◌||◌, ℕ, zero, suc, Bool, true, false, nat_le, nat_lt, List, [], ◌∷◌, length, take, get_or, sum, decimal, None, if◌then◌else◌, refl, ap, sym, ◌∙◌, arith, rules, list_all, nat_tests, words_of_storage, words_of_storage_is, bytes, number_of_bytes, codes_value, value_of-first, joined-decimal, is_part, in_storage}
 use Rattle.std.proofs.lemmas.Fmt.{length-decimal-le, digits_value-decimal}
 use Rattle.std.proofs.lemmas.List.Sums.{prefix_len-le-length}
 use Rattle.std.proofs.lemmas.Str.Parse.{IsNumeralModel, numerals_by_fold}
 use Rattle.std.specs.Char.{is_ascii_digit}
 use Rattle.st_bits.specs.Bits.{part}
 use Rattle.st_bits.specs.Registers.{register_word}
-use Rattle.st_bits.specs.Storage.{words_of_storage, words_of_storage_is}
 use Rattle.st_field.specs.Digits.{value_of_digits, digits_of}
-use Rattle.st_dec.specs.DigitLists.{bytes, number_of_bytes, codes_value, decimal as digits}
-use Rattle.st_dec.proofs.DigitLemmas.{value_of-first, joined-decimal}
+use Rattle.st_dec.specs.DigitLists.{decimal as digits}
 use Rattle.st_conn.specs.Connective.{leading_zeros}
 use Rattle.st_conn.specs.Connection.{counts_of}
 use Rattle.st_text.specs.Number.{is_number, digits_value as text_value, value_after, number_if_good}
 use Rattle.st_card.specs.Keywords.{card_number}
-use Rattle.st_card.specs.Limits.{is_part}
 use Rattle.st_text.specs.declared.numbers.Reading.TheVariants.{Bad, Large, Good}
 use Rattle.st_object.specs.Meaning.{short_number}
-use Rattle.st_asm.specs.Checks.{in_storage}
 
 -- ---- digits
 

@@ -1,12 +1,8 @@
 -- Lemmas on reading the digits of an assembled number.
-use Rattle.std.proofs.Common.{lit<, ◌≡◌, ℕ, zero, suc, ◌/◌, ◌%◌, ◌^◌, ◌<◌, ◌≤◌, map, refl, arith}
+use Rattle.st_laws.proofs.Common.{lit<, ◌≡◌, ℕ, zero, suc, ◌/◌, ◌%◌, ◌^◌, ◌<◌, ◌≤◌, map, refl, arith, mod-mul-add, div-mul-add, packed_digits, digit-below, bytes, codes_value, digit_and_rest}
 use Rattle.std.proofs.Math.Nat.{mod-eq_of_lt, pow-suc}
-use Rattle.std.proofs.lemmas.Nat.{mod-mul-add, div-mul-add}
 use Rattle.st_field.proofs.DigitLemmas.{power_above_zero}
-use Rattle.st_asm.specs.Numbers.{packed_digits}
-use Rattle.st_asm.proofs.FieldLemmas.{digit-below}
-use Rattle.st_dec.specs.DigitLists.{bytes, codes_value, decimal}
-use Rattle.st_dec.proofs.DigitLemmas.{digit_and_rest}
+use Rattle.st_dec.specs.DigitLists.{decimal}
 
 -- packed digits are the decimal digits, each in one byte
 pub bytes-packed : (b n x : ℕ) → 4 ≤ b → bytes b n (packed_digits b n x) ≡ decimal n x

@@ -1,14 +1,12 @@
 -- Lemmas on reading assembled fields.
-use Rattle.std.proofs.Common.{◌≡◌, ℕ, ◌-◌, ◌%◌, ◌^◌, ◌<◌, ◌≤◌, ◌&&◌, ◌||◌, ◌==◌, Bool, true, false, not, nat_lt, refl, ap, subst, ◌∙◌, arith, map, if◌then◌else◌}
+use Rattle.st_laws.proofs.Common.{◌≡◌, ℕ, ◌-◌, ◌%◌, ◌^◌, ◌<◌, ◌≤◌, ◌&&◌, ◌||◌, ◌==◌, Bool, true, false, not, nat_lt, refl, ap, subst, ◌∙◌, arith, map, if◌then◌else◌, holds, capacity, digits_of_form, magnitude, packed_digits, holds-below, bytes, codes_value, IsHeld, IsRead, emitted_shape, field_of_number}
 use Rattle.std.proofs.lemmas.Bool.{or_parts as either_false}
 use Rattle.std.specs.Bool.{IsFalse}
 use Rattle.st_format.specs.Validity.{misfits}
 use Rattle.st_mnemonic.specs.declared.form.Form.{Form}
-use Rattle.st_asm.specs.Numbers.{holds, capacity, digits_of_form, magnitude, packed_digits, field_bits_of as emitted_bits}
-use Rattle.st_asm.proofs.FieldLemmas.{holds-below}
-use Rattle.st_dec.specs.DigitLists.{bytes, codes_value, decimal as digits}
+use Rattle.st_asm.specs.Numbers.{field_bits_of as emitted_bits}
+use Rattle.st_dec.specs.DigitLists.{decimal as digits}
 use Rattle.st_dec.specs.DecimalOperand.{field_value, digit_bytes}
-use Rattle.st_laws.specs.EmittedNumbers.{IsHeld, IsRead, emitted_shape, field_of_number}
 use Rattle.st_laws.proofs.EmittedDigits.{bytes-packed, value-packed}
 use Rattle.st_laws.proofs.EmittedParts.{parts-read}
 

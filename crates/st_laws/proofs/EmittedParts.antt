@@ -1,12 +1,9 @@
 -- Lemmas on reading the parts of an assembled field.
-use Rattle.std.proofs.Common.{◌≡◌, ℕ, ◌+◌, ◌-◌, ◌*◌, ◌^◌, ◌<◌, ◌≤◌, ◌&&◌, Bool, true, false, refl, ap, ◌∙◌, arith, if◌then◌else◌}
+use Rattle.st_laws.proofs.Common.{◌≡◌, ℕ, ◌+◌, ◌-◌, ◌*◌, ◌^◌, ◌<◌, ◌≤◌, ◌&&◌, Bool, true, false, refl, ap, ◌∙◌, arith, if◌then◌else◌, mod-mul-add, div-mul-add, sign_byte_of, IsRead}
 use Rattle.std.proofs.Math.Pow.{pow_pos}
-use Rattle.std.proofs.lemmas.Nat.{mod-mul-add, div-mul-add}
-use Rattle.st_asm.specs.Numbers.{sign_byte_of}
 use Rattle.st_field.proofs.FieldLemmas.{each_byte}
 use Rattle.st_field.specs.declared.fields.Shape.{Shape}
 use Rattle.st_field.specs.Fields.{field_of, last_byte, sign_of, flags_of, zone_of}
-use Rattle.st_laws.specs.EmittedNumbers.{IsRead}
 
 -- a minus fits in its byte
 minus-below : (b : ℕ) → 1 ≤ b → b ≤ 8 → sign_byte_of b true < 2 ^ b

@@ -1,3 +1,4 @@
+pub mod Common
 pub mod EmittedParts
 pub mod EmittedDigits
 pub mod EmittedFields

@@ -1,46 +1,32 @@
 -- A generated deck is a text of cards that is assembled.
-use Rattle.std.proofs.Common.{◌≡◌, ◌≤◌, ◌+◌, ◌==◌, ℕ, zero, suc, true, false, nat_le, List, [], ◌∷◌, ◌++◌, length, map, codes, decimal, Ok, refl, sym, ap, ◌∙◌, append_assoc, append-nil, length-append, replicate, arith}
+use Rattle.st_laws.proofs.Common.{◌≡◌, ◌≤◌, ◌+◌, ◌==◌, ℕ, zero, suc, true, false, nat_le, List, [], ◌∷◌, ◌++◌, length, map, codes, decimal, Ok, refl, sym, ap, ◌∙◌, append_assoc, append-nil, length-append, replicate, arith, nat_tests, All-nil, All-cons, All-append, All, AllPass, words_of_storage, IsWithinLimits, is_tick, statement_of, Statement, End, form_pass, spoken_lines, silent_lines, job_cards, found_in_job, job-formed, stand, end-steps, next_number, number_after, below, draw, index, word_text, bit_text, small_value, field_length, byte_field_length, field_operands, statement, form_after, card, control, after_cards, drawn_cards, delay_cards, closing_cards, made_deck, drawn-cases}
 use Rattle.std.proofs.lemmas.Bool.{and_from as both_true, le-leb as within}
-use Rattle.std.proofs.lemmas.Bool.Decides.{nat_tests}
 use Rattle.std.proofs.lemmas.List.{map-append, length-map}
-use Rattle.std.proofs.lemmas.List.Elements.{All-nil, All-cons, All-append}
 use Rattle.std.proofs.lemmas.Simd.{map-map}
 use Rattle.std.specs.Fmt.{digits}
-use Rattle.std.specs.List.{All, AllPass}
-use Rattle.st_bits.specs.Storage.{words_of_storage}
 use Rattle.st_card.specs.Controls.{Asked, nothing_asked, is_in_range}
 use Rattle.st_card.specs.Written.{control_line, text_of_lines}
-use Rattle.st_card.specs.Limits.{IsWithinLimits, is_tick}
 use Rattle.st_card.specs.declared.keywords.Mark.TheVariants.{Time}
 use Rattle.st_card.specs.declared.keywords.Number.TheVariants.{Delays}
-use Rattle.st_card.specs.declared.keywords.Keyword.TheVariants as keywords
 use Rattle.st_card.specs.declared.keywords.Control.{Control}
-use Rattle.st_card.specs.declared.keywords.Control.TheVariants as asks
 use Rattle.st_card.specs.declared.keywords.ControlForm.TheVariants.{Card}
 use Rattle.st_card.proofs.LimitLemmas.{nothing-within, keyword-kept, others-within}
 use Rattle.st_card.specs.Cards.{cards_of}
 use Rattle.st_text.specs.Bytes.{lf}
 use Rattle.st_strap.specs.Reading.{number_expr}
-use Rattle.st_strap.specs.Saying.{statement_of}
-use Rattle.st_strap.specs.Statements.{Statement}
-use Rattle.st_strap.specs.declared.statement.Statement.TheVariants.{End}
 use Rattle.st_asm.specs.Assembly.{Assembly, with_defaults, together, assembly}
-use Rattle.st_asm.specs.Forming.{form_pass}
 use Rattle.st_dis.specs.Deck.{statement_card, end_text, control_cards}
 use Rattle.st_dis.proofs.Printable.{IsPlain, IsWritten, join, number, cards_plain, controls_plain}
 use Rattle.st_dis.proofs.Lengths.{IsShort, IsCard, all_statement_cards, control_cards-short}
 use Rattle.st_dis.proofs.DeckCards.{control_cards-kind}
 use Rattle.st_dis.proofs.ControlsRead.{controls-read}
 use Rattle.st_dis.proofs.PlacesRead.{start-read}
-use Rattle.st_dis.proofs.Said.{spoken_lines, silent_lines}
-use Rattle.st_dis.proofs.FormPass.{job_cards, found_in_job, job-formed}
-use Rattle.st_dis.proofs.StatementSteps.{stand, end-steps}
 use Rattle.st_dis.proofs.PassesLead.{GivesProgram, leads-give}
 use Rattle.st_dis.proofs.ThreePasses.{assembled, defaults-kept}
-use Rattle.st_gen.specs.Deck.{next_number, number_after, below, draw, index, word_text, bit_text, small_value, field_length, byte_field_length, field_operands, statement, form_after, card, control, after_cards, drawn_cards, delay_cards, closing_cards, made_deck}
 use Rattle.st_gen.proofs.Sizes.{statement-short}
-use Rattle.st_gen.proofs.Drawn.{drawn-cases}
 use Rattle.st_laws.proofs.MadeStatements.{IsGood, made-good, wait-good, LeadOn, good-leads, leads-behind}
+use Rattle.st_card.specs.declared.keywords.Keyword.TheVariants as keywords
+use Rattle.st_card.specs.declared.keywords.Control.TheVariants as asks
 
 -- ---- the statements
 

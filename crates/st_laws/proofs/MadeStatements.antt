@@ -1,9 +1,6 @@
 -- Each statement of a generated deck is read, and assembles to one or two half-words at any
 -- location in storage.
-use Rattle.std.proofs.Common.{◌≡◌, ◌≤◌, ◌<◌, ◌+◌, ◌*◌, ◌%◌, ◌^◌, ◌==◌, ℕ, ℤ, true, false, nat_le, nat_lt, List, [], ◌∷◌, ◌++◌, Some, None, unwrap_or, length, codes, Ok, refl, sym, ap, subst, ◌∙◌, if◌then◌else◌, arith}
-use Rattle.std.proofs.lemmas.Bool.Decides.{nat_tests}
-use Rattle.std.proofs.lemmas.List.Elements.{All-nil, All-cons, All-head, All-tail}
-use Rattle.std.specs.List.{All}
+use Rattle.st_laws.proofs.Common.{◌≡◌, ◌≤◌, ◌<◌, ◌+◌, ◌*◌, ◌%◌, ◌^◌, ◌==◌, ℕ, ℤ, true, false, nat_le, nat_lt, List, [], ◌∷◌, ◌++◌, Some, None, unwrap_or, length, codes, Ok, refl, sym, ap, subst, ◌∙◌, if◌then◌else◌, arith, nat_tests, All-nil, All-cons, All-head, All-tail, All, statement_of, Statement, Half, Branch, Vfl, Connect, is_end, in_range, fits, on_boundary, extent, in_storage, value_fault, AreRead, IsOpen, Stand, stand, Steps, faultless-elsewhere, in-storage, draw, index, word_text, bit_text, small_value, field_length, byte_field_length, field_operands, form_after, drawn-cases}
 use Rattle.st_bits.specs.declared.operations.HalfOp.{HalfOp}
 use Rattle.st_bits.specs.declared.operations.HalfOp.TheVariants.{Lvi, VPlusI}
 use Rattle.st_bits.specs.declared.operations.BranchOp.TheVariants.{Bew}
@@ -11,25 +8,16 @@ use Rattle.st_bits.specs.declared.operations.VflOp.{VflOp}
 use Rattle.st_bits.specs.declared.operations.VflOp.TheVariants.{L, Add, St, MAdd1, Mul}
 use Rattle.st_bits.specs.declared.operations.ConnKind.TheVariants.{C}
 use Rattle.st_mnemonic.specs.Describing.{plain_form}
-use Rattle.st_strap.specs.Saying.{statement_of}
 use Rattle.st_strap.specs.Spots.{number_spot, AreOperandNumbers, progressive_form}
 use Rattle.st_mnemonic.specs.declared.form.Form.{Form as FieldForm}
-use Rattle.st_strap.specs.Statements.{Statement}
-use Rattle.st_strap.specs.declared.statement.Statement.TheVariants.{Half, Branch, Vfl, Connect}
 use Rattle.st_strap.proofs.OperandCards.{load_value-read, add_value-read, load_word-read, add-read, store-read, add_one-read, connect-read, multiply-read, wait-read}
-use Rattle.st_asm.specs.Forming.{is_end}
 use Rattle.st_asm.specs.Symbols.{accepts_all, is_defined}
 use Rattle.st_asm.specs.Values.{values_of}
 use Rattle.st_asm.specs.Places.{placing_of, length_in, next_multiple, place_in, behind_in}
-use Rattle.st_asm.specs.Checks.{in_range, fits, on_boundary, extent, in_storage, value_fault}
 use Rattle.st_asm.specs.Emitting.{half_word_bits, bits_of}
 use Rattle.st_asm.specs.Valuing.{image_with}
-use Rattle.st_dis.proofs.Said.{AreRead}
-use Rattle.st_dis.proofs.FormPass.{IsOpen}
-use Rattle.st_dis.proofs.StatementSteps.{Stand, stand, Steps, faultless-elsewhere, in-storage}
 use Rattle.st_dis.proofs.WordsLead.{Leads}
-use Rattle.st_gen.specs.Deck.{draw, index, word_text, bit_text, small_value, field_length, byte_field_length, field_operands, form_after, statement as made_statement}
-use Rattle.st_gen.proofs.Drawn.{drawn-cases}
+use Rattle.st_gen.specs.Deck.{statement as made_statement}
 
 -- a statement without names that assembles to one or two half-words, and is not END
 pub record EmitsHalves (s : Statement) (count : ℕ) : Type 0 where

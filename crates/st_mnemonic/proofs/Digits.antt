@@ -1,16 +1,10 @@
 -- Decimal digits are read as their number, and contain no separator of a statement.
-use Rattle.std.proofs.Common.{◌≡◌, ◌≤◌, ◌<◌, ◌+◌, ◌-◌, ◌^◌, ◌==◌, ◌&&◌, ◌||◌, ℕ, suc, Bool, true, false, not, nat_le, List, [], ◌∷◌, if◌then◌else◌, length, take, filter, decimal, refl, ap, ◌∙◌, arith, rules}
-use Rattle.std.specs.Prelude.{slice_get}
-use Rattle.std.specs.Option.{option_map_or}
+use Rattle.st_mnemonic.proofs.Common.{◌≡◌, ◌≤◌, ◌<◌, ◌+◌, ◌-◌, ◌^◌, ◌==◌, ◌&&◌, ◌||◌, ℕ, suc, Bool, true, false, not, nat_le, List, [], ◌∷◌, if◌then◌else◌, length, take, filter, decimal, refl, ap, ◌∙◌, arith, rules, slice_get, option_map_or, list_all, nat_tests, take_all, pieces_of, onto_first, lacks}
 use Rattle.std.proofs.lemmas.Bool.{and_parts as both, and_from as and_true, le-leb as within}
 use Rattle.std.specs.Char.{is_ascii_digit}
-use Rattle.std.specs.List.{list_all}
-use Rattle.std.proofs.lemmas.Bool.Decides.{nat_tests}
-use Rattle.std.proofs.lemmas.List.{take_all}
 use Rattle.std.proofs.lemmas.Str.Parse.{IsNumeralModel, numerals_by_fold}
 use Rattle.std.proofs.lemmas.Fmt.{digits_decimal, digits_value-decimal, decimal_nonempty}
 use Rattle.st_text.specs.Number.{is_filled, is_number, digits_value, value_after, reading}
-use Rattle.st_text.specs.Pieces.{pieces_of, onto_first, lacks}
 use Rattle.st_text.specs.declared.numbers.Reading.TheVariants.{Bad, Large, Good}
 use Rattle.st_mnemonic.specs.Text.{stop, begins_with, ends_with, statement_text}
 

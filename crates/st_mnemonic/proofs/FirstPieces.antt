@@ -1,15 +1,8 @@
 -- Seventeen pieces are enough: later pieces make no difference to a description.
-use Rattle.std.proofs.Common.{◌≡◌, ◌∙◌, ◌++◌, ℕ, List, [], ◌∷◌, length, take, Option, Some, None, refl, ap, sym, append_assoc}
-use Rattle.std.specs.Option.{option_and_then}
+use Rattle.st_mnemonic.proofs.Common.{◌≡◌, ◌∙◌, ◌++◌, ℕ, List, [], ◌∷◌, length, take, Option, Some, None, refl, ap, sym, append_assoc, option_and_then, length-map, map-append, pieces_of, row_of, texts, in_mode, in_pieces, modes, FieldText}
 use Rattle.std.proofs.Math.Seq.{take-append_seam}
-use Rattle.std.proofs.lemmas.List.{length-map, map-append}
-use Rattle.st_text.specs.Pieces.{pieces_of}
-use Rattle.st_text.specs.Tables.{row_of}
-use Rattle.st_mnemonic.specs.Fields.{texts}
-use Rattle.st_mnemonic.specs.Describing.{in_mode, in_pieces, modes}
 use Rattle.st_mnemonic.specs.declared.descriptions.Mode.{Mode}
 use Rattle.st_mnemonic.specs.declared.descriptions.Mode.TheVariants.{Field, Normalized, Unnormalized}
-use Rattle.st_mnemonic.specs.declared.field.FieldText.{FieldText}
 
 -- the first seventeen of a list are those that were found
 pub first_found : (found rest pieces : List (List ℕ)) → found ++ rest ≡ pieces → length found ≡ 17 → found ≡ take 17 pieces

@@ -1,3 +1,4 @@
+pub mod Common
 pub mod Apart
 pub mod Digits
 pub mod FirstPieces

@@ -95,13 +95,6 @@ fn default_form() -> Form
     }
 }
 
-// The mode with this word; `None` if there is none.
-fn mode_of(word: &[u8]) -> Option<Mode>
-    ensures { result ≡ row_of word.now spec.modes }
-{
-    row_of(&MODES, word)
-}
-
 // The number that a text spells, if it is from 1 to `most`.
 fn number_to(most: u8, text: &[u8]) -> Option<u8>
     ensures { result ≡ spec.number_to most text.now }
@@ -131,7 +124,7 @@ fn in_mode(mode: Mode, more: &[FieldText]) -> Option<Description>
 fn in_form(decimal: bool, unsigned: bool, more: &[FieldText]) -> Option<Description>
     ensures { result ≡ spec.in_mode (Mode.Field decimal unsigned) (texts more.now) }
 {
-    let usual = usual_byte(decimal);
+    let usual = if decimal { 4 } else { 8 };
     let (length, byte) = match more {
         [] => (64, usual),
         [length] => (number_to(64, length.text)?, usual),
@@ -145,13 +138,6 @@ fn in_form(decimal: bool, unsigned: bool, more: &[FieldText]) -> Option<Descript
         byte,
         p: 0,
     }))
-}
-
-// The byte size in bits that a description without one means.
-fn usual_byte(decimal: bool) -> u8
-    ensures { result ≡ spec.usual_byte decimal }
-{
-    if decimal { 4 } else { 8 }
 }
 
 // The description of a group in parentheses.
@@ -184,7 +170,7 @@ fn in_fields(fields: &[FieldText]) -> Option<Description>
 {
     match fields {
         [] => None,
-        [mode, more @ ..] => in_mode(mode_of(mode.text)?, more),
+        [mode, more @ ..] => in_mode(row_of(&MODES, mode.text)?, more),
     }
 }
 

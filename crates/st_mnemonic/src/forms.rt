@@ -78,7 +78,8 @@ pub fn progressed(op: Operation, form: Form, text: &[u8]) -> (Option<Form>, &[u8
     ensures shorter { length result.1.now ≤ length text.now }
 {
     let (group, behind) = text.split_at(group_length(text));
-    if is_behind_groups(behind) {
+    // Nothing or fields follow the groups.
+    if behind.is_empty() || begins_with(behind, b',') {
         (with_group(op, form, group), behind)
     } else {
         (None, behind)
@@ -102,13 +103,6 @@ fn with_number(op: Operation, form: Form, number: u8) -> Option<Form>
     } else {
         None
     }
-}
-
-// Whether a text is empty or begins with a comma, so that fields or nothing follow.
-fn is_behind_groups(text: &[u8]) -> bool
-    ensures { result ≡ spec.is_behind_groups text.now }
-{
-    text.is_empty() || begins_with(text, b',')
 }
 
 // The number of a progressive form in a group: 0 for an empty group, `None` for a group that is not

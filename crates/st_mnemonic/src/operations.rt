@@ -280,13 +280,6 @@ fn listed_operation(word: &[u8]) -> Option<Operation>
     if let Some(op) = index_operation(word) {
         return Some(op);
     }
-    other_operation(word)
-}
-
-// The operation of a word in the third table.
-fn other_operation(word: &[u8]) -> Option<Operation>
-    ensures { result ≡ row_of word.now spec.other_operations }
-{
     row_of(&OTHER_OPERATIONS, word)
 }
 
@@ -294,28 +287,14 @@ fn other_operation(word: &[u8]) -> Option<Operation>
 fn index_operation(word: &[u8]) -> Option<Operation>
     ensures { result ≡ spec.index_operation word.now }
 {
-    index_row(word).map(Operation::Half)
-}
-
-// The row of a word in the first table.
-fn index_row(word: &[u8]) -> Option<HalfOp>
-    ensures { result ≡ row_of word.now spec.index_operations }
-{
-    row_of(&INDEX_OPERATIONS, word)
+    row_of(&INDEX_OPERATIONS, word).map(Operation::Half)
 }
 
 // The operation on a field that a word names; `negated` is passed on.
 fn field_operation(word: &[u8], negated: bool) -> Option<Operation>
     ensures { result ≡ spec.field_operation negated word.now }
 {
-    field_row(word).map(|op| Operation::Vfl { op, negated })
-}
-
-// The row of a word in the second table.
-fn field_row(word: &[u8]) -> Option<VflOp>
-    ensures { result ≡ row_of word.now spec.field_operations }
-{
-    row_of(&FIELD_OPERATIONS, word)
+    row_of(&FIELD_OPERATIONS, word).map(|op| Operation::Vfl { op, negated })
 }
 
 // An operation on a field whose mnemonic ends with N, for negated.
@@ -337,21 +316,7 @@ fn connective(word: &[u8]) -> Option<Operation>
         return None;
     }
     let (kind, digits) = word.split_at(word.len() - 4);
-    kind_row(kind)
-        .zip(table_row(digits))
+    row_of(&KINDS, kind)
+        .zip(row_of(&TRUTH_TABLES, digits))
         .map(|(kind, table)| Operation::Connect { kind, table })
-}
-
-// The kind of connective with this word.
-fn kind_row(word: &[u8]) -> Option<ConnKind>
-    ensures { result ≡ row_of word.now spec.connective_kinds }
-{
-    row_of(&KINDS, word)
-}
-
-// The truth table with these digits.
-fn table_row(digits: &[u8]) -> Option<u8>
-    ensures { result ≡ row_of digits.now spec.truth_tables }
-{
-    row_of(&TRUTH_TABLES, digits)
 }

@@ -1,15 +1,5 @@
 -- The results of reading a text; a text that is read is the object text of its program.
-use Rattle.std.proofs.Common.{◌≡◌, ◌≤◌, ◌<◌, ◌+◌, ◌==◌, ℕ, suc, Bool, true, false, List, [], ◌∷◌, ◌++◌, length, take, Option, Some, None, is_some, Result, Ok, Err, if◌then◌else◌, refl, ap, sym, subst, ◌∙◌, append_assoc, append-nil, arith, rules}
-use Rattle.std.specs.List.{flat_map}
-use Rattle.std.specs.Option.{option_map_or}
-use Rattle.std.proofs.lemmas.Bool.{eqb-true}
-use Rattle.std.proofs.lemmas.Bool.Decides.{nat_tests}
-use Rattle.st_text.specs.Bytes.{lf}
-use Rattle.st_text.specs.Pieces.{pieces_of, lacks}
-use Rattle.st_object.specs.Lines.{object_text_of}
-use Rattle.st_object.specs.Draft.{Draft, draft_at_start, IsDraft, is_empty, lines_read, is_whole}
-use Rattle.st_object.specs.Object.{Program, IsProgram, AreWords, object_text, program_of, draft_with_line, read_from, read_text, lines_in, text_lines}
-use Rattle.st_object.specs.declared.items.Item.{Item}
+use Rattle.st_object.proofs.Common.{◌≡◌, ◌≤◌, ◌<◌, ◌+◌, ◌==◌, ℕ, suc, Bool, true, false, List, [], ◌∷◌, ◌++◌, length, take, Option, Some, None, is_some, Result, Ok, Err, if◌then◌else◌, refl, ap, sym, subst, ◌∙◌, append_assoc, append-nil, arith, rules, flat_map, option_map_or, eqb-true, nat_tests, lf, pieces_of, lacks, object_text_of, Draft, draft_at_start, IsDraft, is_empty, lines_read, is_whole, Program, IsProgram, AreWords, object_text, program_of, draft_with_line, read_from, read_text, lines_in, text_lines, Item}
 use Rattle.st_object.proofs.LineByLine.{read_step, IsGood, good_line}
 use Rattle.st_object.proofs.WholeDrafts.{whole_program, whole_words, whole_lines_of}
 use Rattle.st_object.proofs.Completions.{IsOrderly, blank_orderly}

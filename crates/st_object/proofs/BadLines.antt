@@ -1,15 +1,5 @@
 -- A text that is refused has a bad line, and the number in the refusal is that of the first.
-use Rattle.std.proofs.Common.{◌≡◌, ◌<◌, ◌-◌, ℕ, suc, zero, List, [], ◌∷◌, ◌++◌, take, drop, Result, Ok, Err, IfOk, IfErr, refl, ap, sym, ◌∙◌, append_assoc, arith}
-use Rattle.std.proofs.lemmas.Bool.{cond_both}
-use Rattle.std.proofs.lemmas.List.{take-append-drop, take-take}
-use Rattle.std.proofs.lemmas.List.Concat.{flat_map-append}
-use Rattle.st_text.specs.Bytes.{lf}
-use Rattle.st_text.specs.Pieces.{pieces_of}
-use Rattle.st_text.proofs.PieceLemmas.{first_piece}
-use Rattle.st_object.specs.Draft.{draft_at_start, is_empty}
-use Rattle.st_object.specs.Object.{Program, IsProgram, object_text, read_from, read_text, text_lines, BeginsObjectText, IsBadLine}
-use Rattle.st_object.specs.Answers.{Gives, NamesBadLine}
-use Rattle.st_object.specs.declared.reading.ObjectError.{ObjectError}
+use Rattle.st_object.proofs.Common.{◌≡◌, ◌<◌, ◌-◌, ℕ, suc, zero, List, [], ◌∷◌, ◌++◌, take, drop, Result, Ok, Err, IfOk, IfErr, refl, ap, sym, ◌∙◌, append_assoc, arith, cond_both, take-append-drop, take-take, flat_map-append, lf, pieces_of, first_piece, draft_at_start, is_empty, Program, IsProgram, object_text, read_from, read_text, text_lines, BeginsObjectText, IsBadLine, Gives, NamesBadLine, ObjectError}
 use Rattle.st_object.specs.declared.reading.ObjectError.TheVariants.{Refused, NoMemory}
 use Rattle.st_object.proofs.AcceptedTexts.{closed, AreLines, cut, last_line, lines_in_all, Refuses, outcome, accepted}
 use Rattle.st_object.proofs.ReadBack.{parted_line, read_back}

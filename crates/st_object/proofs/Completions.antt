@@ -1,18 +1,6 @@
 -- Lines that were read can be followed by other lines up to a complete program.
-use Rattle.std.proofs.Common.{◌≡◌, ◌≤◌, ◌==◌, ℕ, Bool, true, false, not, List, [], ◌∷◌, ◌++◌, Some, unwrap_or, if◌then◌else◌, refl, ap, subst, ◌∙◌, append_assoc, arith}
-use Rattle.std.proofs.lemmas.Bool.{or_right, cond_both}
-use Rattle.std.proofs.lemmas.Bool.Decides.{nat_tests}
-use Rattle.std.proofs.lemmas.List.{length-map}
+use Rattle.st_object.proofs.Common.{◌≡◌, ◌≤◌, ◌==◌, ℕ, Bool, true, false, not, List, [], ◌∷◌, ◌++◌, Some, unwrap_or, if◌then◌else◌, refl, ap, subst, ◌∙◌, append_assoc, arith, or_right, cond_both, nat_tests, length-map, flat_map, is_in_range, AreDelays, order, row_of_kind, kinds_before, kinds_behind, kind_of_line, is_met, are_met, none_stands, Draft, draft_at_start, IsDraft, is_empty, kind_lines, lines_read, has_line, is_whole, with_item, object_text_of, program_of, BeginsObjectText, Item, Kind}
 use Rattle.std.proofs.lemmas.List.Sums.{AllPass-from_list_all}
-use Rattle.std.specs.List.{flat_map}
-use Rattle.st_card.specs.Controls.{is_in_range}
-use Rattle.st_card.specs.Limits.{AreDelays}
-use Rattle.st_object.specs.Order.{order, row_of_kind, kinds_before, kinds_behind, kind_of_line, is_met, are_met, none_stands}
-use Rattle.st_object.specs.Draft.{Draft, draft_at_start, IsDraft, is_empty, kind_lines, lines_read, has_line, is_whole, with_item}
-use Rattle.st_object.specs.Lines.{object_text_of}
-use Rattle.st_object.specs.Object.{program_of, BeginsObjectText}
-use Rattle.st_object.specs.declared.items.Item.{Item}
-use Rattle.st_object.specs.declared.items.Kind.{Kind}
 use Rattle.st_object.proofs.FurtherLines.{no_lines_of, cut, IsPut, added}
 use Rattle.st_object.proofs.WrittenLines.{text_of-append}
 use Rattle.st_object.proofs.WholeDrafts.{start_small, whole_program, whole_words, whole_lines_of}

@@ -1,22 +1,6 @@
 -- The invariants of drafts are preserved by a further line.
-use Rattle.std.proofs.Common.{◌≡◌, ◌+◌, ◌≤◌, ◌<◌, ◌-◌, ◌^◌, ℕ, Bool, true, false, nat_lt, List, [], ◌∷◌, ◌++◌, length, get_or, replicate, Option, Some, None, if◌then◌else◌, ap, sym, ◌∙◌, length-append, arith, lit<}
+use Rattle.st_object.proofs.Common.{◌≡◌, ◌+◌, ◌≤◌, ◌<◌, ◌-◌, ◌^◌, ℕ, Bool, true, false, nat_lt, List, [], ◌∷◌, ◌++◌, length, get_or, replicate, Option, Some, None, if◌then◌else◌, ap, sym, ◌∙◌, length-append, arith, lit<, common_steps, AllPass, option_map, length-replicate, All-append, All-replicate, nat_tests, words_of_storage, keyword_of, numbers_of, Asked, with_control, Control, is_tick, keyword-kept, then-is, then-unlisted, Draft, IsDraft, may_hold, draft_with_value, with_item, Item, Object, Start, Word, Fin, Ask}
 use Rattle.std.proofs.lemmas.Bool.{ltb-true as below}
-use Rattle.std.proofs.lemmas.Grind.{common_steps}
-use Rattle.std.specs.List.{AllPass}
-use Rattle.std.specs.Option.{option_map}
-use Rattle.std.proofs.lemmas.List.{length-replicate}
-use Rattle.std.proofs.lemmas.List.Elements.{All-append, All-replicate}
-use Rattle.std.proofs.lemmas.Bool.Decides.{nat_tests}
-use Rattle.st_bits.specs.Storage.{words_of_storage}
-use Rattle.st_card.specs.Keywords.{keyword_of, numbers_of}
-use Rattle.st_card.specs.Controls.{Asked, with_control}
-use Rattle.st_card.specs.declared.keywords.Control.{Control}
-use Rattle.st_card.specs.Limits.{is_tick}
-use Rattle.st_card.proofs.LimitLemmas.{keyword-kept}
-use Rattle.st_card.proofs.Requests.{then-is, then-unlisted}
-use Rattle.st_object.specs.Draft.{Draft, IsDraft, may_hold, draft_with_value, with_item}
-use Rattle.st_object.specs.declared.items.Item.{Item}
-use Rattle.st_object.specs.declared.items.Item.TheVariants.{Object, Start, Word, Fin, Ask}
 use Rattle.st_object.proofs.LineMeanings.{IsNarrow}
 
 -- adding a word above the registers leaves the registers zero

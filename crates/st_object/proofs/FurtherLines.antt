@@ -1,22 +1,5 @@
 -- A line that is added comes after the lines that were read before.
-use Rattle.std.proofs.Common.{◌≡◌, ◌≤◌, ◌+◌, ◌-◌, ◌==◌, ◌&&◌, ◌||◌, ℕ, suc, zero, Bool, true, false, not, Option, List, [], ◌∷◌, ◌++◌, length, map, replicate, Some, None, if◌then◌else◌, refl, ap, sym, subst, ◌∙◌, append_assoc, append-nil, arith}
-use Rattle.std.proofs.lemmas.List.{map-append}
-use Rattle.std.proofs.lemmas.List.Concat.{flat_map-append}
-use Rattle.std.proofs.lemmas.Bool.Decides.{nat_tests}
-use Rattle.std.proofs.lemmas.Grind.{common_steps}
-use Rattle.std.specs.List.{flat_map}
-use Rattle.std.specs.Option.{option_map}
-use Rattle.st_card.specs.Keywords.{keyword_of}
-use Rattle.st_card.specs.Controls.{Asked, with_control}
-use Rattle.st_card.specs.Written.{asked_by}
-use Rattle.st_card.specs.declared.keywords.Control.{Control}
-use Rattle.st_card.proofs.Requests.{asked_then, then-is, then-last}
-use Rattle.st_object.specs.Lines.{word_lines}
-use Rattle.st_object.specs.Order.{order, row_of_kind, kinds_before, kinds_behind, kind_of_line, are_met, none_stands}
-use Rattle.st_object.specs.Draft.{Draft, is_empty, kind_lines, lines_read, has_line, has_place, draft_with_value, with_item}
-use Rattle.st_object.specs.declared.items.Item.{Item}
-use Rattle.st_object.specs.declared.items.Item.TheVariants.{Object, Start, Word, Fin, Ask}
-use Rattle.st_object.specs.declared.items.Kind.{Kind}
+use Rattle.st_object.proofs.Common.{◌≡◌, ◌≤◌, ◌+◌, ◌-◌, ◌==◌, ◌&&◌, ◌||◌, ℕ, suc, zero, Bool, true, false, not, Option, List, [], ◌∷◌, ◌++◌, length, map, replicate, Some, None, if◌then◌else◌, refl, ap, sym, subst, ◌∙◌, append_assoc, append-nil, arith, map-append, flat_map-append, nat_tests, common_steps, flat_map, option_map, keyword_of, Asked, with_control, asked_by, Control, asked_then, then-is, then-last, word_lines, order, row_of_kind, kinds_before, kinds_behind, kind_of_line, are_met, none_stands, Draft, is_empty, kind_lines, lines_read, has_line, has_place, draft_with_value, with_item, Item, Object, Start, Word, Fin, Ask, Kind}
 use Rattle.st_object.specs.declared.items.Kind.TheVariants as kinds
 
 -- a list of length zero is empty

@@ -1,13 +1,5 @@
 -- Lemmas on reading a text line by line.
-use Rattle.std.proofs.Common.{◌≡◌, ◌+◌, ℕ, List, [], ◌∷◌, ◌++◌, length, Option, Some, None, Result, Err, arith, refl, ap, sym, ◌∙◌, append_assoc, append-nil, length-append}
-use Rattle.std.specs.Option.{option_map_or, option_and_then}
-use Rattle.st_text.specs.Pieces.{pieces_of}
-use Rattle.st_text.proofs.PieceLemmas.{first_piece}
-use Rattle.st_object.specs.Lines.{line_text, object_text_of}
-use Rattle.st_object.specs.Draft.{Draft, IsDraft, lines_read, with_item}
-use Rattle.st_object.specs.Meaning.{item_in}
-use Rattle.st_object.specs.Object.{Program, draft_with_line, read_from}
-use Rattle.st_object.specs.declared.items.Item.{Item}
+use Rattle.st_object.proofs.Common.{◌≡◌, ◌+◌, ℕ, List, [], ◌∷◌, ◌++◌, length, Option, Some, None, Result, Err, arith, refl, ap, sym, ◌∙◌, append_assoc, append-nil, length-append, option_map_or, option_and_then, pieces_of, first_piece, line_text, object_text_of, Draft, IsDraft, lines_read, with_item, item_in, Program, draft_with_line, read_from, Item}
 use Rattle.st_object.proofs.LineMeanings.{told}
 use Rattle.st_object.proofs.FurtherLines.{grown}
 use Rattle.st_object.proofs.DraftLemmas.{kept}

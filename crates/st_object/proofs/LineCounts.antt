@@ -1,16 +1,5 @@
 -- A bound on the number of lines of a draft.
-use Rattle.std.proofs.Common.{◌≤◌, ◌+◌, ◌*◌, ℕ, Bool, List, [], ◌∷◌, ◌++◌, length, map, Option, length-append, arith}
-use Rattle.std.specs.List.{flat_map}
-use Rattle.std.proofs.lemmas.List.{length-map}
-use Rattle.st_bits.specs.Storage.{words_of_storage_is}
-use Rattle.st_card.specs.Keywords.{keyword_order}
-use Rattle.st_card.specs.Written.{where_asked}
-use Rattle.st_card.specs.declared.keywords.Keyword.{Keyword}
-use Rattle.st_card.proofs.Requests.{few-asked}
-use Rattle.st_object.specs.Lines.{word_lines}
-use Rattle.st_object.specs.Draft.{Draft, IsDraft, start_lines, kind_lines, lines_read}
-use Rattle.st_object.specs.declared.items.Item.{Item}
-use Rattle.st_object.specs.declared.items.Item.TheVariants.{Object, Fin}
+use Rattle.st_object.proofs.Common.{◌≤◌, ◌+◌, ◌*◌, ℕ, Bool, List, [], ◌∷◌, ◌++◌, length, map, Option, length-append, arith, flat_map, length-map, words_of_storage_is, keyword_order, where_asked, Keyword, few-asked, word_lines, Draft, IsDraft, start_lines, kind_lines, lines_read, Item, Object, Fin}
 use Rattle.st_object.specs.declared.items.Kind.TheVariants as kinds
 
 few_marked : (b : Bool) (item : Item) → length (where_asked b item) ≤ 1

@@ -1,21 +1,5 @@
 -- A line that was read is the spelling of its item.
-use Rattle.std.proofs.Common.{◌≡◌, ◌<◌, ◌%◌, ◌^◌, ℕ, List, [], Option, Some, None, refl, subst, arith}
-use Rattle.std.specs.List.{AllPass}
-use Rattle.std.specs.Option.{option_map, option_and_then}
-use Rattle.std.specs.Cmp.Lexicographic.{same_text}
-use Rattle.st_text.specs.Pieces.{words}
-use Rattle.st_card.specs.Cards.{columns}
-use Rattle.st_card.specs.Keywords.{numbers_of, control_of, card_numbers, control_in}
-use Rattle.st_card.specs.Limits.{is_tick}
-use Rattle.st_card.specs.declared.keywords.Keyword.{Keyword}
-use Rattle.st_card.specs.declared.keywords.Control.{Control}
-use Rattle.st_card.proofs.LimitLemmas.{numbers-short}
-use Rattle.st_card.proofs.Requests.{control-parts}
-use Rattle.st_object.specs.Lines.{line_text}
-use Rattle.st_object.specs.Meaning.{hex_number, kind_of_word, item_behind, item_loosely, item_in}
-use Rattle.st_object.specs.declared.items.Item.{Item}
-use Rattle.st_object.specs.declared.items.Item.TheVariants.{Word, Ask}
-use Rattle.st_object.specs.declared.items.Kind.{Kind}
+use Rattle.st_object.proofs.Common.{◌≡◌, ◌<◌, ◌%◌, ◌^◌, ℕ, List, [], Option, Some, None, refl, subst, arith, AllPass, option_map, option_and_then, same_text, words, columns, numbers_of, control_of, card_numbers, control_in, is_tick, Keyword, Control, numbers-short, control-parts, line_text, hex_number, kind_of_word, item_behind, item_loosely, item_in, Item, Word, Ask, Kind}
 use Rattle.st_object.specs.declared.items.Kind.TheVariants as kinds
 
 -- the property of an item that the rest of a program needs: a word has 64 bits, and the numbers of a

@@ -1,34 +1,13 @@
 -- Object texts that differ only in their delay lines contain programs that differ only in their
 -- delays.
-use Rattle.std.proofs.Common.{◌≡◌, ◌≤◌, ◌+◌, ◌==◌, ℕ, Bool, true, false, not, List, [], ◌∷◌, ◌++◌, drop, map, filter, Ok, refl, sym, subst, ◌∙◌, ap, append_assoc, append-nil, arith}
-use Rattle.std.proofs.lemmas.Bool.{cond_both}
-use Rattle.std.proofs.lemmas.Bool.Decides.{nat_tests}
-use Rattle.std.proofs.lemmas.List.{map-append}
-use Rattle.std.proofs.lemmas.List.Elements.{filter-append}
-use Rattle.st_text.specs.Bytes.{line_end}
-use Rattle.st_text.specs.Pieces.{pieces_of}
-use Rattle.std.specs.List.{All, flat_map, list_all}
+use Rattle.st_object.proofs.Common.{◌≡◌, ◌≤◌, ◌+◌, ◌==◌, ℕ, Bool, true, false, not, List, [], ◌∷◌, ◌++◌, drop, map, filter, Ok, refl, sym, subst, ◌∙◌, ap, append_assoc, append-nil, arith, cond_both, nat_tests, map-append, filter-append, line_end, pieces_of, All, flat_map, list_all, All-head, All-tail, keyword_order, keyword_of, Asked, control_line, asked_by, Budget, Delays, Keyword, Control, others-within, asked-keyword, line_text, word_lines, draft_at_start, Program, IsProgram, AreWords, object_lines, object_text, read_from, read_text, Item, Object, Start, Word, Fin, Ask}
 use Rattle.std.proofs.lemmas.Bool.{and_parts as both}
-use Rattle.std.proofs.lemmas.List.Elements.{All-head, All-tail}
-use Rattle.st_card.specs.Keywords.{keyword_order, keyword_of}
-use Rattle.st_card.specs.Controls.{Asked}
-use Rattle.st_card.specs.Written.{control_line, asked_by}
-use Rattle.st_card.specs.declared.keywords.Number.TheVariants.{Budget, Delays}
-use Rattle.st_card.specs.declared.keywords.Keyword.{Keyword}
-use Rattle.st_card.specs.declared.keywords.Keyword.TheVariants as keywords
-use Rattle.st_card.specs.declared.keywords.Control.{Control}
 use Rattle.st_card.specs.declared.keywords.Control.TheVariants.{Number}
-use Rattle.st_card.proofs.LimitLemmas.{others-within}
-use Rattle.st_card.proofs.Requests.{asked-keyword}
-use Rattle.st_object.specs.Lines.{line_text, word_lines}
-use Rattle.st_object.specs.Draft.{draft_at_start}
-use Rattle.st_object.specs.Object.{Program, IsProgram, AreWords, object_lines, object_text, read_from, read_text}
-use Rattle.st_object.specs.declared.items.Item.{Item}
-use Rattle.st_object.specs.declared.items.Item.TheVariants.{Object, Start, Word, Fin, Ask}
 use Rattle.st_object.proofs.AcceptedTexts.{accepted}
 use Rattle.st_object.proofs.ProgramLines.{made_again}
 use Rattle.st_object.proofs.ReadBack.{parted-text_of, read_back}
 use Rattle.st_object.specs.DelayLines.{is_delay_line, is_budget_line, with_delay_lines, DifferInDelayLines, HasDelayLines}
+use Rattle.st_card.specs.declared.keywords.Keyword.TheVariants as keywords
 
 -- the lines of items
 abbrev lines_of : List Item → List (List ℕ)

@@ -1,10 +1,6 @@
 -- Lemmas on splitting a text at the first occurrence of a byte.
-use Rattle.std.proofs.Common.{◌≡◌, ℕ, true, IsTrue, List, [], ◌∷◌, ◌++◌, Option, Some, None, MatchOption, IfSome, refl, ap, sym, ◌∙◌, arith}
-use Rattle.std.proofs.lemmas.Bool.{eq-eqb}
-use Rattle.std.specs.Option.{option_map}
+use Rattle.st_object.proofs.Common.{◌≡◌, ℕ, true, IsTrue, List, [], ◌∷◌, ◌++◌, Option, Some, None, MatchOption, IfSome, refl, ap, sym, ◌∙◌, arith, eq-eqb, option_map, lacks, parts_at}
 use Rattle.std.specs.Borrow.{Bor}
-use Rattle.st_text.specs.Pieces.{lacks}
-use Rattle.st_object.specs.Meaning.{parts_at}
 
 -- a text around the byte is split there
 pub parts_around : (at : ℕ) (front back : List ℕ) → lacks at front ≡ true → parts_at at (front ++ at ∷ back) ≡ Some (front, back)

@@ -1,28 +1,10 @@
 -- The lines of a program, added one by one, make that program.
-use Rattle.std.proofs.Common.{◌≡◌, ◌≤◌, ◌<◌, ◌+◌, ◌-◌, ◌^◌, ◌==◌, ℕ, suc, Bool, true, false, List, [], ◌∷◌, ◌++◌, length, get_or, map, replicate, Some, refl, ap, sym, subst, ◌∙◌, append_assoc, append-nil, length-append, arith}
-use Rattle.std.proofs.lemmas.Bool.{cond_both, eqb-true as same_number, lt-ltb as below}
-use Rattle.std.specs.List.{All}
-use Rattle.std.proofs.lemmas.Bool.Decides.{nat_tests}
-use Rattle.std.proofs.lemmas.Grind.{common_steps}
-use Rattle.std.proofs.lemmas.List.{length-map, length-replicate, map-append, replicate_more}
-use Rattle.st_bits.specs.Storage.{words_of_storage, words_of_storage_is}
-use Rattle.st_card.specs.Keywords.{place, keyword_of}
-use Rattle.st_card.specs.Controls.{Asked, nothing_asked, with_control}
-use Rattle.st_card.specs.Written.{asked_by, requests}
-use Rattle.st_card.specs.declared.keywords.Number.TheVariants.{Delays}
-use Rattle.st_card.specs.declared.keywords.Keyword.{Keyword}
-use Rattle.st_card.specs.declared.keywords.Control.{Control}
-use Rattle.st_card.specs.declared.keywords.Control.TheVariants as asks
-use Rattle.st_card.proofs.Requests.{Steps, asked_before, steps-of, all-steps}
-use Rattle.st_object.specs.Lines.{word_lines}
-use Rattle.st_object.specs.Draft.{Draft, draft_at_start, is_whole, has_place, may_hold, draft_with_value, with_item}
-use Rattle.st_object.specs.Meaning.{IsItem}
-use Rattle.st_object.specs.Object.{Program, IsProgram, AreWords, object_lines, filled_up, program_of}
-use Rattle.st_object.specs.declared.items.Item.{Item}
-use Rattle.st_object.specs.declared.items.Item.TheVariants.{Object, Start, Word, Fin, Ask}
-use Rattle.st_object.specs.declared.items.Kind.TheVariants as kinds
+use Rattle.st_object.proofs.Common.{◌≡◌, ◌≤◌, ◌<◌, ◌+◌, ◌-◌, ◌^◌, ◌==◌, ℕ, suc, Bool, true, false, List, [], ◌∷◌, ◌++◌, length, get_or, map, replicate, Some, refl, ap, sym, subst, ◌∙◌, append_assoc, append-nil, length-append, arith, cond_both, All, nat_tests, common_steps, length-map, length-replicate, map-append, replicate_more, words_of_storage, words_of_storage_is, place, keyword_of, Asked, nothing_asked, with_control, asked_by, requests, Delays, Keyword, Control, Steps, asked_before, steps-of, all-steps, word_lines, Draft, draft_at_start, is_whole, has_place, may_hold, draft_with_value, with_item, IsItem, Program, IsProgram, AreWords, object_lines, filled_up, program_of, Item, Object, Start, Word, Fin, Ask}
+use Rattle.std.proofs.lemmas.Bool.{eqb-true as same_number, lt-ltb as below}
 use Rattle.st_object.proofs.FurtherLines.{place_kept}
 use Rattle.st_object.proofs.WrittenLines.{draft_of}
+use Rattle.st_card.specs.declared.keywords.Control.TheVariants as asks
+use Rattle.st_object.specs.declared.items.Kind.TheVariants as kinds
 
 -- a line that can be read and may come next
 abbrev IsStep : Draft → Item → Draft → Type 0

@@ -1,13 +1,5 @@
 -- The object text of a program is read as that program.
-use Rattle.std.proofs.Common.{◌≡◌, ◌+◌, ◌==◌, ℕ, true, not, List, [], ◌∷◌, ◌++◌, map, decimal, Some, Ok, refl, ap, append_assoc, arith}
-use Rattle.std.proofs.lemmas.Grind.{common_steps}
-use Rattle.st_text.specs.Pieces.{pieces_of, lacks}
-use Rattle.st_card.specs.Written.{IsShort, control_line}
-use Rattle.st_object.specs.Lines.{line_text, object_text_of}
-use Rattle.st_object.specs.Draft.{Draft, draft_at_start, with_item, is_whole}
-use Rattle.st_object.specs.Meaning.{IsItem}
-use Rattle.st_object.specs.Object.{Program, IsProgram, AreWords, object_lines, object_text, program_of, draft_with_line, read_from, read_text}
-use Rattle.st_object.specs.declared.items.Item.{Item}
+use Rattle.st_object.proofs.Common.{◌≡◌, ◌+◌, ◌==◌, ℕ, true, not, List, [], ◌∷◌, ◌++◌, map, decimal, Some, Ok, refl, ap, append_assoc, arith, common_steps, pieces_of, lacks, IsShort, control_line, line_text, object_text_of, Draft, draft_at_start, with_item, is_whole, IsItem, Program, IsProgram, AreWords, object_lines, object_text, program_of, draft_with_line, read_from, read_text, Item}
 use Rattle.st_object.proofs.Spellings.{short_small, lacks-decimal, lacks-hex, parted_once, spelled_again}
 use Rattle.st_object.proofs.LineByLine.{read_step}
 use Rattle.st_object.proofs.ProgramLines.{Leads, made_again}

@@ -1,7 +1,6 @@
 -- Each text has its specified reading.
+use Rattle.st_object.proofs.Common.{◌≡◌, ℕ, List, refl, ap, ◌∙◌, Program, IsReading, read_text}
 use Rattle.std.specs.Prelude.{Result, Ok, Err}
-use Rattle.std.proofs.Common.{◌≡◌, ℕ, List, refl, ap, ◌∙◌}
-use Rattle.st_object.specs.Object.{Program, IsReading, read_text}
 use Rattle.st_object.proofs.AcceptedTexts.{accepted}
 use Rattle.st_object.proofs.ReadBack.{read_back}
 use Rattle.st_object.proofs.BadLines.{bad_line, refused_there}

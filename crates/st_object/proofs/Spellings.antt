@@ -1,39 +1,19 @@
 -- The line of an item is read as that item, and a line that is read as an item is its line.
-use Rattle.std.proofs.Common.{◌≡◌, ◌<◌, ◌+◌, ◌*◌, ◌/◌, ◌%◌, ◌^◌, ◌==◌, ℕ, suc, zero, true, not, List, [], ◌∷◌, ◌++◌, Option, Some, None, if◌then◌else◌, nat_lt, false, ◌≤◌, length, decimal, refl, sym, ◌∙◌, ap, append_assoc, length-append, arith, rules}
+use Rattle.st_object.proofs.Common.{◌≡◌, ◌<◌, ◌+◌, ◌*◌, ◌/◌, ◌%◌, ◌^◌, ◌==◌, ℕ, suc, zero, true, not, List, [], ◌∷◌, ◌++◌, Option, Some, None, if◌then◌else◌, nat_lt, false, ◌≤◌, length, decimal, refl, sym, ◌∙◌, ap, append_assoc, length-append, arith, rules, list_all, other_text, nat_tests, common_steps, eq-eqb, take_all, list_all-append, pieces_of, lacks, columns, option_map, option_and_then, keyword_text, card_number, control_in, IsShort, control_line, ObjectLine, Keyword, Control, line_text, parts_at, short_number, two_numbers, IsItem, hex_digit_in, hex_number, word_in, kind_of_word, item_behind, item_loosely, item_in, Item, Object, Start, Word, Ask, Fin, is-word}
 use Rattle.std.specs.Char.{is_ascii_digit}
-use Rattle.std.specs.List.{list_all}
-use Rattle.std.specs.Cmp.Lexicographic.{other_text}
-use Rattle.std.proofs.lemmas.Bool.Decides.{nat_tests}
-use Rattle.std.proofs.lemmas.Grind.{common_steps}
 use Rattle.std.proofs.lemmas.Str.Parse.{IsNumeralModel, numerals_by_fold}
-use Rattle.std.proofs.lemmas.Bool.{eq-eqb}
 use Rattle.std.proofs.lemmas.Fmt.{digits_decimal, digits_value-decimal, decimal_nonempty, length-decimal-le}
-use Rattle.std.proofs.lemmas.List.{take_all}
-use Rattle.std.proofs.lemmas.List.Folds.{list_all-append}
 use Rattle.std.proofs.Math.Nat.{mod-eq_of_lt, pow-succ', add-mul}
 use Rattle.st_text.specs.Numerals.{hex_digit, hex_text, hex_word, half_address}
 use Rattle.st_text.specs.Number.{is_filled, digits_value, value_after}
-use Rattle.st_text.specs.Pieces.{pieces_of, lacks}
 use Rattle.st_text.specs.Tables.{is_same}
-use Rattle.st_card.specs.Cards.{columns}
-use Rattle.std.specs.Option.{option_map, option_and_then}
-use Rattle.st_card.specs.Keywords.{keyword_text, card_number, control_in}
-use Rattle.st_card.specs.Written.{IsShort, control_line}
-use Rattle.st_card.specs.declared.keywords.ControlForm.TheVariants.{ObjectLine}
 use Rattle.st_card.specs.declared.keywords.Mark.{Mark}
-use Rattle.st_card.specs.declared.keywords.Keyword.{Keyword}
-use Rattle.st_card.specs.declared.keywords.Control.{Control}
 use Rattle.st_card.specs.declared.keywords.Number.{Number}
 use Rattle.st_card.specs.declared.keywords.Pair.{Pair}
+use Rattle.st_object.proofs.Parts.{parts_around, parts_none}
 use Rattle.st_card.specs.declared.keywords.Keyword.TheVariants as keywords
 use Rattle.st_card.specs.declared.keywords.Control.TheVariants as asks
-use Rattle.st_object.specs.Lines.{line_text}
-use Rattle.st_object.specs.Meaning.{parts_at, short_number, two_numbers, IsItem, hex_digit_in, hex_number, word_in, kind_of_word, item_behind, item_loosely, item_in}
-use Rattle.st_object.specs.declared.items.Item.{Item}
-use Rattle.st_object.specs.declared.items.Item.TheVariants.{Object, Start, Word, Ask, Fin}
 use Rattle.st_object.specs.declared.items.Kind.TheVariants as kinds
-use Rattle.st_object.proofs.Parts.{parts_around, parts_none}
-use Rattle.st_card.proofs.Requests.{is-word}
 
 own : IsNumeralModel (λ ds. list_all is_ascii_digit ds ≡ true) (value_after 0)
 own = numerals_by_fold _ (search rules) value_after (search rules)

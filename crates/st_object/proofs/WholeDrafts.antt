@@ -1,13 +1,5 @@
 -- A complete draft describes a program, and its lines are the program's object text.
-use Rattle.std.proofs.Common.{◌≡◌, ◌≤◌, ◌<◌, ◌-◌, ◌^◌, ℕ, true, List, ◌++◌, length, get_or, replicate, Option, Some, IfSome, unwrap_or, ap, sym, ◌∙◌, append-nil, length-append, arith, lit<}
-use Rattle.std.proofs.lemmas.Bool.Decides.{nat_tests}
-use Rattle.std.proofs.lemmas.Grind.{common_steps}
-use Rattle.std.proofs.lemmas.List.{length-map, length-replicate}
-use Rattle.std.proofs.lemmas.List.Elements.{All-append, All-replicate}
-use Rattle.st_bits.specs.Storage.{words_of_storage}
-use Rattle.st_object.specs.Lines.{word_lines}
-use Rattle.st_object.specs.Draft.{Draft, IsDraft, lines_read, is_whole}
-use Rattle.st_object.specs.Object.{IsProgram, AreWords, object_lines, filled_up, program_of}
+use Rattle.st_object.proofs.Common.{◌≡◌, ◌≤◌, ◌<◌, ◌-◌, ◌^◌, ℕ, true, List, ◌++◌, length, get_or, replicate, Option, Some, IfSome, unwrap_or, ap, sym, ◌∙◌, append-nil, length-append, arith, lit<, nat_tests, common_steps, length-map, length-replicate, All-append, All-replicate, words_of_storage, word_lines, Draft, IsDraft, lines_read, is_whole, IsProgram, AreWords, object_lines, filled_up, program_of}
 use Rattle.st_object.proofs.FurtherLines.{word_lines-append, word_lines-zeros}
 use Rattle.st_object.proofs.WrittenLines.{whole_lines}
 

@@ -1,23 +1,7 @@
 -- Lemmas on writing an object text line by line.
-use Rattle.std.proofs.Common.{◌≡◌, ◌<◌, ◌+◌, ℕ, true, List, [], ◌∷◌, ◌++◌, length, map, take, get_or, refl, ap, sym, ◌∙◌, append_assoc, arith, Some}
-use Rattle.std.specs.List.{flat_map}
-use Rattle.std.proofs.lemmas.List.{map-append}
-use Rattle.std.proofs.lemmas.List.Folds.{flat_map-map}
-use Rattle.std.proofs.lemmas.Grind.{common_steps}
-use Rattle.std.proofs.lemmas.List.Concat.{flat_map-append}
-use Rattle.st_text.specs.Bytes.{lf}
-use Rattle.st_card.specs.Keywords.{keyword_order}
-use Rattle.st_card.specs.Written.{control_line, text_of_lines, unless_zero, asked_by, requests}
-use Rattle.st_card.specs.declared.keywords.Keyword.{Keyword}
-use Rattle.st_card.specs.declared.keywords.Control.{Control}
-use Rattle.st_card.specs.declared.keywords.ControlForm.TheVariants.{ObjectLine}
-use Rattle.st_object.specs.Lines.{line_text, object_text_of, word_lines}
-use Rattle.st_object.specs.Draft.{Draft, kind_lines, lines_read}
-use Rattle.st_object.specs.Object.{Program, object_lines}
-use Rattle.st_object.specs.declared.items.Item.{Item}
-use Rattle.st_object.specs.declared.items.Kind.TheVariants as kinds
-use Rattle.st_object.specs.declared.items.Item.TheVariants.{Object, Start, Word, Fin, Ask}
+use Rattle.st_object.proofs.Common.{◌≡◌, ◌<◌, ◌+◌, ℕ, true, List, [], ◌∷◌, ◌++◌, length, map, take, get_or, refl, ap, sym, ◌∙◌, append_assoc, arith, Some, flat_map, map-append, flat_map-map, common_steps, flat_map-append, lf, keyword_order, control_line, text_of_lines, unless_zero, asked_by, requests, Keyword, Control, ObjectLine, line_text, object_text_of, word_lines, Draft, kind_lines, lines_read, Program, object_lines, Item, Object, Start, Word, Fin, Ask}
 use Rattle.st_object.proofs.FurtherLines.{word_lines-append}
+use Rattle.st_object.specs.declared.items.Kind.TheVariants as kinds
 
 pub text_of-append : (xs ys : List Item) → object_text_of (xs ++ ys) ≡ object_text_of xs ++ object_text_of ys
 text_of-append xs ys = flat_map-append (λ i. line_text i ++ lf) xs ys

@@ -158,20 +158,18 @@ impl Draft {
         ensures { Settles self.new (spec.draft_with_value self.old item) result }
     {
         match item {
-            Item::Object => self.put_object(),
+            Item::Object => {
+                self.begun = true;
+                Addition::Added
+            }
             Item::Start(half) => self.put_start(half),
             Item::Word(address, word) => self.put_word(address, word),
             Item::Ask(control) => self.controls.add_control(control),
-            Item::Fin => self.put_fin(),
+            Item::Fin => {
+                self.ended = true;
+                Addition::Added
+            }
         }
-    }
-
-    // Adds the line OBJECT.
-    fn put_object(&mut self) -> Addition
-        ensures { Settles self.new (Some (record self.old { begun = true })) result }
-    {
-        self.begun = true;
-        Addition::Added
     }
 
     // Adds the start, if it is a half-word address of the first 2^18 words.
@@ -195,14 +193,6 @@ impl Draft {
         } else {
             Addition::Refused
         }
-    }
-
-    // Adds the line FIN.
-    fn put_fin(&mut self) -> Addition
-        ensures { Settles self.new (Some (record self.old { ended = true })) result }
-    {
-        self.ended = true;
-        Addition::Added
     }
 }
 

@@ -15,12 +15,11 @@ ghost use Rattle.std.specs.Option.{option_map};
 ghost use Rattle.st_card.specs.declared.limits.TheConstants.{MOST_NUMBER};
 ghost use Rattle.st_text.specs.Bytes.{blank};
 ghost use Rattle.st_object.specs.Meaning as spec;
-ghost use Rattle.st_object.specs.declared.items.Kind.TheVariants as kinds;
 
 use crate::items::{Item, Kind};
 use crate::spelling::spelled;
 use st_card::limits::MOST_NUMBER;
-use st_card::{ControlForm, Keyword, control_in, keyword_in};
+use st_card::{ControlForm, control_in, keyword_in};
 use st_text::{cut, number_up_to, row_of};
 
 // The words at the beginning of lines that are no requests.
@@ -46,15 +45,6 @@ fn short_number(text: &[u8]) -> Option<u64>
     number_up_to(text, MOST_NUMBER)
 }
 
-// Two numbers with a separator byte between them.
-fn two_numbers(at: u8, text: &[u8]) -> Option<(u64, u64)>
-    ensures value { result ≡ spec.two_numbers at text.now }
-    ensures short { IfSome result (λ p. p.0 ≤ MOST_NUMBER) }
-{
-    let (first, second) = parts_at(at, text)?;
-    Some((short_number(first)?, short_number(second)?))
-}
-
 // The value of a hexadecimal digit.
 fn hex_digit_in(c: u8) -> u8
     ensures value { result ≡ spec.hex_digit_in c }
@@ -77,38 +67,22 @@ fn hex_in(text: &[u8]) -> u64
     number
 }
 
-// Parses a word of storage: its address and its contents.
-fn word_in(text: &[u8]) -> Option<Item>
-    ensures { result ≡ spec.word_in text.now }
-{
-    let (address, word) = parts_at(b' ', text)?;
-    Some(Item::Word(short_number(address)?, hex_in(word)))
-}
-
-// Parses a start as a half-word address.
-fn start_in(text: &[u8]) -> Option<Item>
-    ensures { result ≡ spec.item_behind kinds.Start text.now }
-{
-    let (word, bit) = two_numbers(b'.', text)?;
-    Some(Item::Start(2 * word + bit / 32))
-}
-
-// Parses a request, given its keyword and the text after that.
-fn request_in(keyword: Keyword, text: &[u8]) -> Option<Item>
-    ensures { result ≡ spec.item_behind (kinds.Ask keyword) text.now }
-{
-    Some(Item::Ask(control_in(keyword, text)?))
-}
-
 // Parses the text after the word of this kind.
 fn item_behind(kind: Kind, text: &[u8]) -> Option<Item>
     ensures { result ≡ spec.item_behind kind text.now }
 {
     match kind {
         Kind::Object => Some(Item::Object),
-        Kind::Start => start_in(text),
-        Kind::Word => word_in(text),
-        Kind::Ask(keyword) => request_in(keyword, text),
+        Kind::Start => {
+            let (word, bit) = parts_at(b'.', text)?;
+            let (word, bit) = (short_number(word)?, short_number(bit)?);
+            Some(Item::Start(2 * word + bit / 32))
+        }
+        Kind::Word => {
+            let (address, word) = parts_at(b' ', text)?;
+            Some(Item::Word(short_number(address)?, hex_in(word)))
+        }
+        Kind::Ask(keyword) => Some(Item::Ask(control_in(keyword, text)?)),
         Kind::Fin => Some(Item::Fin),
     }
 }

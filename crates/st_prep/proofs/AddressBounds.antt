@@ -1,11 +1,5 @@
 -- Effective addresses are bit addresses.
-use Rattle.std.proofs.Common.{ℕ, ◌*◌, ◌^◌, ◌<◌, ℤ, pos, negsuc, ◌+ℤ◌, List, arith}
-use Rattle.std.specs.Prelude.{nat_lt, slice_index}
-use Rattle.st_bits.specs.IndexWord.{index_value}
-use Rattle.st_format.specs.declared.instruction.Instr.{Instr}
-use Rattle.st_format.specs.declared.instruction.Instr.TheVariants.{Half, Branch, Floating, Vfl, Connect, Move, BitBranch, IndBranch, StoreCounter, Transfer, Invalid}
-use Rattle.st_index.specs.IndexChange.{modulo, effective_address}
-use Rattle.st_prep.specs.SpeculativeChanges.{index_operand, half_word_address, full_word_address, field_address, effective}
+use Rattle.st_prep.proofs.Common.{ℕ, ◌*◌, ◌^◌, ◌<◌, ℤ, pos, negsuc, ◌+ℤ◌, List, arith, nat_lt, slice_index, index_value, Instr, Half, Branch, Floating, Vfl, Connect, Move, BitBranch, IndBranch, StoreCounter, Transfer, Invalid, modulo, effective_address, index_operand, half_word_address, full_word_address, field_address, effective}
 use Rattle.st_prep.proofs.Choices.{of_choice}
 
 modulo-below : (z : ℤ) → modulo z (2 ^ 24) < 2 ^ 24

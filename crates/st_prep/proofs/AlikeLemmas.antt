@@ -1,20 +1,5 @@
 -- A prepared entry depends only on the words read for it: on the indicators only as its index-side word.
-use Rattle.std.proofs.Common.{◌≡◌, ◌≢◌, ℕ, ◌+◌, ◌*◌, ◌%◌, ◌^◌, ◌<◌, ◌≤◌, Bool, true, false, ◌==◌, List, length, take, drop, get_or, set, Option, None, Some, refl, sym, subst, ◌∙◌, ap, arith, get_or-set_other}
-use Rattle.std.proofs.lemmas.Grind.{get_or-set_at}
-use Rattle.std.proofs.lemmas.Bool.{eqb-true}
-use Rattle.std.proofs.lemmas.Bool.Decides.{nat_tests}
-use Rattle.std.specs.Prelude.{All, IfSome}
-use Rattle.std.proofs.lemmas.List.{ext_get_or, get_or-take, get_or-drop, length-take, length-drop}
-use Rattle.st_bits.specs.Bits.{part}
-use Rattle.st_bits.specs.Storage.{words_of_storage_is}
-use Rattle.st_bits.specs.Indicators.{indicator}
-use Rattle.st_state.specs.Interrupts.{indicator_word}
-use Rattle.st_state.specs.Machine.{Machine, IsMachine, word}
-use Rattle.st_prep.specs.declared.entries.Place.{Place}
-use Rattle.st_prep.specs.Fetch.{index_words, address_by, place_of, reading_of, words_fetched}
-use Rattle.st_prep.specs.Plan.{needs, prepared_entry, decode_context, state_at_entry, side_word, plan}
-use Rattle.st_prep.specs.Reading.{outcome, words_read, reading_at_place}
-use Rattle.st_prep.specs.Alike.{AreAlike, ReadTheSame}
+use Rattle.st_prep.proofs.Common.{◌≡◌, ◌≢◌, ℕ, ◌+◌, ◌*◌, ◌%◌, ◌^◌, ◌<◌, ◌≤◌, Bool, true, false, ◌==◌, List, length, take, drop, get_or, set, Option, None, Some, refl, sym, subst, ◌∙◌, ap, arith, get_or-set_other, get_or-set_at, eqb-true, nat_tests, All, IfSome, ext_get_or, get_or-take, get_or-drop, length-take, length-drop, part, words_of_storage_is, indicator, indicator_word, Machine, IsMachine, word, Place, index_words, address_by, place_of, reading_of, words_fetched, needs, prepared_entry, decode_context, state_at_entry, side_word, plan, outcome, words_read, reading_at_place, AreAlike, ReadTheSame}
 use Rattle.st_prep.proofs.PlanLemmas.{same_seen}
 use Rattle.st_prep.proofs.PreparedLemmas.{is_needs, same_serial}
 use Rattle.st_prep.proofs.ReadingLemmas.{fetched-outcome, reading-few, outcome-same}

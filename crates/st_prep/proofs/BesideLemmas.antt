@@ -1,11 +1,6 @@
 -- A prepared entry does not depend on the orders of the devices.
-use Rattle.std.proofs.Common.{◌≡◌, ◌≢◌, ℕ, false, Option, None, Some, refl, sym, ◌∙◌, ap}
-use Rattle.st_state.specs.Machine.{Machine}
+use Rattle.st_prep.proofs.Common.{◌≡◌, ◌≢◌, ℕ, false, Option, None, Some, refl, sym, ◌∙◌, ap, Machine, Place, index_words, place_of, words_fetched, decode_context_of, needs, prepared_entry, decode_context, side_word, plan, AreAlike}
 use Rattle.st_state.specs.declared.devices.Order.{Order}
-use Rattle.st_prep.specs.declared.entries.Place.{Place}
-use Rattle.st_prep.specs.Fetch.{index_words, place_of, words_fetched}
-use Rattle.st_prep.specs.Plan.{decode_context_of, needs, prepared_entry, decode_context, side_word, plan}
-use Rattle.st_prep.specs.Alike.{AreAlike}
 use Rattle.st_prep.specs.BesideOrders.{AreAlikeBesideOrders}
 use Rattle.st_prep.proofs.AlikeLemmas.{plan-alike, plan-alike_ahead}
 use Rattle.st_prep.proofs.ReadingLemmas.{fetched-outcome}

@@ -1,16 +1,5 @@
 -- Changed index words have 64 bits.
-use Rattle.std.proofs.Common.{ℕ, zero, suc, ◌/◌, ◌%◌, ◌^◌, ◌<◌, ℤ, pos, negsuc, ◌+ℤ◌, neg_ℤ, List, get_or, Option, None, Some, arith}
-use Rattle.std.specs.Prelude.{IfSome, nat_lt, unwrap_or, unsigned_abs, slice_index}
-use Rattle.st_bits.specs.Bits.{bits, with_part}
-use Rattle.st_bits.specs.IndexWord.{index_value, count_of, index_word_with_value, with_count, with_refill, sign_bit}
-use Rattle.st_bits.specs.declared.operations.HalfOp.{HalfOp}
-use Rattle.st_bits.specs.declared.operations.HalfOp.TheVariants.{Lx, Lv, Lc, Lr, Sx, Sv, Sc, Sr, Sva, VPlus, VPlusC, Kv, Lvs, Lvi, Lci, Lri, VPlusI, VMinusI, VPlusIC, VPlusICR, Kvi, Kc, Kci, Cb, Cbr, R, Ex}
-use Rattle.st_format.specs.declared.instruction.Instr.{Instr}
-use Rattle.st_format.specs.declared.instruction.Instr.TheVariants.{Half, Branch, Floating, Vfl, Connect, Move, BitBranch, IndBranch, StoreCounter, Transfer, Invalid}
-use Rattle.st_index.specs.IndexChange.{with_added, one_less, with_lower_count, selected_sum, is_counting, increment_of, progressive_word}
-use Rattle.st_prep.specs.declared.speculative.SpeculativeChange.{SpeculativeChange}
-use Rattle.st_prep.specs.SpeculativeChanges.{without_change, change_of_comparison, change_of_index, half_change, progressive_change, change}
-use Rattle.st_prep.specs.Ranges.{HasFields, IsChange}
+use Rattle.st_prep.proofs.Common.{ℕ, zero, suc, ◌/◌, ◌%◌, ◌^◌, ◌<◌, ℤ, pos, negsuc, ◌+ℤ◌, neg_ℤ, List, get_or, Option, None, Some, arith, IfSome, nat_lt, unwrap_or, unsigned_abs, slice_index, bits, with_part, index_value, count_of, index_word_with_value, with_count, with_refill, sign_bit, HalfOp, Lx, Lv, Lc, Lr, Sx, Sv, Sc, Sr, Sva, VPlus, VPlusC, Kv, Lvs, Lvi, Lci, Lri, VPlusI, VMinusI, VPlusIC, VPlusICR, Kvi, Kc, Kci, Cb, Cbr, R, Ex, Instr, Half, Branch, Floating, Vfl, Connect, Move, BitBranch, IndBranch, StoreCounter, Transfer, Invalid, with_added, one_less, with_lower_count, selected_sum, is_counting, increment_of, progressive_word, SpeculativeChange, without_change, change_of_comparison, change_of_index, half_change, progressive_change, change, HasFields, IsChange}
 use Rattle.st_prep.proofs.Choices.{of_choice}
 
 -- ---- parts of a word that are replaced

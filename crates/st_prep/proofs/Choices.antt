@@ -1,5 +1,5 @@
 -- Conditional values, and sequences of optional values that are all absent.
-use Rattle.std.proofs.Common.{◌≡◌, Bool, true, false, if◌then◌else◌, Option, None, Some, refl}
+use Rattle.st_prep.proofs.Common.{◌≡◌, Bool, true, false, if◌then◌else◌, Option, None, Some, refl}
 use Rattle.std.specs.Option.{option_or}
 
 -- a property of both branches holds for the conditional

@@ -1,17 +1,6 @@
 -- The number of words that an entry reads.
-use Rattle.std.proofs.Common.{ℕ, ◌+◌, ◌/◌, ◌%◌, ◌<◌, ◌≤◌, Bool, true, false, ◌==◌, if◌then◌else◌, List, length, Option, None, Some, arith}
-use Rattle.std.specs.Prelude.{IfSome, nat_le}
-use Rattle.st_format.specs.declared.instruction.Instr.{Instr}
-use Rattle.st_format.specs.declared.instruction.Instr.TheVariants.{Half, Branch, Floating, Vfl, Connect, Move, BitBranch, IndBranch, StoreCounter, Transfer, Invalid}
-use Rattle.st_state.specs.Machine.{Machine, IsMachine, word}
-use Rattle.st_prep.specs.declared.entries.Words.{Words}
-use Rattle.st_prep.specs.SpeculativeChanges.{effective, side}
-use Rattle.st_prep.specs.Entry.{no_words, field_words, operand_words, words_moved_from, reads_field, reads}
-use Rattle.st_prep.specs.Checks.{effective_instr}
-use Rattle.st_prep.specs.Fetch.{index_words, place_of}
-use Rattle.st_prep.specs.Plan.{DecodeContext, resolved_at, resolved, needs_by, needs, suppressed_entry, entry_at, prepared_by, prepared_entry, decode_context, side_word, plan}
-use Rattle.st_prep.specs.Ranges.{HasFields}
-use Rattle.st_prep.specs.Reading.{words_read as instruction_words, reading_at_place, index_side_words}
+use Rattle.st_prep.proofs.Common.{ℕ, ◌+◌, ◌/◌, ◌%◌, ◌<◌, ◌≤◌, Bool, true, false, ◌==◌, if◌then◌else◌, List, length, Option, None, Some, arith, IfSome, nat_le, Instr, Half, Branch, Floating, Vfl, Connect, Move, BitBranch, IndBranch, StoreCounter, Transfer, Invalid, Machine, IsMachine, word, Words, effective, side, no_words, field_words, operand_words, words_moved_from, reads_field, reads, effective_instr, index_words, place_of, DecodeContext, resolved_at, resolved, needs_by, needs, suppressed_entry, entry_at, prepared_by, prepared_entry, decode_context, side_word, plan, HasFields, reading_at_place, index_side_words}
+use Rattle.st_prep.specs.Reading.{words_read as instruction_words}
 use Rattle.st_prep.proofs.Choices.{of_choice}
 use Rattle.st_prep.proofs.PlanLemmas.{decode_context-fits}
 use Rattle.st_prep.proofs.PreparedLemmas.{IsDecodeContext, executed-shape}

@@ -1,20 +1,6 @@
 -- A fetched entry is in its ranges.
-use Rattle.std.proofs.Common.{ℕ, ◌+◌, ◌/◌, ◌^◌, ◌<◌, Bool, true, false, ◌==◌, if◌then◌else◌, List, Option, None, Some, is_none, arith}
-use Rattle.std.specs.Prelude.{IfSome}
-use Rattle.st_format.specs.declared.instruction.Instr.{Instr}
-use Rattle.st_format.specs.declared.instruction.Instr.TheVariants.{Half, Branch, Floating, Vfl, Connect, Move, BitBranch, IndBranch, StoreCounter, Transfer, Invalid}
-use Rattle.st_format.specs.declared.instruction.Decoded.{Decoded}
-use Rattle.st_format.specs.Formats.{IsShape, decoded_entry}
+use Rattle.st_prep.proofs.Common.{ℕ, ◌+◌, ◌/◌, ◌^◌, ◌<◌, Bool, true, false, ◌==◌, if◌then◌else◌, List, Option, None, Some, is_none, arith, IfSome, Instr, Half, Branch, Floating, Vfl, Connect, Move, BitBranch, IndBranch, StoreCounter, Transfer, Invalid, Decoded, IsShape, decoded_entry, Machine, word, forbidden_by, is_invalid_word, is_protected, Fetch, Place, FoundInstruction, effective, Reading, Finds, Reads, outcome, half_of, Continuation, with_second, with_first, read_after, instruction_at, is_execute, with_target, fetched_alone, own_use, reading_at_place, words_fetched, HasFields, IsFoundInRange, IsFetched}
 use Rattle.st_format.proofs.Shapes.{shape-instruction_of}
-use Rattle.st_state.specs.Machine.{Machine, word}
-use Rattle.st_state.specs.Boundary.{forbidden_by, is_invalid_word, is_protected}
-use Rattle.st_state.specs.declared.protection.Access.TheVariants.{Fetch}
-use Rattle.st_prep.specs.declared.entries.Place.{Place}
-use Rattle.st_prep.specs.declared.fetching.FoundInstruction.{FoundInstruction}
-use Rattle.st_prep.specs.SpeculativeChanges.{effective}
-use Rattle.st_prep.specs.Reading.{Reading, Finds, Reads, outcome, half_of, Continuation, with_second, with_first, read_after, instruction_at, is_execute, with_target, fetched_alone, own_use, reading_at_place}
-use Rattle.st_prep.specs.Fetch.{words_fetched}
-use Rattle.st_prep.specs.Ranges.{HasFields, IsFoundInRange, IsFetched}
 use Rattle.st_prep.proofs.Choices.{of_choice}
 
 -- a decoded instruction has valid fields

@@ -1,14 +1,6 @@
 -- All entries except transmissions read and write at most two words each, in one run.
-use Rattle.std.proofs.Common.{◌≡◌, ℕ, ◌+◌, ◌/◌, ◌%◌, ◌≤◌, Bool, true, false, ◌==◌, if◌then◌else◌, refl, sym, subst, arith}
-use Rattle.std.specs.Prelude.{nat_le}
-use Rattle.st_format.specs.declared.operations.FullOp.TheVariants.{Variable, Connective}
-use Rattle.st_format.specs.declared.instruction.Instr.{Instr}
-use Rattle.st_format.specs.declared.instruction.Instr.TheVariants.{Half, Branch, Floating, Vfl, Connect, Move, BitBranch, IndBranch, StoreCounter, Transfer, Invalid}
-use Rattle.st_format.specs.Operations.{writes_field}
-use Rattle.st_prep.specs.declared.entries.Prepared.{Prepared}
-use Rattle.st_prep.specs.Entry.{no_words, one_run, field_words, operand_words, is_index_store, reads_field, reads, words_written}
+use Rattle.st_prep.proofs.Common.{◌≡◌, ℕ, ◌+◌, ◌/◌, ◌%◌, ◌≤◌, Bool, true, false, ◌==◌, if◌then◌else◌, refl, sym, subst, arith, nat_le, Variable, Connective, Instr, Half, Branch, Floating, Vfl, Connect, Move, BitBranch, IndBranch, StoreCounter, Transfer, Invalid, writes_field, Prepared, no_words, one_run, field_words, operand_words, is_index_store, reads_field, reads, words_written, IsPrepared}
 use Rattle.st_prep.specs.FewWords.{is_transmission, AreFew}
-use Rattle.st_prep.specs.Ranges.{IsPrepared}
 use Rattle.st_prep.proofs.Choices.{of_choice}
 
 none-few : AreFew no_words

@@ -1,8 +1,5 @@
 -- The words of a run are checked in order.
-use Rattle.std.proofs.Common.{◌≡◌, ℕ, zero, suc, ◌+◌, ◌≤◌, Bool, true, false, Option, None, Some, is_some, refl, ap, arith}
-use Rattle.st_state.specs.declared.protection.Access.{Access}
-use Rattle.st_state.specs.Boundary.{forbidden_by}
-use Rattle.st_prep.specs.Checks.{forbidden_run}
+use Rattle.st_prep.proofs.Common.{◌≡◌, ℕ, zero, suc, ◌+◌, ◌≤◌, Bool, true, false, Option, None, Some, is_some, refl, ap, arith, Access, forbidden_by, forbidden_run}
 
 -- an empty run is not forbidden
 pub run-none : (b : ℕ) (en : Bool) (a : Access) (w n : ℕ) → n ≡ 0 → forbidden_run b en a w n ≡ None

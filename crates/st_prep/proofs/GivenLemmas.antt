@@ -1,16 +1,6 @@
 -- The progress of a reading given the contents so far, one instruction at a time.
-use Rattle.std.proofs.Common.{◌≡◌, ◌≢◌, ℕ, zero, suc, ◌/◌, ◌≤◌, Bool, true, false, ◌==◌, if◌then◌else◌, List, [], ◌∷◌, length, get_or, drop, Option, None, Some, refl, sym, ◌∙◌, ap, arith}
-use Rattle.std.proofs.lemmas.Bool.{eqb-true}
-use Rattle.std.proofs.lemmas.Bool.Decides.{nat_tests}
-use Rattle.st_format.specs.declared.instruction.Decoded.{Decoded}
-use Rattle.st_format.specs.Formats.{decoded_entry, instruction_of}
-use Rattle.st_prep.specs.declared.entries.Place.{Place}
-use Rattle.st_prep.specs.declared.entries.Fetched.{Fetched}
+use Rattle.st_prep.proofs.Common.{◌≡◌, ◌≢◌, ℕ, zero, suc, ◌/◌, ◌≤◌, Bool, true, false, ◌==◌, if◌then◌else◌, List, [], ◌∷◌, length, get_or, drop, Option, None, Some, refl, sym, ◌∙◌, ap, arith, eqb-true, nat_tests, Decoded, decoded_entry, instruction_of, Place, Fetched, Next, Found, FoundInstruction, Has, Reading, Finds, Reads, left_after, fetching_of, given_by, half_of, Continuation, with_second, with_first, read_after, with_target, instruction_at, is_execute, own_use, reading_at_place, fetched_plain, allowed_found}
 use Rattle.st_prep.specs.declared.entries.Fetching.{Fetching}
-use Rattle.st_prep.specs.declared.entries.Fetching.TheVariants.{Next, Found}
-use Rattle.st_prep.specs.declared.fetching.FoundInstruction.{FoundInstruction}
-use Rattle.st_prep.specs.declared.fetching.Part.TheVariants.{Has}
-use Rattle.st_prep.specs.Reading.{Reading, Finds, Reads, left_after, fetching_of, given_by, half_of, Continuation, with_second, with_first, read_after, with_target, instruction_at, is_execute, own_use, reading_at_place, fetched_plain, allowed_found}
 
 abbrev pub of : Reading → List ℕ → Fetching
 of r contents = fetching_of (left_after r contents)

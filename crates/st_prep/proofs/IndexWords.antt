@@ -1,8 +1,5 @@
 -- The index words as words of storage.
-use Rattle.std.proofs.Common.{◌≡◌, ℕ, ◌+◌, ◌<◌, ◌≤◌, List, length, get_or, take, drop, sym, ◌∙◌, arith}
-use Rattle.std.proofs.lemmas.List.{ext_get_or, get_or-take, get_or-drop, length-take, length-drop}
-use Rattle.st_state.specs.Machine.{Machine, word}
-use Rattle.st_prep.specs.Fetch.{index_words}
+use Rattle.st_prep.proofs.Common.{◌≡◌, ℕ, ◌+◌, ◌<◌, ◌≤◌, List, length, get_or, take, drop, sym, ◌∙◌, arith, ext_get_or, get_or-take, get_or-drop, length-take, length-drop, Machine, word, index_words}
 
 -- sixteen words that are words 16 to 31 of storage
 pub are_index_words : (s : Machine) (x : List ℕ) → 32 ≤ length s.words → length x ≡ 16

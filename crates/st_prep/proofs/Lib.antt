@@ -1,3 +1,4 @@
+pub mod Common
 pub mod AddressBounds
 pub mod ChangeLemmas
 pub mod Choices

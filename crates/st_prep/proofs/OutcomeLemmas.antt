@@ -1,19 +1,9 @@
 -- The counter after an entry, the value that it stores, and its cost.
-use Rattle.std.proofs.Common.{ℕ, ◌/◌, ◌^◌, ◌<◌, ◌≤◌, ◌==◌, List, get_or, if◌then◌else◌, Option, None, Some, refl, arith}
-use Rattle.std.specs.Prelude.{slice_index}
-use Rattle.st_bits.specs.IndexWord.{count_of}
-use Rattle.st_bits.specs.declared.operations.HalfOp.{HalfOp}
-use Rattle.st_bits.specs.declared.operations.HalfOp.TheVariants.{Sx, Sv, Sc, Sr, Sva, Cb, Cbr}
+use Rattle.st_prep.proofs.Common.{ℕ, ◌/◌, ◌^◌, ◌<◌, ◌≤◌, ◌==◌, List, get_or, if◌then◌else◌, Option, None, Some, refl, arith, slice_index, count_of, HalfOp, Sx, Sv, Sc, Sr, Sva, Cb, Cbr, Instr, Half, Branch, Floating, Vfl, Connect, Move, BitBranch, IndBranch, StoreCounter, Transfer, Invalid, one_less, Place, next_by, counter_behind, after_half, after_branch, counter_after, stored_part, value_stored, binary_cost, decimal_cost, cost, HasFields, FitsPart, IsStored}
 use Rattle.st_bits.specs.declared.operations.BranchOp.{BranchOp}
 use Rattle.st_bits.specs.declared.operations.BranchOp.TheVariants.{B, Br, Be, Bd, Bew, Nop}
 use Rattle.st_bits.specs.declared.operations.VflOp.{VflOp}
 use Rattle.st_bits.specs.declared.operations.VflOp.TheVariants.{Mul, MulAdd, Div, Lcv}
-use Rattle.st_format.specs.declared.instruction.Instr.{Instr}
-use Rattle.st_format.specs.declared.instruction.Instr.TheVariants.{Half, Branch, Floating, Vfl, Connect, Move, BitBranch, IndBranch, StoreCounter, Transfer, Invalid}
-use Rattle.st_index.specs.IndexChange.{one_less}
-use Rattle.st_prep.specs.declared.entries.Place.{Place}
-use Rattle.st_prep.specs.Entry.{next_by, counter_behind, after_half, after_branch, counter_after, stored_part, value_stored, binary_cost, decimal_cost, cost}
-use Rattle.st_prep.specs.Ranges.{HasFields, FitsPart, IsStored}
 use Rattle.st_prep.proofs.Choices.{of_choice}
 
 -- ---- the counter

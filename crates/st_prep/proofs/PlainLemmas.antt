@@ -1,15 +1,6 @@
 -- An entry of a state whose words are all read from this state.
-use Rattle.std.proofs.Common.{◌≡◌, ℕ, false, List, Option, refl, ◌∙◌, ap}
-use Rattle.st_state.specs.Machine.{Machine, word}
+use Rattle.st_prep.proofs.Common.{◌≡◌, ℕ, false, List, Option, refl, ◌∙◌, ap, Machine, word, Variable, Connective, Transmission, BitTest, IndicatorTest, Order, CounterStore, full_word_instruction, Place, Fetched, Prepared, index_words, place_of, words_fetched, DecodeContext, decode_context, decode_context_of, needs, plan, entry_by, outcome, is_execute, reading_at_place}
 use Rattle.st_format.specs.declared.operations.FullOp.{FullOp}
-use Rattle.st_format.specs.declared.operations.FullOp.TheVariants.{Variable, Connective, Transmission, BitTest, IndicatorTest, Order, CounterStore}
-use Rattle.st_format.specs.Formats.{full_word_instruction}
-use Rattle.st_prep.specs.declared.entries.Place.{Place}
-use Rattle.st_prep.specs.declared.entries.Fetched.{Fetched}
-use Rattle.st_prep.specs.declared.entries.Prepared.{Prepared}
-use Rattle.st_prep.specs.Fetch.{index_words, place_of, words_fetched}
-use Rattle.st_prep.specs.Plan.{DecodeContext, decode_context, decode_context_of, needs, plan, entry_by}
-use Rattle.st_prep.specs.Reading.{outcome, is_execute, reading_at_place}
 
 -- the decode context of the state
 seen : (s : Machine) (t : Option ℕ) (place : Place) (x : List ℕ) (f : Fetched) → place ≡ place_of s t → x ≡ index_words s

@@ -1,26 +1,9 @@
 -- Entries of states.
-use Rattle.std.proofs.Common.{◌≡◌, ℕ, ◌+◌, ◌-◌, ◌/◌, ◌^◌, ◌<◌, ◌≤◌, Bool, true, false, ◌||◌, ◌==◌, if◌then◌else◌, List, length, get_or, take, drop, Option, None, Some, is_some, refl, sym, ◌∙◌, ap, arith, bit_and, inl, inr}
-use Rattle.std.specs.Prelude.{IfSome}
-use Rattle.std.proofs.lemmas.List.{get_or-take, get_or-drop, get_or_past, length-take}
-use Rattle.std.proofs.lemmas.Bool.Decides.{leb_tells}
+use Rattle.st_prep.proofs.Common.{◌≡◌, ℕ, ◌+◌, ◌-◌, ◌/◌, ◌^◌, ◌<◌, ◌≤◌, Bool, true, false, ◌||◌, ◌==◌, if◌then◌else◌, List, length, get_or, take, drop, Option, None, Some, is_some, refl, sym, ◌∙◌, ap, arith, bit_and, inl, inr, IfSome, get_or-take, get_or-drop, get_or_past, length-take, leb_tells, words_of_storage_is, Machine, IsMachine, word, indicator, indicator_word, Place, Decoded, decoded_entry, Fetched, FoundInstruction, effective, Reading, Finds, outcome, half_of, Continuation, with_second, with_first, read_after, instruction_at, is_execute, with_target, fetched_alone, own_use, reading_at_place, index_words, address_by, place_of, words_fetched, DecodeContext, needs, prepared_entry, decode_context, state_at_entry, side_word, side_of, plan, IsSeen, IsPlace, IsPrepared}
 use Rattle.std.specs.Int.Bits.{or_zero_r}
-use Rattle.st_bits.specs.Storage.{words_of_storage_is}
 use Rattle.st_bits.specs.Registers.{register_word}
-use Rattle.st_state.specs.Machine.{Machine, IsMachine, word}
-use Rattle.st_bits.specs.Indicators.{indicator}
-use Rattle.st_state.specs.Interrupts.{indicator_word}
 use Rattle.st_state.proofs.Kept.{is_machine-with_word}
 use Rattle.st_state.proofs.TurnedLemmas.{turned_below, turned-masks}
-use Rattle.st_prep.specs.declared.entries.Place.{Place}
-use Rattle.st_format.specs.declared.instruction.Decoded.{Decoded}
-use Rattle.st_format.specs.Formats.{decoded_entry}
-use Rattle.st_prep.specs.declared.entries.Fetched.{Fetched}
-use Rattle.st_prep.specs.declared.fetching.FoundInstruction.{FoundInstruction}
-use Rattle.st_prep.specs.SpeculativeChanges.{effective}
-use Rattle.st_prep.specs.Reading.{Reading, Finds, outcome, half_of, Continuation, with_second, with_first, read_after, instruction_at, is_execute, with_target, fetched_alone, own_use, reading_at_place}
-use Rattle.st_prep.specs.Fetch.{index_words, address_by, place_of, words_fetched}
-use Rattle.st_prep.specs.Plan.{DecodeContext, needs, prepared_entry, decode_context, state_at_entry, side_word, side_of, plan, IsSeen}
-use Rattle.st_prep.specs.Ranges.{IsPlace, IsPrepared}
 use Rattle.st_prep.proofs.Choices.{of_choice}
 use Rattle.st_prep.proofs.FetchLemmas.{fetched-fits}
 use Rattle.st_prep.proofs.PreparedLemmas.{IsDecodeContext, is_prepared, alone-serial}

@@ -1,24 +1,7 @@
 -- Properties of each entry prepared from a decode context.
-use Rattle.std.proofs.Common.{◌≡◌, ℕ, ◌^◌, ◌<◌, ◌≤◌, Bool, true, false, ◌||◌, List, get_or, if◌then◌else◌, Option, None, Some, is_some, refl, sym, subst, ◌∙◌, ap, arith}
-use Rattle.std.specs.Prelude.{IfSome, unwrap_or}
-use Rattle.std.proofs.lemmas.Bool.{ltb-false}
-use Rattle.st_bits.specs.Storage.{words_of_storage}
-use Rattle.st_format.specs.declared.instruction.Instr.{Instr}
-use Rattle.st_format.specs.declared.instruction.Decoded.{Decoded}
-use Rattle.st_format.specs.Formats.{is_valid}
-use Rattle.st_state.specs.declared.protection.Access.TheVariants.{Read, Write}
-use Rattle.st_prep.specs.declared.entries.Place.{Place}
-use Rattle.st_prep.specs.declared.entries.Fetched.{Fetched}
+use Rattle.st_prep.proofs.Common.{◌≡◌, ℕ, ◌^◌, ◌<◌, ◌≤◌, Bool, true, false, ◌||◌, List, get_or, if◌then◌else◌, Option, None, Some, is_some, refl, sym, subst, ◌∙◌, ap, arith, IfSome, unwrap_or, ltb-false, words_of_storage, Instr, Decoded, is_valid, Read, Write, Place, Fetched, Prepared, effective, change, reads, words_written, counter_behind, is_serial_operation, has_register, is_register, is_execute, effective_instr, forbidden_side, forbidden_words, forbidden_area, operation_invalid, execute_exception, fault, DecodeContext, is_alone, resolved_at, resolved, is_serial, needs_by, needs, asks, suppressed_entry, entry_at, prepared_by, prepared_entry, HasFields, IsPlace, IsFetched, IsPrepared, IsNeeds, or-left, or-right}
 use Rattle.st_prep.specs.declared.entries.ResolvedEntry.{ResolvedEntry}
 use Rattle.st_prep.specs.declared.entries.Needs.{Needs}
-use Rattle.st_prep.specs.declared.entries.Prepared.{Prepared}
-use Rattle.st_prep.specs.SpeculativeChanges.{effective, change}
-use Rattle.st_prep.specs.Entry.{reads, words_written, counter_behind, is_serial_operation, has_register, is_register}
-use Rattle.st_prep.specs.Reading.{is_execute}
-use Rattle.st_prep.specs.Checks.{effective_instr, forbidden_side, forbidden_words, forbidden_area, operation_invalid, execute_exception, fault}
-use Rattle.st_prep.specs.Plan.{DecodeContext, is_alone, resolved_at, resolved, is_serial, needs_by, needs, asks, suppressed_entry, entry_at, prepared_by, prepared_entry}
-use Rattle.st_prep.specs.Ranges.{HasFields, IsPlace, IsFetched, IsPrepared, IsNeeds}
-use Rattle.st_format.proofs.Spelled.{or-left, or-right}
 use Rattle.st_prep.proofs.Choices.{none-left, none-right}
 use Rattle.st_prep.proofs.AddressBounds.{effective-below}
 use Rattle.st_prep.proofs.RunLemmas.{is_runs-none, is_runs-reads, is_runs-writes, allowed-inside, words-inside, none-inside, area-inside, words-above, none-above}

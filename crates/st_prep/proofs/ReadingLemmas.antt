@@ -1,21 +1,5 @@
 -- The result of an entry's reading, the words that it reads, and their number.
-use Rattle.std.proofs.Common.{◌≡◌, ℕ, zero, suc, ◌+◌, ◌-◌, ◌/◌, ◌<◌, ◌≤◌, Bool, true, false, ◌==◌, List, [], ◌∷◌, ◌++◌, length, take, Option, None, Some, refl, sym, subst, ◌∙◌, ap, arith}
-use Rattle.std.specs.Prelude.{All, nat_le}
-use Rattle.std.proofs.lemmas.Bool.{ltb-false}
-use Rattle.st_bits.specs.Storage.{words_of_storage}
-use Rattle.st_format.specs.declared.instruction.Decoded.{Decoded}
-use Rattle.st_format.specs.Formats.{decoded_entry}
-use Rattle.st_state.specs.Machine.{Machine, word}
-use Rattle.st_state.specs.Boundary.{is_invalid_word, address_invalid, forbidden_by}
-use Rattle.st_state.specs.declared.protection.Access.TheVariants.{Fetch}
-use Rattle.st_prep.specs.declared.entries.Place.{Place}
-use Rattle.st_prep.specs.declared.entries.Fetched.{Fetched}
-use Rattle.st_prep.specs.declared.entries.Fetching.TheVariants.{Next, Found}
-use Rattle.st_prep.specs.declared.fetching.FoundInstruction.{FoundInstruction}
-use Rattle.st_prep.specs.SpeculativeChanges.{effective}
-use Rattle.st_prep.specs.Fetch.{index_words, words_fetched}
-use Rattle.st_prep.specs.Reading.{Reading, Finds, Reads, outcome, words_read, own_words, left_after, fetching_of, half_of, Continuation, with_second, with_first, read_after, instruction_at, is_execute, with_target, own_use, reading_at_place}
-use Rattle.st_format.proofs.Spelled.{or-right}
+use Rattle.st_prep.proofs.Common.{◌≡◌, ℕ, zero, suc, ◌+◌, ◌-◌, ◌/◌, ◌<◌, ◌≤◌, Bool, true, false, ◌==◌, List, [], ◌∷◌, ◌++◌, length, take, Option, None, Some, refl, sym, subst, ◌∙◌, ap, arith, All, nat_le, ltb-false, words_of_storage, Decoded, decoded_entry, Machine, word, is_invalid_word, address_invalid, forbidden_by, Fetch, Place, Fetched, Next, Found, FoundInstruction, effective, index_words, words_fetched, Reading, Finds, Reads, outcome, words_read, own_words, left_after, fetching_of, half_of, Continuation, with_second, with_first, read_after, instruction_at, is_execute, with_target, own_use, reading_at_place, or-right}
 use Rattle.st_prep.proofs.Choices.{of_choice, test-none}
 use Rattle.st_prep.proofs.RunLemmas.{allowed-inside}
 

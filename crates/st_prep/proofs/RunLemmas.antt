@@ -1,21 +1,5 @@
 -- The words that an entry reads and writes: their number, their places, and which may be accessed.
-use Rattle.std.proofs.Common.{◌≡◌, ℕ, zero, suc, ◌+◌, ◌/◌, ◌%◌, ◌^◌, ◌<◌, ◌≤◌, Bool, true, false, not, ◌==◌, ◌&&◌, if◌then◌else◌, None, arith}
-use Rattle.std.specs.Prelude.{nat_lt, nat_le}
-use Rattle.std.proofs.lemmas.Bool.{ltb-false, leb-false}
-use Rattle.std.proofs.lemmas.Bool.Decides.{nat_tests}
-use Rattle.st_bits.specs.Storage.{words_of_storage}
-use Rattle.st_format.specs.declared.operations.FullOp.TheVariants.{Variable, Connective}
-use Rattle.st_format.specs.declared.instruction.Instr.{Instr}
-use Rattle.st_format.specs.declared.instruction.Instr.TheVariants.{Half, Branch, Floating, Vfl, Connect, Move, BitBranch, IndBranch, StoreCounter, Transfer, Invalid}
-use Rattle.st_format.specs.Operations.{writes_field}
-use Rattle.st_state.specs.Boundary.{is_invalid_word, address_invalid, forbidden_by}
-use Rattle.st_state.specs.declared.protection.Access.{Access}
-use Rattle.st_state.specs.declared.protection.Access.TheVariants.{Read, Write, Fetch}
-use Rattle.st_prep.specs.declared.entries.Words.{Words}
-use Rattle.st_prep.specs.Entry.{no_words, one_run, two_runs, field_words, operand_words, words_moved_from, words_moved_to, is_index_store, reads_field, reads, words_written, has_register}
-use Rattle.st_prep.specs.Checks.{forbidden_run, forbidden_words, area_access, forbidden_area}
-use Rattle.st_prep.specs.Ranges.{HasFields, IsRuns, AreInside, AreAbove, HasRoomInStorage}
-use Rattle.st_format.proofs.Spelled.{or-left, or-right}
+use Rattle.st_prep.proofs.Common.{◌≡◌, ℕ, zero, suc, ◌+◌, ◌/◌, ◌%◌, ◌^◌, ◌<◌, ◌≤◌, Bool, true, false, not, ◌==◌, ◌&&◌, if◌then◌else◌, None, arith, nat_lt, nat_le, ltb-false, leb-false, nat_tests, words_of_storage, Variable, Connective, Instr, Half, Branch, Floating, Vfl, Connect, Move, BitBranch, IndBranch, StoreCounter, Transfer, Invalid, writes_field, is_invalid_word, address_invalid, forbidden_by, Access, Read, Write, Fetch, Words, no_words, one_run, two_runs, field_words, operand_words, words_moved_from, words_moved_to, is_index_store, reads_field, reads, words_written, has_register, forbidden_run, forbidden_words, area_access, forbidden_area, HasFields, IsRuns, AreInside, AreAbove, HasRoomInStorage, or-left, or-right}
 use Rattle.st_prep.proofs.Choices.{of_choice, none-left, none-right, test-none, none-else}
 
 -- ---- runs

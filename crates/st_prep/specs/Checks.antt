@@ -1,8 +1,8 @@
 -- The checks before an instruction is executed. The first check that fails suppresses it.
 --
 -- Proved: by their `ensures` clauses these calls do what definitions here say: `operation_fault`
--- (faults.rt), `area_access` (faults.rt), `effective_instr` (faults.rt), `fault` (faults.rt), and
--- others.
+-- (faults.rt), `effective_instr` (faults.rt), `fault` (faults.rt), `forbidden_area` (faults.rt),
+-- and others.
 -- Read by: definitions in Plan, Looking of st_plain.
 -- Laws: none names a definition of this file itself.
 -- Change: the meaning is fixed by docs/machine.md, since the contracts of `st_top::stretch` and

@@ -3,7 +3,7 @@
 -- Proved: by their `ensures` clauses these calls do what definitions here say:
 -- `prepare_without_side` (preparation.rt), `effective_instr` (faults.rt), `fetch_all`
 -- (fetching.rt), `fetch_on` (fetching.rt), and others.
--- Read by: definitions in Trails of st_exec, Levels of st_ring.
+-- Read by: definitions in Trails of st_exec, Levels of st_ring, Rounds of st_account.
 -- Laws: OperandsAreFew (specs/Laws.antt), PlansAreInRange (specs/Laws.antt),
 -- EntriesAheadLeaveTheRest (specs/Laws.antt of st_exec), EntriesAreBounded (specs/Laws.antt of
 -- st_exec), and others.

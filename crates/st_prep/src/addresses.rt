@@ -19,7 +19,6 @@ use st_format::Instr;
 use st_index::effective;
 
 // Index word `i`, or zero if `i` is 0.
-#[inline(always)]
 fn index_part(x: &[u64; 16], i: u8) -> u64
     requires { i < 16 }
     ensures { result ≡ index_part_of x.now i }
@@ -28,7 +27,6 @@ fn index_part(x: &[u64; 16], i: u8) -> u64
 }
 
 // The effective address of a half-word instruction.
-#[inline(always)]
 fn half_address(x: &[u64; 16], address: u32, i: u8) -> u32
     requires address { address < 2 ^ 19 }
     requires index { i < 16 }
@@ -39,7 +37,6 @@ fn half_address(x: &[u64; 16], address: u32, i: u8) -> u32
 }
 
 // The effective address of a full-word instruction.
-#[inline(always)]
 fn bit_address(x: &[u64; 16], address: u32, i: u8) -> u32
     requires address { address < 2 ^ 24 }
     requires index { i < 16 }

@@ -19,7 +19,7 @@ ghost use Rattle.st_state.specs.Machine.{word, word as word_of};
 ghost use Rattle.st_prep.specs.Ranges.{HasFields, IsResolvedEntry, IsFetched, IsRuns};
 ghost use Rattle.st_bits.specs.declared.register.TheConstants.{BOUNDS};
 ghost use Rattle.st_state.specs.Boundary.{indicator_of_access};
-ghost use Rattle.st_prep.specs.Checks.{effective_instr as effective_instr_of, forbidden_run as forbidden_run_of, forbidden_words as forbidden_words_of, forbidden_side as forbidden_side_of, forbidden_area as forbidden_area_of, area_access as area_access_of, operation_invalid, execute_exception, fault as fault_of};
+ghost use Rattle.st_prep.specs.Checks.{effective_instr as effective_instr_of, forbidden_run as forbidden_run_of, forbidden_words as forbidden_words_of, forbidden_side as forbidden_side_of, forbidden_area as forbidden_area_of, operation_invalid, execute_exception, fault as fault_of};
 
 use crate::entries::{Fetched, ResolvedEntry, Words};
 use crate::fetching::is_execute;
@@ -32,7 +32,6 @@ use st_state::{Access, State};
 const AREA: u8 = 8;
 
 /// The instruction that is executed: the target of EX, or the instruction itself.
-#[inline(always)]
 pub fn effective_instr(fetched: &Fetched) -> &Instr
     requires { IsFetched fetched.now }
     ensures value { result.now ≡ effective_instr_of fetched.now }
@@ -45,7 +44,6 @@ pub fn effective_instr(fetched: &Fetched) -> &Instr
 }
 
 // The indicator that forbids an access to a word.
-#[inline(always)]
 fn forbidden(state: &State, access: Access, w: u32) -> Option<u8>
     ensures value { result ≡ indicator_of_access state.now access w }
     ensures bound { IsIndicatorIfAny result }
@@ -54,7 +52,6 @@ fn forbidden(state: &State, access: Access, w: u32) -> Option<u8>
 }
 
 // The indicator that forbids the first of `len` words that may not be accessed.
-#[inline(always)]
 fn forbidden_run(state: &State, access: Access, first: u32, len: u8) -> Option<u8>
     requires { first < 2 ^ 18 }
     ensures value { result
@@ -87,7 +84,6 @@ fn forbidden_words(state: &State, access: Access, words: Words) -> Option<u8>
 }
 
 // The indicator that forbids a read of the index-side word.
-#[inline(always)]
 fn forbidden_side(state: &State, word: Option<u32>) -> Option<u8>
     ensures value { result ≡ forbidden_side_of (word_of state.now 3) state.now.enabled word }
     ensures bound { IsIndicatorIfAny result }
@@ -99,7 +95,6 @@ fn forbidden_side(state: &State, word: Option<u32>) -> Option<u8>
 }
 
 // The indicator that forbids the area of an order with the effective address `e`.
-#[inline(always)]
 fn forbidden_area(state: &State, instr: &Instr, e: u32) -> Option<u8>
     requires { e < 2 ^ 24 }
     ensures value { result
@@ -112,19 +107,12 @@ fn forbidden_area(state: &State, instr: &Instr, e: u32) -> Option<u8>
     if e / 64 < FIRST_STORAGE_WORD {
         return Some(ADDRESS_INVALID);
     }
-    forbidden_run(state, area_access(write), e / 64, AREA)
-}
-
-// The access of an order to its area: the printer reads it, the reader writes it.
-#[inline(always)]
-fn area_access(write: bool) -> Access
-    ensures { result ≡ area_access_of write }
-{
-    if write { Access::Read } else { Access::Write }
+    // The printer reads its area, the reader writes it.
+    let access = if write { Access::Read } else { Access::Write };
+    forbidden_run(state, access, e / 64, AREA)
 }
 
 // The indicator of an operation that cannot be executed.
-#[inline(always)]
 #[tactic(auto, unfolding(crate::specs::Checks::operation_invalid, crate::specs::Checks::execute_exception))]
 fn operation_fault(instr: &Instr) -> Option<u8>
     ensures value { result ≡ option_or (operation_invalid instr.now) (execute_exception instr.now) }

@@ -139,7 +139,6 @@ fn with_second(first: u32, h: u32, contents: &[u64], state: &State) -> Part
 }
 
 // A complete instruction that uses `used` of the contents.
-#[inline(always)]
 fn has(decoded: Decoded, fault: Option<u8>, used: usize) -> Part
     ensures { result ≡ Part.Has (record { decoded = decoded; fault = fault }) used }
 {

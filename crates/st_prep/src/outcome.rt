@@ -22,7 +22,6 @@ use st_index::count_down;
 
 /// The counter of the following instruction, `halves` half-words on. A table instruction does not
 /// change the counter.
-#[inline(always)]
 pub fn next(place: &Place, halves: u8) -> u32
     requires { place.now.counter < 2 ^ 19 }
     ensures value { result ≡ next_of place.now halves }
@@ -46,7 +45,6 @@ fn after_count(x: u64, e: u32, following: u32) -> u32
 }
 
 /// The counter after a half-word instruction: only a branch on a count changes it.
-#[inline(always)]
 fn after_half(op: HalfOp, x: u64, e: u32, following: u32) -> u32
     ensures { result ≡ after_half_of op x e following }
 {
@@ -57,7 +55,6 @@ fn after_half(op: HalfOp, x: u64, e: u32, following: u32) -> u32
 }
 
 /// The counter after a branch: BE and BD jump too, BEW and NOP do not.
-#[inline(always)]
 fn after_branch(op: BranchOp, counter: u32, e: u32, following: u32) -> u32
     requires counter { counter < 2 ^ 19 }
     requires address { e < 2 ^ 24 }
@@ -87,7 +84,6 @@ pub fn after(instr: &Instr, x: &[u64; 16], e: u32, counter: u32, following: u32)
 }
 
 // The part of the index word `x` that an index store writes.
-#[inline(always)]
 fn stored_part(op: HalfOp, x: u64) -> u64
     ensures { result ≡ stored_part_of op x }
 {
@@ -115,7 +111,6 @@ pub fn value(instr: &Instr, x: &[u64; 16], following: u32) -> u64
 }
 
 /// The ticks of a binary operation on a field.
-#[inline(always)]
 fn binary_cost(op: VflOp) -> u8
     ensures { result ≡ binary_cost_of op }
 {
@@ -127,7 +122,6 @@ fn binary_cost(op: VflOp) -> u8
 }
 
 /// The ticks of a decimal operation on a field.
-#[inline(always)]
 fn decimal_cost(op: VflOp) -> u8
     ensures { result ≡ decimal_cost_of op }
 {
@@ -157,7 +151,6 @@ pub fn cost(instr: &Instr) -> u8
 }
 
 /// Whether an instruction is serializing by its operation.
-#[inline(always)]
 pub fn is_serial_operation(instr: &Instr) -> bool
     ensures { result ≡ acts_alone_of instr.now }
 {

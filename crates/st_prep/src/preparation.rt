@@ -19,7 +19,7 @@ ghost use Rattle.st_bits.specs.Storage.{words_of_storage};
 ghost use Rattle.st_state.specs.Machine.{Machine, IsMachine, word};
 ghost use Rattle.st_state.specs.Interrupts.{indicator_word};
 ghost use Rattle.st_prep.specs.SpeculativeChanges.{words_after};
-ghost use Rattle.st_prep.specs.Plan.{DecodeContext, decode_context_of, is_alone as is_alone_of, resolved_at as aimed_of, resolved as resolved_of, is_serial as is_serial_of, needs_by, needs as needs_of, asks, suppressed_entry as suppressed_of, entry_at as entry_of, prepared_by, prepared_entry as prepared_of, plan as plan_of, state_at_entry, side_word as side_word_of, side_of, IsSeen, entry_by, decode_context};
+ghost use Rattle.st_prep.specs.Plan.{DecodeContext, decode_context_of, resolved_at as aimed_of, resolved as resolved_of, is_serial as is_serial_of, needs_by, needs as needs_of, asks, suppressed_entry as suppressed_of, entry_at as entry_of, prepared_by, prepared_entry as prepared_of, plan as plan_of, state_at_entry, side_word as side_word_of, side_of, IsSeen, entry_by, decode_context};
 ghost use Rattle.st_prep.specs.Fetch.{place_of as place_by};
 ghost use Rattle.st_format.specs.Formats.{spelled_as};
 ghost use Rattle.st_prep.specs.Reading.{is_execute as is_execute_of};
@@ -36,14 +36,6 @@ use st_bits::register::INDICATORS;
 use st_bits::{HalfOp, Ind, indicator};
 use st_format::Format;
 use st_state::State;
-
-// Whether an entry is serializing even if it is suppressed.
-#[inline(always)]
-fn is_alone(place: &Place, fetched: &Fetched) -> bool
-    ensures { result ≡ is_alone_of place.now fetched.now }
-{
-    place.table.is_some() || is_execute(&fetched.instr.instr)
-}
 
 // The resolved entry before its checks.
 #[inline(always)]
@@ -62,7 +54,7 @@ fn aimed(place: &Place, fetched: &Fetched, x: &[u64; 16]) -> ResolvedEntry
         reads: reads(instr, e),
         writes: writes(instr, e),
         fault: fetched.fault,
-        alone: is_alone(place, fetched),
+        alone: place.table.is_some() || is_execute(&fetched.instr.instr),
     }
 }
 

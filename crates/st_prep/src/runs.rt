@@ -22,7 +22,6 @@ use st_bits::{HalfOp, VflOp};
 use st_format::{FullOp, Instr, writes_field};
 
 /// No words.
-#[inline(always)]
 pub fn none() -> Words
     ensures { result ≡ no_words }
 {
@@ -30,7 +29,6 @@ pub fn none() -> Words
 }
 
 /// The `len` words from the word `first`.
-#[inline(always)]
 fn one_run(first: u32, len: u8) -> Words
     ensures { result ≡ one_run_of first len }
 {
@@ -43,7 +41,6 @@ fn one_run(first: u32, len: u8) -> Words
 }
 
 /// The `len` words from the word `first`, then as many from the word `first2`.
-#[inline(always)]
 fn two_runs(first: u32, first2: u32, len: u8) -> Words
     ensures { result ≡ two_runs_of first first2 len }
 {
@@ -56,7 +53,6 @@ fn two_runs(first: u32, first2: u32, len: u8) -> Words
 }
 
 // The one or two words that contain the `length` bits from bit `e`.
-#[inline(always)]
 fn field_words(e: u32, length: u8) -> Words
     requires { e < 2 ^ 24 }
     ensures value { result ≡ field_words_of e length }
@@ -71,7 +67,6 @@ fn field_words(e: u32, length: u8) -> Words
 }
 
 /// The words of the operand of `length` bits; none in form 1, whose operand is the address itself.
-#[inline(always)]
 fn operand_words(p: u8, e: u32, length: u8) -> Words
     requires { e < 2 ^ 24 }
     ensures value { result ≡ operand_words_of p e length }
@@ -85,7 +80,6 @@ fn operand_words(p: u8, e: u32, length: u8) -> Words
 }
 
 // The words that a transmission reads.
-#[inline(always)]
 fn words_moved_from(swap: bool, from: u32, to: u32, count: u8) -> Words
     ensures { result ≡ words_moved_from_of swap from to count }
 {
@@ -97,7 +91,6 @@ fn words_moved_from(swap: bool, from: u32, to: u32, count: u8) -> Words
 }
 
 // The words that a transmission writes.
-#[inline(always)]
 fn words_moved_to(swap: bool, from: u32, to: u32, count: u8) -> Words
     ensures { result ≡ words_moved_to_of swap from to count }
 {
@@ -109,7 +102,6 @@ fn words_moved_to(swap: bool, from: u32, to: u32, count: u8) -> Words
 }
 
 // Whether an operation stores an index word or a part of it.
-#[inline(always)]
 fn is_index_store(op: HalfOp) -> bool
     ensures { result ≡ is_index_store_of op }
 {
@@ -120,7 +112,6 @@ fn is_index_store(op: HalfOp) -> bool
 }
 
 /// Whether an operation reads its field: all but ST.
-#[inline(always)]
 pub fn reads_field(op: VflOp) -> bool
     ensures { result ≡ reads_field_of op }
 {
@@ -186,7 +177,6 @@ pub fn has_register(words: Words) -> bool
 }
 
 /// Whether there is a word and it is a register.
-#[inline(always)]
 pub fn is_register(word: Option<u32>) -> bool
     ensures { result ≡ is_register_of word }
 {

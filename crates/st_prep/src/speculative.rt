@@ -45,7 +45,6 @@ pub struct Half {
 }
 
 // The refill address of an index word, if its count has become zero.
-#[inline(always)]
 fn refill_word(y: u64) -> Option<u32>
     ensures { result ≡ refill_word_of y }
 {
@@ -114,7 +113,6 @@ pub fn side(instr: &Instr, x: &[u64; 16], e: u32) -> Option<u32>
 }
 
 /// No change of an index word or of an indicator.
-#[inline(always)]
 fn no_change() -> SpeculativeChange
     ensures { result ≡ without_change }
 {
@@ -125,7 +123,6 @@ fn no_change() -> SpeculativeChange
 }
 
 // The indicators of a comparison of two numbers.
-#[inline(always)]
 fn compared(a: i32, b: i32) -> SpeculativeChange
     ensures { result ≡ compared_of a b }
 {
@@ -137,7 +134,6 @@ fn compared(a: i32, b: i32) -> SpeculativeChange
 
 // Index word `number`, which was `kept`, becomes `y`, then the word of a refill if there is one.
 // The indicators are those of `y`.
-#[inline(always)]
 fn changed(number: u8, kept: u64, y: u64, refill: Option<u64>) -> SpeculativeChange
     ensures { result ≡ changed_of number kept y refill }
 {

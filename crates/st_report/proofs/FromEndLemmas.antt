@@ -1,6 +1,5 @@
 -- A line that is composed from its end, piece by piece.
-use Rattle.std.proofs.Common.{◌≡◌, ℕ, List, [], ◌++◌, refl, append_assoc}
-use Rattle.std.proofs.lemmas.List.{append-nil}
+use Rattle.st_report.proofs.Common.{◌≡◌, ℕ, List, [], ◌++◌, refl, append_assoc, append-nil}
 
 -- a line of five pieces, the last one first
 pub five_pieces : (a b c d e l0 l1 l2 l3 l4 l5 : List ℕ)

@@ -1,6 +1,5 @@
 -- A number as its leading digits and its last two digits.
-use Rattle.std.proofs.Common.{◌+◌, ◌*◌, ◌/◌, ◌%◌, ◌^◌, ◌<◌, ◌≤◌, ◌≡◌, ℕ, List, [], ◌∷◌, ◌++◌, get_or, drop, length, refl, sym, ap, ◌∙◌, append_assoc, decimal, arith}
-use Rattle.std.proofs.lemmas.Fmt.{decimal_digit, decimal_step}
+use Rattle.st_report.proofs.Common.{◌+◌, ◌*◌, ◌/◌, ◌%◌, ◌^◌, ◌<◌, ◌≤◌, ◌≡◌, ℕ, List, [], ◌∷◌, ◌++◌, get_or, drop, length, refl, sym, ap, ◌∙◌, append_assoc, decimal, arith, decimal_digit, decimal_step}
 use Rattle.st_report.specs.Line.{two_digits}
 use Rattle.st_report.specs.declared.kept.TheConstants.{PAIRS}
 use Rattle.st_report.proofs.PairTables.{pair-at}

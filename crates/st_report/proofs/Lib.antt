@@ -1,3 +1,4 @@
+pub mod Common
 pub mod FromEndLemmas
 pub mod KeptLemmas
 pub mod PairTables

@@ -1,8 +1,8 @@
 -- Tables with two digits for each number.
+use Rattle.st_report.proofs.Common.{zero, suc, true, inl, inr, ◌+◌, ◌*◌, ◌/◌, ◌%◌, ◌<◌, get_or, ◌≡◌, ℕ, List, arith}
 use Rattle.std.specs.Prelude.{Bool, nat_eq, ◌&&◌}
 use Rattle.std.proofs.lemmas.Bool.{and_parts}
 use Rattle.std.proofs.lemmas.Bool.Decides.{eqb_tells, nat_tests}
-use Rattle.std.proofs.Common.{zero, suc, true, inl, inr, ◌+◌, ◌*◌, ◌/◌, ◌%◌, ◌<◌, get_or, ◌≡◌, ℕ, List, arith}
 
 -- the first n rows are the digits of 0, 1, .. in this base
 abbrev pub are_pairs : (ℕ → ℕ) → ℕ → List ℕ → ℕ → Bool

@@ -19,7 +19,6 @@ mod from_end;
 mod job;
 mod kept;
 mod levels;
-mod pieces;
 mod run;
 mod state_block;
 mod sweep;

@@ -14,7 +14,6 @@ ghost use Rattle.std.specs.Prelude.{◌≡◌};
 ghost use Rattle.st_report.specs.Line.{ic_line, en_line, reg_line, dump_line, mem_line};
 
 use crate::Line;
-use crate::pieces::push_two_digits;
 use st_text::{close_line, open_line, push_flag, push_half_address, push_hex, push_short_decimal};
 
 /// `IC a`: the program counter, a half-word address, as word.bit.
@@ -40,7 +39,8 @@ pub fn line_reg(w: u8, word: u64) -> Line
     ensures { result.bytes ≡ reg_line w word }
 {
     let mut line = open_line("REG ");
-    push_two_digits(&mut line, w);
+    push_short_decimal(&mut line, u32::from(w / 10));
+    push_short_decimal(&mut line, u32::from(w % 10));
     line.push_str(" ");
     push_hex(&mut line, 16, word);
     close_line(line)

@@ -1,12 +1,5 @@
 -- A write of a word keeps the invariant of the state.
-use Rattle.std.proofs.Common.{◌≡◌, ◌≢◌, ℕ, ◌<◌, ◌^◌, List, length, sym, ◌∙◌, subst, arith, inl, inr, get_or}
-use Rattle.std.proofs.Math.ListN.{set}
-use Rattle.std.proofs.lemmas.List.{length-set, get_or-set_same, get_or-set_other}
-use Rattle.std.proofs.lemmas.Bool.Decides.{eqb_tells}
-use Rattle.st_bits.specs.Registers.{register_word}
-use Rattle.st_bits.specs.Storage.{words_of_storage, words_of_storage_is}
-use Rattle.st_bits.proofs.RegisterLaws.{fixed-twice, fixed_below, fixed-zero}
-use Rattle.st_state.specs.Machine.{Machine, IsMachine, with_word, opening_state}
+use Rattle.st_state.proofs.Common.{◌≡◌, ◌≢◌, ℕ, ◌<◌, ◌^◌, List, length, sym, ◌∙◌, subst, arith, inl, inr, get_or, set, length-set, get_or-set_same, get_or-set_other, eqb_tells, register_word, words_of_storage, words_of_storage_is, fixed-twice, fixed_below, fixed-zero, Machine, IsMachine, with_word, opening_state}
 
 -- if P holds of x at w and of every item of the list before the write, it holds of every item after
 -- it

@@ -1,14 +1,7 @@
 -- The first number that passes a test, and the leading zeros of a word.
-use Rattle.std.proofs.Common.{sym, ◌≡◌, ◌≢◌, ℕ, zero, suc, ◌+◌, ◌-◌, ◌/◌, ◌%◌, ◌<◌, ◌≤◌, ◌^◌, Bool, true, false, ◌==◌, ◌&&◌, min, None, Some, refl, ◌∙◌, ap, arith, bit_and, inl, inr}
+use Rattle.st_state.proofs.Common.{sym, ◌≡◌, ◌≢◌, ℕ, zero, suc, ◌+◌, ◌-◌, ◌/◌, ◌%◌, ◌<◌, ◌≤◌, ◌^◌, Bool, true, false, ◌==◌, ◌&&◌, min, None, Some, refl, ◌∙◌, ap, arith, bit_and, inl, inr, bit_at, eqb_tells, nat_tests, leading_top, le-div, div_below, pow_pos, bit_at_and, bit_at-lt, bit_at_above, bit_at-zero, pow-succ', part, first_from, is_pending}
 use Rattle.std.specs.Prelude.{◌⊎◌}
-use Rattle.std.specs.Int.{bit_at}
 use Rattle.std.specs.Int.Count.{count_leading_zeros}
-use Rattle.std.proofs.lemmas.Bool.Decides.{eqb_tells, nat_tests}
-use Rattle.std.proofs.lemmas.Nat.{leading_top, le-div, div_below, pow_pos}
-use Rattle.std.proofs.lemmas.Nat.Bits.{bit_at_and, bit_at-lt, bit_at_above, bit_at-zero}
-use Rattle.std.proofs.Math.Nat.{pow-succ'}
-use Rattle.st_bits.specs.Bits.{part}
-use Rattle.st_state.specs.Interrupts.{first_from, is_pending}
 
 pub first_from-none : (p : ℕ → Bool) (i n : ℕ) → ((k : ℕ) → p k ≡ false) → first_from p i n ≡ None
 unfolding first_from

@@ -1,3 +1,4 @@
+pub mod Common
 pub mod Kept
 pub mod Leftmost
 pub mod Placed

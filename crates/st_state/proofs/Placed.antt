@@ -1,14 +1,6 @@
 -- A field write to storage is a store of the one or two words that it changes.
-use Rattle.std.proofs.Common.{◌≡◌, ℕ, suc, ◌+◌, ◌*◌, ◌/◌, ◌%◌, ◌<◌, ◌≤◌, ◌^◌, List, [], ◌∷◌, length, refl, sym, ◌∙◌, ap, arith, inl, inr, get_or, zero-add}
-use Rattle.std.proofs.Math.ListN.{set}
-use Rattle.std.proofs.lemmas.List.{length-set}
-use Rattle.std.proofs.lemmas.Bool.Decides.{leb_tells}
-use Rattle.st_bits.specs.Bits.{all_bits, put, words_of}
-use Rattle.st_bits.specs.Registers.{register_word, fixed_from}
-use Rattle.st_bits.specs.Storage.{words_of_storage}
-use Rattle.st_bits.proofs.RegisterLaws.{fixed-index}
+use Rattle.st_state.proofs.Common.{◌≡◌, ℕ, suc, ◌+◌, ◌*◌, ◌/◌, ◌%◌, ◌<◌, ◌≤◌, ◌^◌, List, [], ◌∷◌, length, refl, sym, ◌∙◌, ap, arith, inl, inr, get_or, zero-add, set, length-set, leb_tells, all_bits, put, words_of, register_word, fixed_from, words_of_storage, fixed-index, Machine, IsMachine, word, state_with_store, state_with_bits}
 use Rattle.st_bits.proofs.Windows.{put-stored, put-stored_two, words_of-all_bits, fixed_from-kept, fixed_from-set}
-use Rattle.st_state.specs.Machine.{Machine, IsMachine, word, state_with_store, state_with_bits}
 use Rattle.st_state.proofs.Kept.{each_after_set}
 
 -- each word of a state has its fixed bits

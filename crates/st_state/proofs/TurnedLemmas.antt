@@ -1,11 +1,5 @@
 -- Updates of the indicators bit by bit.
-use Rattle.std.proofs.Common.{◌≡◌, ◌≢◌, ℕ, zero, suc, ◌+◌, ◌-◌, ◌*◌, ◌<◌, ◌^◌, min, max, sym, ◌∙◌, ap, subst, arith, bit_and, bit_or, w64, inl, inr}
-use Rattle.std.specs.Int.{bit_at}
-use Rattle.std.proofs.lemmas.Bool.Decides.{nat_tests, eqb_tells}
-use Rattle.std.proofs.lemmas.Nat.{or_lt, and_le_l, mul-le}
-use Rattle.std.proofs.Math.Nat.{mod-eq_of_lt, pow-succ'}
-use Rattle.std.proofs.lemmas.Nat.Bits.{bit_at-lt, bit_at_and, bit_at_or, bit_at_not, bit_at_cat_low, bit_at_cat_high, bit_at_lowest, same_from_bits_below}
-use Rattle.st_state.specs.Interrupts.{indicator_word, turned_bit}
+use Rattle.st_state.proofs.Common.{◌≡◌, ◌≢◌, ℕ, zero, suc, ◌+◌, ◌-◌, ◌*◌, ◌<◌, ◌^◌, min, max, sym, ◌∙◌, ap, subst, arith, bit_and, bit_or, w64, inl, inr, bit_at, nat_tests, eqb_tells, or_lt, and_le_l, mul-le, mod-eq_of_lt, pow-succ', bit_at-lt, bit_at_and, bit_at_or, bit_at_not, bit_at_cat_low, bit_at_cat_high, bit_at_lowest, same_from_bits_below, indicator_word, turned_bit}
 
 pub turned_bit_below : (on off was : ℕ) → was < 2 → turned_bit on off was < 2
 turned_bit_below on off was h = grind (arith, nat_tests)

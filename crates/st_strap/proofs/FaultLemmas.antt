@@ -1,29 +1,11 @@
 -- The first fault of a statement card is the one that counts.
-use Rattle.std.proofs.Common.{◌≡◌, ◌≤◌, ◌<◌, ◌||◌, ℕ, zero, suc, Bool, true, false, nat_lt, nat_le, List, [], ◌∷◌, ◌++◌, length, drop, replicate, Option, Some, None, is_none, Result, Ok, Err, refl, ap, sym, ◌∙◌, arith, if◌then◌else◌}
-use Rattle.std.specs.List.{list_any, zip}
-use Rattle.std.specs.Option.{option_map, ok_or}
-use Rattle.std.proofs.lemmas.Bool.Decides.{nat_tests}
+use Rattle.st_strap.proofs.Common.{◌≡◌, ◌≤◌, ◌<◌, ◌||◌, ℕ, zero, suc, Bool, true, false, nat_lt, nat_le, List, [], ◌∷◌, ◌++◌, length, drop, replicate, Option, Some, None, is_none, Result, Ok, Err, refl, ap, sym, ◌∙◌, arith, if◌then◌else◌, list_any, zip, option_map, ok_or, nat_tests, is_filled, row_of, Fault, BadName, UnknownOperation, BadDataDescription, BadProgressive, BadFieldCount, BadExpression, BadIndex, NumberTooLarge, Bad, Large, Good, parts, any_bad, any_large, terms_of, expr_of, earlier_fault, both_of, reading_map, next_reading, statement_text, begins_with, behind_word, behind_description, field_front, index_part, index_fields, index_parts, index_field, index_named, spot, reading_without_index, expression, number_or_fault, number_result, plain_number, signed_of, signed_number, with_selected, index_selector, alone, two, followed, with_number, index_and_list, operand_spot, without_fields, with_fields, is_misnamed, statement_in_form, reading_of_operation, clean_statement_of, statement_of, Form, Operation, Statement, result_err}
 use Rattle.arrayvec.specs.ArrayVec.{ArrayVec}
 use Rattle.st_card.specs.Cards.{first_fault}
-use Rattle.st_text.specs.Number.{is_filled}
-use Rattle.st_text.specs.Tables.{row_of}
-use Rattle.st_card.specs.declared.faults.Fault.{Fault}
-use Rattle.st_card.specs.declared.faults.Fault.TheVariants.{BadName, UnknownOperation, BadDataDescription, BadProgressive, BadFieldCount, BadExpression, BadIndex, NumberTooLarge}
 use Rattle.st_text.specs.declared.numbers.Reading.{Reading}
-use Rattle.st_text.specs.declared.numbers.Reading.TheVariants.{Bad, Large, Good}
-use Rattle.st_expr.specs.Expression.{parts, any_bad, any_large, terms_of, expr_of}
 use Rattle.st_expr.specs.declared.terms.Term.{Term}
-use Rattle.st_strap.specs.Order.{earlier_fault, both_of, reading_map, next_reading}
-use Rattle.st_mnemonic.specs.Text.{statement_text, begins_with, behind_word}
-use Rattle.st_mnemonic.specs.Forming.{behind_description}
-use Rattle.st_strap.specs.Reading.{field_front, index_part, index_fields, index_parts, index_field, index_named, spot, reading_without_index, expression, number_or_fault, number_result, plain_number, signed_of, signed_number, with_selected, index_selector}
-use Rattle.st_strap.specs.Saying.{alone, two, followed, with_number, index_and_list, operand_spot, without_fields, with_fields, is_misnamed, statement_in_form, reading_of_operation, clean_statement_of, statement_of}
 use Rattle.st_strap.specs.Faults.{Wanted, an_index_word, an_address, a_plain_address, a_number, a_signed_number, wanted_by, has_other_count, number_reading, without_sign, is_bad, is_large, lacks_expression, lacks_index, is_past, any_field, operation_named, described_in, progressed_in, fields_in, has_bad_progressive, field_faults, faults_behind, faults_on, wanted_in}
-use Rattle.st_mnemonic.specs.declared.form.Form.{Form}
-use Rattle.st_mnemonic.specs.declared.operations.Operation.{Operation}
 use Rattle.st_mnemonic.specs.declared.operations.Operation.TheVariants.{Half, Sum, Refill, Execute, Branch, Bare, Floating, Vfl, Connect, Move, BitBranch, IndBranch, StoreCounter, Transfer, Data, IndexWord, Synonym, SetLocation, Reserve, End}
-use Rattle.st_strap.specs.Statements.{Statement}
-use Rattle.std.specs.Result.{result_err}
 
 -- the first fault of a field in the order of faults, given whether it has each
 abbrev pub first-of : Bool → Bool → Bool → Bool → Option Fault

@@ -1,10 +1,5 @@
 -- Lemmas on the first field and the rest, and on two combined readings.
-use Rattle.std.proofs.Common.{◌≡◌, ◌≤◌, ◌-◌, suc, List, [], ◌∷◌, length, get_or, take, drop, Result, ap, sym, ◌∙◌, arith}
-use Rattle.std.proofs.Math.Seq.{take-length}
-use Rattle.st_card.specs.declared.faults.Fault.{Fault}
-use Rattle.st_strap.specs.Order.{both_of}
-use Rattle.st_mnemonic.specs.Fields.{texts}
-use Rattle.st_mnemonic.specs.declared.field.FieldText.{FieldText}
+use Rattle.st_strap.proofs.Common.{◌≡◌, ◌≤◌, ◌-◌, suc, List, [], ◌∷◌, length, get_or, take, drop, Result, ap, sym, ◌∙◌, arith, take-length, Fault, both_of, texts, FieldText}
 
 -- the texts of fields are the text of the first followed by those of the rest
 pub texts_first : (fields : List FieldText) (first : FieldText) → 1 ≤ length fields → first ≡ get_or fields 0 first →

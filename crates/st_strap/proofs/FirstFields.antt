@@ -1,14 +1,5 @@
 -- No operation has more than seventeen fields, so later fields make no difference.
-use Rattle.std.proofs.Common.{◌≡◌, ◌≤◌, ◌∙◌, ℕ, zero, suc, Bool, true, false, nat_le, List, [], ◌∷◌, length, take, Err, refl, ap, sym, arith, if◌then◌else◌}
-use Rattle.std.proofs.lemmas.List.{length-take-le}
-use Rattle.std.proofs.lemmas.Bool.Decides.{nat_tests}
-use Rattle.st_card.specs.declared.faults.Fault.TheVariants.{BadFieldCount}
-use Rattle.st_strap.specs.Order.{both_of, reading_map}
-use Rattle.st_strap.specs.Reading.{index_field, index_selector}
-use Rattle.st_strap.specs.Saying.{alone, two, followed, with_number, index_and_list, operand_spot, without_fields, with_fields}
-use Rattle.st_mnemonic.specs.declared.form.Form.{Form}
-use Rattle.st_strap.specs.declared.statement.Statement.TheVariants.{Sum}
-use Rattle.st_mnemonic.specs.declared.operations.Operation.{Operation}
+use Rattle.st_strap.proofs.Common.{◌≡◌, ◌≤◌, ◌∙◌, ℕ, zero, suc, Bool, true, false, nat_le, List, [], ◌∷◌, length, take, Err, refl, ap, sym, arith, if◌then◌else◌, length-take-le, nat_tests, BadFieldCount, both_of, reading_map, index_field, index_selector, alone, two, followed, with_number, index_and_list, operand_spot, without_fields, with_fields, Form, Sum, Operation}
 use Rattle.st_mnemonic.specs.declared.operations.Operation.TheVariants.{Half as HalfOperation, Sum as SumOperation, Refill as RefillOperation, Execute as ExecuteOperation, Branch as BranchOperation, Bare as BareOperation, Floating as FloatingOperation, Vfl as VflOperation, Connect as ConnectOperation, Move as MoveOperation, BitBranch as BitBranchOperation, IndBranch as IndBranchOperation, StoreCounter as StoreCounterOperation, Transfer as TransferOperation, Data as DataOperation, IndexWord as IndexWordOperation, Synonym as SynonymOperation, SetLocation as SetLocationOperation, Reserve as ReserveOperation, End as EndOperation}
 
 -- the first n items of a list with at most n items are the whole list

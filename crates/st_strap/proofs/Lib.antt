@@ -1,3 +1,4 @@
+pub mod Common
 pub mod TableBounds
 pub mod FieldLemmas
 pub mod ReadLemmas

@@ -1,20 +1,6 @@
 -- A DD card with a decimal number is read as that number.
-use Rattle.std.proofs.Common.{◌≡◌, ◌<◌, ◌^◌, ◌==◌, ◌||◌, ℕ, true, false, List, [], ◌∷◌, ◌++◌, Option, Some, None, unwrap_or, if◌then◌else◌, length, take, drop, codes, decimal, Ok, Err, refl, ap, ◌∙◌, arith}
-use Rattle.std.proofs.lemmas.List.{take_all, drop_all}
-use Rattle.std.specs.Option.{option_and_then}
-use Rattle.st_text.specs.Pieces.{lacks}
-use Rattle.st_card.specs.declared.faults.Fault.TheVariants.{BadName, UnknownOperation, BadDataDescription, BadProgressive}
-use Rattle.st_mnemonic.specs.Text.{group_length, group, behind_group, fields_of}
-use Rattle.st_mnemonic.specs.Table.{operation_of_word, other_operations}
-use Rattle.st_strap.specs.Order.{next_reading, reading_map}
-use Rattle.st_mnemonic.specs.Describing.{modes, plain_form, number_to, in_mode, description_of, may_have, described_form}
-use Rattle.st_mnemonic.specs.Forming.{progressive_forms, open_group, is_form, description_in, behind_description, form_number, may_have_form, is_behind_groups, form_with_progress}
-use Rattle.st_strap.specs.Reading.{last_open, index_start, field_front, index_part, reading_without_index, number_result, signed_of, signed_number}
-use Rattle.st_strap.specs.Saying.{alone, with_fields, is_misnamed, statement_in_form, reading_of_operation, clean_statement_of, statement_of}
-use Rattle.st_mnemonic.specs.declared.form.Form.{Form}
-use Rattle.st_strap.specs.declared.statement.Statement.TheVariants.{Data}
+use Rattle.st_strap.proofs.Common.{◌≡◌, ◌<◌, ◌^◌, ◌==◌, ◌||◌, ℕ, true, false, List, [], ◌∷◌, ◌++◌, Option, Some, None, unwrap_or, if◌then◌else◌, length, take, drop, codes, decimal, Ok, Err, refl, ap, ◌∙◌, arith, take_all, drop_all, option_and_then, lacks, BadName, UnknownOperation, BadDataDescription, BadProgressive, group_length, group, behind_group, fields_of, operation_of_word, other_operations, next_reading, reading_map, modes, plain_form, number_to, in_mode, description_of, may_have, described_form, progressive_forms, open_group, is_form, description_in, behind_description, form_number, may_have_form, is_behind_groups, form_with_progress, last_open, index_start, field_front, index_part, reading_without_index, number_result, signed_of, signed_number, alone, with_fields, is_misnamed, statement_in_form, reading_of_operation, clean_statement_of, statement_of, Form, Data, decimal-digits, reading-decimal, digits-lack, low_other, high_other, lacks-ends, lacks-begins, lacks-parted, clean-is}
 use Rattle.st_mnemonic.specs.declared.operations.Operation.TheVariants.{Data as DataOperation}
-use Rattle.st_mnemonic.proofs.Digits.{decimal-digits, reading-decimal, digits-lack, low_other, high_other, lacks-ends, lacks-begins, lacks-parted, clean-is}
 
 -- the form of a whole word
 abbrev pub word_form : Form

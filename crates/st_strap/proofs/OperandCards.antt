@@ -1,38 +1,14 @@
 -- Cards of operations on an index word and on a field are read as these operations, with their
 -- index word, data description in parentheses, address of a word and a bit, and offset.
-use Rattle.std.proofs.Common.{◌≡◌, ◌≤◌, ◌<◌, ◌+◌, ◌-◌, ◌*◌, ◌^◌, ◌==◌, ◌||◌, ℕ, zero, suc, Bool, true, false, not, nat_lt, List, [], ◌∷◌, ◌++◌, Option, Some, None, is_some, if◌then◌else◌, length, take, drop, codes, decimal, Ok, Err, refl, ap, sym, ◌∙◌, append_assoc, length-append, arith}
-use Rattle.std.proofs.Math.Seq.{drop-append_seam}
+use Rattle.st_strap.proofs.Common.{◌≡◌, ◌≤◌, ◌<◌, ◌+◌, ◌-◌, ◌*◌, ◌^◌, ◌==◌, ◌||◌, ℕ, zero, suc, Bool, true, false, not, nat_lt, List, [], ◌∷◌, ◌++◌, Option, Some, None, is_some, if◌then◌else◌, length, take, drop, codes, decimal, Ok, Err, refl, ap, sym, ◌∙◌, append_assoc, length-append, arith, drop-append_seam, nat_tests, take_at, take_all, drop_all, list_all-append, option_map, option_and_then, Lvi, VPlusI, L, Add, St, MAdd1, Mul, pieces_of, lacks, row_of, BadName, UnknownOperation, BadDataDescription, BadProgressive, expr_of, stop, ends_with, statement_text, group_length, group, behind_group, fields_of, operation_of_word, other_operations, index_operations, field_operations, negated_operation, connective, connective_kinds, truth_tables, next_reading, reading_map, both_of, modes, plain_form, some_number, number_to, in_mode, in_pieces, description_of, may_have, described_form, progressive_forms, open_group, is_form, description_in, behind_description, form_number, may_have_form, form_with_progress, field_front, index_part, index_fields, index_parts, index_field, index_named, spot, reading_without_index, number_or_fault, number_result, plain_number, number_expr, index_start, two, with_number, operand_spot, without_fields, with_fields, is_misnamed, statement_in_form, reading_of_operation, clean_statement_of, statement_of, Form, Half, Branch, Vfl, Connect, Description, InForm, Operation, IsOther, decimal-digits, reading-decimal, digits-lack, unequal, low_other, high_other, lacks-parted, clean-is}
 use Rattle.std.proofs.lemmas.Bool.{and_parts as both, and_from as and_true}
-use Rattle.std.proofs.lemmas.Bool.Decides.{nat_tests}
 use Rattle.std.proofs.lemmas.Fmt.{decimal_digit}
-use Rattle.std.proofs.lemmas.List.{take_at, take_all, drop_all}
-use Rattle.std.proofs.lemmas.List.Folds.{list_all-append}
-use Rattle.std.specs.Option.{option_map, option_and_then}
 use Rattle.st_bits.specs.declared.operations.HalfOp.{HalfOp}
-use Rattle.st_bits.specs.declared.operations.HalfOp.TheVariants.{Lvi, VPlusI}
 use Rattle.st_bits.specs.declared.operations.BranchOp.TheVariants.{Bew}
 use Rattle.st_bits.specs.declared.operations.VflOp.{VflOp}
-use Rattle.st_bits.specs.declared.operations.VflOp.TheVariants.{L, Add, St, MAdd1, Mul}
 use Rattle.st_bits.specs.declared.operations.ConnKind.TheVariants.{C}
-use Rattle.st_text.specs.Pieces.{pieces_of, lacks}
-use Rattle.st_text.specs.Tables.{row_of}
-use Rattle.st_card.specs.declared.faults.Fault.TheVariants.{BadName, UnknownOperation, BadDataDescription, BadProgressive}
-use Rattle.st_expr.specs.Expression.{expr_of}
-use Rattle.st_mnemonic.specs.Text.{stop, ends_with, statement_text, group_length, group, behind_group, fields_of}
-use Rattle.st_mnemonic.specs.Table.{operation_of_word, other_operations, index_operations, field_operations, negated_operation, connective, connective_kinds, truth_tables}
-use Rattle.st_strap.specs.Order.{next_reading, reading_map, both_of}
-use Rattle.st_mnemonic.specs.Describing.{modes, plain_form, some_number, number_to, in_mode, in_pieces, description_of, may_have, described_form}
-use Rattle.st_mnemonic.specs.Forming.{progressive_forms, open_group, is_form, description_in, behind_description, form_number, may_have_form, form_with_progress}
-use Rattle.st_strap.specs.Reading.{field_front, index_part, index_fields, index_parts, index_field, index_named, spot, reading_without_index, number_or_fault, number_result, plain_number, number_expr, index_start}
 use Rattle.st_strap.specs.Spots.{number_spot, operands_text, AreOperandNumbers, progressive_form}
-use Rattle.st_strap.specs.Saying.{two, with_number, operand_spot, without_fields, with_fields, is_misnamed, statement_in_form, reading_of_operation, clean_statement_of, statement_of}
-use Rattle.st_mnemonic.specs.declared.form.Form.{Form}
-use Rattle.st_strap.specs.declared.statement.Statement.TheVariants.{Half, Branch, Vfl, Connect}
-use Rattle.st_mnemonic.specs.declared.descriptions.Description.{Description}
-use Rattle.st_mnemonic.specs.declared.descriptions.Description.TheVariants.{InForm}
-use Rattle.st_mnemonic.specs.declared.operations.Operation.{Operation}
 use Rattle.st_mnemonic.specs.declared.operations.Operation.TheVariants.{Half as HalfOperation, Bare as BareOperation, Vfl as VflOperation, Connect as ConnectOperation}
-use Rattle.st_mnemonic.proofs.Digits.{IsOther, decimal-digits, reading-decimal, digits-lack, unequal, low_other, high_other, lacks-parted, clean-is}
 use Rattle.st_strap.proofs.NumberCards.{no_index_part, is_behind_groups-comma}
 use Rattle.st_strap.proofs.PlaceCards.{place_text, place-lacks, place-expr, parted-once, plain-said}
 

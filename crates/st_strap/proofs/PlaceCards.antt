@@ -1,31 +1,10 @@
 -- The cards that set the location counter and that end a program are read with their operands as
 -- bit addresses.
-use Rattle.std.proofs.Common.{◌≡◌, ◌≤◌, ◌<◌, ◌+◌, ◌*◌, ◌^◌, ◌==◌, ◌&&◌, ℕ, Bool, true, false, not, nat_le, List, [], ◌∷◌, ◌++◌, Option, Some, None, if◌then◌else◌, length, take, drop, codes, decimal, Ok, Err, refl, ap, ◌∙◌, append_assoc, arith}
+use Rattle.st_strap.proofs.Common.{◌≡◌, ◌≤◌, ◌<◌, ◌+◌, ◌*◌, ◌^◌, ◌==◌, ◌&&◌, ℕ, Bool, true, false, not, nat_le, List, [], ◌∷◌, ◌++◌, Option, Some, None, if◌then◌else◌, length, take, drop, codes, decimal, Ok, Err, refl, ap, ◌∙◌, append_assoc, arith, nat_tests, take_all, drop_all, list_all-append, list_all, is_filled, reading, pieces_of, onto_first, lacks, BadName, UnknownOperation, BadProgressive, Good, is_name_byte, is_name, is_system_word, onto_part, parts_after, parts, expr_in, expr_of, statement_text, group_length, fields_of, operation_of_word, other_operations, next_reading, reading_map, default_form, description_of, described_form, progressive_forms, open_group, description_in, behind_description, form_number, may_have_form, form_with_progress, field_front, index_part, reading_without_index, expression, number_expr, alone, with_fields, is_misnamed, statement_in_form, reading_of_operation, clean_statement_of, statement_of, Form, SetLocation, End, Operation, AreDigits, decimal-digits, reading-decimal, unequal, digits-lack, IsOther, low_other, high_other, lacks-parted, clean-is}
 use Rattle.std.proofs.lemmas.Bool.{and_parts as both, and_from as and_true}
-use Rattle.std.proofs.lemmas.Bool.Decides.{nat_tests}
-use Rattle.std.proofs.lemmas.List.{take_all, drop_all}
-use Rattle.std.proofs.lemmas.List.Folds.{list_all-append}
 use Rattle.std.specs.Char.{is_ascii_digit, is_ascii_uppercase}
-use Rattle.std.specs.List.{list_all}
-use Rattle.st_text.specs.Number.{is_filled, reading}
-use Rattle.st_text.specs.Pieces.{pieces_of, onto_first, lacks}
-use Rattle.st_card.specs.declared.faults.Fault.TheVariants.{BadName, UnknownOperation, BadProgressive}
-use Rattle.st_text.specs.declared.numbers.Reading.TheVariants.{Good}
-use Rattle.st_expr.specs.Name.{is_name_byte, is_name, is_system_word}
 use Rattle.st_expr.specs.Term.{atom_of, place_reading, bit_reading}
-use Rattle.st_expr.specs.Expression.{onto_part, parts_after, parts, expr_in, expr_of}
-use Rattle.st_mnemonic.specs.Text.{statement_text, group_length, fields_of}
-use Rattle.st_mnemonic.specs.Table.{operation_of_word, other_operations}
-use Rattle.st_strap.specs.Order.{next_reading, reading_map}
-use Rattle.st_mnemonic.specs.Describing.{default_form, description_of, described_form}
-use Rattle.st_mnemonic.specs.Forming.{progressive_forms, open_group, description_in, behind_description, form_number, may_have_form, form_with_progress}
-use Rattle.st_strap.specs.Reading.{field_front, index_part, reading_without_index, expression, number_expr}
-use Rattle.st_strap.specs.Saying.{alone, with_fields, is_misnamed, statement_in_form, reading_of_operation, clean_statement_of, statement_of}
-use Rattle.st_mnemonic.specs.declared.form.Form.{Form}
-use Rattle.st_strap.specs.declared.statement.Statement.TheVariants.{SetLocation, End}
-use Rattle.st_mnemonic.specs.declared.operations.Operation.{Operation}
 use Rattle.st_mnemonic.specs.declared.operations.Operation.TheVariants.{SetLocation as SetLocationOperation, End as EndOperation}
-use Rattle.st_mnemonic.proofs.Digits.{AreDigits, decimal-digits, reading-decimal, unequal, digits-lack, IsOther, low_other, high_other, lacks-parted, clean-is}
 use Rattle.st_strap.proofs.NumberCards.{no_index_part, is_behind_groups-comma}
 
 -- the text of word w and bit b

@@ -1,12 +1,6 @@
 -- Properties of a reading that follow from the properties of its steps.
-use Rattle.std.proofs.Common.{◌≡◌, Bool, true, false, cond, List, [], ◌∷◌, Option, Some, None, Result, Ok, Err, refl, ℕ}
+use Rattle.st_strap.proofs.Common.{◌≡◌, Bool, true, false, cond, List, [], ◌∷◌, Option, Some, None, Result, Ok, Err, refl, ℕ, list_all, IfSome, option_map, option_and_then, option_or, ok_or, IfOk, is_same, row_of, Fault, both_of, reading_map, next_reading}
 use Rattle.std.proofs.lemmas.Bool.{and_parts as both-true}
-use Rattle.std.specs.List.{list_all}
-use Rattle.std.specs.Option.{IfSome, option_map, option_and_then, option_or, ok_or}
-use Rattle.std.specs.Result.{IfOk}
-use Rattle.st_text.specs.Tables.{is_same, row_of}
-use Rattle.st_card.specs.declared.faults.Fault.{Fault}
-use Rattle.st_strap.specs.Order.{both_of, reading_map, next_reading}
 
 -- a property of the optional value leads to one of the next reading
 pub some-judged : {A B : Type 0} (Q : A → Type 0) (P : B → Type 0) (fault : Fault) (o : Option A) (next : A → Result B Fault) →

@@ -1,39 +1,15 @@
 -- The parts of a statement that was read fit in their fields of an instruction.
-use Rattle.std.proofs.Common.{◌≡◌, ◌≤◌, ◌<◌, ◌+◌, ◌-◌, ◌==◌, ◌&&◌, ◌||◌, ℕ, Bool, true, false, not, nat_lt, nat_le, List, [], ◌∷◌, length, take, Option, Some, None, Result, Ok, Err, refl, subst, lit<, lit≤, arith, if◌then◌else◌}
+use Rattle.st_strap.proofs.Common.{◌≡◌, ◌≤◌, ◌<◌, ◌+◌, ◌-◌, ◌==◌, ◌&&◌, ◌||◌, ℕ, Bool, true, false, not, nat_lt, nat_le, List, [], ◌∷◌, length, take, Option, Some, None, Result, Ok, Err, refl, subst, lit<, lit≤, arith, if◌then◌else◌, IfSome, option_map, option_map_or, option_and_then, option_zip, IfOk, is_number, is_filled, digits_value, is_name, Bad, Large, Good, pieces_of, row_of, Fault, BadName, UnknownOperation, BadDataDescription, BadProgressive, BadFieldCount, BadIndex, expr_of, Ex, L, St, Add, K, Mul, Div, both_of, next_reading, statement_text, operation_text, behind_word, behind_group, fields_of, ends_with, group, operation_of_word, other_operations, index_operations, index_operation, field_operations, field_operation, negated_operation, connective, connective_at, connective_kinds, truth_tables, description_of, in_pieces, in_mode, number_to, some_number, described_form, may_have, floating_number, plain_form, default_form, usual_byte, modes, description_in, behind_description, form_with_progress, form_with_number, may_have_form, form_number, progressive_forms, open_group, is_behind_groups, field_front, index_part, index_field, index_fields, index_named, index_parts, spot, expression, plain_number, signed_number, index_selector, misnames, alone, two, followed, with_number, index_and_list, operand_spot, without_fields, with_fields, is_misnamed, statement_in_form, reading_of_operation, clean_statement_of, statement_of, Statement, Form, Half, Sum, Refill, Branch, Floating, Vfl, Connect, Move, BitBranch, IndBranch, StoreCounter, Transfer, Data, IndexWord, Synonym, SetLocation, Reserve, End, Description, Absent, InForm, Operation}
 use Rattle.std.proofs.lemmas.Bool.{and_parts as both-true, not-true as not_false}
 use Rattle.std.specs.Bool.{IsFalse}
-use Rattle.std.specs.Option.{IfSome, option_map, option_map_or, option_and_then, option_zip}
-use Rattle.std.specs.Result.{IfOk}
-use Rattle.st_text.specs.Number.{is_number, is_filled, digits_value}
-use Rattle.st_expr.specs.Name.{is_name}
-use Rattle.st_text.specs.declared.numbers.Reading.TheVariants.{Bad, Large, Good}
-use Rattle.st_text.specs.Pieces.{pieces_of}
-use Rattle.st_text.specs.Tables.{row_of}
-use Rattle.st_card.specs.declared.faults.Fault.{Fault}
-use Rattle.st_card.specs.declared.faults.Fault.TheVariants.{BadName, UnknownOperation, BadDataDescription, BadProgressive, BadFieldCount, BadIndex}
-use Rattle.st_expr.specs.Expression.{expr_of}
-use Rattle.st_bits.specs.declared.operations.HalfOp.TheVariants.{Ex}
-use Rattle.st_bits.specs.declared.operations.VflOp.TheVariants.{L, St, Add, K, Mul, Div}
 use Rattle.st_format.specs.Operations.{writes_field}
 use Rattle.st_format.specs.Validity.{misfits, misuses_p}
 use Rattle.st_format.specs.declared.operations.FullOp.TheVariants.{Variable, Connective}
 use Rattle.st_format.proofs.Spelled.{or-left as either_false}
 use Rattle.st_strap.proofs.TableBounds.{index_below}
-use Rattle.st_strap.specs.Order.{both_of, next_reading}
-use Rattle.st_mnemonic.specs.Text.{statement_text, operation_text, behind_word, behind_group, fields_of, ends_with, group}
-use Rattle.st_mnemonic.specs.Table.{operation_of_word, other_operations, index_operations, index_operation, field_operations, field_operation, negated_operation, connective, connective_at, connective_kinds, truth_tables}
-use Rattle.st_mnemonic.specs.Describing.{description_of, in_pieces, in_mode, number_to, some_number, described_form, may_have, floating_number, plain_form, default_form, usual_byte, modes}
-use Rattle.st_mnemonic.specs.Forming.{description_in, behind_description, form_with_progress, form_with_number, may_have_form, form_number, progressive_forms, open_group, is_behind_groups}
-use Rattle.st_strap.specs.Reading.{field_front, index_part, index_field, index_fields, index_named, index_parts, spot, expression, plain_number, signed_number, index_selector}
-use Rattle.st_strap.specs.Saying.{misnames, alone, two, followed, with_number, index_and_list, operand_spot, without_fields, with_fields, is_misnamed, statement_in_form, reading_of_operation, clean_statement_of, statement_of}
-use Rattle.st_strap.specs.Statements.{Statement}
-use Rattle.st_mnemonic.specs.declared.form.Form.{Form}
-use Rattle.st_strap.specs.declared.statement.Statement.TheVariants.{Half, Sum, Refill, Branch, Floating, Vfl, Connect, Move, BitBranch, IndBranch, StoreCounter, Transfer, Data, IndexWord, Synonym, SetLocation, Reserve, End}
 use Rattle.st_mnemonic.specs.declared.descriptions.Mode.{Mode}
 use Rattle.st_mnemonic.specs.declared.descriptions.Mode.TheVariants.{Field, Normalized, Unnormalized}
-use Rattle.st_mnemonic.specs.declared.descriptions.Description.{Description}
-use Rattle.st_mnemonic.specs.declared.descriptions.Description.TheVariants.{Absent, InForm, Floating as FloatingDescription}
-use Rattle.st_mnemonic.specs.declared.operations.Operation.{Operation}
+use Rattle.st_mnemonic.specs.declared.descriptions.Description.TheVariants.{Floating as FloatingDescription}
 use Rattle.st_mnemonic.specs.declared.operations.Operation.TheVariants.{Half as HalfOperation, Sum as SumOperation, Refill as RefillOperation, Execute as ExecuteOperation, Branch as BranchOperation, Bare as BareOperation, Floating as FloatingOperation, Vfl as VflOperation, Connect as ConnectOperation, Move as MoveOperation, BitBranch as BitBranchOperation, IndBranch as IndBranchOperation, StoreCounter as StoreCounterOperation, Transfer as TransferOperation, Data as DataOperation, IndexWord as IndexWordOperation, Synonym as SynonymOperation, SetLocation as SetLocationOperation, Reserve as ReserveOperation, End as EndOperation}
 use Rattle.st_strap.specs.WellFormed.{IsForm, IsNumberForm, IsWellFormed}
 use Rattle.st_strap.proofs.ReadLemmas.{some-judged, ok-mapped, ok-both, ok-any, some-any, some-map, some-then, some-or, some-ok, row-passes}

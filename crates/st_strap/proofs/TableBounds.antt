@@ -1,10 +1,5 @@
 -- Properties that all rows of a table share.
-use Rattle.std.proofs.Common.{◌≡◌, ◌<◌, ℕ, List, [], ◌∷◌, true, false, cond, Option, Some, None, Result, subst, sym, lit<}
-use Rattle.std.specs.Option.{IfSome, ok_or}
-use Rattle.std.specs.Result.{IfOk}
-use Rattle.st_card.specs.declared.faults.Fault.{Fault}
-use Rattle.st_text.specs.Tables.{is_same, row_of}
-use Rattle.st_strap.specs.Reading.{index_fields}
+use Rattle.st_strap.proofs.Common.{◌≡◌, ◌<◌, ℕ, List, [], ◌∷◌, true, false, cond, Option, Some, None, Result, subst, sym, lit<, IfSome, ok_or, IfOk, Fault, is_same, row_of, index_fields}
 
 -- the values of all rows are below a bound
 abbrev pub AllBelow : ℕ → List (List ℕ × ℕ) → Type 0

@@ -129,27 +129,13 @@ fn split_index(field: &[u8]) -> (&[u8], &[u8])
     field.split_at(index_start(field))
 }
 
-// The index word that a field names.
-fn field_row(field: &[u8]) -> Option<u8>
-    ensures { result ≡ row_of field.now spec.index_fields }
-{
-    row_of(&INDEX_FIELDS, field)
-}
-
-// The index word that a nonempty index part names.
-fn part_row(part: &[u8]) -> Option<u8>
-    ensures { result ≡ row_of part.now spec.index_parts }
-{
-    row_of(&INDEX_PARTS, part)
-}
-
 // The number of the index word that an index field names.
-#[tactic(auto, unfolding(crate::specs::Reading::index_field))]
+#[tactic(auto, unfolding(crate::specs::Reading::index_field, crate::specs::Reading::index_fields))]
 pub(crate) fn index_field(field: &[u8]) -> Result<u8, Fault>
     ensures value { result ≡ spec.index_field field.now }
     ensures within { IfOk result (λ j. j < 16) }
 {
-    field_row(field).ok_or(Fault::BadIndex)
+    row_of(&INDEX_FIELDS, field).ok_or(Fault::BadIndex)
 }
 
 // The number of the index word that an index part names; 0 if there is no part and `must` is not
@@ -160,7 +146,7 @@ fn index_of(must: bool, part: &[u8]) -> Result<u8, Fault>
     match part {
         [] if must => Err(Fault::BadIndex),
         [] => Ok(0),
-        _ => part_row(part).ok_or(Fault::BadIndex),
+        _ => row_of(&INDEX_PARTS, part).ok_or(Fault::BadIndex),
     }
 }
 
@@ -251,14 +237,6 @@ pub(crate) fn signed_number(field: &[u8]) -> Result<(bool, u64), Fault>
     unindexed(part, signed_of(front))
 }
 
-// The bit of a list of index words that represents index word j.
-fn selector(j: u8) -> u16
-    requires { j < 16 }
-    ensures { result ≡ spec.selector j }
-{
-    0x8000 >> j
-}
-
 // The list of index words, as bits, that fields name.
 pub(crate) fn selected(fields: &[FieldText]) -> Result<u16, Fault>
     ensures { result ≡ spec.index_selector (texts fields.now) }
@@ -266,7 +244,8 @@ pub(crate) fn selected(fields: &[FieldText]) -> Result<u16, Fault>
     match fields {
         [] => Ok(0),
         [field, more @ ..] => match (index_field(field.text), selected(more)) {
-            (Ok(j), Ok(list)) => Ok(selector(j) | list),
+            // Index word j is bit j of the list, counted from the left.
+            (Ok(j), Ok(list)) => Ok((0x8000 >> j) | list),
             _ => Err(Fault::BadIndex),
         },
     }

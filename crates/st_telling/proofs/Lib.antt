@@ -1,3 +1,4 @@
+pub mod Common
 pub mod Dumps
 pub mod Runs
 pub mod Snapshots

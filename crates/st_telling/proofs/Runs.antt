@@ -1,19 +1,9 @@
 -- The writing of the report of a run, event by event, with the lines so far and the remaining ones.
-use Rattle.std.proofs.Common.{◌≡◌, ℕ, ◌≤◌, false, length, List, [], ◌∷◌, ◌++◌, arith, refl, sym, ◌∙◌, ap, subst}
-use Rattle.std.specs.Prelude.{map, Result, Ok, Err, IsErr}
-use Rattle.st_card.specs.Controls.{Asked}
-use Rattle.st_io.specs.Output.{OutputState}
-use Rattle.st_io.specs.declared.Failed.{Failed}
-use Rattle.st_io.specs.Lines.{WritesLines}
+use Rattle.st_telling.proofs.Common.{◌≡◌, ℕ, ◌≤◌, false, length, List, [], ◌∷◌, ◌++◌, arith, refl, sym, ◌∙◌, ap, subst, map, Result, Ok, Err, IsErr, Asked, OutputState, Failed, WritesLines, EventsSoFar, events_none, events_more, events_stopped, events_whole, row_told, rows_then, AreLeftOut, report, lines_at, lines_told, WritesEvents, WritesNothing, moment_told, last_moment, Moment}
 use Rattle.st_io.specs.Event.{Event, at_moment, StoppedAt}
 use Rattle.st_io.proofs.Writing.{wrote_at_moment, stopped_at_moment, wrote_events, events_before, events_after}
-use Rattle.st_io.proofs.Progress.{EventsSoFar, events_none, events_more, events_stopped, events_whole}
 use Rattle.st_run.specs.ReportedEvents.{TimedReportedEvent}
 use Rattle.st_ahead.specs.declared.events.Row.{Row}
-use Rattle.st_run.specs.Telling.{row_told, rows_then, AreLeftOut}
-use Rattle.st_telling.specs.Report.{report, lines_at, lines_told}
-use Rattle.st_telling.specs.Running.{WritesEvents, WritesNothing, moment_told, last_moment}
-use Rattle.st_telling.specs.declared.moment.Moment.{Moment}
 
 -- ---- events in order
 

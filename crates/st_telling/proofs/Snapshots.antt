@@ -1,19 +1,7 @@
 -- The lines of a snapshot, from the view of the levels.
-use Rattle.std.proofs.Common.{◌≡◌, ℕ, zero, suc, ◌-◌, List, [], ◌∷◌, ◌++◌, length, refl, sym, ◌∙◌, ap, subst}
-use Rattle.std.specs.Prelude.{Option, None, Some, map, replicate, Result, Ok, Err, IsErr}
-use Rattle.st_io.specs.Output.{OutputState}
-use Rattle.st_io.specs.declared.Failed.{Failed}
-use Rattle.st_card.specs.Controls.{Asked}
-use Rattle.st_state.specs.Machine.{Machine}
-use Rattle.st_io.specs.Lines.{WritesLines}
-use Rattle.st_io.proofs.Progress.{lines_then, lines_cut}
-use Rattle.st_report.specs.Line.{snap_line}
+use Rattle.st_telling.proofs.Common.{◌≡◌, ℕ, zero, suc, ◌-◌, List, [], ◌∷◌, ◌++◌, length, refl, sym, ◌∙◌, ap, subst, Option, None, Some, map, replicate, Result, Ok, Err, IsErr, OutputState, Failed, Asked, Machine, WritesLines, lines_then, lines_cut, snap_line, levels_standing, level_of, AreLevelsShown, block, level_line, snapshot_lines, views_lines}
 use Rattle.st_ahead.specs.declared.events.LevelView.{LevelView}
-use Rattle.st_time.specs.Shown.{levels_standing}
 use Rattle.st_run.specs.Events.{Level}
-use Rattle.st_run.specs.Telling.{level_of, AreLevelsShown}
-use Rattle.st_telling.specs.Report.{block, level_line, snapshot_lines}
-use Rattle.st_telling.specs.Running.{views_lines}
 
 slots : List LevelView → ℕ → List (Option LevelView)
 slots views k = map (λ v. Some v) views ++ replicate k None

@@ -8,13 +8,12 @@
 //!
 //! Pinned, by `block` and docs/report.md: the order of the lines, and that words which are zero
 //! have none; `write_block`, by telling.rt. Free: the private functions and their loops.
-ghost use Rattle.std.specs.Prelude.{◌+◌, ◌-◌, ◌<◌, ◌≤◌, [], ◌∷◌};
+ghost use Rattle.std.specs.Prelude.{◌+◌, ◌-◌, ◌<◌, ◌≤◌};
 ghost use Rattle.std.specs.List.{AllPass};
 ghost use Rattle.st_bits.specs.declared.limits.TheConstants.{WORDS};
 ghost use Rattle.st_bits.specs.declared.register.TheConstants.{FIRST_STORAGE_WORD};
 ghost use Rattle.st_card.specs.Limits.{is_part};
 ghost use Rattle.st_io.specs.Lines.{WritesLines, lines_for};
-ghost use Rattle.st_report.specs.Line.{ic_line, en_line, dump_line};
 ghost use Rattle.st_telling.specs.Report.{block, register_lines, memory_lines, dump_lines, dumps_lines};
 
 use st_io::{Failed, Sink};
@@ -77,13 +76,6 @@ fn write_words<K: Sink>(
     Ok(())
 }
 
-// Writes the first line of a dump, with its range.
-fn write_range<K: Sink>(out: &mut K, first: u32, last: u32) -> Result<(), Failed>
-    ensures { WritesLines (K.output out.old) (K.output out.new) (dump_line first last ∷ []) result }
-{
-    put(out, &line_dump(first, last))
-}
-
 // Writes a dump: its range, and the nonzero words from `first` to `last`.
 fn write_dump<K: Sink>(
     out: &mut K,
@@ -96,7 +88,7 @@ fn write_dump<K: Sink>(
     ensures { WritesLines (K.output out.old) (K.output out.new)
         (dump_lines seen.now first last) result }
 {
-    write_range(out, first, last)?;
+    put(out, &line_dump(first, last))?;
     write_words(out, seen, first, last)
 }
 
@@ -116,21 +108,6 @@ fn write_dumps<K: Sink>(
     Ok(())
 }
 
-// Writes the line of the program counter.
-fn write_counter<K: Sink>(out: &mut K, seen: &StateView<'_>) -> Result<(), Failed>
-    ensures { WritesLines (K.output out.old) (K.output out.new) (ic_line seen.now.ic ∷ []) result }
-{
-    put(out, &line_ic(seen.ic()))
-}
-
-// Writes the line that shows whether interrupts are enabled.
-fn write_enabled<K: Sink>(out: &mut K, seen: &StateView<'_>) -> Result<(), Failed>
-    ensures { WritesLines (K.output out.old) (K.output out.new)
-        (en_line seen.now.enabled ∷ []) result }
-{
-    put(out, &line_en(seen.enabled()))
-}
-
 /// Writes the state block of the state that is shown, with the requested dumps.
 pub fn write_block<K: Sink>(
     out: &mut K,
@@ -140,8 +117,8 @@ pub fn write_block<K: Sink>(
     requires { AllPass is_part dumps.now }
     ensures { WritesLines (K.output out.old) (K.output out.new) (block dumps.now seen.now) result }
 {
-    write_counter(out, seen)?;
-    write_enabled(out, seen)?;
+    put(out, &line_ic(seen.ic()))?;
+    put(out, &line_en(seen.enabled()))?;
     write_registers(out, seen)?;
     write_dumps(out, seen, dumps)
 }

@@ -12,21 +12,19 @@
 //! event. A new kind of event or line needs its case in `parts_at` first, then in the matches here,
 //! which the compiler names; the proofs of this file show that each event has the lines listed
 //! there. Free: buffers, inlining, the skipping.
-ghost use Rattle.std.specs.Prelude.{◌≡◌, ◌<◌, ◌||◌, [], ◌∷◌, List, length, MatchOption, IfSome};
+ghost use Rattle.std.specs.Prelude.{◌≡◌, ◌<◌, ◌||◌, [], ◌∷◌, length, MatchOption, IfSome};
 ghost use Rattle.std.specs.List.{AllPass};
 ghost use Rattle.st_card.specs.Limits.{is_part};
 ghost use Rattle.st_io.specs.Lines.{WritesLines};
-ghost use Rattle.st_report.specs.Line.{trc_line, row_line, drop_line, prt_line, int_line, time_line, snap_line as snap_line_of, lev_line, end_line, done_line, ticks_line};
+ghost use Rattle.st_report.specs.Line.{trc_line, row_line, drop_line, time_line, snap_line as snap_line_of, lev_line, ticks_line};
 ghost use Rattle.st_time.specs.Shown.{levels_standing, change_shown};
-ghost use Rattle.st_run.specs.Events.{Level};
-ghost use Rattle.st_run.specs.Telling.{AreLevelsShown, row_told, told_as};
+ghost use Rattle.st_run.specs.Telling.{row_told, told_as};
 ghost use Rattle.st_run.specs.ReportedEvents.{Done, Interrupted, Ended};
 ghost use Rattle.st_telling.specs.Report.{block, line_if, snapshot_lines, lines_at, lines_told, report};
 ghost use Rattle.st_telling.specs.Running.{WritesEvents, WritesNothing, last_moment, views_lines};
 
 use crate::block::write_block;
 use crate::moment::Moment;
-use arrayvec::ArrayString;
 use st_ahead::{LevelView, Row, View};
 use st_card::Controls;
 use st_io::{Failed, Sink, write_line};
@@ -49,14 +47,6 @@ pub fn write_state<K: Sink>(
         (block controls.now.dumps seen.now) result }
 {
     write_block(out, seen, controls.dumps.as_slice())
-}
-
-// Whether completions have lines in the report.
-#[inline(always)]
-fn is_written(controls: &Controls) -> bool
-    ensures { result ≡ (controls.now.trace || controls.now.chart) }
-{
-    controls.trace || controls.chart
 }
 
 // Writes the trace line of a completed instruction, if a trace is requested. `line` is a buffer.
@@ -130,21 +120,6 @@ fn write_dropped<K: Sink>(
     put(out, &line_drop(address, p))
 }
 
-// Writes the line of a print.
-fn write_printed<K: Sink>(out: &mut K, text: &ArrayString<64>) -> Result<(), Failed>
-    ensures { WritesLines (K.output out.old) (K.output out.new)
-        (prt_line text.now.bytes ∷ []) result }
-{
-    put(out, &line_prt(text))
-}
-
-// Writes the line of an interrupt, with its indicator and the count of completed instructions.
-fn write_taken<K: Sink>(out: &mut K, i: u8, done: u64) -> Result<(), Failed>
-    ensures { WritesLines (K.output out.old) (K.output out.new) (int_line i done ∷ []) result }
-{
-    put(out, &line_int(i, done))
-}
-
 // Writes the line of the tick of an interrupt, if ticks are requested.
 #[tactic(auto, using(st_io::proofs::Progress::wrote_nothing))]
 fn write_time<K: Sink>(out: &mut K, tick: u64, controls: &Controls) -> Result<(), Failed>
@@ -169,7 +144,7 @@ fn write_interrupt<K: Sink>(
     ensures { WritesLines (K.output out.old) (K.output out.new)
         (lines_at controls.now moment.done moment.tick (Interrupted i seen.now)) result }
 {
-    write_taken(out, i, moment.done)?;
+    put(out, &line_int(i, moment.done))?;
     write_time(out, moment.tick, controls)?;
     write_state(out, seen, controls)
 }
@@ -212,24 +187,6 @@ fn write_levels<K: Sink>(out: &mut K, levels: &[Option<LevelView>]) -> Result<()
     write_levels(out, more)
 }
 
-// Writes the lines of a snapshot at this moment.
-fn write_snapshot<K: Sink>(
-    out: &mut K,
-    moment: Moment,
-    seen: &StateView<'_>,
-    view: &View,
-    controls: &Controls,
-) -> Result<(), Failed>
-    requires { AllPass is_part controls.now.dumps }
-    ensures { (ahead : List Level) → AreLevelsShown view.now.levels ahead
-        → WritesLines (K.output out.old) (K.output out.new)
-        (snapshot_lines controls.now moment.done moment.tick seen.now ahead) result }
-{
-    write_snap(out, moment, view)?;
-    write_state(out, seen, controls)?;
-    write_levels(out, &view.levels)
-}
-
 // Writes the snapshot that a run shows. It is a separate function, so that other events need no
 // stack space for a view.
 #[inline(never)]
@@ -243,21 +200,10 @@ fn write_shown<K: Sink, const N: usize>(
     ensures { WritesLines (K.output out.old) (K.output out.new)
         (snapshot_lines controls.now moment.done moment.tick run.now.seen run.now.ahead) result }
 {
-    write_snapshot(out, moment, &run.seen(), &run.view(), controls)
-}
-
-// Writes the line of the end of the run: at rest, or with the budget used up.
-fn write_ended<K: Sink>(out: &mut K, rests: bool) -> Result<(), Failed>
-    ensures { WritesLines (K.output out.old) (K.output out.new) (end_line rests ∷ []) result }
-{
-    put(out, &line_end(rests))
-}
-
-// Writes the line with the count of completed instructions.
-fn write_count<K: Sink>(out: &mut K, done: u64) -> Result<(), Failed>
-    ensures { WritesLines (K.output out.old) (K.output out.new) (done_line done ∷ []) result }
-{
-    put(out, &line_done(done))
+    let view = run.view();
+    write_snap(out, moment, &view)?;
+    write_state(out, &run.seen(), controls)?;
+    write_levels(out, &view.levels)
 }
 
 // Writes the line of the tick of the last completion, if ticks are requested.
@@ -284,8 +230,8 @@ fn write_end<K: Sink>(
     ensures { WritesLines (K.output out.old) (K.output out.new)
         (lines_at controls.now moment.done moment.tick (Ended rests seen.now)) result }
 {
-    write_ended(out, rests)?;
-    write_count(out, moment.done)?;
+    put(out, &line_end(rests))?;
+    put(out, &line_done(moment.done))?;
     write_ticks(out, moment.tick, controls)?;
     write_state(out, seen, controls)
 }
@@ -345,7 +291,7 @@ fn write_told<K: Sink, const N: usize>(
             write_done(out, line, row, controls)
         }
         RunEvent::Dropped { address, p } => write_dropped(out, address, p, controls),
-        RunEvent::Printed => write_printed(out, run.printed()),
+        RunEvent::Printed => put(out, &line_prt(run.printed())),
         RunEvent::Interrupted(i) => write_interrupt(out, moment, i, &run.seen(), controls),
         RunEvent::Shown(at) => write_shown(out, run, Moment { tick: at, ..moment }, controls),
         RunEvent::Ended(rests) => write_end(out, moment, rests, &run.seen(), controls),
@@ -407,7 +353,8 @@ fn write_rest<K: Sink, const N: usize>(
 {
     // One buffer for all lines, since clearing a new one takes time.
     let mut line = EntryLine::new();
-    let written = is_written(controls);
+    // Whether completions have lines.
+    let written = controls.trace || controls.chart;
     'telling: loop {
         if let Some(row) = next_written(run, written) {
             *moment = moment_at(&row);

@@ -1,9 +1,7 @@
 -- The text without its trailing blanks, by the place where they begin.
-use Rattle.std.proofs.Common.{◌≡◌, ◌≢◌, ◌≤◌, ◌<◌, ◌-◌, ◌==◌, ℕ, List, length, take, slice_index, arith}
+use Rattle.st_text.proofs.Common.{◌≡◌, ◌≢◌, ◌≤◌, ◌<◌, ◌-◌, ◌==◌, ℕ, List, length, take, slice_index, arith, suffix_len, without_end_blanks}
 use Rattle.std.proofs.lemmas.Grind.{common_steps}
 use Rattle.std.proofs.lemmas.List.Sums.{suffix_len_is}
-use Rattle.std.specs.List.{suffix_len}
-use Rattle.st_text.specs.Blanks.{without_end_blanks}
 
 -- all bytes from n are blanks, and the one before n is not
 pub take-filled : (text : List ℕ) (n : ℕ) → n ≤ length text

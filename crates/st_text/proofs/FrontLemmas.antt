@@ -1,8 +1,5 @@
 -- Prefixes and suffixes of texts.
-use Rattle.std.proofs.Common.{◌≡◌, ◌≤◌, ◌+◌, ◌-◌, ℕ, List, [], ◌∷◌, ◌++◌, length, take, drop, ap, sym, ◌∙◌, arith, append_assoc, length-append}
-use Rattle.std.proofs.lemmas.List.{take-take, drop-drop, length-take-le}
-use Rattle.std.proofs.Math.Seq.{take-length, take-append_seam, drop-append_seam}
-use Rattle.st_text.specs.Pieces.{IsFront, IsBehind}
+use Rattle.st_text.proofs.Common.{◌≡◌, ◌≤◌, ◌+◌, ◌-◌, ℕ, List, [], ◌∷◌, ◌++◌, length, take, drop, ap, sym, ◌∙◌, arith, append_assoc, length-append, take-take, drop-drop, length-take-le, take-length, take-append_seam, drop-append_seam, IsFront, IsBehind}
 
 -- a text is a prefix of itself
 pub front_itself : (text : List ℕ) → IsFront text text

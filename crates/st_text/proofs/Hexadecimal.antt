@@ -1,6 +1,5 @@
 -- The hexadecimal text, from its last digit.
-use Rattle.std.proofs.Common.{◌≡◌, ℕ, suc, zero, ◌-◌, ◌/◌, ◌%◌, ◌<◌, [], ◌∷◌, ◌++◌, refl, arith}
-use Rattle.st_text.specs.Numerals.{hex_digit, hex_text}
+use Rattle.st_text.proofs.Common.{◌≡◌, ℕ, suc, zero, ◌-◌, ◌/◌, ◌%◌, ◌<◌, [], ◌∷◌, ◌++◌, refl, arith, hex_digit, hex_text}
 
 -- the text of no digits is empty
 pub hex_text-zero : (d x : ℕ) → d ≡ 0 → hex_text d x ≡ []

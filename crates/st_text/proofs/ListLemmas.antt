@@ -1,7 +1,5 @@
 -- A list as its first item and the rest, as slice patterns split it.
-use Rattle.std.proofs.Common.{◌≡◌, ◌≤◌, ◌<◌, ℕ, suc, ◌+◌, ◌-◌, List, [], ◌∷◌, ◌++◌, length, get_or, take, drop, ap, sym, ◌∙◌, arith, drop-cons, add-one}
-use Rattle.std.proofs.Math.Seq.{take-length}
-use Rattle.std.proofs.lemmas.List.{take_more}
+use Rattle.st_text.proofs.Common.{◌≡◌, ◌≤◌, ◌<◌, ℕ, suc, ◌+◌, ◌-◌, List, [], ◌∷◌, ◌++◌, length, get_or, take, drop, ap, sym, ◌∙◌, arith, drop-cons, add-one, take-length, take_more}
 
 -- a nonempty list as its first item and the rest
 pub first_and_rest : {X : Type 0} (xs : List X) (other : X) → 1 ≤ length xs →

@@ -1,8 +1,5 @@
 -- Reading a number with a cap.
-use Rattle.std.proofs.Common.{◌≡◌, ℕ, ◌+◌, ◌*◌, ◌-◌, ◌&&◌, Bool, true, List, [], ◌∷◌, min, ap, sym, ◌∙◌, arith}
-use Rattle.std.specs.Char.{is_ascii_digit}
-use Rattle.std.specs.List.{list_all}
-use Rattle.st_text.specs.Number.{value_after}
+use Rattle.st_text.proofs.Common.{◌≡◌, ℕ, ◌+◌, ◌*◌, ◌-◌, ◌&&◌, Bool, true, List, [], ◌∷◌, min, ap, sym, ◌∙◌, arith, is_ascii_digit, list_all, value_after}
 
 -- capping the value of the digits so far does not change the capped value of all digits
 pub capped_value : (cap n : ℕ) (cs : List ℕ) → min (value_after (min n cap) cs) cap ≡ min (value_after n cs) cap

@@ -1,8 +1,5 @@
 -- Splitting a text at a byte.
-use Rattle.std.proofs.Common.{◌≡◌, ◌<◌, ◌≤◌, ◌&&◌, ℕ, zero, suc, slice_index, List, [], ◌∷◌, ◌++◌, Bool, true, false, not, IsTrue, length, take, drop, refl, ap, sym, subst, ◌∙◌, if◌then◌else◌, ◌==◌, arith}
-use Rattle.std.proofs.Math.Seq.{take-length}
-use Rattle.std.proofs.lemmas.List.{take-append-drop}
-use Rattle.st_text.specs.Pieces.{onto_first, pieces_of, lacks}
+use Rattle.st_text.proofs.Common.{◌≡◌, ◌<◌, ◌≤◌, ◌&&◌, ℕ, zero, suc, slice_index, List, [], ◌∷◌, ◌++◌, Bool, true, false, not, IsTrue, length, take, drop, refl, ap, sym, subst, ◌∙◌, if◌then◌else◌, ◌==◌, arith, take-length, take-append-drop, onto_first, pieces_of, lacks}
 
 -- a text has a first piece
 pub first_piece : (at : ℕ) (text : List ℕ) →

@@ -1,5 +1,5 @@
 -- The search of a table row by row.
-use Rattle.std.proofs.Common.{◌≡◌, ◌<◌, ◌+◌, ℕ, suc, List, ◌∷◌, length, get_or, drop, Bool, true, false, cond, Some, ap, sym, ◌∙◌, drop-cons, add-one}
+use Rattle.st_text.proofs.Common.{◌≡◌, ◌<◌, ◌+◌, ℕ, suc, List, ◌∷◌, length, get_or, drop, Bool, true, false, cond, Some, ap, sym, ◌∙◌, drop-cons, add-one}
 use Rattle.std.specs.Borrow.{Bor}
 use Rattle.st_text.specs.Tables.{is_same, row_of, rows_of}
 

@@ -1,17 +1,7 @@
 -- A job that is not refused is not refused with other good delay cards either.
-use Rattle.std.proofs.Common.{◌≡◌, ℕ, ◌+◌, ◌&&◌, Bool, true, false, if◌then◌else◌, List, [], ◌∷◌, ◌++◌, length, filter, refl, sym, ◌∙◌, ap, subst, Option, Some, None, arith}
+use Rattle.st_top.proofs.Common.{◌≡◌, ℕ, ◌+◌, ◌&&◌, Bool, true, false, if◌then◌else◌, List, [], ◌∷◌, ◌++◌, length, filter, refl, sym, ◌∙◌, ap, subst, Option, Some, None, arith, list_all, words, LONGEST_LIST, MOST_DELAY, columns, kind_of, keyword_order, keyword_in, card_numbers, Asked, is_in_range, with_delays, with_keyword, with_card, with_words, asked_with_card, CardKind, Comment, Control, Statement, Keyword, is_delays, begins_delays, is_control, is_delays_card, asked_in}
 use Rattle.std.specs.Prelude.{nat_le}
-use Rattle.std.specs.List.{list_all}
-use Rattle.st_text.specs.Pieces.{words}
-use Rattle.st_bits.specs.declared.limits.TheConstants.{LONGEST_LIST, MOST_DELAY}
-use Rattle.st_card.specs.Cards.{columns, kind_of}
-use Rattle.st_card.specs.Keywords.{keyword_order, keyword_in, card_numbers}
-use Rattle.st_card.specs.Controls.{Asked, is_in_range, with_delays, with_keyword, with_card, with_words, asked_with_card}
-use Rattle.st_card.specs.declared.cards.CardKind.{CardKind}
-use Rattle.st_card.specs.declared.cards.CardKind.TheVariants.{Comment, Control, Statement}
 use Rattle.st_card.specs.declared.keywords.ControlForm.TheVariants.{Card}
-use Rattle.st_card.specs.declared.keywords.Keyword.{Keyword}
-use Rattle.st_top.specs.Delays.{is_delays, begins_delays, is_control, is_delays_card, asked_in}
 use Rattle.st_top.proofs.DelayCards.{asked_on, still, stills, keyword-is, others, asked_by, asked_with, other-still, delays-still, others-kept, others-left, asks-none}
 
 -- ---- a good delay card is good among others

@@ -1,24 +1,11 @@
 -- The second machine moves as the run does, and steps back restore the previous states.
-use Rattle.std.proofs.Common.{◌≡◌, ◌≢◌, ◌≤◌, ◌<◌, ℕ, zero, suc, ◌+◌, ◌-◌, List, [], ◌∷◌, ◌++◌, true, false, nat_le, length, drop, refl, sym, ◌∙◌, ap, subst, arith, get_or-set_other, length-append}
-use Rattle.std.proofs.lemmas.Bool.Decides.{nat_tests}
-use Rattle.std.proofs.lemmas.List.{length-set, length-drop, drop-append-le}
-use Rattle.std.specs.Prelude.{Option, None, Some, MatchOption, IfSome, IsSome, is_some, slice_get}
+use Rattle.st_top.proofs.Common.{◌≡◌, ◌≢◌, ◌≤◌, ◌<◌, ℕ, zero, suc, ◌+◌, ◌-◌, List, [], ◌∷◌, ◌++◌, true, false, nat_le, length, drop, refl, sym, ◌∙◌, ap, subst, arith, get_or-set_other, length-append, nat_tests, length-set, length-drop, drop-append-le, MatchOption, IfSome, IsSome, slice_get, Machine, IsMachine, word, with_word, state_with_store, Order, rests, IsStep, all_stored, read_in, Scene, interlude, PendingEvents, scene_at, step_made, KeptStep, Steps, none_of, newest_step, IsForth, IsStepKept, IsPut, has_room, states_before, between-states, forth-states, Beside, IsFreshStep, HasRoomForCard, IsOpen, IsKept, IsBesideReady, IsMoved, IsStepped, IsBeside}
+use Rattle.std.specs.Prelude.{Option, None, Some, is_some}
 use Rattle.circular_buffer.specs.Buffer.{keep_last}
-use Rattle.st_state.specs.Machine.{Machine, IsMachine, word, with_word, state_with_store}
-use Rattle.st_state.specs.declared.devices.Order.{Order}
-use Rattle.st_exec.specs.Step.{rests, IsStep}
 use Rattle.st_exec.specs.declared.step.Step.{Step}
 use Rattle.st_exec.specs.declared.step.Step.TheVariants.{Plain, Interrupt, Waits}
-use Rattle.st_exec.specs.Transfer.{all_stored, read_in}
-use Rattle.st_run.specs.Run.{Scene, interlude}
-use Rattle.st_run.specs.ExternalEvents.{PendingEvents, scene_at}
-use Rattle.st_exec.proofs.StepLemmas.{step_made}
-use Rattle.st_back.specs.declared.kept.KeptStep.{KeptStep}
 use Rattle.st_back.specs.Between.{AreAlikeAbove}
-use Rattle.st_back.specs.Steps.{Steps, none_of, newest_step, IsForth, IsStepKept, IsPut, has_room, states_before}
 use Rattle.st_back.specs.Undone.{step_with_word}
-use Rattle.st_back.proofs.ManyLemmas.{between-states, forth-states}
-use Rattle.st_top.specs.Beside.{Beside, IsFreshStep, HasRoomForCard, IsOpen, IsKept, IsBesideReady, IsMoved, IsStepped, IsBeside}
 use Rattle.st_top.specs.declared.beside.Noted.{Noted}
 
 -- ---- the words from address 32

@@ -1,16 +1,10 @@
 -- The result of the parser for one to three plain words.
-use Rattle.std.proofs.Common.{◌≡◌, ◌≤◌, ◌==◌, ◌&&◌, ◌^◌, ◌-◌, ◌<◌, inl, inr, if◌then◌else◌, nat_eq, nat_le, sym, subst, ℕ, List, [], ◌∷◌, Bool, true, false, not, Some, None, codes, length, Option, refl, ap, ◌∙◌, arith}
-use Rattle.std.proofs.lemmas.Bool.{and_cases, and_right, and_parts, leb-true, eqb-true, not-false, true≢false}
-use Rattle.std.specs.Prelude.{MatchOption}
+use Rattle.st_top.proofs.Common.{◌≡◌, ◌≤◌, ◌==◌, ◌&&◌, ◌^◌, ◌-◌, ◌<◌, inl, inr, if◌then◌else◌, nat_eq, nat_le, sym, subst, ℕ, List, [], ◌∷◌, Bool, true, false, not, Some, None, codes, length, Option, refl, ap, ◌∙◌, arith, and_cases, and_right, and_parts, leb-true, eqb-true, not-false, true≢false, MatchOption, list_all, matches_of, takes, first_of, is_plain, three_words, command_by, Command}
 use Rattle.std.specs.Cmp.Lexicographic.{pointwise}
-use Rattle.std.specs.List.{list_all}
-use Rattle.clap.specs.Words.{matches_of, takes, first_of}
 use Rattle.clap.proofs.OnLiterals.{clap_on_literals}
 use Rattle.std.specs.Char.{is_ascii_digit}
 use Rattle.st_text.specs.Number.{is_filled, is_number, digits_value}
 use Rattle.st_top.specs.Command.{command_named, command_with, command_of, number_between, soak_of, IsWithinCards}
-use Rattle.st_top.specs.CommandLine.{is_plain, three_words, command_by}
-use Rattle.st_top.specs.declared.command.Command.{Command}
 
 -- a single word is the command, without a number
 pub one_command : (c : ℕ) (cs : List ℕ) → (c == 45) ≡ false → first_of (codes "command") (matches_of three_words ((c ∷ cs) ∷ [])) ≡ Some (c ∷ cs)

@@ -1,12 +1,5 @@
 -- The deck of a program, or the refusal of its first card over the limit.
-use Rattle.std.proofs.Common.{◌≡◌, ◌≤◌, Bool, true, nat_le, if◌then◌else◌, sym, ap, arith}
-use Rattle.std.proofs.lemmas.Bool.Decides.{nat_tests}
-use Rattle.st_card.specs.declared.faults.Fault.TheVariants.{TooManyCards}
-use Rattle.st_object.specs.Object.{Program}
-use Rattle.st_dis.specs.Deck.{card_count}
-use Rattle.st_top.specs.ObjectText.{deck_lines}
-use Rattle.st_top.specs.Output.{Output, lines_alone, refusal_output, deck_by}
-use Rattle.st_top.specs.declared.answer.Status.TheVariants.{Done}
+use Rattle.st_top.proofs.Common.{◌≡◌, ◌≤◌, Bool, true, nat_le, if◌then◌else◌, sym, ap, arith, nat_tests, TooManyCards, Program, card_count, deck_lines, Output, lines_alone, refusal_output, deck_by, Done}
 
 abbrev by_count : Program → Bool → Output
 by_count p few = if few then lines_alone Done (deck_lines p) else refusal_output (record { card = 20001; fault = TooManyCards })

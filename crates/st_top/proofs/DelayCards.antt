@@ -1,20 +1,9 @@
 -- A delay card changes only the delays, and no other control card depends on them.
-use Rattle.std.proofs.Common.{◌≡◌, ℕ, ◌+◌, ◌&&◌, Bool, true, false, not, if◌then◌else◌, List, [], ◌∷◌, ◌++◌, length, filter, refl, sym, ◌∙◌, ap, subst, Option, Some, None, arith}
+use Rattle.st_top.proofs.Common.{◌≡◌, ℕ, ◌+◌, ◌&&◌, Bool, true, false, not, if◌then◌else◌, List, [], ◌∷◌, ◌++◌, length, filter, refl, sym, ◌∙◌, ap, subst, Option, Some, None, arith, list_all, words, LONGEST_LIST, MOST_DELAY, kind_of, columns, keyword_order, keyword_in, card_numbers, Asked, is_in_range, with_delays, with_keyword, with_card, with_words, asked_with_card, CardKind, Comment, Control, Statement, Keyword, Delays, is_delays, begins_delays, is_control, is_delays_card}
 use Rattle.std.specs.Prelude.{nat_le}
-use Rattle.std.specs.List.{list_all}
 use Rattle.std.specs.Option.{option_map, option_and_then}
-use Rattle.st_text.specs.Pieces.{words}
-use Rattle.st_bits.specs.declared.limits.TheConstants.{LONGEST_LIST, MOST_DELAY}
-use Rattle.st_card.specs.Cards.{kind_of, columns}
-use Rattle.st_card.specs.Keywords.{keyword_order, keyword_in, card_numbers}
-use Rattle.st_card.specs.Controls.{Asked, is_in_range, with_delays, with_keyword, with_card, with_words, asked_with_card}
-use Rattle.st_card.specs.declared.cards.CardKind.{CardKind}
-use Rattle.st_card.specs.declared.cards.CardKind.TheVariants.{Comment, Control, Statement}
 use Rattle.st_card.specs.declared.keywords.ControlForm.TheVariants.{Card}
-use Rattle.st_card.specs.declared.keywords.Keyword.{Keyword}
 use Rattle.st_card.specs.declared.keywords.Keyword.TheVariants.{Number}
-use Rattle.st_card.specs.declared.keywords.Number.TheVariants.{Delays}
-use Rattle.st_top.specs.Delays.{is_delays, begins_delays, is_control, is_delays_card}
 
 -- the requests after a further card, if the previous cards are good
 abbrev pub asked_on : Option Asked → (Asked → Option Asked) → Option Asked

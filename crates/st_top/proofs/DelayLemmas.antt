@@ -1,20 +1,8 @@
 -- The unmarked lines of a run depend only on the plain run.
-use Rattle.st_state.specs.Machine.{Machine}
-use Rattle.st_run.specs.TimedRun.{timed_run}
-use Rattle.st_run.proofs.CourseLemmas.{last-same}
+use Rattle.st_top.proofs.Common.{Machine, timed_run, last-same, ◌≡◌, ℕ, Bool, List, ◌++◌, sym, ◌∙◌, ap, flat_map, Asked, Scene, run, moment_at_start, reported_events, lines_unmarked, marked_report, marked_run, states, states_of_run, events_of_run, last_state, lines_of_steps_back, LEVELS}
 use Rattle.st_top.proofs.Rewinds.{states-same}
-use Rattle.std.proofs.Common.{◌≡◌, ℕ, Bool, List, ◌++◌, sym, ◌∙◌, ap}
-use Rattle.std.specs.List.{flat_map}
-use Rattle.st_card.specs.Controls.{Asked}
-use Rattle.st_run.specs.Run.{Scene, run}
-use Rattle.st_run.specs.Moments.{moment_at_start}
-use Rattle.st_run.specs.ReportedEvents.{reported_events}
 use Rattle.st_run.proofs.Untimed.{timed-plain}
-use Rattle.st_top.specs.Marks.{lines_unmarked, marked_report, marked_run}
 use Rattle.st_telling.specs.Report.{fixed as without_marks}
-use Rattle.st_top.specs.States.{states}
-use Rattle.st_top.specs.StepsBack.{states_of_run, events_of_run, last_state, lines_of_steps_back}
-use Rattle.st_top.specs.declared.reporting.TheConstants.{LEVELS}
 use Rattle.st_top.proofs.PlainEventLemmas.{unmarked-append, unmarked-plain, happening_lines, report-lines, counted-run}
 
 -- the lines of the plain run, and of the requested state before its end

@@ -1,25 +1,10 @@
 -- Only marked lines depend on delays.
-use Rattle.std.specs.Prelude.{Result, Ok, Err, nat_le, List, []}
-use Rattle.std.proofs.Common.{◌≡◌, ◌≤◌, ℕ, Bool, true, false, if◌then◌else◌, refl, sym, ◌∙◌, ap, subst}
-use Rattle.std.proofs.lemmas.Bool.{leb-true, le-leb}
-use Rattle.st_bits.specs.declared.limits.TheConstants.{MOST_CARDS}
-use Rattle.st_asm.specs.Assembly.{Assembly, assembly}
-use Rattle.st_asm.specs.Pass.{Refusal}
-use Rattle.st_object.specs.DelayLines.{DifferInDelayLines}
-use Rattle.st_object.specs.Object.{Program, IsReading}
-use Rattle.st_object.proofs.OtherDelays.{again-read, lines-differ}
-use Rattle.st_object.proofs.ReadingLemmas.{reading-only}
-use Rattle.st_dis.specs.Deck.{card_count}
-use Rattle.st_top.specs.Delays.{IsAccepted, DifferInDelaysAlone, HasGoodLines, HasShortDeck, AreDelaysGood, DelaysShowInMarksAlone}
-use Rattle.st_top.specs.Marks.{lines_unmarked, marked_load, marked_disassembled, marked_output}
-use Rattle.st_top.specs.Output.{Output, output_of, ran_by, swept_by, assembled_by, loaded_by, disassembled_by}
-use Rattle.st_top.specs.declared.answer.Status.TheVariants.{Done, Refused}
+use Rattle.st_top.proofs.Common.{Result, Ok, Err, ◌≡◌, ◌≤◌, ℕ, Bool, true, false, if◌then◌else◌, refl, sym, ◌∙◌, ap, subst, leb-true, le-leb, MOST_CARDS, Assembly, assembly, Refusal, DifferInDelayLines, Program, IsReading, again-read, lines-differ, reading-only, card_count, IsAccepted, DifferInDelaysAlone, HasGoodLines, HasShortDeck, AreDelaysGood, DelaysShowInMarksAlone, lines_unmarked, marked_load, marked_disassembled, marked_output, Output, output_of, ran_by, swept_by, assembled_by, loaded_by, disassembled_by, Done, Refused, Command, Run, Assemble, Load, Disassemble, Sweep, Soak}
+use Rattle.std.specs.Prelude.{nat_le, List, []}
 use Rattle.st_top.proofs.MarkLemmas.{lines-output}
 use Rattle.st_top.proofs.PlainEventLemmas.{unmarked-marked}
 use Rattle.st_top.proofs.JobLemmas.{jobs-same, loads-same, assembled-same, disassembled-same}
 use Rattle.st_top.proofs.PartedJobs.{cards-differ, again-accepted}
-use Rattle.st_top.specs.declared.command.Command.{Command}
-use Rattle.st_top.specs.declared.command.Command.TheVariants.{Run, Assemble, Load, Disassemble, Sweep, Soak}
 
 -- ---- jobs that are not refused
 

@@ -1,43 +1,13 @@
 -- Two jobs with equal assemblies apart from the delays have equal unmarked lines.
-use Rattle.std.proofs.Common.{◌≡◌, ◌≤◌, ℕ, Bool, true, false, if◌then◌else◌, List, [], ◌∷◌, ◌++◌, length, take, drop, map, filter, not, refl, sym, ◌∙◌, ap}
-use Rattle.std.proofs.lemmas.Bool.{le-leb}
-use Rattle.std.specs.Prelude.{Ok}
-use Rattle.st_bits.specs.declared.limits.TheConstants.{MOST_CARDS}
-use Rattle.st_text.specs.Bytes.{lf}
-use Rattle.st_card.specs.Cards.{cards_of, text_in}
-use Rattle.st_card.specs.Controls.{Asked}
-use Rattle.std.specs.List.{flat_map}
-use Rattle.std.proofs.lemmas.List.Elements.{filter-append}
-use Rattle.st_card.specs.Keywords.{keyword_order}
-use Rattle.st_card.specs.Written.{control_line, asked_by, requests}
-use Rattle.st_card.specs.declared.keywords.Number.TheVariants.{Budget, Delays}
-use Rattle.st_card.specs.declared.keywords.Keyword.TheVariants as keywords
+use Rattle.st_top.proofs.Common.{◌≡◌, ◌≤◌, ℕ, Bool, true, false, if◌then◌else◌, List, [], ◌∷◌, ◌++◌, length, take, drop, map, filter, not, refl, sym, ◌∙◌, ap, le-leb, Ok, MOST_CARDS, lf, cards_of, text_in, Asked, flat_map, filter-append, keyword_order, control_line, asked_by, requests, Budget, Delays, Card, Assembly, assembly, Symbol, Listed, behind_statements, reader_cards, Scene, lines_of, is_delay_line, line_text, Program, object_lines, others-same, word_cards, statement_card, end_text, card_count, program_in, listed_line, opening_state, rows_lines, symbols_lines, AreAlikeBesideDelays, lines_unmarked, marked_run, up_to_end, texts_up_to_end, end_card, listed_lines, marked_listing, marked_by, is_delay, marked_cards, marked_object, marked_deck, marked_assembled, marked_disassembled, joined, scene_of_assembly, loaded_start, deck_by}
 use Rattle.st_card.specs.declared.keywords.Control.{Control}
 use Rattle.st_card.specs.declared.keywords.Control.TheVariants.{Number}
-use Rattle.st_card.specs.declared.keywords.ControlForm.TheVariants as forms
-use Rattle.st_card.specs.declared.cards.Card.{Card}
-use Rattle.st_asm.specs.Assembly.{Assembly, assembly}
-use Rattle.st_asm.specs.declared.naming.Symbol.{Symbol}
-use Rattle.st_asm.specs.declared.valuing.Listed.{Listed}
-use Rattle.st_exch.specs.Reader.{behind_statements, reader_cards}
-use Rattle.st_run.specs.Run.{Scene}
-use Rattle.st_io.specs.Event.{lines_of}
-use Rattle.st_object.specs.DelayLines.{is_delay_line}
-use Rattle.st_object.specs.Lines.{line_text}
-use Rattle.st_object.specs.Object.{Program, object_lines}
-use Rattle.st_object.proofs.OtherDelays.{others-same}
-use Rattle.st_dis.specs.Deck.{word_cards, statement_card, end_text, card_count}
-use Rattle.st_top.specs.ObjectText.{program_in}
-use Rattle.st_report.specs.Listing.{listed_line}
-use Rattle.st_state.specs.Machine.{opening_state}
-use Rattle.st_top.specs.Listing.{rows_lines, symbols_lines}
-use Rattle.st_top.specs.DelayLaws.{AreAlikeBesideDelays}
-use Rattle.st_top.specs.Marks.{lines_unmarked, marked_run, up_to_end, texts_up_to_end, end_card, listed_lines, marked_listing, marked_by, is_delay, marked_cards, marked_object, marked_deck, marked_assembled, marked_disassembled}
-use Rattle.st_telling.specs.Report.{Part as Marked, varying as with_marks, fixed as without_marks, joined}
-use Rattle.st_top.specs.Output.{scene_of_assembly, loaded_start, deck_by}
+use Rattle.st_telling.specs.Report.{Part as Marked, varying as with_marks, fixed as without_marks}
 use Rattle.st_top.proofs.MarkLemmas.{joined-cons}
 use Rattle.st_top.proofs.DelayLemmas.{run-same}
 use Rattle.st_top.proofs.PlainEventLemmas.{unmarked-append, unmarked-plain, unmarked-between}
+use Rattle.st_card.specs.declared.keywords.Keyword.TheVariants as keywords
+use Rattle.st_card.specs.declared.keywords.ControlForm.TheVariants as forms
 
 -- ---- the listing
 

@@ -1,21 +1,6 @@
 -- The lines of the requested state before the end.
-use Rattle.st_run.specs.Moments.{moment_at_start}
-use Rattle.st_run.proofs.CourseLemmas.{last-same}
-use Rattle.st_top.proofs.Rewinds.{states-same}
-use Rattle.st_top.specs.declared.reporting.TheConstants.{LEVELS}
-use Rattle.std.proofs.Common.{◌≡◌, ◌≤◌, ◌==◌, ℕ, zero, suc, ◌-◌, min, List, [], ◌∷◌, ◌++◌, true, false, length, take, drop, get_or, sym, ◌∙◌, ap, arith, if◌then◌else◌}
-use Rattle.std.proofs.lemmas.List.{length-drop, drop-append-le}
-use Rattle.std.proofs.lemmas.Bool.Decides.{nat_tests}
-use Rattle.st_card.specs.Controls.{Asked}
-use Rattle.st_state.specs.Machine.{Machine}
-use Rattle.st_run.specs.Run.{Scene, run}
-use Rattle.st_back.specs.Steps.{states_before}
-use Rattle.st_report.specs.Line.{back_line}
-use Rattle.st_top.specs.Beside.{Beside, IsBeside, HasMadeRun}
-use Rattle.st_top.specs.States.{states}
-use Rattle.st_top.proofs.Rewinds.{length-states_before}
-use Rattle.st_telling.specs.Report.{block}
-use Rattle.st_top.specs.StepsBack.{states_of_run, block_before, lines_of_steps_back, last_state}
+use Rattle.st_top.proofs.Common.{moment_at_start, last-same, LEVELS, ◌≡◌, ◌≤◌, ◌==◌, ℕ, zero, suc, ◌-◌, min, List, [], ◌∷◌, ◌++◌, true, false, length, take, drop, get_or, sym, ◌∙◌, ap, arith, if◌then◌else◌, length-drop, drop-append-le, nat_tests, Asked, Machine, Scene, run, states_before, back_line, Beside, IsBeside, HasMadeRun, states, block, states_of_run, block_before, lines_of_steps_back, last_state}
+use Rattle.st_top.proofs.Rewinds.{states-same, length-states_before}
 
 first_at : (xs : List Machine) (i : ℕ) (t d : Machine) → t ∷ [] ≡ take 1 (drop i xs) → get_or xs i d ≡ t
 first_at [] zero t d e = absurd (cc)

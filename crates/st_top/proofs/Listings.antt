@@ -1,18 +1,7 @@
 -- The listing is written line by line.
-use Rattle.std.proofs.Common.{◌≡◌, ℕ, ◌+◌, ◌<◌, List, [], ◌∷◌, ◌++◌, true, false, length, get_or, drop, sym, ◌∙◌, ap, subst, arith, if◌then◌else◌}
-use Rattle.std.proofs.lemmas.List.{drop_more}
-use Rattle.std.specs.Prelude.{Result, Ok, Err, IsErr, All, None}
-use Rattle.st_card.specs.Cards.{cards_of, IsCardOf}
-use Rattle.st_card.specs.declared.cards.Card.{Card}
-use Rattle.st_asm.specs.Assembly.{Assembly}
+use Rattle.st_top.proofs.Common.{◌≡◌, ℕ, ◌+◌, ◌<◌, List, [], ◌∷◌, ◌++◌, true, false, length, get_or, drop, sym, ◌∙◌, ap, subst, arith, if◌then◌else◌, drop_more, Result, Ok, Err, IsErr, cards_of, IsCardOf, Card, Assembly, Symbol, Listed, OutputState, Failed, WritesLines, symbol_line, LinesSoFar, lines_more, lines_failed, HasCards, listing_row_line, rows_lines, symbols_lines, listing}
+use Rattle.std.specs.Prelude.{All, None}
 use Rattle.st_asm.specs.Sound.{IsRow}
-use Rattle.st_asm.specs.declared.naming.Symbol.{Symbol}
-use Rattle.st_asm.specs.declared.valuing.Listed.{Listed}
-use Rattle.st_io.specs.Output.{OutputState}
-use Rattle.st_io.specs.declared.Failed.{Failed}
-use Rattle.st_io.specs.Lines.{WritesLines}
-use Rattle.st_io.proofs.Progress.{LinesSoFar, lines_more, lines_failed}
-use Rattle.st_top.specs.Listing.{HasCards, listing_row_line, rows_lines, symbols_lines, listing}
 
 -- the cards of an assembled job
 pub has_cards : (job : List ℕ) (rows : List Listed) (cards : List Card) → cards ≡ cards_of job → All (IsCardOf job) (cards_of job)
@@ -42,13 +31,15 @@ rows_failed s t u all job rows cards k d e x r f lt same h w =
 symbols_next : (s t : OutputState) (all : List (List ℕ)) (ss : List Symbol) (k : ℕ) (d : Symbol) → k < length ss → LinesSoFar s t all (symbols_lines (drop k ss)) → LinesSoFar s t all (symbols_lines (get_or ss k d ∷ []) ++ symbols_lines (drop (k + 1) ss))
 symbols_next s t all ss k d lt h = subst (λ xs. LinesSoFar s t all (symbols_lines xs)) (drop_more ss k d lt) h
 
-pub symbols_more : (s t u : OutputState) (all : List (List ℕ)) (ss : List Symbol) (k : ℕ) (d : Symbol) (x : Unit {0}) → k < length ss → LinesSoFar s t all (symbols_lines (drop k ss)) → WritesLines t u (symbols_lines (get_or ss k d ∷ [])) (Ok x) → LinesSoFar s u all (symbols_lines (drop (k + 1) ss))
-symbols_more s t u all ss k d x lt h w =
-    lines_more s t u all (symbols_lines (get_or ss k d ∷ [])) (symbols_lines (drop (k + 1) ss)) (symbols_next s t all ss k d lt h) w.ok
+pub symbols_more : (s t u : OutputState) (all : List (List ℕ)) (ss : List Symbol) (k : ℕ) (d : Symbol) (written : List ℕ) (x : Unit {0}) → k < length ss → LinesSoFar s t all (symbols_lines (drop k ss)) → written ≡ symbol_line (get_or ss k d).name (get_or ss k d).value → WritesLines t u (written ∷ []) (Ok x) → LinesSoFar s u all (symbols_lines (drop (k + 1) ss))
+symbols_more s t u all ss k d written x lt h same w =
+    lines_more s t u all (symbols_lines (get_or ss k d ∷ [])) (symbols_lines (drop (k + 1) ss)) (symbols_next s t all ss k d lt h)
+    (subst (λ l. WritesLines t u (l ∷ []) (Ok x)) same w).ok
 
-pub symbols_failed : (s t u : OutputState) (all : List (List ℕ)) (ss : List Symbol) (k : ℕ) (d : Symbol) (x : Failed) (r : Result (Unit {0}) Failed) → IsErr r → k < length ss → LinesSoFar s t all (symbols_lines (drop k ss)) → WritesLines t u (symbols_lines (get_or ss k d ∷ [])) (Err x) → WritesLines s u all r
-symbols_failed s t u all ss k d x r f lt h w =
-    lines_failed s t u all (symbols_lines (get_or ss k d ∷ [])) (symbols_lines (drop (k + 1) ss)) r f (symbols_next s t all ss k d lt h) w.err
+pub symbols_failed : (s t u : OutputState) (all : List (List ℕ)) (ss : List Symbol) (k : ℕ) (d : Symbol) (written : List ℕ) (x : Failed) (r : Result (Unit {0}) Failed) → IsErr r → k < length ss → LinesSoFar s t all (symbols_lines (drop k ss)) → written ≡ symbol_line (get_or ss k d).name (get_or ss k d).value → WritesLines t u (written ∷ []) (Err x) → WritesLines s u all r
+symbols_failed s t u all ss k d written x r f lt h same w =
+    lines_failed s t u all (symbols_lines (get_or ss k d ∷ [])) (symbols_lines (drop (k + 1) ss)) r f (symbols_next s t all ss k d lt h)
+    (subst (λ l. WritesLines t u (l ∷ []) (Err x)) same w).err
 
 -- the listing is empty if it is not requested, and otherwise has the rows and the symbols
 pub listing_none : (job : List ℕ) (a : Assembly) → a.asked.list ≡ false → [] ≡ listing job a

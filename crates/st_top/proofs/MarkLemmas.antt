@@ -1,36 +1,12 @@
 -- Lines with marks: all lines, and the unmarked ones.
-use Rattle.std.proofs.Common.{◌≡◌, ℕ, Bool, true, false, if◌then◌else◌, List, [], ◌∷◌, ◌++◌, length, map, drop, refl, sym, ◌∙◌, ap, append_assoc}
-use Rattle.std.proofs.lemmas.List.{map-append, append-nil}
+use Rattle.st_top.proofs.Common.{◌≡◌, ℕ, Bool, true, false, if◌then◌else◌, List, [], ◌∷◌, ◌++◌, length, map, drop, refl, sym, ◌∙◌, ap, append_assoc, map-append, Result, Ok, Err, MOST_CARDS, lf, cards_of, Asked, control_line, requests, Card, Assembly, assembly, Refusal, Listed, has_statement, behind_statements, Scene, lines_of, at_moment, lines_of-append, lines_of-at_moment, is_delay_line, line_text, Program, object_lines, word_cards, statement_card, end_text, control_cards, card_count, program_in, object_text_lines, deck_lines, TimedReportedEvent, reported_events, rows_lines, symbols_lines, listing, marked_report, marked_run, up_to_end, end_card, listed_lines, marked_listing, marked_by, marked_load, is_delay, marked_cards, marked_object, marked_deck, marked_assembled, marked_disassembled, marked_output, Output, lines_alone, output_of, ran_by, loaded_by, assembled_by, disassembled_by, scene_of_assembly, loaded_start, joined, parts_at, lines_told, report, states_of_run, events_of_run, moment_at_end, last_state, lines_of_steps_back, run_report, Command, Run, Assemble, Load, Disassemble, Sweep, Soak}
+use Rattle.std.proofs.lemmas.List.{append-nil}
 use Rattle.std.proofs.lemmas.Simd.{map-map}
-use Rattle.std.specs.Prelude.{Result, Ok, Err, nat_le}
-use Rattle.st_bits.specs.declared.limits.TheConstants.{MOST_CARDS}
-use Rattle.st_text.specs.Bytes.{lf}
-use Rattle.st_card.specs.Cards.{cards_of}
-use Rattle.st_card.specs.Controls.{Asked}
-use Rattle.st_card.specs.Written.{control_line, requests}
-use Rattle.st_card.specs.declared.keywords.ControlForm.TheVariants as forms
-use Rattle.st_card.specs.declared.cards.Card.{Card}
-use Rattle.st_asm.specs.Assembly.{Assembly, assembly}
-use Rattle.st_asm.specs.Pass.{Refusal}
-use Rattle.st_asm.specs.declared.valuing.Listed.{Listed}
-use Rattle.st_exch.specs.Reader.{has_statement, behind_statements}
-use Rattle.st_run.specs.Run.{Scene}
-use Rattle.st_io.specs.Event.{lines_of, at_moment}
-use Rattle.st_io.proofs.Writing.{lines_of-append, lines_of-at_moment}
-use Rattle.st_object.specs.DelayLines.{is_delay_line}
-use Rattle.st_object.specs.Lines.{line_text}
-use Rattle.st_object.specs.Object.{Program, object_lines}
-use Rattle.st_dis.specs.Deck.{word_cards, statement_card, end_text, control_cards, card_count}
-use Rattle.st_top.specs.ObjectText.{program_in, object_text_lines, deck_lines}
+use Rattle.std.specs.Prelude.{nat_le}
 use Rattle.st_top.specs.declared.answer.Status.TheVariants.{Done as Finished}
-use Rattle.st_run.specs.ReportedEvents.{TimedReportedEvent, reported_events}
-use Rattle.st_top.specs.Listing.{rows_lines, listing_row_line as card_line, symbols_lines, listing}
-use Rattle.st_top.specs.Marks.{marked_report, marked_run, up_to_end, end_card, listed_lines, marked_listing, marked_by, marked_load, is_delay, marked_cards, marked_object, marked_deck, marked_assembled, marked_disassembled, marked_output}
-use Rattle.st_top.specs.Output.{Output, lines_alone, output_of, ran_by, loaded_by, assembled_by, disassembled_by, scene_of_assembly, loaded_start}
-use Rattle.st_telling.specs.Report.{Part as Marked, varying as with_marks, fixed as without_marks, joined, parts_at, lines_told, report}
-use Rattle.st_top.specs.StepsBack.{states_of_run, events_of_run, moment_at_end, last_state, lines_of_steps_back, run_report}
-use Rattle.st_top.specs.declared.command.Command.{Command}
-use Rattle.st_top.specs.declared.command.Command.TheVariants.{Run, Assemble, Load, Disassemble, Sweep, Soak}
+use Rattle.st_top.specs.Listing.{listing_row_line as card_line}
+use Rattle.st_telling.specs.Report.{Part as Marked, varying as with_marks, fixed as without_marks}
+use Rattle.st_card.specs.declared.keywords.ControlForm.TheVariants as forms
 
 -- ---- all lines
 

@@ -1,26 +1,7 @@
 -- The moment of the last event of a run is that of its end.
-use Rattle.st_run.specs.Moments.{moment_at_start}
-use Rattle.st_run.proofs.CourseLemmas.{last-same}
-use Rattle.st_run.proofs.ShownLemmas.{tick-same}
-use Rattle.std.proofs.Common.{◌≡◌, ℕ, List, [], ◌∷◌, refl, ◌∙◌, ap, subst}
-use Rattle.std.specs.Prelude.{Result, Ok, Err, IsErr}
-use Rattle.st_card.specs.Controls.{Asked}
-use Rattle.st_io.specs.Output.{OutputState}
-use Rattle.st_io.specs.declared.Failed.{Failed}
-use Rattle.st_io.specs.Lines.{WritesLines}
-use Rattle.st_io.specs.Event.{at_moment}
-use Rattle.st_run.specs.Run.{Scene}
-use Rattle.st_run.specs.Events.{Timed}
-use Rattle.st_run.specs.Order.{last_completion}
-use Rattle.st_run.specs.ReportedEvents.{TimedReportedEvent, reported_events}
+use Rattle.st_top.proofs.Common.{moment_at_start, last-same, tick-same, ◌≡◌, ℕ, List, [], ◌∷◌, refl, ◌∙◌, ap, subst, Result, Ok, Err, IsErr, Asked, OutputState, Failed, WritesLines, at_moment, Scene, Timed, last_completion, TimedReportedEvent, reported_events, report, Machine, states_of_run, lines_of_steps_back, last_state, events_of_run, moment_at_end, run_report, WritesEvents, last_moment, LEVELS, events_cut, events_then}
 use Rattle.st_run.proofs.LastLemmas.{last_done, run-done}
-use Rattle.st_telling.specs.Report.{report}
-use Rattle.st_state.specs.Machine.{Machine}
-use Rattle.st_top.specs.StepsBack.{states_of_run, lines_of_steps_back, last_state, events_of_run, moment_at_end, run_report}
-use Rattle.st_telling.specs.Running.{WritesEvents, last_moment}
 use Rattle.st_telling.specs.declared.moment.Moment.{Moment}
-use Rattle.st_top.specs.declared.reporting.TheConstants.{LEVELS}
-use Rattle.st_telling.proofs.Runs.{events_cut, events_then}
 
 last-told : (m : Moment) (xs : List Timed) → last_moment m (reported_events xs) ≡ record { done = last_done m.done xs; tick = last_completion m.tick xs }
 unfolding last_moment reported_events last_completion last_done

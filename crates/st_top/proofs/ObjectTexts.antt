@@ -1,22 +1,11 @@
 -- Object texts and decks, line by line.
-use Rattle.std.proofs.Common.{◌≡◌, ◌+◌, ◌==◌, ℕ, List, [], ◌∷◌, ◌++◌, length, map, take, true, false, if◌then◌else◌, refl, sym, ◌∙◌, ap, subst, append_assoc}
-use Rattle.std.proofs.lemmas.List.{take_at, length_push}
-use Rattle.std.specs.Prelude.{Ok}
-use Rattle.std.specs.List.{flat_map}
-use Rattle.st_io.specs.Output.{OutputState}
-use Rattle.st_io.specs.Lines.{text}
-use Rattle.st_io.proofs.Progress.{LinesSoFar}
-use Rattle.st_text.specs.Bytes.{lf}
-use Rattle.st_text.specs.Pieces.{pieces_of, onto_first}
-use Rattle.st_object.specs.Lines.{line_text}
+use Rattle.st_top.proofs.Common.{◌≡◌, ◌+◌, ◌==◌, ℕ, List, [], ◌∷◌, ◌++◌, length, map, take, true, false, if◌then◌else◌, refl, sym, ◌∙◌, ap, subst, append_assoc, take_at, length_push, Ok, flat_map, OutputState, text, LinesSoFar, lf, pieces_of, onto_first, line_text, Program, IsProgram, object_text, read_text, deck_cards, deck_text, object_text_lines, deck_lines, whole_lines}
 use Rattle.st_object.specs.Draft.{draft_at_start}
-use Rattle.st_object.specs.Object.{Program, IsProgram, object_lines as lines_of, object_text, read_text}
+use Rattle.st_object.specs.Object.{object_lines as lines_of}
 use Rattle.st_object.proofs.ProgramLines.{made_again}
 use Rattle.st_object.proofs.AcceptedTexts.{accepted}
 use Rattle.st_object.proofs.ReadBack.{parted-text_of}
-use Rattle.st_dis.specs.Deck.{deck_cards, deck_text}
 use Rattle.st_dis.proofs.Printable.{deck_pieces}
-use Rattle.st_top.specs.ObjectText.{object_text_lines, deck_lines, whole_lines}
 
 -- a line with a line end comes first, followed by the lines after it
 ended-onto : (line : List ℕ) (c : ℕ) (pieces : List (List ℕ)) → whole_lines (line ∷ onto_first c pieces) ≡ (line ++ lf) ∷ whole_lines (onto_first c pieces)

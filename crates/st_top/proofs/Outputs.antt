@@ -1,22 +1,7 @@
 -- The answer of a run, and its output.
-use Rattle.std.proofs.Common.{◌≡◌, ℕ, List, [], sym, ◌∙◌, ap, subst}
-use Rattle.std.specs.Prelude.{Result, Ok, Err, OnOk, OnErr}
-use Rattle.st_io.specs.Output.{OutputState, Wrote}
-use Rattle.st_io.specs.declared.Failed.{Failed}
-use Rattle.st_io.specs.Lines.{text}
-use Rattle.st_io.specs.Event.{StoppedAt}
-use Rattle.st_io.proofs.Writing.{wrote_at_moment}
-use Rattle.st_state.specs.Machine.{opening_state}
+use Rattle.st_top.proofs.Common.{◌≡◌, ℕ, List, [], sym, ◌∙◌, ap, subst, Result, Ok, Err, OnOk, OnErr, OutputState, Wrote, Failed, text, StoppedAt, wrote_at_moment, opening_state, Scene, Program, IsReading, read_text, reading-is, Output, lines_alone, output_of_run, scene_at_start, loaded_by, loaded_start, WroteAll, Writes, WritesEvents, Answer, Done, WriteFault}
 use Rattle.st_telling.specs.declared.moment.Moment.{Moment}
-use Rattle.st_run.specs.Run.{Scene}
-use Rattle.st_object.specs.Object.{Program, IsReading, read_text}
-use Rattle.st_object.proofs.ReadingLemmas.{reading-is}
-use Rattle.st_top.specs.Output.{Output, lines_alone, output_of_run, scene_at_start, loaded_by, loaded_start}
 use Rattle.st_top.proofs.Starts.{no_cards}
-use Rattle.st_top.specs.Answers.{WroteAll, Writes}
-use Rattle.st_telling.specs.Running.{WritesEvents}
-use Rattle.st_top.specs.declared.answer.Answer.{Answer}
-use Rattle.st_top.specs.declared.answer.Status.TheVariants.{Done, WriteFault}
 
 pub writes_run : (s t : OutputState) (output : Output) (last m : Moment) (answer : Answer) (r : Result (Unit {0}) Failed) → output.status ≡ Done → output.done ≡ last.done → output.ticks ≡ last.tick → WritesEvents s t output.events last m r → answer.done ≡ m.done → answer.ticks ≡ m.tick → OnOk r (answer.status ≡ Done) → OnErr r (answer.status ≡ WriteFault) → Writes answer.status s t output answer
 writes_run s t output last m answer (Ok x) status done ticks w count tick good bad =

@@ -1,34 +1,11 @@
 -- The assembly of a job depends only on its cards up to END, except for the requests of the control cards after it.
-use Rattle.std.proofs.Common.{◌≡◌, ℕ, zero, suc, ◌+◌, ◌==◌, ◌&&◌, ◌||◌, Bool, true, false, if◌then◌else◌, List, [], ◌∷◌, ◌++◌, length, map, filter, take, refl, sym, ◌∙◌, ap, subst, append_assoc, append-nil, length-append, arith, Result, Ok, Err, Option, Some, None, is_some, All}
-use Rattle.std.proofs.lemmas.Bool.{or_parts}
-use Rattle.std.proofs.lemmas.List.{length-map}
-use Rattle.std.proofs.lemmas.List.Elements.{All-head, All-tail}
-use Rattle.st_text.specs.Bytes.{line_end}
-use Rattle.st_text.specs.Pieces.{words, pieces_of}
-use Rattle.st_card.specs.Cards.{columns, kind_of, card_at, cards_from, cards_of, text_in, IsCardOf}
-use Rattle.st_card.specs.Controls.{Asked, nothing_asked, asked_with_card}
-use Rattle.st_card.specs.declared.cards.Card.{Card}
-use Rattle.st_card.specs.declared.cards.CardKind.{CardKind}
-use Rattle.st_card.specs.declared.cards.CardKind.TheVariants.{Comment, Control, Statement}
-use Rattle.st_card.specs.declared.faults.Fault.{Fault}
-use Rattle.st_card.specs.declared.faults.Fault.TheVariants.{BadControlCard, CardAfterEnd}
+use Rattle.st_top.proofs.Common.{◌≡◌, ℕ, zero, suc, ◌+◌, ◌==◌, ◌&&◌, ◌||◌, Bool, true, false, if◌then◌else◌, List, [], ◌∷◌, ◌++◌, length, map, filter, take, refl, sym, ◌∙◌, ap, subst, append_assoc, append-nil, length-append, arith, Option, Some, None, is_some, All, or_parts, length-map, All-head, All-tail, line_end, words, pieces_of, columns, kind_of, card_at, cards_from, cards_of, text_in, IsCardOf, Asked, nothing_asked, asked_with_card, Card, CardKind, Comment, Control, Statement, Fault, BadControlCard, CardAfterEnd, Refusal, onward, pass, unless_faulty, pass_then, name_field, statement_field, silent_line, table, Named, name_pass, Emitted, value_pass, Assembly, with_defaults, together, assembly, Listed, form_pass-numbers, name_pass-counts, is_comment, is_statement, has_statement, behind_statements, card_words, texts_in, reader_cards, AreAlikeBesideDelays, up_to_end, texts_up_to_end, end_card, HasGoodDelays, asked_in, delays_behind_end, is_control, begins_delays, is_delays_card, texts_behind_end, others_behind_end, DifferInDelaysCards}
+use Rattle.std.proofs.Common.{Result, Ok, Err}
 use Rattle.st_card.proofs.StandingLemmas.{cards_stand}
 use Rattle.st_strap.specs.Order.{next_reading, reading_map}
 use Rattle.st_strap.specs.Saying.{statement_of}
-use Rattle.st_asm.specs.Pass.{Refusal, onward, pass, unless_faulty, pass_then}
-use Rattle.st_asm.specs.Lines.{name_field, statement_field, silent_line}
 use Rattle.st_asm.specs.Forming.{Found, found_at_start, first_fault_of, with_line, with_control, with_statement, with_end, form_control, form_statement, form_kind, form_card, form_pass}
-use Rattle.st_asm.specs.Symbols.{table}
-use Rattle.st_asm.specs.Naming.{Named, name_pass}
-use Rattle.st_asm.specs.Valuing.{Emitted, value_pass}
-use Rattle.st_asm.specs.Assembly.{Assembly, with_defaults, together, assembly}
-use Rattle.st_asm.specs.declared.valuing.Listed.{Listed}
 use Rattle.st_asm.proofs.FaultlessLemmas.{form_pass-faultless}
-use Rattle.st_asm.proofs.KeptLemmas.{form_pass-numbers, name_pass-counts}
-use Rattle.st_exch.specs.Reader.{is_comment, is_statement, has_statement, behind_statements, card_words, texts_in, reader_cards}
-use Rattle.st_top.specs.DelayLaws.{AreAlikeBesideDelays}
-use Rattle.st_top.specs.Marks.{up_to_end, texts_up_to_end, end_card}
-use Rattle.st_top.specs.Delays.{HasGoodDelays, asked_in, delays_behind_end, is_control, begins_delays, is_delays_card, texts_behind_end, others_behind_end, DifferInDelaysCards}
 use Rattle.st_top.proofs.MarkLemmas.{cards-split}
 use Rattle.st_top.proofs.PartedPasses.{ReadCard, onward-ok, and_then-ok, onward-same, pass-append, quiet, no_places, quiet_rows, with_places, with_rows, names-parted, values-parted, Parts, passes-parted}
 use Rattle.st_top.proofs.AcceptedJobs.{mixed}

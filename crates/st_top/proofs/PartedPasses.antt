@@ -1,17 +1,6 @@
 -- The results of the later passes of the assembler on the cards up to END, and on those after it, which have no effect.
-use Rattle.std.proofs.Common.{◌≡◌, ℕ, Bool, List, [], ◌∷◌, ◌++◌, length, map, refl, sym, ◌∙◌, ap, append_assoc, append-nil, arith, Result, Ok, Err, Option, None}
-use Rattle.std.specs.List.{zip, filter_map}
-use Rattle.std.proofs.lemmas.List.{length-map}
-use Rattle.std.proofs.lemmas.List.Elements.{filter_map-append}
-use Rattle.st_card.specs.declared.faults.Fault.{Fault}
-use Rattle.st_asm.specs.Pass.{Refusal, onward, pass, pass_then}
-use Rattle.st_asm.specs.Lines.{silent_line}
-use Rattle.st_asm.specs.Symbols.{table, has_name, names_of}
-use Rattle.st_asm.specs.Naming.{Named, naming_at_start, name_fault, name_step, name_card, name_pass}
-use Rattle.st_asm.specs.Valuing.{Emitted, emitting_at_start, value_card, value_pass}
-use Rattle.st_asm.specs.declared.naming.Symbol.{Symbol}
-use Rattle.st_asm.specs.declared.valuing.Listed.{Listed}
-use Rattle.st_asm.proofs.KeptLemmas.{name_pass-counts, value_pass-numbers}
+use Rattle.st_top.proofs.Common.{◌≡◌, ℕ, Bool, List, [], ◌∷◌, ◌++◌, length, map, refl, sym, ◌∙◌, ap, append_assoc, append-nil, arith, Option, None, zip, filter_map, length-map, filter_map-append, Fault, Refusal, onward, pass, pass_then, silent_line, table, has_name, names_of, Named, naming_at_start, name_fault, name_step, name_card, name_pass, Emitted, emitting_at_start, value_card, value_pass, Symbol, Listed, name_pass-counts, value_pass-numbers}
+use Rattle.std.proofs.Common.{Result, Ok, Err}
 
 -- the type of a value
 abbrev type_of : {X : Type 0} → X → Type 0

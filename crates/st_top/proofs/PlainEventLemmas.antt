@@ -1,28 +1,16 @@
 -- The unmarked lines of a report are those of the events of the plain run.
-use Rattle.std.proofs.Common.{◌≡◌, ℕ, Bool, true, false, if◌then◌else◌, List, [], ◌∷◌, ◌++◌, map, reverse, zero, suc, Option, None, Some, refl, sym, ◌∙◌, ap, subst, ◌+◌}
+use Rattle.st_top.proofs.Common.{◌≡◌, ℕ, Bool, true, false, if◌then◌else◌, List, [], ◌∷◌, ◌++◌, map, reverse, zero, suc, Option, None, Some, refl, sym, ◌∙◌, ap, subst, ◌+◌, map-append, filter-append, flat_map, Asked, Order, rests, interrupt, Scene, PlainEvent, Prints, Interrupts, Executes, interlude, with_due_signals, with_due_orders, if_due, with_device, with_order_at_rest, with_wait, interrupts_by, uneventful, with_order, prt_line, trc_line, row_line, drop_line, int_line, time_line, end_line, done_line, ticks_line, TimetableEvent, Timed, Completes, Drops, Shows, Happens, plain_run, drop_of, snapshot, Moment, Standing, next_state, standing_at, next_moment, ends_segment, event_at, ticks_before, snapshots_from, drops, drops_if_ends, happening_at, events_between, snapshot_at, completion, until_done, last_snapshot_at, last_events, timed_from, TimedReportedEvent, reported_events, timed_reported_event, reported_event, settled-done, timed-none, timed-step, lines_unmarked, marked_report, joined, parts_at, line_if, block, snapshot_lines}
 use Rattle.std.specs.Prelude.{not, filter}
-use Rattle.std.proofs.lemmas.List.{map-append, append-nil}
-use Rattle.std.proofs.lemmas.List.Elements.{filter-append}
+use Rattle.std.proofs.lemmas.List.{append-nil}
 use Rattle.st_top.proofs.MarkLemmas.{lines-append}
 use Rattle.std.proofs.lemmas.Grind.{flat_map-append}
-use Rattle.std.specs.List.{flat_map}
-use Rattle.st_card.specs.Controls.{Asked}
 use Rattle.st_state.specs.Orders.{next_device}
-use Rattle.st_state.specs.declared.devices.Order.{Order}
 use Rattle.st_state.specs.declared.devices.Device.{Device}
 use Rattle.st_state.specs.declared.devices.Device.TheVariants.{Reader, Printer}
 use Rattle.st_exch.specs.Printer.{line_of_words}
-use Rattle.st_exec.specs.Step.{rests, interrupt}
-use Rattle.st_run.specs.Run.{Scene, PlainEvent, Prints, Interrupts, Executes, Ends, interlude, with_due_signals, with_due_orders, if_due, with_device, with_order_at_rest, with_wait, interrupts_by, uneventful, with_order}
-use Rattle.st_report.specs.Line.{prt_line, trc_line, row_line, drop_line, int_line, time_line, end_line, done_line, ticks_line}
-use Rattle.st_run.specs.Events.{TimetableEvent, Timed, Completes, Drops, Shows, Happens, plain_events_of as plain_event, plain_run, drop_of, snapshot}
-use Rattle.st_run.specs.Moments.{Moment, Standing, next_state, standing_at, next_moment, ends_segment}
-use Rattle.st_run.specs.TimedRun.{event_at, ticks_before, snapshots_from, drops, drops_if_ends, happening_at, events_between, snapshot_at, completion, until_done, last_snapshot_at, last_events, timed_from}
-use Rattle.st_run.specs.ReportedEvents.{TimedReportedEvent, reported_events, timed_reported_event, reported_event}
-use Rattle.st_run.proofs.DoneLemmas.{settled-done}
-use Rattle.st_run.proofs.CourseLemmas.{timed-none, timed-step}
-use Rattle.st_top.specs.Marks.{lines_unmarked, marked_report}
-use Rattle.st_telling.specs.Report.{Part as Marked, varying as with_marks, fixed as without_marks, joined, parts_at, line_if, block, snapshot_lines}
+use Rattle.st_run.specs.Run.{Ends}
+use Rattle.st_run.specs.Events.{plain_events_of as plain_event}
+use Rattle.st_telling.specs.Report.{Part as Marked, varying as with_marks, fixed as without_marks}
 
 -- a property of both branches holds for the conditional
 of_choice : {A : Type 0} (P : A → Type 0) (b : Bool) (x y : A) → P x → P y → P (if b then x else y)

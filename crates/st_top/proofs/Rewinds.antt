@@ -1,20 +1,7 @@
 -- The run of the second machine, and the steps back from its end.
-use Rattle.std.proofs.Common.{◌≡◌, ◌≢◌, ◌≤◌, ℕ, zero, suc, ◌+◌, ◌-◌, List, [], ◌∷◌, ◌++◌, Bool, true, false, length, take, refl, sym, ◌∙◌, ap, subst, arith, length-append, append_assoc, if◌then◌else◌, map}
-use Rattle.std.proofs.lemmas.List.{take_all}
-use Rattle.st_state.specs.Machine.{Machine}
-use Rattle.st_exec.specs.Step.{rests}
+use Rattle.st_top.proofs.Common.{◌≡◌, ◌≢◌, ◌≤◌, ℕ, zero, suc, ◌+◌, ◌-◌, List, [], ◌∷◌, ◌++◌, Bool, true, false, length, take, refl, sym, ◌∙◌, ap, subst, arith, length-append, append_assoc, if◌then◌else◌, map, take_all, Machine, rests, Scene, Transition, interlude, scene_after_step, state_next, scenes, run, step-done, KeptStep, Steps, IsBack, states_before, back-states, Moment, next_state, moments, scenes-same, settled-done, states, Beside, IsMoved, IsStepped, IsBeside, HasMadeRun}
 use Rattle.st_run.specs.Course.{Course, course}
-use Rattle.st_run.specs.Run.{Scene, Transition, interlude, scene_after_step, state_next, scenes, run}
-use Rattle.st_exec.proofs.StepLemmas.{step-done}
 use Rattle.st_run.proofs.Runs.{transition_at_end, run-rests, run-budget, run-goes_on}
-use Rattle.st_back.specs.declared.kept.KeptStep.{KeptStep}
-use Rattle.st_back.specs.Steps.{Steps, IsBack, states_before}
-use Rattle.st_back.proofs.ManyLemmas.{back-states}
-use Rattle.st_run.specs.Moments.{Moment, next_state, moments}
-use Rattle.st_run.proofs.CourseLemmas.{scenes-same}
-use Rattle.st_run.proofs.DoneLemmas.{settled-done}
-use Rattle.st_top.specs.States.{states}
-use Rattle.st_top.specs.Beside.{Beside, IsMoved, IsStepped, IsBeside, HasMadeRun}
 use Rattle.st_top.proofs.Besides.{beside_settled, beside_stepped}
 
 -- ---- the states of a run

@@ -1,17 +1,5 @@
 -- A prepared run starts from the scene of its job.
-use Rattle.std.proofs.Common.{◌≡◌, ℕ, [], List, All, refl, ◌∙◌, ap, subst}
-use Rattle.st_card.specs.Controls.{Asked}
-use Rattle.st_state.specs.Machine.{Machine, IsMachine, opening_state}
-use Rattle.st_card.specs.declared.control_cards.Signal.{Signal}
-use Rattle.st_run.specs.Run.{Scene}
-use Rattle.st_exch.specs.Reader.{reader_cards, texts_in, behind_statements}
-use Rattle.st_run.specs.Reached.{IsCard}
-use Rattle.st_run.specs.Scenes.{IsScene}
-use Rattle.st_run.specs.TimedRun.{timed_run}
-use Rattle.st_run.specs.ReportedEvents.{TimedReportedEvent, reported_events}
-use Rattle.st_top.specs.StepsBack.{events_of_run}
-use Rattle.st_top.specs.Output.{scene_at_start}
-use Rattle.st_top.specs.declared.reporting.TheConstants.{LEVELS}
+use Rattle.st_top.proofs.Common.{◌≡◌, ℕ, [], List, All, refl, ◌∙◌, ap, subst, Asked, Machine, IsMachine, opening_state, Signal, Scene, reader_cards, texts_in, behind_statements, IsCard, IsScene, timed_run, TimedReportedEvent, reported_events, events_of_run, scene_at_start, LEVELS}
 
 pub scene_is : (c : Scene) (m n : Machine) (xs ys : List Signal) (cs ds : List (List ℕ)) → c ≡ record { machine = m; signals = xs; cards = cs } → m ≡ n → xs ≡ ys → cs ≡ ds → c ≡ record { machine = n; signals = ys; cards = ds }
 scene_is c m n xs ys cs ds e p q r =

@@ -1,29 +1,9 @@
 -- The result of a sweep, and its lines.
-use Rattle.std.proofs.Common.{◌≡◌, ℕ, ◌+◌, ◌<◌, ◌≤◌, ◌^◌, List, [], ◌∷◌, All, get_or, length, nat_le, slice_index_or, sym, ◌∙◌, ap, subst}
-use Rattle.std.proofs.lemmas.Bool.{and_parts, leb-true}
-use Rattle.std.proofs.lemmas.List.Elements.{All-nil}
-use Rattle.std.specs.Prelude.{Result, Ok, Err, IfOk, slice_index}
-use Rattle.std.specs.List.{AllPass}
+use Rattle.st_top.proofs.Common.{◌≡◌, ℕ, ◌+◌, ◌<◌, ◌≤◌, ◌^◌, List, [], ◌∷◌, All, get_or, length, nat_le, slice_index_or, sym, ◌∙◌, ap, subst, and_parts, leb-true, All-nil, Result, Ok, Err, IfOk, slice_index, AllPass, OutputState, Wrote, text, wrote_at_moment, Asked, is_in_range, MOST_DELAY, Signal, opening_state, levels_line, IsCard, IsScene, without_cards, levels_lines, sweep_lines, sweep_start, sweep_of, output_of_sweep, WroteAll, Writes, Answer, Done}
 use Rattle.st_bits.specs.Storage.{words_of_storage}
-use Rattle.st_io.specs.Output.{OutputState, Wrote}
-use Rattle.st_io.specs.Lines.{text}
-use Rattle.st_io.proofs.Writing.{wrote_at_moment}
-use Rattle.st_card.specs.Controls.{Asked, is_in_range}
-use Rattle.st_bits.specs.declared.limits.TheConstants.{MOST_DELAY}
-use Rattle.st_card.specs.declared.control_cards.Signal.{Signal}
-use Rattle.st_state.specs.Machine.{opening_state}
 use Rattle.st_state.proofs.Kept.{is_machine-opening}
-use Rattle.st_report.specs.Line.{levels_line}
-use Rattle.st_run.specs.Reached.{IsCard}
-use Rattle.st_run.specs.Scenes.{IsScene}
-use Rattle.st_sweep.specs.Sweep.{without_cards}
 use Rattle.st_sweep.specs.SideBySide.{side_by_side}
 use Rattle.st_sweep.specs.declared.sweeping.Swept.{Swept}
-use Rattle.st_top.specs.Sweep.{levels_lines, sweep_lines, sweep_start, sweep_of}
-use Rattle.st_top.specs.Output.{output_of_sweep}
-use Rattle.st_top.specs.Answers.{WroteAll, Writes}
-use Rattle.st_top.specs.declared.answer.Answer.{Answer}
-use Rattle.st_top.specs.declared.answer.Status.TheVariants.{Done}
 
 -- the line of the first machine, followed by those of the others
 pub first_lines : (n t : ℕ) (ts xs : List ℕ) → xs ≡ t ∷ ts → levels_lines n xs ≡ levels_line n t ∷ levels_lines (n + 1) ts

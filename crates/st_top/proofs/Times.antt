@@ -1,37 +1,9 @@
 -- The ticks of an answer are bounded.
-use Rattle.st_run.specs.Moments.{moment_at_start}
-use Rattle.st_run.proofs.CourseLemmas.{last-same}
-use Rattle.st_run.proofs.ShownLemmas.{tick-same}
-use Rattle.std.proofs.Common.{◌≡◌, ℕ, ◌+◌, ◌*◌, ◌≤◌, List, [], ◌∷◌, ◌++◌, All, nat_le, length, slice_index_or, sym, subst, arith}
-use Rattle.std.proofs.lemmas.Bool.{and_parts, leb-true}
-use Rattle.std.proofs.lemmas.List.Elements.{All-nil, All-cons, All-head, All-tail, All-append}
-use Rattle.std.specs.List.{AllPass}
-use Rattle.std.specs.Prelude.{slice_index}
-use Rattle.st_io.specs.Output.{OutputState}
-use Rattle.st_io.specs.Event.{Event, at_moment, StoppedAt}
-use Rattle.st_card.specs.Controls.{Asked, is_in_range}
-use Rattle.st_bits.specs.declared.limits.TheConstants.{MOST_DELAY}
-use Rattle.st_run.specs.Run.{Scene}
+use Rattle.st_top.proofs.Common.{moment_at_start, last-same, tick-same, ◌≡◌, ℕ, ◌+◌, ◌*◌, ◌≤◌, List, [], ◌∷◌, ◌++◌, All, nat_le, length, slice_index_or, sym, subst, arith, and_parts, leb-true, All-nil, All-cons, All-head, All-tail, All-append, AllPass, slice_index, OutputState, Event, at_moment, StoppedAt, Asked, is_in_range, MOST_DELAY, Scene, Timed, reported_events, timed_reported_event, state_next, scenes, run, IsScene, report, lines_told, Machine, last_completion, timed_run, states_of_run, lines_of_steps_back, last_state, events_of_run, moment_at_end, run_report, ticks, sweep_lines, sweep_start, sweep_of, output_of_run, output_of_sweep, Writes, KeepsTime, Answer, Done, Refused, Usage, JobTooLong, ReadFault, WriteFault, NoMemory, LEVELS}
 use Rattle.st_rows.specs.Ranges.{AreDelaysUpTo}
-use Rattle.st_run.specs.Events.{Timed}
-use Rattle.st_run.specs.ReportedEvents.{reported_events, timed_reported_event}
-use Rattle.st_run.specs.Run.{state_next, scenes, run}
-use Rattle.st_run.specs.Scenes.{IsScene}
 use Rattle.st_run.proofs.Bounds.{run-time}
 use Rattle.st_run.proofs.EndLemmas.{run-ends}
-use Rattle.st_telling.specs.Report.{report, lines_told}
-use Rattle.st_state.specs.Machine.{Machine}
-use Rattle.st_run.specs.Order.{last_completion}
-use Rattle.st_run.specs.TimedRun.{timed_run}
-use Rattle.st_top.specs.StepsBack.{states_of_run, lines_of_steps_back, last_state, events_of_run, moment_at_end, run_report}
-use Rattle.st_sweep.specs.Sweep.{ticks}
-use Rattle.st_top.specs.Sweep.{sweep_lines, sweep_start, sweep_of}
-use Rattle.st_top.specs.Output.{output_of_run, output_of_sweep}
-use Rattle.st_top.specs.Answers.{Writes, KeepsTime}
-use Rattle.st_top.specs.declared.answer.Answer.{Answer}
 use Rattle.st_top.specs.declared.answer.Status.{Status}
-use Rattle.st_top.specs.declared.answer.Status.TheVariants.{Done, Refused, Usage, JobTooLong, ReadFault, WriteFault, NoMemory}
-use Rattle.st_top.specs.declared.reporting.TheConstants.{LEVELS}
 
 -- an event whose tick keeps the bound
 abbrev InTime : ℕ → Event → Type 0

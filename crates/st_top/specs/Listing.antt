@@ -1,8 +1,8 @@
 -- The listing of a job: a line for each card, then one for each symbol.
 --
--- Proved: by their `ensures` clauses these calls do what definitions here say: `write_both`
--- (listing.rt), `answer_run` (execution.rt), `execute` (execution.rt), `write_output`
--- (execution.rt), and others.
+-- Proved: by their `ensures` clauses these calls do what definitions here say: `answer_run`
+-- (execution.rt), `execute` (execution.rt), `write_output` (execution.rt), `write_front`
+-- (listing.rt), and others.
 -- Read by: definitions in Marks, Output.
 -- Laws: none names a definition of this file itself.
 -- Change: the meaning is fixed by docs/running.md, since the contract of `st_top::stretch` unfolds

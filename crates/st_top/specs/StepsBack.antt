@@ -1,8 +1,8 @@
 -- The state that is shown a number of steps before the end of a run, and the whole report.
 --
 -- Proved: by their `ensures` clauses these calls do what definitions here say: `write_output`
--- (execution.rt), `write_back` (reporting.rt), `write_report` (reporting.rt), `write_second`
--- (reporting.rt), and others.
+-- (execution.rt), `write_back` (reporting.rt), `write_report` (reporting.rt), `answer_loaded`
+-- (execution.rt), and others.
 -- Read by: definitions in Marks, Output.
 -- Laws: MarksAreTheReport (specs/DelayLaws.antt).
 -- Change: the meaning is fixed by docs/running.md, since the contract of `st_top::stretch` unfolds

@@ -11,7 +11,7 @@
 //!
 //! Pinned, by `front_lines` and docs/report.md: the order. Free: the loops, if proofs/listing
 //! follows.
-ghost use Rattle.std.specs.Prelude.{◌≡◌, [], ◌∷◌, ◌++◌, All, None, length};
+ghost use Rattle.std.specs.Prelude.{◌≡◌, [], ◌∷◌, All, None, length};
 ghost use Rattle.st_asm.specs.Assembly.{assembly_parts};
 ghost use Rattle.st_asm.specs.Sound.{IsRow, IsSymbol};
 ghost use Rattle.st_card.specs.Cards.{IsCardOf};
@@ -20,7 +20,7 @@ ghost use Rattle.st_top.specs.Listing.{HasCards, listing_row_line, rows_lines, s
 
 use crate::job::Job;
 use st_asm::{Assembled, Listed, Symbol};
-use st_card::{Card, Controls};
+use st_card::Card;
 use st_io::{Failed, Sink};
 use st_report::{line_listed, line_soak, line_symbol};
 use st_telling::put;
@@ -60,41 +60,15 @@ fn write_rows<K: Sink>(
     Ok(())
 }
 
-// Writes the line of a symbol.
-fn write_symbol<K: Sink>(out: &mut K, symbol: Symbol) -> Result<(), Failed>
-    requires { IsSymbol symbol }
-    ensures { WritesLines (K.output out.old) (K.output out.new)
-        (symbols_lines (symbol ∷ [])) result }
-{
-    put(out, &line_symbol(symbol.name, symbol.value))
-}
-
 // Writes the lines of symbols.
 fn write_symbols<K: Sink>(out: &mut K, symbols: &[Symbol]) -> Result<(), Failed>
     requires { All IsSymbol symbols.now }
     ensures { WritesLines (K.output out.old) (K.output out.new) (symbols_lines symbols.now) result }
 {
     for k in 0..symbols.len() {
-        write_symbol(out, symbols[k])?;
+        put(out, &line_symbol(symbols[k].name, symbols[k].value))?;
     }
     Ok(())
-}
-
-// Writes a line for each card of a job, then one for each symbol.
-fn write_both<K: Sink>(
-    out: &mut K,
-    job: &Job,
-    rows: &[Listed],
-    symbols: &[Symbol],
-) -> Result<(), Failed>
-    requires cards { HasCards job.now.text.now rows.now job.now.cards.now }
-    requires symbols { All IsSymbol symbols.now }
-    ensures { WritesLines (K.output out.old) (K.output out.new)
-        (rows_lines job.now.text.now rows.now job.now.cards.now ++ symbols_lines symbols.now)
-        result }
-{
-    write_rows(out, job.text, rows, job.cards)?;
-    write_symbols(out, symbols)
 }
 
 // Writes the line of a generated deck, its seed and its number of cards, if the job is one.
@@ -128,10 +102,6 @@ fn write_listing<K: Sink>(out: &mut K, job: &Job, program: &Assembled) -> Result
     if !program.controls.is_listed() {
         return Ok(());
     }
-    write_both(
-        out,
-        job,
-        program.listing.as_slice(),
-        program.symbols.as_slice(),
-    )
+    write_rows(out, job.text, program.listing.as_slice(), job.cards)?;
+    write_symbols(out, program.symbols.as_slice())
 }

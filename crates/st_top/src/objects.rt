@@ -12,7 +12,7 @@
 //! Pinned, by docs/object-text.md and vectors/mnemonics.txt: the lines of object texts; by
 //! docs/disassembly.md and vectors/decks.txt: the lines of decks. Free: the loops, if
 //! proofs/objects follows.
-ghost use Rattle.std.specs.Prelude.{◌≡◌, ◌+◌, ◌≤◌, Ok, length, take};
+ghost use Rattle.std.specs.Prelude.{◌≡◌, ◌+◌, Ok};
 ghost use Rattle.st_asm.specs.Assembly.{assembly_parts};
 ghost use Rattle.st_text.specs.Pieces.{pieces_of};
 ghost use Rattle.st_io.specs.Lines.{WritesLines, text};
@@ -50,14 +50,6 @@ pub fn image_of(program: Assembled) -> Image
     }
 }
 
-// The first line of a text, with its line end.
-fn with_end<'a>(text: &'a [u8], line: &[u8]) -> &'a [u8]
-    requires { length line.now + 1 ≤ length text.now }
-    ensures { result.now ≡ take (length line.now + 1) text.now }
-{
-    text.split_at(line.len() + 1).0
-}
-
 // Writes the lines of a text that have a line end, including the line end. The label of the loop
 // serves only its proof.
 fn write_ended<K: Sink>(out: &mut K, text: &[u8]) -> Result<(), Failed>
@@ -66,7 +58,7 @@ fn write_ended<K: Sink>(out: &mut K, text: &[u8]) -> Result<(), Failed>
 {
     let mut rest = text;
     'lines: while let Some((line, after)) = cut(rest, b'\n') {
-        write_line(out, with_end(rest, line))?;
+        write_line(out, rest.split_at(line.len() + 1).0)?;
         rest = after;
     }
     Ok(())

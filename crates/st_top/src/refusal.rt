@@ -7,26 +7,15 @@
 //!
 //! Pinned, by `st_card` and docs/strap.md: the names of faults. Pinned, by `st_report` and
 //! docs/report.md: the form of the line. Free: the body.
-ghost use Rattle.std.specs.Prelude.{◌≡◌, [], ◌∷◌};
-ghost use Rattle.st_card.specs.Faults.{name_of};
-ghost use Rattle.st_io.specs.Lines.{WritesLines};
-ghost use Rattle.st_report.specs.Line.{fault_line};
+ghost use Rattle.std.specs.Prelude.{◌≡◌};
 ghost use Rattle.st_top.specs.Answers.{Writes};
 ghost use Rattle.st_top.specs.Output.{refusal_output};
 
 use crate::answer::{Answer, Status};
 use st_card::Fault;
-use st_io::{Failed, Sink};
+use st_io::Sink;
 use st_report::line_fault;
 use st_telling::put;
-
-// Writes the line of a refused card.
-fn write_refusal<K: Sink>(out: &mut K, card: u32, fault: Fault) -> Result<(), Failed>
-    ensures { WritesLines (K.output out.old) (K.output out.new)
-        (fault_line card (name_of fault) ∷ []) result }
-{
-    put(out, &line_fault(card, &fault.name()))
-}
 
 /// Refuses a job at a card: writes its line. Returns the answer.
 pub fn refuse<K: Sink>(out: &mut K, card: u32, fault: Fault) -> Answer
@@ -34,7 +23,7 @@ pub fn refuse<K: Sink>(out: &mut K, card: u32, fault: Fault) -> Answer
         (refusal_output (record { card = card; fault = fault })) result }
     ensures ticks { result.ticks ≡ 0 }
 {
-    match write_refusal(out, card, fault) {
+    match put(out, &line_fault(card, &fault.name())) {
         Ok(()) => Answer::without_run(Status::Refused),
         Err(_) => Answer {
             status: Status::WriteFault,

@@ -9,14 +9,12 @@
 //! Pinned, by `run_report` and docs/report.md: the order of the lines. Pinned, by
 //! `LevelsInFigures`, the type of `Run` and `events_of_run`: `LEVELS`; another number changes every
 //! timetable. Free: the bodies, and when the second machine runs.
-ghost use Rattle.std.specs.Prelude.{◌≡◌, [], ◌∷◌, IfSome};
+ghost use Rattle.std.specs.Prelude.{◌≡◌, IfSome};
 ghost use Rattle.std.specs.List.{AllPass};
 ghost use Rattle.st_card.specs.Limits.{IsWithinLimits, is_part};
 ghost use Rattle.st_run.specs.Run.{Scene as SceneOf};
 ghost use Rattle.st_io.specs.Lines.{WritesLines};
-ghost use Rattle.st_report.specs.Line.{back_line};
 ghost use Rattle.st_run.specs.ReportedEvents.{reported_events};
-ghost use Rattle.st_telling.specs.Report.{block};
 ghost use Rattle.st_top.specs.StepsBack.{states_of_run, lines_of_steps_back, last_state, events_of_run, moment_at_end, run_report};
 ghost use Rattle.st_top.specs.Beside.{IsBesideReady, IsBesideAtStart, StandsAtStart, StandsAtEnd};
 ghost use Rattle.st_telling.specs.Running.{WritesEvents};
@@ -26,33 +24,10 @@ use st_card::Controls;
 use st_io::{Failed, Sink};
 use st_report::line_back;
 use st_run::{Run, StateView};
-use st_state::State;
 use st_telling::{Moment, put, write_run, write_state};
 
 /// The number of levels of the overlapped machine on which a job runs.
 pub const LEVELS: usize = 4;
-
-// Writes the line with the number of steps between a state and the end of the run.
-fn write_steps<K: Sink>(out: &mut K, steps: u8) -> Result<(), Failed>
-    ensures { WritesLines (K.output out.old) (K.output out.new) (back_line steps ∷ []) result }
-{
-    put(out, &line_back(steps))
-}
-
-// Writes that line and the block of the state.
-fn write_before<K: Sink>(
-    out: &mut K,
-    steps: u8,
-    state: &State,
-    controls: &Controls,
-) -> Result<(), Failed>
-    requires { AllPass is_part controls.now.dumps }
-    ensures { WritesLines (K.output out.old) (K.output out.new)
-        (back_line steps ∷ block controls.now.dumps state.now) result }
-{
-    write_steps(out, steps)?;
-    write_state(out, &StateView::new(state), controls)
-}
 
 // Undoes the last steps of the machine that follows a run, if there is one, and writes its state.
 #[tactic(auto, using(st_io::proofs::Progress::wrote_nothing))]
@@ -73,24 +48,8 @@ fn write_back<K: Sink>(
         return Ok(());
     };
     let steps = rewind(second);
-    write_before(out, steps, second.state(), controls)
-}
-
-// Repeats the run on the machine that follows it, then writes the requested state before the end.
-fn write_second<K: Sink>(
-    out: &mut K,
-    second: &mut Option<MachineBeside>,
-    controls: &Controls,
-) -> Result<(), Failed>
-    requires limits { IsWithinLimits controls.now }
-    requires start { IfSome second.old IsBesideAtStart }
-    ensures { (start : SceneOf) → StandsAtStart controls.now.back start second.old
-        → WritesLines (K.output out.old) (K.output out.new)
-        (lines_of_steps_back controls.now (states_of_run controls.now start) (last_state
-        controls.now start)) result }
-{
-    run_beside(second, controls.budget());
-    write_back(out, second, controls)
+    put(out, &line_back(steps))?;
+    write_state(out, &StateView::new(second.state()), controls)
 }
 
 /// Writes the report of a run from its start: its events, then the requested state before the end.
@@ -110,5 +69,6 @@ pub fn write_report<K: Sink>(
         (moment_at_end controls.now start) moment.new result }
 {
     write_run(out, run, moment, controls)?;
-    write_second(out, second, controls)
+    run_beside(second, controls.budget());
+    write_back(out, second, controls)
 }

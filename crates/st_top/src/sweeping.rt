@@ -10,12 +10,11 @@
 //!
 //! Pinned, by `sweep_lines` of specs/Sweep.antt, docs/timetable.md and vectors/sweep.txt: the lines
 //! and their order. Free: the bodies.
-ghost use Rattle.std.specs.Prelude.{◌≡◌, ℕ, List, ◌+◌, ◌≤◌, ◌<◌, ◌^◌, Ok, [], ◌∷◌, IfOk, length};
+ghost use Rattle.std.specs.Prelude.{◌≡◌, ℕ, List, ◌+◌, ◌≤◌, ◌<◌, ◌^◌, Ok, IfOk, length};
 ghost use Rattle.st_bits.specs.Storage.{IsImage};
 ghost use Rattle.st_asm.specs.Assembly.{assembly_parts};
 ghost use Rattle.st_card.specs.Limits.{IsWithinLimits};
 ghost use Rattle.st_io.specs.Lines.{WritesLines};
-ghost use Rattle.st_report.specs.Line.{calm_line};
 ghost use Rattle.st_run.specs.Scenes.{IsScene};
 ghost use Rattle.st_top.specs.Sweep.{levels_lines, sweep_lines, sweep_start, sweep_of};
 ghost use Rattle.st_top.specs.Output.{output_of_sweep, swept_by};
@@ -45,20 +44,12 @@ fn write_levels<K: Sink>(out: &mut K, n: u8, ticks: &[u64]) -> Result<(), Failed
     write_levels(out, n + 1, more)
 }
 
-// Writes the line that says whether a run is hazard-free.
-fn write_calm<K: Sink>(out: &mut K, hazard_free: bool) -> Result<(), Failed>
-    ensures { WritesLines (K.output out.old) (K.output out.new)
-        (calm_line hazard_free ∷ []) result }
-{
-    put(out, &line_calm(hazard_free))
-}
-
 // Writes the lines of a sweep.
 fn write_sweep<K: Sink>(out: &mut K, swept: Swept) -> Result<(), Failed>
     ensures { WritesLines (K.output out.old) (K.output out.new) (sweep_lines swept) result }
 {
     write_levels(out, 1, &swept.ticks)?;
-    write_calm(out, swept.hazard_free)
+    put(out, &line_calm(swept.hazard_free))
 }
 
 // Writes the lines of a sweep. Returns the answer, with the extent of the run on eight levels.

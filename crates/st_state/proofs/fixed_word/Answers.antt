@@ -1,5 +1,4 @@
-use Rattle.std.proofs.Common.{sym, arith}
-use Rattle.st_bits.proofs.RegisterLaws.{fixed-index}
+use Rattle.st_state.proofs.Common.{sym, arith, fixed-index}
 use Rattle.st_state.proofs.fixed_word.Goals as goal
 
 pub returns-else-w-lt-FIRST_STORAGE_WORD : goal.returns-else-w-lt-FIRST_STORAGE_WORD

@@ -1,5 +1,4 @@
-use Rattle.std.proofs.Common.{◌∙◌, sym}
-use Rattle.st_strap.proofs.StatementLemmas.{read-is}
+use Rattle.st_asm.proofs.Common.{◌∙◌, sym, read-is}
 use Rattle.st_asm.proofs.alone.emitted_alone.Goals as goal
 
 pub emitted_by-requires : goal.emitted_by-requires

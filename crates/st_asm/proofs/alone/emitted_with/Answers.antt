@@ -1,4 +1,4 @@
-use Rattle.std.proofs.Common.{◌∙◌, sym}
+use Rattle.st_asm.proofs.Common.{◌∙◌, sym}
 use Rattle.st_asm.proofs.FaultLemmas.{faultless, first-below, second-below}
 use Rattle.st_asm.proofs.alone.emitted_with.Goals as goal
 

@@ -1,21 +1,9 @@
+use Rattle.st_asm.proofs.Common.{◌≤◌, ◌∙◌, List, ℕ, length, Option, ap, sym, subst, All-weaker, All-same, cards_of, IsCardOf, Asked, Card, IsWellFormedIfAny, Assembly, form_pass, found_in, name_pass, named_in, value_pass, emitted_in, IsLocation, IsAssemblySound, IsReadCard, ReadCard}
 use Rattle.std.specs.Prelude.{All}
-use Rattle.std.proofs.Common.{◌≤◌, ◌∙◌, List, ℕ, length, Option, ap, sym, subst}
-use Rattle.std.proofs.lemmas.List.Elements.{All-weaker, All-same}
-use Rattle.st_card.specs.Cards.{cards_of, IsCardOf}
-use Rattle.st_card.specs.Controls.{Asked}
-use Rattle.st_card.specs.declared.cards.Card.{Card}
-use Rattle.st_strap.specs.WellFormed.{IsWellFormedIfAny}
-use Rattle.st_asm.specs.Assembly.{Assembly}
-use Rattle.st_asm.specs.Forming.{form_pass, found_in}
-use Rattle.st_asm.specs.Naming.{name_pass, named_in}
-use Rattle.st_asm.specs.Valuing.{value_pass, emitted_in}
-use Rattle.st_asm.specs.Sound.{IsLocation, IsAssemblySound}
-use Rattle.st_asm.specs.Kept.{IsReadCard}
-use Rattle.st_asm.specs.declared.line.ReadCard.{ReadCard}
 use Rattle.st_asm.proofs.KeptLemmas.{few-cards, form_pass-deck, name_pass-named, together-sound}
 use Rattle.st_asm.proofs.FaultlessLemmas.{form_pass-faultless}
-use Rattle.st_asm.proofs.assembling.assemble_cards.Goals as goal
 use Rattle.st_card.proofs.Laws.{cards_stand_in_their_job}
+use Rattle.st_asm.proofs.assembling.assemble_cards.Goals as goal
 
 pub form_pass-requires-clause-texts : goal.form_pass-requires-clause-texts
 form_pass-requires-clause-texts c =

@@ -1,6 +1,4 @@
-use Rattle.std.proofs.Common.{subst}
-use Rattle.std.specs.Bool.{IsTrue}
-use Rattle.st_asm.specs.Checks.{fits}
+use Rattle.st_asm.proofs.Common.{subst, IsTrue, fits}
 use Rattle.st_asm.proofs.FieldLemmas.{holds-below}
 use Rattle.st_asm.proofs.emitting.bits_of.Goals as goal
 

@@ -1,7 +1,4 @@
-use Rattle.std.proofs.Common.{◌≡◌, length, All}
-use Rattle.st_card.specs.Cards.{IsCardOf}
-use Rattle.st_asm.specs.Pass.{pass}
-use Rattle.st_asm.specs.Forming.{form_card, found_in, found_at_start}
+use Rattle.st_asm.proofs.Common.{◌≡◌, length, All, IsCardOf, pass, form_card, found_in, found_at_start}
 use Rattle.st_asm.proofs.forming.read_cards.Given as goal
 
 abbrev pub invariant-cards : goal.invariant-cards

@@ -1,5 +1,4 @@
-use Rattle.std.proofs.Common.{List, ℕ, length, ap, ◌∙◌, arith}
-use Rattle.std.proofs.lemmas.List.{length-take, length-drop}
+use Rattle.st_asm.proofs.Common.{List, ℕ, length, ap, ◌∙◌, arith, length-take, length-drop}
 use Rattle.st_asm.proofs.line.statement_field.Goals as goal
 
 pub returns-clause-short : goal.returns-clause-short

@@ -1,6 +1,4 @@
-use Rattle.std.proofs.Common.{◌∙◌, sym, ap}
-use Rattle.st_asm.specs.Naming.{is_name_taken, named_in}
-use Rattle.st_asm.specs.Symbols.{is_defined}
+use Rattle.st_asm.proofs.Common.{◌∙◌, sym, ap, is_name_taken, named_in, is_defined}
 use Rattle.st_asm.proofs.FaultLemmas.{fresh-name}
 use Rattle.st_asm.proofs.naming.name_line.Goals as goal
 

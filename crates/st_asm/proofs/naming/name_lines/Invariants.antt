@@ -1,8 +1,4 @@
-use Rattle.std.proofs.Common.{◌≡◌, length, All}
-use Rattle.st_asm.specs.Pass.{pass}
-use Rattle.st_asm.specs.Symbols.{is_defined}
-use Rattle.st_asm.specs.Naming.{name_card, named_in, naming_at_start, AreNamesKept}
-use Rattle.st_strap.specs.WellFormed.{IsWellFormedIfAny}
+use Rattle.st_asm.proofs.Common.{◌≡◌, length, All, pass, is_defined, name_card, named_in, naming_at_start, AreNamesKept, IsWellFormedIfAny}
 use Rattle.st_asm.proofs.naming.name_lines.Given as goal
 
 abbrev pub invariant-lines : goal.invariant-lines

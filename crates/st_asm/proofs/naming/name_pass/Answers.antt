@@ -1,9 +1,5 @@
-use Rattle.std.proofs.Common.{◌≡◌, List, ℕ, Bool, subst}
-use Rattle.std.specs.Result.{IfErr}
+use Rattle.st_asm.proofs.Common.{◌≡◌, List, ℕ, Bool, subst, IfErr, name_pass, name_card, naming_at_start, pass, has_name, is_defined, names_of}
 use Rattle.st_asm.specs.Answers.{Explains}
-use Rattle.st_asm.specs.Naming.{name_pass, name_card, naming_at_start}
-use Rattle.st_asm.specs.Pass.{pass}
-use Rattle.st_asm.specs.Symbols.{has_name, is_defined, names_of}
 use Rattle.st_asm.proofs.naming.name_pass.Goals as goal
 
 pub returns-clause-err : goal.returns-clause-err

@@ -1,4 +1,4 @@
-use Rattle.std.proofs.Common.{◌+◌, ◌-◌, ◌*◌, ◌^◌, ◌%◌, ap, sym, ◌∙◌, arith}
+use Rattle.st_asm.proofs.Common.{◌+◌, ◌-◌, ◌*◌, ◌^◌, ◌%◌, ap, sym, ◌∙◌, arith}
 use Rattle.st_asm.proofs.FieldLemmas.{joined-parts, more-digits, packed-more, packed-none, digit-below}
 use Rattle.st_asm.proofs.numbers.+packed.Goals as goal
 

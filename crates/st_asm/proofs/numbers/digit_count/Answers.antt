@@ -1,4 +1,4 @@
-use Rattle.std.proofs.Common.{◌*◌, ◌/◌, ap, ◌∙◌}
+use Rattle.st_asm.proofs.Common.{◌*◌, ◌/◌, ap, ◌∙◌}
 use Rattle.st_asm.proofs.FieldLemmas.{digits-whole}
 use Rattle.st_asm.proofs.numbers.digit_count.Goals as goal
 

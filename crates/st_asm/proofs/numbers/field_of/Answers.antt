@@ -1,5 +1,4 @@
-use Rattle.std.proofs.Common.{◌+◌, ◌*◌, ◌^◌, Bool, ap, sym, ◌∙◌, arith, if◌then◌else◌}
-use Rattle.st_asm.specs.Numbers.{field_bits_of, magnitude, sign_byte_of}
+use Rattle.st_asm.proofs.Common.{◌+◌, ◌*◌, ◌^◌, Bool, ap, sym, ◌∙◌, arith, if◌then◌else◌, field_bits_of, magnitude, sign_byte_of}
 use Rattle.st_asm.proofs.FieldLemmas.{signed-parts}
 use Rattle.st_asm.proofs.numbers.field_of.Goals as goal
 

@@ -1,4 +1,4 @@
-use Rattle.std.proofs.Common.{◌<◌, ◌-◌, arith}
+use Rattle.st_asm.proofs.Common.{◌<◌, ◌-◌, arith}
 use Rattle.st_asm.proofs.FieldLemmas.{sign-below}
 use Rattle.st_asm.proofs.numbers.sign_byte.Goals as goal
 

@@ -1,4 +1,4 @@
-use Rattle.std.proofs.Common.{◌∙◌, ap, is_some}
+use Rattle.st_asm.proofs.Common.{◌∙◌, ap, is_some}
 use Rattle.st_asm.proofs.ValueLemmas.{terms-known}
 use Rattle.st_asm.proofs.symbols.knows.Goals as goal
 

@@ -1,4 +1,4 @@
-use Rattle.std.proofs.Common.{◌∙◌}
+use Rattle.st_asm.proofs.Common.{◌∙◌}
 use Rattle.st_asm.proofs.PassLemmas.{with_first, no_items}
 use Rattle.st_asm.proofs.TableLemmas.{names-named, names-unnamed, names-none}
 use Rattle.st_asm.proofs.symbols.names_in.Goals as goal

@@ -1,5 +1,4 @@
-use Rattle.std.proofs.Common.{◌≡◌, ◌||◌, ℕ, List, length}
-use Rattle.st_asm.specs.Symbols.{has_name, is_defined, names_of}
+use Rattle.st_asm.proofs.Common.{◌≡◌, ◌||◌, ℕ, List, length, has_name, is_defined, names_of}
 use Rattle.st_asm.proofs.symbols.names_in.Given as goal
 
 abbrev pub invariant-lines : goal.invariant-lines

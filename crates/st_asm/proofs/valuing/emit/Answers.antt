@@ -1,7 +1,4 @@
-use Rattle.std.proofs.Common.{◌∙◌, ap, sym, subst}
-use Rattle.std.specs.Bool.{IsTrue}
-use Rattle.st_asm.specs.Checks.{in_storage}
-use Rattle.st_asm.specs.Places.{placing_of, length_in}
+use Rattle.st_asm.proofs.Common.{◌∙◌, ap, sym, subst, IsTrue, in_storage, placing_of, length_in}
 use Rattle.st_asm.proofs.FaultLemmas.{faultless, first-below, second-below, emitted-in_storage}
 use Rattle.st_asm.proofs.valuing.emit.Goals as goal
 

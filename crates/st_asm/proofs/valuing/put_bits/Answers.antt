@@ -1,5 +1,4 @@
-use Rattle.std.proofs.Common.{arith}
-use Rattle.st_bits.specs.Storage.{words_of_storage_is}
+use Rattle.st_asm.proofs.Common.{arith, words_of_storage_is}
 use Rattle.st_asm.proofs.FaultLemmas.{storage-means}
 use Rattle.st_asm.proofs.ImageLemmas.{image-put, image-kept}
 use Rattle.st_asm.proofs.valuing.put_bits.Goals as goal

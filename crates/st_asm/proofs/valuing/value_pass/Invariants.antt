@@ -1,10 +1,4 @@
-use Rattle.std.proofs.Common.{◌≡◌, length, All}
-use Rattle.std.specs.List.{zip}
-use Rattle.st_asm.specs.Pass.{pass}
-use Rattle.st_asm.specs.Valuing.{value_card, emitted_in, emitting_at_start}
-use Rattle.st_asm.specs.Sound.{IsLocation}
-use Rattle.st_asm.specs.Kept.{IsSoundLayout}
-use Rattle.st_strap.specs.WellFormed.{IsWellFormedIfAny}
+use Rattle.st_asm.proofs.Common.{◌≡◌, length, All, zip, pass, value_card, emitted_in, emitting_at_start, IsLocation, IsSoundLayout, IsWellFormedIfAny}
 use Rattle.st_asm.proofs.valuing.value_pass.Given as goal
 
 abbrev pub invariant-lines : goal.invariant-lines

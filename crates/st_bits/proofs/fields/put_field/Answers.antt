@@ -1,8 +1,4 @@
-use Rattle.std.proofs.Common.{◌≡◌, ◌≢◌, ℕ, ◌+◌, ◌-◌, ◌/◌, ◌%◌, ◌<◌, ◌^◌, sym, ◌∙◌, ap, subst, arith, get_or}
-use Rattle.std.proofs.lemmas.Nat.{shr_below}
-use Rattle.std.proofs.lemmas.List.{get_or-set_other}
-use Rattle.std.proofs.Math.ListN.{set}
-use Rattle.st_bits.specs.Bits.{all_bits, with_part}
+use Rattle.st_bits.proofs.Common.{◌≡◌, ◌≢◌, ℕ, ◌+◌, ◌-◌, ◌/◌, ◌%◌, ◌<◌, ◌^◌, sym, ◌∙◌, ap, subst, arith, get_or, shr_below, get_or-set_other, set, all_bits, with_part}
 use Rattle.st_bits.proofs.WordFields.{put-at_word, put-at_two, part-last}
 use Rattle.st_bits.proofs.fields.put_field.Goals as goal
 

@@ -1,5 +1,4 @@
-use Rattle.std.proofs.Common.{sym, ◌∙◌}
-use Rattle.std.proofs.lemmas.Nat.{mod_below, pow_pos}
+use Rattle.st_bits.proofs.Common.{sym, ◌∙◌, mod_below, pow_pos}
 use Rattle.st_bits.proofs.BitLists.{num-field}
 use Rattle.st_bits.proofs.Shifts.{run_of_word}
 use Rattle.st_bits.proofs.parts.part.Goals as goal

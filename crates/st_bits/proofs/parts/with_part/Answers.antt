@@ -1,5 +1,4 @@
-use Rattle.std.proofs.Common.{sym, ◌∙◌, ap}
-use Rattle.st_bits.specs.Bits.{bits}
+use Rattle.st_bits.proofs.Common.{sym, ◌∙◌, ap, bits}
 use Rattle.st_bits.proofs.BitLists.{put-word}
 use Rattle.st_bits.proofs.Shifts.{run_of_word_replaced}
 use Rattle.st_bits.proofs.parts.with_part.Goals as goal

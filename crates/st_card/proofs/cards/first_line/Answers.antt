@@ -1,5 +1,5 @@
+use Rattle.st_card.proofs.Common.{front_of_front, front_of_whole, behind_whole}
 use Rattle.st_card.proofs.CardLemmas.{card_first}
-use Rattle.st_text.proofs.FrontLemmas.{front_of_front, front_of_whole, behind_whole}
 use Rattle.st_card.proofs.cards.first_line.Goals as goal
 
 pub returns-in-Some-clause-cards : goal.returns-in-Some-clause-cards

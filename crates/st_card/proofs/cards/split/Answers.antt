@@ -1,9 +1,5 @@
-use Rattle.std.proofs.Common.{◌≡◌, ◌-◌, ◌++◌, List, length, ap, ◌∙◌, arith, length-append}
-use Rattle.st_card.specs.Cards.{cards_from}
-use Rattle.st_text.specs.Pieces.{pieces_of}
-use Rattle.st_card.specs.declared.cards.Card.{Card}
+use Rattle.st_card.proofs.Common.{◌≡◌, ◌-◌, ◌++◌, List, length, ap, ◌∙◌, arith, length-append, cards_from, pieces_of, Card, behind_behind, behind_itself}
 use Rattle.st_card.proofs.CardLemmas.{cards_further, cards_done, cards_full, texts_further}
-use Rattle.st_text.proofs.FrontLemmas.{behind_behind, behind_itself}
 use Rattle.st_card.proofs.cards.split.Goals as goal
 
 pub lines-init : goal.lines-init

@@ -1,6 +1,4 @@
-use Rattle.std.proofs.Common.{◌≡◌, ◌+◌, ◌-◌, ◌≤◌, ◌++◌, length, All}
-use Rattle.st_card.specs.Cards.{cards_from, IsCardOf}
-use Rattle.st_text.specs.Pieces.{pieces_of, IsBehind}
+use Rattle.st_card.proofs.Common.{◌≡◌, ◌+◌, ◌-◌, ◌≤◌, ◌++◌, length, All, cards_from, IsCardOf, pieces_of, IsBehind}
 use Rattle.st_card.proofs.cards.split.Given as goal
 
 abbrev pub invariant-lines : goal.invariant-lines

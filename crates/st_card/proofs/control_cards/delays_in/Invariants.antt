@@ -1,6 +1,4 @@
-use Rattle.std.proofs.Common.{◌≡◌, ◌++◌, length}
-use Rattle.std.specs.List.{list_all}
-use Rattle.st_card.specs.Controls.{is_in_range}
+use Rattle.st_card.proofs.Common.{◌≡◌, ◌++◌, length, list_all, is_in_range}
 use Rattle.st_card.proofs.control_cards.delays_in.Given as goal
 
 abbrev pub invariant-numbers : goal.invariant-numbers

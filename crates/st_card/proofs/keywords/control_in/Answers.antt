@@ -1,5 +1,4 @@
-use Rattle.std.proofs.Common.{List, ℕ, length, ap, ◌∙◌, arith}
-use Rattle.std.proofs.lemmas.List.{length-take}
+use Rattle.st_card.proofs.Common.{List, ℕ, length, ap, ◌∙◌, arith, length-take}
 use Rattle.st_card.proofs.keywords.control_in.Goals as goal
 
 pub read_numbers-requires : goal.read_numbers-requires

@@ -1,5 +1,4 @@
-use Rattle.std.proofs.Common.{◌≡◌, length}
-use Rattle.st_card.specs.Keywords.{keyword_in, keyword_order}
+use Rattle.st_card.proofs.Common.{◌≡◌, length, keyword_in, keyword_order}
 use Rattle.st_card.proofs.keywords.keyword_in.Given as goal
 
 abbrev pub invariant-keywords : goal.invariant-keywords

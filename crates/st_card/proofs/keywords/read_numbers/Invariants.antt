@@ -1,7 +1,4 @@
-use Rattle.std.proofs.Common.{◌≡◌, ◌≤◌, ◌+◌, ◌*◌, ◌++◌, length}
-use Rattle.std.specs.Option.{option_map}
-use Rattle.st_text.specs.Pieces.{words}
-use Rattle.st_card.specs.Keywords.{card_numbers}
+use Rattle.st_card.proofs.Common.{◌≡◌, ◌≤◌, ◌+◌, ◌*◌, ◌++◌, length, option_map, words, card_numbers}
 use Rattle.st_card.proofs.keywords.read_numbers.Given as goal
 
 abbrev pub invariant-words : goal.invariant-words

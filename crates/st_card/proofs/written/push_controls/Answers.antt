@@ -1,6 +1,5 @@
+use Rattle.st_card.proofs.Common.{control_line, asked_by, Listing}
 use Rattle.st_text.proofs.ListLemmas.{first_and_rest}
-use Rattle.st_card.specs.Written.{control_line, asked_by}
-use Rattle.st_card.specs.declared.keywords.Keyword.TheVariants.{Listing}
 use Rattle.st_card.proofs.LineLemmas.{keyword-more}
 use Rattle.st_card.proofs.written.push_controls.Goals as goal
 

@@ -1,5 +1,4 @@
-use Rattle.std.proofs.Common.{◌≡◌, ◌++◌, length, map}
-use Rattle.std.specs.List.{flat_map}
+use Rattle.st_card.proofs.Common.{◌≡◌, ◌++◌, length, map, flat_map}
 use Rattle.st_card.specs.Written as spec
 use Rattle.st_card.proofs.written.push_controls.Given as goal
 

@@ -1,5 +1,4 @@
-use Rattle.std.proofs.Common.{sym}
-use Rattle.st_card.specs.Written.{control_line, asked_by}
+use Rattle.st_card.proofs.Common.{sym, control_line, asked_by}
 use Rattle.st_card.proofs.LineLemmas.{lines-more}
 use Rattle.st_card.proofs.written.push_requests.Goals as goal
 

@@ -1,4 +1,4 @@
-use Rattle.std.proofs.Common.{◌≡◌, ◌++◌, map, take}
+use Rattle.st_card.proofs.Common.{◌≡◌, ◌++◌, map, take}
 use Rattle.st_card.specs.Written as spec
 use Rattle.st_card.proofs.written.push_requests.Given as goal
 

@@ -1,6 +1,4 @@
-use Rattle.std.proofs.Common.{◌/◌, ◌%◌, ◌^◌, ◌∙◌, ap, bit_and}
-use Rattle.std.specs.Int.{bit_at}
-use Rattle.std.proofs.lemmas.Nat.{and_mask, shr-shr}
+use Rattle.st_conn.proofs.Common.{◌/◌, ◌%◌, ◌^◌, ◌∙◌, ap, bit_and, bit_at, and_mask, shr-shr}
 use Rattle.st_conn.proofs.TableRows.{bit_at-mod}
 use Rattle.st_conn.proofs.logic.bits_from.Goals as goal
 

@@ -1,6 +1,4 @@
-use Rattle.std.proofs.Common.{◌≡◌, ℕ, ◌-◌, ◌*◌, min, max, refl, ◌∙◌, ap, bit_and, bit_or}
-use Rattle.std.specs.Int.{bit_at, w64}
-use Rattle.std.proofs.lemmas.Nat.Bits.{bit_at-lt, bit_at_and, bit_at_or, bit_at_not}
+use Rattle.st_conn.proofs.Common.{◌≡◌, ℕ, ◌-◌, ◌*◌, min, max, refl, ◌∙◌, ap, bit_and, bit_or, bit_at, w64, bit_at-lt, bit_at_and, bit_at_or, bit_at_not}
 use Rattle.st_conn.proofs.TableRows.{bit_at-times, one_row}
 use Rattle.st_conn.proofs.logic.combined.Goals as goal
 

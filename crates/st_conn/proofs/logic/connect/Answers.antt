@@ -1,9 +1,10 @@
-use Rattle.std.proofs.Common.{sum, sym, ◌∙◌, ap}
-use Rattle.std.proofs.Math.Nat.{mod-eq_of_lt}
-use Rattle.st_bits.specs.Bits.{num}
-use Rattle.st_bits.proofs.BitLists.{num-bits}
-use Rattle.st_conn.specs.Connective.{leading_zeros}
+use Rattle.st_conn.proofs.Common.{◌≡◌, ◌-◌, sum, sym, ◌∙◌, ap, arith, ones, mod-eq_of_lt, ones-le, bits, num, num-bits, leading_zeros}
+use Rattle.st_conn.proofs.Weights.{leading_zeros-word, sum-bits}
 use Rattle.st_conn.proofs.logic.connect.Goals as goal
+
+pub overflow_sub-result-2 : goal.overflow_sub-result-2
+overflow_sub-result-2 c =
+    omega (arith, c.from.ensures, leading_zeros-word c.args.n c.results-bits.result c.requires.few c.results-bits.ensures.bound)
 
 pub returns-clause-bits : goal.returns-clause-bits
 returns-clause-bits c =
@@ -13,7 +14,12 @@ returns-clause-bits c =
     ∙ mod-eq_of_lt c.results-bits.ensures.bound)
 
 pub returns-clause-zeros : goal.returns-clause-zeros
-returns-clause-zeros c = c.zeros_of.ensures.zeros ∙ ap leading_zeros c.results-bits.ensures.each
+returns-clause-zeros c =
+    omega (arith, c.from.ensures, leading_zeros-word c.args.n c.results-bits.result c.requires.few c.results-bits.ensures.bound, ap leading_zeros c.results-bits.ensures.each)
 
 pub returns-clause-ones : goal.returns-clause-ones
-returns-clause-ones c = c.ones_of.ensures.ones ∙ ap sum c.results-bits.ensures.each
+returns-clause-ones c =
+    sym (sum-bits c.args.n c.results-bits.result ∙ ap ones (mod-eq_of_lt c.results-bits.ensures.bound)) ∙ ap sum c.results-bits.ensures.each
+
+pub returns-clause-ones_bound : goal.returns-clause-ones_bound
+returns-clause-ones_bound c = ones-le c.args.n c.results-bits.result c.results-bits.ensures.bound

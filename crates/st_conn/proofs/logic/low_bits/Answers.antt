@@ -1,6 +1,4 @@
-use Rattle.std.proofs.Common.{◌≡◌, ◌-◌, ◌^◌, ◌∙◌, ap, arith, bit_and}
-use Rattle.std.proofs.lemmas.Nat.{and_mask, mod_below, pow_pos}
-use Rattle.std.proofs.lemmas.Nat.Bits.{ones_shr}
+use Rattle.st_conn.proofs.Common.{◌≡◌, ◌-◌, ◌^◌, ◌∙◌, ap, arith, bit_and, and_mask, mod_below, pow_pos, ones_shr}
 use Rattle.st_conn.proofs.logic.low_bits.Goals as goal
 
 pub returns-clause-value : goal.returns-clause-value

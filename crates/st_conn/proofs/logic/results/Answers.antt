@@ -1,6 +1,4 @@
-use Rattle.std.proofs.Common.{sym, ◌∙◌, ap, arith}
-use Rattle.std.specs.Int.{bit_at}
-use Rattle.st_conn.specs.Connective.{connective_bits, truth_bit, result_at}
+use Rattle.st_conn.proofs.Common.{sym, ◌∙◌, ap, arith, bit_at, connective_bits, truth_bit, result_at}
 use Rattle.st_conn.proofs.TableRows.{bit_at-mod}
 use Rattle.st_conn.proofs.Weights.{by_weight-bits}
 use Rattle.st_conn.proofs.logic.results.Goals as goal

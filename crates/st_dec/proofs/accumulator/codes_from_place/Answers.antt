@@ -1,4 +1,4 @@
-use Rattle.std.proofs.Common.{◌/◌, sym, arith}
+use Rattle.st_dec.proofs.Common.{◌/◌, sym, arith}
 use Rattle.st_dec.proofs.PartLemmas.{joined-from}
 use Rattle.st_dec.proofs.accumulator.codes_from_place.Goals as goal
 

@@ -1,5 +1,4 @@
-use Rattle.std.proofs.Common.{sym}
-use Rattle.st_dec.specs.DecimalOperand.{digit_count, last_digit_place}
+use Rattle.st_dec.proofs.Common.{sym, digit_count, last_digit_place}
 use Rattle.st_dec.proofs.PartLemmas.{joined-field}
 use Rattle.st_dec.proofs.accumulator.field_codes.Goals as goal
 

@@ -1,5 +1,4 @@
-use Rattle.std.proofs.Common.{◌∙◌}
-use Rattle.st_dec.specs.DecimalOperand.{last_digit_place}
+use Rattle.st_dec.proofs.Common.{◌∙◌, last_digit_place}
 use Rattle.st_dec.proofs.PartLemmas.{value_small, value-from}
 use Rattle.st_dec.proofs.accumulator.value_from_place.Goals as goal
 

@@ -1,4 +1,4 @@
-use Rattle.std.proofs.Common.{sym, ◌∙◌}
+use Rattle.st_dec.proofs.Common.{sym, ◌∙◌}
 use Rattle.st_dec.proofs.ListLemmas.{value-bytes}
 use Rattle.st_dec.proofs.PartLemmas.{value_small}
 use Rattle.st_dec.proofs.accumulator.whole_value.Goals as goal

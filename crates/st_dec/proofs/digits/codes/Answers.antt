@@ -1,4 +1,4 @@
-use Rattle.std.proofs.Common.{◌%◌, arith, lit<}
+use Rattle.st_dec.proofs.Common.{◌%◌, arith, lit<}
 use Rattle.st_dec.proofs.LoopLemmas.{codes_left, all_left, codes_next, codes_done, digit_fits, digit_below}
 use Rattle.st_dec.proofs.digits.codes.Goals as goal
 

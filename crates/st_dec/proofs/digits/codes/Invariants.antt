@@ -1,6 +1,4 @@
-use Rattle.std.proofs.Common.{◌≡◌, ◌+◌, ◌-◌, ◌*◌, ◌^◌, ◌<◌}
-use Rattle.st_dec.specs.DigitLists.{number_of_bytes}
-use Rattle.st_dec.specs.DecimalOperand.{codes}
+use Rattle.st_dec.proofs.Common.{◌≡◌, ◌+◌, ◌-◌, ◌*◌, ◌^◌, ◌<◌, number_of_bytes, codes}
 use Rattle.st_dec.proofs.LoopLemmas.{codes_left}
 use Rattle.st_dec.proofs.digits.codes.Given as goal
 

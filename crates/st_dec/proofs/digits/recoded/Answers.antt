@@ -1,6 +1,4 @@
-use Rattle.std.proofs.Common.{◌≤◌, ◌<◌, ◌+◌, ◌-◌, ◌^◌, arith, subst}
-use Rattle.std.proofs.Math.Pow.{pow_mono}
-use Rattle.st_field.specs.Fields.{magnitude_bits}
+use Rattle.st_dec.proofs.Common.{◌≤◌, ◌<◌, ◌+◌, ◌-◌, ◌^◌, arith, subst, pow_mono, magnitude_bits}
 use Rattle.st_dec.proofs.ShapeLemmas.{digits-whole, magnitude-small}
 use Rattle.st_dec.proofs.PartLemmas.{magnitude-room}
 use Rattle.st_dec.proofs.RecodeLemmas.{old_codes-le, codes_exchanged, recoded_fits}

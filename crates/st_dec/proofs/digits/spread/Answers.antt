@@ -1,4 +1,4 @@
-use Rattle.std.proofs.Common.{◌%◌, arith}
+use Rattle.st_dec.proofs.Common.{◌%◌, arith}
 use Rattle.st_dec.proofs.LoopLemmas.{spread_next, spread_done, digit_fits, digit_below, byte_below, digit_room}
 use Rattle.st_dec.proofs.digits.spread.Goals as goal
 

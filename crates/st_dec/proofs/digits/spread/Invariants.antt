@@ -1,5 +1,4 @@
-use Rattle.std.proofs.Common.{◌≡◌, ◌+◌, ◌-◌, ◌*◌, ◌^◌, ◌<◌}
-use Rattle.st_dec.specs.DecimalOperand.{digit_count}
+use Rattle.st_dec.proofs.Common.{◌≡◌, ◌+◌, ◌-◌, ◌*◌, ◌^◌, ◌<◌, digit_count}
 use Rattle.st_dec.proofs.LoopLemmas.{spread_left}
 use Rattle.st_dec.proofs.digits.spread.Given as goal
 

@@ -1,5 +1,4 @@
-use Rattle.std.proofs.Common.{◌%◌, ap, ◌∙◌}
-use Rattle.st_field.specs.Digits.{digits_of}
+use Rattle.st_dec.proofs.Common.{◌%◌, ap, ◌∙◌, digits_of}
 use Rattle.st_dec.proofs.RecodeLemmas.{digits_of-cut, cut_small, decimal_fits}
 use Rattle.st_dec.proofs.digits.to_decimal.Goals as goal
 

@@ -1,7 +1,4 @@
-use Rattle.std.proofs.Common.{◌≤◌, ◌<◌, ◌^◌, ◌∙◌, arith}
-use Rattle.std.proofs.Math.Pow.{pow_mono}
-use Rattle.st_field.specs.Fields.{magnitude_bits}
-use Rattle.st_dec.specs.DecimalOperand.{digit_count}
+use Rattle.st_dec.proofs.Common.{◌≤◌, ◌<◌, ◌^◌, ◌∙◌, arith, pow_mono, magnitude_bits, digit_count}
 use Rattle.st_dec.proofs.ShapeLemmas.{count-few, magnitude-small}
 use Rattle.st_dec.proofs.PartLemmas.{value-codes, field_value-fits}
 use Rattle.st_dec.proofs.operand.field_value.Goals as goal

@@ -1,6 +1,4 @@
-use Rattle.std.proofs.Common.{◌≡◌, ap, refl, ◌∙◌}
-use Rattle.st_dec.specs.DigitLists.{number_of_bytes, decimal}
-use Rattle.st_dec.specs.DecimalOperand.{digit_count, digit_bytes, bytes_with_codes}
+use Rattle.st_dec.proofs.Common.{◌≡◌, ap, refl, ◌∙◌, number_of_bytes, decimal, digit_count, digit_bytes, bytes_with_codes}
 use Rattle.st_dec.proofs.RecodeLemmas.{bytes-decimal}
 use Rattle.st_dec.proofs.operand.with_digits.Goals as goal
 

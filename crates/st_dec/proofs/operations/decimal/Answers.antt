@@ -1,5 +1,4 @@
-use Rattle.std.proofs.Common.{subst}
-use Rattle.st_field.specs.Fields.{HasRoom}
+use Rattle.st_dec.proofs.Common.{subst, HasRoom}
 use Rattle.st_field.proofs.ResultLaws.{result_of-fits}
 use Rattle.st_dec.proofs.ResultLaws.{keeps_length}
 use Rattle.st_dec.proofs.operations.decimal.Goals as goal

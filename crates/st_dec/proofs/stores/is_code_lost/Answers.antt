@@ -1,5 +1,4 @@
-use Rattle.std.proofs.Common.{sym}
-use Rattle.st_dec.specs.DecimalOperand.{digit_count, last_digit_place}
+use Rattle.st_dec.proofs.Common.{sym, digit_count, last_digit_place}
 use Rattle.st_dec.proofs.PartLemmas.{any_code-left}
 use Rattle.st_dec.proofs.stores.is_code_lost.Goals as goal
 

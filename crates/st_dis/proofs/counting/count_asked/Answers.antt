@@ -1,5 +1,4 @@
-use Rattle.std.proofs.Common.{arith}
-use Rattle.st_card.proofs.Requests.{few-asked}
+use Rattle.st_dis.proofs.Common.{arith, few-asked}
 use Rattle.st_dis.proofs.counting.count_asked.Goals as goal
 
 pub returns-clause-few : goal.returns-clause-few

@@ -1,4 +1,4 @@
-use Rattle.std.proofs.Common.{arith}
+use Rattle.st_dis.proofs.Common.{arith}
 use Rattle.st_text.proofs.ListLemmas.{first_and_rest}
 use Rattle.st_card.specs.declared.keywords.Keyword.TheVariants.{Listing}
 use Rattle.st_dis.proofs.Counted.{asked-more}

@@ -1,7 +1,4 @@
-use Rattle.std.proofs.Common.{◌≡◌, ◌≤◌, ◌+◌, ◌*◌, length}
-use Rattle.std.specs.List.{flat_map}
-use Rattle.st_card.specs.Keywords.{keyword_order}
-use Rattle.st_card.specs.Written.{asked_by, requests}
+use Rattle.st_dis.proofs.Common.{◌≡◌, ◌≤◌, ◌+◌, ◌*◌, length, flat_map, keyword_order, asked_by, requests}
 use Rattle.st_dis.proofs.counting.count_controls.Given as goal
 
 abbrev pub invariant-keywords : goal.invariant-keywords

@@ -1,4 +1,4 @@
-use Rattle.std.proofs.Common.{rules}
+use Rattle.st_dis.proofs.Common.{rules}
 use Rattle.st_dis.proofs.Counted.{counted-more}
 use Rattle.st_dis.proofs.counting.count_words.Goals as goal
 

@@ -1,5 +1,4 @@
-use Rattle.std.proofs.Common.{◌≡◌, ◌≤◌, ◌+◌, ◌*◌, length}
-use Rattle.st_dis.specs.Deck.{word_cards}
+use Rattle.st_dis.proofs.Common.{◌≡◌, ◌≤◌, ◌+◌, ◌*◌, length, word_cards}
 use Rattle.st_dis.proofs.counting.count_words.Given as goal
 
 abbrev pub invariant-words : goal.invariant-words

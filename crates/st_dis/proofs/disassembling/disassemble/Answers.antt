@@ -1,7 +1,4 @@
-use Rattle.std.proofs.Common.{◌≤◌, ◌∙◌, ◌++◌, ℕ, List, length, ap, subst, sym, arith}
-use Rattle.st_bits.specs.Storage.{words_of_storage_is}
-use Rattle.st_object.specs.Object.{Program}
-use Rattle.st_dis.specs.Deck.{deck_text, card_count}
+use Rattle.st_dis.proofs.Common.{◌≤◌, ◌∙◌, ◌++◌, ℕ, List, length, ap, subst, sym, arith, words_of_storage_is, Program, deck_text, card_count}
 use Rattle.st_dis.proofs.Lengths.{deck_text-short}
 use Rattle.st_dis.proofs.disassembling.disassemble.Goals as goal
 

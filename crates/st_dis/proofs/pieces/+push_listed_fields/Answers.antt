@@ -1,4 +1,4 @@
-use Rattle.std.proofs.Common.{append_assoc, arith}
+use Rattle.st_dis.proofs.Common.{append_assoc, arith}
 use Rattle.std.proofs.lemmas.List.{append-nil}
 use Rattle.st_dis.proofs.Fields.{listed_fields-none, listed_fields-last}
 use Rattle.st_dis.proofs.pieces.+push_listed_fields.Goals as goal

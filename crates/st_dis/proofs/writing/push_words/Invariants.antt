@@ -1,7 +1,5 @@
-use Rattle.std.proofs.Common.{◌≡◌, ◌≤◌, ◌+◌, ◌++◌, length}
-use Rattle.st_dis.specs.Deck.{word_cards}
+use Rattle.st_dis.proofs.Common.{◌≡◌, ◌≤◌, ◌+◌, ◌++◌, length, word_cards, text_of_lines}
 use Rattle.st_dis.proofs.writing.push_words.Given as goal
-use Rattle.st_card.specs.Written.{text_of_lines}
 
 abbrev pub invariant-words : goal.invariant-words
 invariant-words l = record {

@@ -1,5 +1,4 @@
-use Rattle.std.proofs.Common.{◌≡◌, ℕ, false, drop, sym, subst, ◌∙◌, arith}
-use Rattle.st_exch.specs.Reader.{has_statement}
+use Rattle.st_exch.proofs.Common.{◌≡◌, ℕ, false, drop, sym, subst, ◌∙◌, arith, has_statement}
 use Rattle.st_exch.proofs.ReaderLemmas.{none-behind, none-from, behind-none, behind-last}
 use Rattle.st_exch.proofs.hopper.behind_statements.Goals as goal
 

@@ -1,5 +1,4 @@
-use Rattle.std.proofs.Common.{◌≡◌, ◌≤◌, false, length, drop}
-use Rattle.st_exch.specs.Reader.{has_statement}
+use Rattle.st_exch.proofs.Common.{◌≡◌, ◌≤◌, false, length, drop, has_statement}
 use Rattle.st_exch.proofs.hopper.behind_statements.Given as goal
 
 abbrev pub invariant-cards : goal.invariant-cards

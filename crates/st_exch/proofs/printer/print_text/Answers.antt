@@ -1,9 +1,5 @@
-use Rattle.std.proofs.Common.{List, ℕ, ap, ◌∙◌, arith}
-use Rattle.std.specs.List.{flat_map}
-use Rattle.std.proofs.lemmas.List.{take_all}
-use Rattle.st_text.specs.Bytes.{is_printable}
+use Rattle.st_exch.proofs.Common.{List, ℕ, ap, ◌∙◌, arith, flat_map, take_all, is_printable, characters_of, line_of_words}
 use Rattle.st_text.specs.Blanks.{without_end_blanks}
-use Rattle.st_exch.specs.Printer.{characters_of, line_of_words}
 use Rattle.st_exch.proofs.PrinterLemmas.{printed-printable}
 use Rattle.st_exch.proofs.printer.print_text.Goals as goal
 

@@ -1,7 +1,5 @@
-use Rattle.std.proofs.Common.{◌≡◌, ◌*◌, take}
-use Rattle.std.specs.List.{flat_map}
+use Rattle.st_exch.proofs.Common.{◌≡◌, ◌*◌, take, flat_map, characters_of}
 use Rattle.arrayvec.specs.ArrayString.{array_string_len}
-use Rattle.st_exch.specs.Printer.{characters_of}
 use Rattle.st_exch.proofs.printer.print_text.Given as goal
 
 abbrev pub invariant-loop-word : goal.invariant-loop-word

@@ -1,7 +1,5 @@
-use Rattle.std.proofs.Common.{◌≡◌, ◌%◌, ◌++◌, ℕ, List, [], ◌∷◌, map, ap, ◌∙◌, arith}
-use Rattle.std.proofs.lemmas.List.{take_all}
+use Rattle.st_exch.proofs.Common.{◌≡◌, ◌%◌, ◌++◌, ℕ, List, [], ◌∷◌, map, ap, ◌∙◌, arith, take_all, character, characters_of}
 use Rattle.st_bits.specs.Bits.{part}
-use Rattle.st_exch.specs.Printer.{character, characters_of}
 use Rattle.st_exch.proofs.printer.push_word.Goals as goal
 
 pub returns-clause-bytes : goal.returns-clause-bytes

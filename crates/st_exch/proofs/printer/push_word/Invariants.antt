@@ -1,5 +1,4 @@
-use Rattle.std.proofs.Common.{◌≡◌, ◌++◌, map, take}
-use Rattle.st_exch.specs.Printer.{character}
+use Rattle.st_exch.proofs.Common.{◌≡◌, ◌++◌, map, take, character}
 use Rattle.st_exch.proofs.printer.push_word.Given as goal
 
 abbrev pub invariant-loop-byte : goal.invariant-loop-byte

@@ -1,5 +1,4 @@
-use Rattle.std.proofs.Common.{◌≡◌, ap, ◌∙◌, arith}
-use Rattle.st_state.specs.Machine.{Machine}
+use Rattle.st_exec.proofs.Common.{◌≡◌, ap, ◌∙◌, arith, Machine}
 use Rattle.st_exec.proofs.Unchanged.{opened-done, early-done, operands-read}
 use Rattle.st_exec.proofs.completing.complete_with.Goals as goal
 

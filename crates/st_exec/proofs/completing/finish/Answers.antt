@@ -1,5 +1,4 @@
-use Rattle.std.proofs.Common.{◌≡◌, ap, ◌∙◌, arith}
-use Rattle.st_state.specs.Machine.{Machine}
+use Rattle.st_exec.proofs.Common.{◌≡◌, ap, ◌∙◌, arith, Machine}
 use Rattle.st_exec.proofs.Unchanged.{done-done}
 use Rattle.st_exec.proofs.completing.finish.Goals as goal
 

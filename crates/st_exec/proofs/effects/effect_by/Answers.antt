@@ -1,4 +1,4 @@
-use Rattle.st_prep.specs.Entry.{reads, words_written}
+use Rattle.st_exec.proofs.Common.{reads, words_written}
 use Rattle.st_exec.proofs.InsideLemmas.{inside-index, inside-move, inside-bit, inside-counter, read-bit}
 use Rattle.st_exec.proofs.effects.effect_by.Goals as goal
 

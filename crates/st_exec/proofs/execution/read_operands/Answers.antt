@@ -1,5 +1,4 @@
-use Rattle.std.proofs.Common.{refl, arith}
-use Rattle.std.proofs.lemmas.List.{get_or-replicate}
+use Rattle.st_exec.proofs.Common.{refl, arith, get_or-replicate}
 use Rattle.st_exec.proofs.execution.read_operands.Goals as goal
 
 pub loop-k-init : goal.loop-k-init

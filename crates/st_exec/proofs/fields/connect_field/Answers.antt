@@ -1,6 +1,4 @@
-use Rattle.std.proofs.Common.{sym, subst}
-use Rattle.st_format.specs.declared.operations.FullOp.TheVariants.{Connective}
-use Rattle.st_format.specs.Operations.{writes_field}
+use Rattle.st_exec.proofs.Common.{sym, subst, Connective, writes_field}
 use Rattle.st_exec.proofs.FieldLemmas.{OnlyIf, connection-field, is_field-left}
 use Rattle.st_exec.proofs.fields.connect_field.Goals as goal
 

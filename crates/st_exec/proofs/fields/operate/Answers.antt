@@ -1,6 +1,4 @@
-use Rattle.std.proofs.Common.{sym, subst}
-use Rattle.st_format.specs.declared.operations.FullOp.TheVariants.{Variable}
-use Rattle.st_format.specs.Operations.{writes_field}
+use Rattle.st_exec.proofs.Common.{sym, subst, Variable, writes_field}
 use Rattle.st_exec.proofs.FieldLemmas.{OnlyIf, result-field, is_field-left}
 use Rattle.st_exec.proofs.fields.operate.Goals as goal
 

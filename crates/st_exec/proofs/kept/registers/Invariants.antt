@@ -1,5 +1,4 @@
-use Rattle.std.proofs.Common.{◌≡◌, ℕ, ◌<◌, get_or, length}
-use Rattle.st_state.specs.Machine.{word}
+use Rattle.st_exec.proofs.Common.{◌≡◌, ℕ, ◌<◌, get_or, length, word}
 use Rattle.st_exec.proofs.kept.registers.Given as goal
 
 abbrev pub invariant-loop-w : goal.invariant-loop-w

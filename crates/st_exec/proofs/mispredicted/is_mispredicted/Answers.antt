@@ -1,5 +1,4 @@
-use Rattle.std.proofs.Common.{◌≡◌, sym, rules}
-use Rattle.st_format.specs.Formats.{bit_of}
+use Rattle.st_exec.proofs.Common.{◌≡◌, sym, rules, bit_of}
 use Rattle.st_exec.proofs.MispredictionLemmas.{mispredicted-branch, mispredicted-not, no-branch}
 use Rattle.st_exec.proofs.mispredicted.is_mispredicted.Goals as goal
 

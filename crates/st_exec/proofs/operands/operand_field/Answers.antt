@@ -1,5 +1,4 @@
-use Rattle.std.specs.Prelude.{slice_index}
-use Rattle.std.proofs.Common.{◌+◌, ◌/◌, List, ℕ, sym, ◌∙◌, ap, arith}
+use Rattle.st_exec.proofs.Common.{slice_index, ◌+◌, ◌/◌, List, ℕ, sym, ◌∙◌, ap, arith}
 use Rattle.st_exec.proofs.OperandLemmas.{field-one, field-two, read-first, read-next}
 use Rattle.st_exec.proofs.operands.operand_field.Goals as goal
 

@@ -1,4 +1,4 @@
-use Rattle.std.proofs.Common.{sym, ◌∙◌, arith}
+use Rattle.st_exec.proofs.Common.{sym, ◌∙◌, arith}
 use Rattle.st_exec.proofs.TransferLemmas.{all_stored-next, all_stored-all}
 use Rattle.st_exec.proofs.transfers.store_card.Goals as goal
 

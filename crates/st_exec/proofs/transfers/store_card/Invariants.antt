@@ -1,5 +1,4 @@
-use Rattle.std.proofs.Common.{◌≡◌, ◌+◌, drop}
-use Rattle.st_exec.specs.Transfer.{all_stored}
+use Rattle.st_exec.proofs.Common.{◌≡◌, ◌+◌, drop, all_stored}
 use Rattle.st_exec.proofs.transfers.store_card.Given as goal
 
 abbrev pub invariant-loop-k : goal.invariant-loop-k

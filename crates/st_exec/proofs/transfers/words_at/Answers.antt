@@ -1,4 +1,4 @@
-use Rattle.std.proofs.Common.{arith}
+use Rattle.st_exec.proofs.Common.{arith}
 use Rattle.st_exec.proofs.TransferLemmas.{words_from-each}
 use Rattle.st_exec.proofs.transfers.words_at.Goals as goal
 

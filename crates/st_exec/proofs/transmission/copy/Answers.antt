@@ -1,4 +1,4 @@
-use Rattle.std.proofs.Common.{sym, ◌∙◌, arith}
+use Rattle.st_exec.proofs.Common.{sym, ◌∙◌, arith}
 use Rattle.st_exec.proofs.MoveLemmas.{rest-copied, rest-copied_all}
 use Rattle.st_exec.proofs.transmission.copy.Goals as goal
 

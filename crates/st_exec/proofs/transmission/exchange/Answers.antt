@@ -1,4 +1,4 @@
-use Rattle.std.proofs.Common.{sym, ◌∙◌, arith}
+use Rattle.st_exec.proofs.Common.{sym, ◌∙◌, arith}
 use Rattle.st_exec.proofs.MoveLemmas.{rest-exchanged, rest-exchanged_all}
 use Rattle.st_exec.proofs.transmission.exchange.Goals as goal
 

@@ -1,5 +1,4 @@
-use Rattle.std.proofs.Common.{◌≡◌}
-use Rattle.st_exec.specs.Effect.{state_with_exchange}
+use Rattle.st_exec.proofs.Common.{◌≡◌, state_with_exchange}
 use Rattle.st_exec.proofs.MoveLemmas.{rest}
 use Rattle.st_exec.proofs.transmission.exchange.Given as goal
 

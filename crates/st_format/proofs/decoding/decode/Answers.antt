@@ -1,6 +1,5 @@
-use Rattle.std.proofs.Common.{ap, ◌∙◌, arith}
+use Rattle.st_format.proofs.Common.{ap, ◌∙◌, arith, first_half, second_half, is_no_instruction}
 use Rattle.st_format.specs.declared.instruction.Decoded.{Decoded}
-use Rattle.st_format.specs.Formats.{first_half, second_half, is_no_instruction}
 use Rattle.st_format.proofs.Spelled.{first-instruction_of, second-instruction_of}
 use Rattle.st_format.proofs.Shapes.{none-instruction_of}
 use Rattle.st_format.proofs.decoding.decode.Goals as goal

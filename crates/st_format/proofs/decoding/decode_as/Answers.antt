@@ -1,5 +1,4 @@
-use Rattle.std.proofs.Common.{sym, subst, ◌∙◌, arith}
-use Rattle.st_format.specs.Formats.{IsShape}
+use Rattle.st_format.proofs.Common.{sym, subst, ◌∙◌, arith, IsShape}
 use Rattle.st_format.proofs.Shapes.{shape-instruction_of}
 use Rattle.st_format.proofs.decoding.decode_as.Goals as goal
 

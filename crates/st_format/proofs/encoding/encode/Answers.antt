@@ -1,6 +1,5 @@
-use Rattle.std.proofs.Common.{sym, ◌∙◌, ap, unwrap_or, is_some}
-use Rattle.st_format.specs.Halves.{is_full}
-use Rattle.st_format.specs.Formats.{instruction_of, first_half}
+use Rattle.st_format.proofs.Common.{sym, ◌∙◌, ap, unwrap_or, is_full, instruction_of, first_half}
+use Rattle.std.proofs.Common.{is_some}
 use Rattle.st_format.proofs.RoundTrip.{spells-itself, full-shape}
 use Rattle.st_format.proofs.encoding.encode.Goals as goal
 

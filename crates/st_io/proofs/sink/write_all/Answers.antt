@@ -1,4 +1,4 @@
-use Rattle.std.proofs.Common.{length, ap, arith}
+use Rattle.st_io.proofs.Common.{length, ap, arith}
 use Rattle.st_io.proofs.Joins.{writes_more, nothing_left}
 use Rattle.st_io.proofs.sink.write_all.Goals as goal
 

@@ -1,4 +1,4 @@
-use Rattle.std.proofs.Common.{◌≡◌, [], length}
+use Rattle.st_io.proofs.Common.{◌≡◌, [], length}
 use Rattle.st_io.proofs.Joins.{WritesSoFar}
 use Rattle.st_io.proofs.sink.write_all.Given as goal
 

@@ -1,5 +1,4 @@
-use Rattle.std.proofs.Common.{◌∙◌, arith}
-use Rattle.std.proofs.lemmas.List.{length-take}
+use Rattle.st_io.proofs.Common.{◌∙◌, arith, length-take}
 use Rattle.st_io.proofs.Joins.{came_more}
 use Rattle.st_io.proofs.source.read_all.Goals as goal
 

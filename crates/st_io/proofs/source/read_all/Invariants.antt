@@ -1,5 +1,4 @@
-use Rattle.std.proofs.Common.{◌≡◌, ◌+◌, ◌-◌, ◌≤◌, length}
-use Rattle.st_io.specs.Input.{Came}
+use Rattle.st_io.proofs.Common.{◌≡◌, ◌+◌, ◌-◌, ◌≤◌, length, Came}
 use Rattle.st_io.proofs.source.read_all.Given as goal
 
 abbrev pub invariant-reading : goal.invariant-reading

@@ -1,8 +1,4 @@
-use Rattle.std.proofs.Common.{◌∙◌, ℕ, List, ap}
-use Rattle.st_text.specs.Pieces.{pieces_of}
-use Rattle.st_mnemonic.specs.Describing.{in_pieces}
-use Rattle.st_mnemonic.specs.Fields.{texts}
-use Rattle.st_mnemonic.specs.declared.field.FieldText.{FieldText}
+use Rattle.st_mnemonic.proofs.Common.{◌∙◌, ℕ, List, ap, pieces_of, in_pieces, texts, FieldText}
 use Rattle.st_mnemonic.proofs.FirstPieces.{enough_pieces}
 use Rattle.st_mnemonic.proofs.descriptions.in_pieces.Goals as goal
 

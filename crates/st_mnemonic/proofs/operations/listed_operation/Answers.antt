@@ -1,4 +1,4 @@
-use Rattle.std.proofs.Common.{◌∙◌, sym}
+use Rattle.st_mnemonic.proofs.Common.{◌∙◌, sym}
 use Rattle.st_mnemonic.proofs.Apart.{other_or_field, other_or_index, index_or_field, found_last, found_second}
 use Rattle.st_mnemonic.proofs.operations.listed_operation.Goals as goal
 

@@ -1,6 +1,4 @@
-use Rattle.std.proofs.Common.{rules, ◌≡◌, ◌-◌, ◌==◌, length, false, ◌∙◌}
-use Rattle.std.specs.Prelude.{slice_get}
-use Rattle.std.specs.Option.{option_map_or}
+use Rattle.st_mnemonic.proofs.Common.{rules, ◌≡◌, ◌-◌, ◌==◌, length, false, ◌∙◌, slice_get, option_map_or}
 use Rattle.st_mnemonic.proofs.Digits.{ends_last}
 use Rattle.st_mnemonic.proofs.parts.ends_with.Goals as goal
 

@@ -1,5 +1,4 @@
-use Rattle.std.proofs.Common.{◌≡◌, length, arith}
-use Rattle.std.proofs.lemmas.Bool.Decides.{nat_tests}
+use Rattle.st_mnemonic.proofs.Common.{◌≡◌, length, arith, nat_tests}
 use Rattle.st_mnemonic.proofs.FirstPieces.{no_room}
 use Rattle.st_mnemonic.proofs.parts.pieces.Goals as goal
 

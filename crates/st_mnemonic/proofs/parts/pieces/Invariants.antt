@@ -1,6 +1,4 @@
-use Rattle.std.proofs.Common.{◌≡◌, ◌≤◌, ◌++◌, length}
-use Rattle.st_text.specs.Pieces.{pieces_of}
-use Rattle.st_mnemonic.specs.Fields.{texts}
+use Rattle.st_mnemonic.proofs.Common.{◌≡◌, ◌≤◌, ◌++◌, length, pieces_of, texts}
 use Rattle.st_mnemonic.proofs.parts.pieces.Given as goal
 
 abbrev pub invariant-pieces : goal.invariant-pieces

@@ -1,4 +1,4 @@
-use Rattle.std.proofs.Common.{◌≡◌, ◌≤◌, ◌+◌, ◌++◌, ◌==◌, not, length, filter}
+use Rattle.st_mnemonic.proofs.Common.{◌≡◌, ◌≤◌, ◌+◌, ◌++◌, ◌==◌, not, length, filter}
 use Rattle.st_mnemonic.proofs.parts.without_blanks.Given as goal
 
 abbrev pub invariant-bytes : goal.invariant-bytes

@@ -1,4 +1,4 @@
-use Rattle.std.proofs.Common.{◌∙◌}
+use Rattle.st_object.proofs.Common.{◌∙◌}
 use Rattle.st_text.proofs.ListLemmas.{first_and_rest}
 use Rattle.st_object.proofs.Spellings.{digit_on}
 use Rattle.st_object.proofs.meaning.hex_in.Goals as goal

@@ -1,4 +1,4 @@
-use Rattle.std.proofs.Common.{◌≡◌, ◌+◌, ◌*◌, ◌%◌, ◌^◌, length}
+use Rattle.st_object.proofs.Common.{◌≡◌, ◌+◌, ◌*◌, ◌%◌, ◌^◌, length}
 use Rattle.st_object.specs.Meaning as spec
 use Rattle.st_object.proofs.meaning.hex_in.Given as goal
 

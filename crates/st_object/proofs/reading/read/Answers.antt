@@ -1,9 +1,4 @@
-use Rattle.std.proofs.Common.{refl, sym, subst, arith}
-use Rattle.st_text.specs.Pieces.{pieces_of}
-use Rattle.st_object.specs.Draft.{draft_at_start}
-use Rattle.st_object.specs.Object.{read_from, read_text}
-use Rattle.st_object.specs.Answers.{Explains}
-use Rattle.st_object.specs.declared.reading.ObjectError.{ObjectError}
+use Rattle.st_object.proofs.Common.{refl, sym, subst, arith, pieces_of, draft_at_start, read_from, read_text, Explains, ObjectError}
 use Rattle.st_object.proofs.LineByLine.{line_refused, line_added, good_line}
 use Rattle.st_object.proofs.LineCounts.{few_lines}
 use Rattle.st_object.proofs.reading.read.Goals as goal

@@ -1,6 +1,4 @@
-use Rattle.std.proofs.Common.{◌≡◌, ◌<◌, ◌+◌, ◌^◌, length}
-use Rattle.st_text.specs.Pieces.{pieces_of}
-use Rattle.st_object.specs.Draft.{draft_at_start, IsDraft, lines_read}
+use Rattle.st_object.proofs.Common.{◌≡◌, ◌<◌, ◌+◌, ◌^◌, length, pieces_of, draft_at_start, IsDraft, lines_read}
 use Rattle.st_object.specs.Object as spec
 use Rattle.st_object.proofs.reading.read.Given as goal
 

@@ -1,9 +1,5 @@
-use Rattle.std.proofs.Common.{◌≡◌, ◌++◌, List, ℕ, [], ◌∷◌, map, ap, ◌∙◌}
-use Rattle.st_text.specs.Bytes.{lf}
-use Rattle.st_card.specs.Written.{requests}
+use Rattle.st_object.proofs.Common.{◌≡◌, ◌++◌, List, ℕ, [], ◌∷◌, map, ap, ◌∙◌, lf, requests, line_text, object_text_of, word_lines, Object, Start, Ask, Fin}
 use Rattle.st_card.proofs.LineLemmas.{three_written}
-use Rattle.st_object.specs.Lines.{line_text, object_text_of, word_lines}
-use Rattle.st_object.specs.declared.items.Item.TheVariants.{Object, Start, Ask, Fin}
 use Rattle.st_object.proofs.WrittenLines.{controls-written}
 use Rattle.st_object.proofs.writing.push_object.Goals as goal
 

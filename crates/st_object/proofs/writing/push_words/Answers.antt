@@ -1,4 +1,4 @@
-use Rattle.std.proofs.Common.{get_or, refl}
+use Rattle.st_object.proofs.Common.{get_or, refl}
 use Rattle.st_object.proofs.WrittenLines.{words_more}
 use Rattle.st_object.proofs.writing.push_words.Goals as goal
 

@@ -1,4 +1,4 @@
-use Rattle.std.proofs.Common.{◌≡◌, ◌++◌, take}
+use Rattle.st_object.proofs.Common.{◌≡◌, ◌++◌, take}
 use Rattle.st_object.specs.Lines as lines
 use Rattle.st_object.proofs.writing.push_words.Given as goal
 

@@ -1,5 +1,4 @@
-use Rattle.std.proofs.Common.{◌≡◌, ◌++◌, List, ℕ, ap, subst, ◌∙◌}
-use Rattle.st_object.specs.Object.{Program, AreWords, object_text, read_text}
+use Rattle.st_object.proofs.Common.{◌≡◌, ◌++◌, List, ℕ, ap, subst, ◌∙◌, Program, AreWords, object_text, read_text}
 use Rattle.st_object.proofs.ReadBack.{read_back}
 use Rattle.st_object.proofs.writing.write_object.Goals as goal
 

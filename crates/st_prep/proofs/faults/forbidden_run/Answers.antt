@@ -1,4 +1,4 @@
-use Rattle.std.proofs.Common.{◌≡◌, ◌+◌, ◌-◌, ◌≤◌, ◌∙◌, sym, arith}
+use Rattle.st_prep.proofs.Common.{◌≡◌, ◌+◌, ◌-◌, ◌≤◌, ◌∙◌, sym, arith}
 use Rattle.st_prep.proofs.ForbiddenRuns.{run-none, run-found, run-next}
 use Rattle.st_prep.proofs.faults.forbidden_run.Goals as goal
 

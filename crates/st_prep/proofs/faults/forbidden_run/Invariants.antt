@@ -1,6 +1,4 @@
-use Rattle.std.proofs.Common.{◌≡◌, ◌+◌, ◌-◌}
-use Rattle.st_state.specs.Machine.{word}
-use Rattle.st_prep.specs.Checks.{forbidden_run}
+use Rattle.st_prep.proofs.Common.{◌≡◌, ◌+◌, ◌-◌, word, forbidden_run}
 use Rattle.st_prep.proofs.faults.forbidden_run.Given as goal
 
 -- the remaining words determine the result

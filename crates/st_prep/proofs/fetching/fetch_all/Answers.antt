@@ -1,7 +1,4 @@
-use Rattle.std.proofs.Common.{◌+◌, [], ◌∷◌, ◌++◌, take, refl, sym, ◌∙◌, ap, arith}
-use Rattle.std.proofs.lemmas.Grind.{take-set_at}
-use Rattle.std.proofs.lemmas.List.{length-set}
-use Rattle.st_state.specs.Machine.{word}
+use Rattle.st_prep.proofs.Common.{◌+◌, [], ◌∷◌, ◌++◌, take, refl, sym, ◌∙◌, ap, arith, take-set_at, length-set, word}
 use Rattle.st_prep.proofs.ReadingLemmas.{whole-left, next-left, more-left, found-left}
 use Rattle.st_prep.proofs.fetching.fetch_all.Goals as goal
 

@@ -1,6 +1,4 @@
-use Rattle.std.proofs.Common.{◌≡◌, ◌-◌, ◌≤◌, length, take}
-use Rattle.st_state.specs.Machine.{word}
-use Rattle.st_prep.specs.Reading.{reading_at_place, left_after}
+use Rattle.st_prep.proofs.Common.{◌≡◌, ◌-◌, ◌≤◌, length, take, word, reading_at_place, left_after}
 use Rattle.st_prep.proofs.ReadingLemmas.{IsLeft}
 use Rattle.st_prep.proofs.fetching.fetch_all.Given as goal
 

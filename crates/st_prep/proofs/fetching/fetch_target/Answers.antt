@@ -1,7 +1,4 @@
-use Rattle.std.proofs.Common.{◌/◌, true, sym, ◌∙◌, ap}
-use Rattle.st_state.specs.Machine.{word}
-use Rattle.st_prep.specs.declared.entries.Fetching.TheVariants.{Found}
-use Rattle.st_prep.specs.Reading.{Continuation, instruction_at, own_use, with_target, Finds}
+use Rattle.st_prep.proofs.Common.{◌/◌, true, sym, ◌∙◌, ap, word, Found, Continuation, instruction_at, own_use, with_target, Finds}
 use Rattle.st_prep.proofs.GivenLemmas.{of, target-given, target-found}
 use Rattle.st_prep.proofs.fetching.fetch_target.Goals as goal
 

@@ -1,5 +1,4 @@
-use Rattle.std.proofs.Common.{sym, ◌∙◌}
-use Rattle.st_prep.specs.Reading.{instruction_at}
+use Rattle.st_prep.proofs.Common.{sym, ◌∙◌, instruction_at}
 use Rattle.st_prep.proofs.GivenLemmas.{at-first}
 use Rattle.st_prep.proofs.fetching.halves_known.Goals as goal
 

@@ -1,4 +1,4 @@
-use Rattle.std.proofs.Common.{◌∙◌, drop}
+use Rattle.st_prep.proofs.Common.{◌∙◌, drop}
 use Rattle.st_prep.proofs.GivenLemmas.{differs, found-short}
 use Rattle.st_prep.proofs.fetching.halves_of.Goals as goal
 

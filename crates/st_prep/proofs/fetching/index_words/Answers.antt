@@ -1,5 +1,4 @@
-use Rattle.std.proofs.Common.{arith}
-use Rattle.st_bits.specs.Storage.{words_of_storage_is}
+use Rattle.st_prep.proofs.Common.{arith, words_of_storage_is}
 use Rattle.st_prep.proofs.IndexWords.{are_index_words}
 use Rattle.st_prep.proofs.fetching.index_words.Goals as goal
 

@@ -1,5 +1,4 @@
-use Rattle.std.proofs.Common.{◌≡◌, ℕ, ◌+◌, ◌<◌, length, get_or}
-use Rattle.st_state.specs.Machine.{word}
+use Rattle.st_prep.proofs.Common.{◌≡◌, ℕ, ◌+◌, ◌<◌, length, get_or, word}
 use Rattle.st_prep.proofs.fetching.index_words.Given as goal
 
 abbrev pub invariant-loop-j : goal.invariant-loop-j

@@ -1,5 +1,4 @@
-use Rattle.std.proofs.Common.{sym, ◌∙◌}
-use Rattle.st_prep.specs.Reading.{own_use}
+use Rattle.st_prep.proofs.Common.{sym, ◌∙◌, own_use}
 use Rattle.st_prep.proofs.GivenLemmas.{other-found}
 use Rattle.st_prep.proofs.fetching.own_or_target.Goals as goal
 

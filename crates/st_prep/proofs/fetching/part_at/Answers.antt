@@ -1,5 +1,4 @@
-use Rattle.std.proofs.Common.{length, sym, ◌∙◌}
-use Rattle.st_prep.specs.Reading.{instruction_at}
+use Rattle.st_prep.proofs.Common.{length, sym, ◌∙◌, instruction_at}
 use Rattle.st_prep.proofs.GivenLemmas.{is_none, is_some, at-wants, at-first}
 use Rattle.st_prep.proofs.fetching.part_at.Goals as goal
 

@@ -1,8 +1,4 @@
-use Rattle.std.proofs.Common.{◌+◌, ◌/◌, sym, ◌∙◌, ap, drop, arith}
-use Rattle.std.proofs.lemmas.List.{length-drop}
-use Rattle.st_state.specs.Machine.{word}
-use Rattle.st_state.specs.Boundary.{forbidden_by}
-use Rattle.st_state.specs.declared.protection.Access.TheVariants.{Fetch}
+use Rattle.st_prep.proofs.Common.{◌+◌, ◌/◌, sym, ◌∙◌, ap, drop, arith, length-drop, word, forbidden_by, Fetch}
 use Rattle.st_prep.proofs.GivenLemmas.{differs, same_test, second-same, second-has, found-second}
 use Rattle.st_prep.proofs.fetching.second_known.Goals as goal
 

@@ -1,8 +1,4 @@
-use Rattle.std.proofs.Common.{◌+◌, ◌/◌, None, sym, ◌∙◌, ap, arith}
-use Rattle.std.proofs.lemmas.List.{length-drop}
-use Rattle.st_format.specs.Formats.{decoded_entry}
-use Rattle.st_prep.specs.declared.fetching.Part.TheVariants.{Has}
-use Rattle.st_prep.specs.Reading.{given_by}
+use Rattle.st_prep.proofs.Common.{◌+◌, ◌/◌, None, sym, ◌∙◌, ap, arith, length-drop, decoded_entry, Has, given_by}
 use Rattle.st_prep.proofs.GivenLemmas.{differs, second-wants, second-has}
 use Rattle.st_prep.proofs.fetching.with_second.Goals as goal
 

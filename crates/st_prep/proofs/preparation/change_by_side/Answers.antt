@@ -1,7 +1,4 @@
-use Rattle.std.proofs.Common.{sym, subst, ◌∙◌, ap}
-use Rattle.st_prep.specs.SpeculativeChanges.{change}
-use Rattle.st_prep.specs.Ranges.{IsPrepared}
-use Rattle.st_prep.specs.declared.speculative.SpeculativeChange.{SpeculativeChange}
+use Rattle.st_prep.proofs.Common.{sym, subst, ◌∙◌, ap, change, IsPrepared, SpeculativeChange}
 use Rattle.st_prep.proofs.PreparedLemmas.{changed-read, asks-entered, changed-fits}
 use Rattle.st_prep.proofs.preparation.change_by_side.Goals as goal
 

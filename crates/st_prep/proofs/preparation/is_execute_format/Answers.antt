@@ -1,6 +1,4 @@
-use Rattle.std.proofs.Common.{sym, ◌∙◌, ap}
-use Rattle.st_format.specs.Formats.{spelled_as}
-use Rattle.st_prep.specs.Reading.{is_execute}
+use Rattle.st_prep.proofs.Common.{sym, ◌∙◌, ap, spelled_as, is_execute}
 use Rattle.st_prep.proofs.PlainLemmas.{whole-plain}
 use Rattle.st_prep.proofs.preparation.is_execute_format.Goals as goal
 

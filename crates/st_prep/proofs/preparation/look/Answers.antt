@@ -1,6 +1,4 @@
-use Rattle.std.proofs.Common.{sym, subst, ap, ◌∙◌}
-use Rattle.st_prep.specs.Plan.{needs}
-use Rattle.st_prep.specs.Ranges.{IsNeeds}
+use Rattle.st_prep.proofs.Common.{sym, subst, ap, ◌∙◌, needs, IsNeeds}
 use Rattle.st_prep.proofs.PreparedLemmas.{is_needs, look-needs}
 use Rattle.st_prep.proofs.PlanLemmas.{decode_context-seen}
 use Rattle.st_prep.proofs.preparation.look.Goals as goal

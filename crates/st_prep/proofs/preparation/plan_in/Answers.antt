@@ -1,5 +1,4 @@
-use Rattle.std.proofs.Common.{sym, subst}
-use Rattle.st_prep.specs.Ranges.{IsPrepared}
+use Rattle.st_prep.proofs.Common.{sym, subst, IsPrepared}
 use Rattle.st_prep.proofs.PlanLemmas.{plan-prepared}
 use Rattle.st_prep.proofs.PlainLemmas.{filled-plan, filled-side}
 use Rattle.st_prep.proofs.preparation.plan_in.Goals as goal

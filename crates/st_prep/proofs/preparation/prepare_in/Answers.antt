@@ -1,4 +1,4 @@
-use Rattle.std.proofs.Common.{◌∙◌}
+use Rattle.st_prep.proofs.Common.{◌∙◌}
 use Rattle.st_prep.proofs.PreparedLemmas.{fill-prepared, filled-fits}
 use Rattle.st_prep.proofs.PlanLemmas.{prepared-plan}
 use Rattle.st_prep.proofs.preparation.prepare_in.Goals as goal

@@ -1,6 +1,4 @@
-use Rattle.std.proofs.Common.{sym, subst, ◌∙◌, ap}
-use Rattle.st_prep.specs.declared.entries.Prepared.{Prepared}
-use Rattle.st_prep.specs.Ranges.{IsNeeds}
+use Rattle.st_prep.proofs.Common.{sym, subst, ◌∙◌, ap, Prepared, IsNeeds}
 use Rattle.st_prep.proofs.PreparedLemmas.{fill-prepared, filled-fits, filled-place, is_needs, look-needs}
 use Rattle.st_prep.proofs.preparation.prepare_without_side.Goals as goal
 

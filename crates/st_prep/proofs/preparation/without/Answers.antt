@@ -1,5 +1,4 @@
-use Rattle.std.proofs.Common.{◌∙◌, ap, arith}
-use Rattle.st_state.specs.Interrupts.{indicator_word}
+use Rattle.st_prep.proofs.Common.{◌∙◌, ap, arith, indicator_word}
 use Rattle.st_prep.proofs.PlanLemmas.{without-turned}
 use Rattle.st_prep.proofs.preparation.without.Goals as goal
 

@@ -1,5 +1,5 @@
 -- The number of appended blanks is the number of rounds.
-use Rattle.std.proofs.Common.{◌≡◌, ◌++◌}
+use Rattle.st_report.proofs.Common.{◌≡◌, ◌++◌}
 use Rattle.st_report.specs.Listing.{blanks}
 use Rattle.st_report.proofs.cards.push_blanks.Given as goal
 

@@ -1,5 +1,5 @@
 -- The shift loses no bit, since there are at most sixteen digits.
-use Rattle.std.proofs.Common.{ℕ, ◌≤◌, ◌+◌, ◌*◌, ◌-◌, arith}
+use Rattle.st_report.proofs.Common.{ℕ, ◌≤◌, ◌+◌, ◌*◌, ◌-◌, arith}
 use Rattle.std.specs.Int.{div_ceil}
 use Rattle.st_report.proofs.Shifts.{shifted_whole}
 use Rattle.st_report.proofs.cards.shown_bits.Goals as goal

@@ -1,6 +1,4 @@
-use Rattle.std.proofs.Common.{codes, decimal}
-use Rattle.st_text.specs.Bytes.{lf}
-use Rattle.st_text.specs.Numerals.{half_address}
+use Rattle.st_report.proofs.Common.{codes, decimal, lf, half_address}
 use Rattle.st_report.proofs.FromEndLemmas.{eleven_pieces}
 use Rattle.st_report.proofs.levels.fill_row.Goals as goal
 

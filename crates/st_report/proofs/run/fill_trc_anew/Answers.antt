@@ -1,6 +1,4 @@
-use Rattle.std.proofs.Common.{codes, decimal}
-use Rattle.st_text.specs.Bytes.{lf}
-use Rattle.st_text.specs.Numerals.{half_address}
+use Rattle.st_report.proofs.Common.{codes, decimal, lf, half_address}
 use Rattle.st_report.proofs.FromEndLemmas.{five_pieces}
 use Rattle.st_report.proofs.run.fill_trc_anew.Goals as goal
 

@@ -1,8 +1,4 @@
-use Rattle.std.proofs.Common.{refl, subst, arith}
-use Rattle.st_bits.specs.Registers.{register_word}
-use Rattle.st_bits.specs.Storage.{words_of_storage}
-use Rattle.st_state.specs.Machine.{IsMachine}
-use Rattle.st_state.specs.View.{machine}
+use Rattle.st_state.proofs.Common.{refl, subst, arith, register_word, words_of_storage, IsMachine, machine}
 use Rattle.st_state.proofs.Kept.{is_machine-with_word}
 use Rattle.st_state.proofs.State.apply.Goals as goal
 

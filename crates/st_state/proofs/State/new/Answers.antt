@@ -1,5 +1,4 @@
-use Rattle.std.proofs.Common.{ℕ, List, sym, subst}
-use Rattle.st_state.specs.Machine.{IsMachine, opening_state}
+use Rattle.st_state.proofs.Common.{ℕ, List, sym, subst, IsMachine, opening_state}
 use Rattle.st_state.proofs.Kept.{is_machine-opening}
 use Rattle.st_state.proofs.State.new.Goals as goal
 

@@ -1,5 +1,4 @@
-use Rattle.std.proofs.Common.{sym, ◌∙◌, arith}
-use Rattle.st_bits.specs.Bits.{bits}
+use Rattle.st_state.proofs.Common.{sym, ◌∙◌, arith, bits}
 use Rattle.st_bits.proofs.BitLists.{length-bits}
 use Rattle.st_state.proofs.Placed.{placed-one, placed-two}
 use Rattle.st_state.proofs.State.put_field.Goals as goal

@@ -1,6 +1,4 @@
-use Rattle.st_bits.specs.Registers.{register_word}
-use Rattle.st_bits.proofs.RegisterLaws.{fixed-twice, fixed_below}
-use Rattle.st_state.specs.View.{machine}
+use Rattle.st_state.proofs.Common.{register_word, fixed-twice, fixed_below, machine}
 use Rattle.st_state.proofs.Kept.{is_machine-with_word}
 use Rattle.st_state.proofs.State.store.Goals as goal
 

@@ -1,5 +1,4 @@
-use Rattle.std.proofs.Common.{sym, arith}
-use Rattle.std.proofs.lemmas.Nat.{and_le_l}
+use Rattle.st_state.proofs.Common.{sym, arith, and_le_l}
 use Rattle.st_state.proofs.Leftmost.{leftmost-none, leftmost-some}
 use Rattle.st_state.proofs.indicators.leftmost.Goals as goal
 

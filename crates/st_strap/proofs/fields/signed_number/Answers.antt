@@ -1,6 +1,4 @@
-use Rattle.std.proofs.Common.{◌∙◌, ap, ℕ, List, Bool, Result}
-use Rattle.st_card.specs.declared.faults.Fault.{Fault}
-use Rattle.st_strap.specs.Reading.{reading_without_index, index_part, signed_of, signed_number}
+use Rattle.st_strap.proofs.Common.{◌∙◌, ap, ℕ, List, Bool, Result, Fault, reading_without_index, index_part, signed_of, signed_number}
 use Rattle.st_strap.proofs.fields.signed_number.Goals as goal
 
 pub returns : goal.returns

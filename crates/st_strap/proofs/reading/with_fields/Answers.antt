@@ -1,6 +1,4 @@
-use Rattle.std.proofs.Common.{sym, ap, ◌∙◌}
-use Rattle.st_mnemonic.specs.Fields.{texts}
-use Rattle.st_strap.specs.Saying.{with_fields}
+use Rattle.st_strap.proofs.Common.{sym, ap, ◌∙◌, texts, with_fields}
 use Rattle.st_strap.proofs.reading.with_fields.Goals as goal
 
 pub returns-in-Half : goal.returns-in-Half

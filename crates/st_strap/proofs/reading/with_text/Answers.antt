@@ -1,8 +1,4 @@
-use Rattle.std.proofs.Common.{◌∙◌, ℕ, List, ap}
-use Rattle.st_mnemonic.specs.Fields.{texts}
-use Rattle.st_strap.specs.Saying.{with_fields}
-use Rattle.st_mnemonic.specs.Text.{fields_of}
-use Rattle.st_mnemonic.specs.declared.field.FieldText.{FieldText}
+use Rattle.st_strap.proofs.Common.{◌∙◌, ℕ, List, ap, texts, with_fields, fields_of, FieldText}
 use Rattle.st_strap.proofs.FirstFields.{enough_fields}
 use Rattle.st_strap.proofs.reading.with_text.Goals as goal
 

@@ -1,6 +1,4 @@
-use Rattle.std.proofs.Common.{◌∙◌, ap, sym, List, ℕ}
-use Rattle.st_strap.specs.Reading.{expression, plain_number}
-use Rattle.st_strap.specs.Saying.{followed, with_number}
+use Rattle.st_strap.proofs.Common.{◌∙◌, ap, sym, List, ℕ, expression, plain_number, followed, with_number}
 use Rattle.st_strap.proofs.FieldLemmas.{texts_first, joined}
 use Rattle.st_strap.proofs.shapes.index_word_parts.Goals as goal
 

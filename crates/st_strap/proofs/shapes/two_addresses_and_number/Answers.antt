@@ -1,6 +1,4 @@
-use Rattle.std.proofs.Common.{◌∙◌, ap, sym, List, ℕ, false}
-use Rattle.st_strap.specs.Reading.{spot, expression, plain_number}
-use Rattle.st_strap.specs.Saying.{followed, two}
+use Rattle.st_strap.proofs.Common.{◌∙◌, ap, sym, List, ℕ, false, spot, expression, plain_number, followed, two}
 use Rattle.st_strap.proofs.FieldLemmas.{texts_first, joined}
 use Rattle.st_strap.proofs.shapes.two_addresses_and_number.Goals as goal
 

@@ -1,4 +1,4 @@
-use Rattle.st_io.proofs.Progress.{lines_more, lines_failed}
+use Rattle.st_telling.proofs.Common.{lines_more, lines_failed}
 use Rattle.st_telling.proofs.Dumps.{dumps_next}
 use Rattle.st_telling.proofs.block.write_dumps.Goals as goal
 

@@ -1,6 +1,4 @@
-use Rattle.std.proofs.Common.{drop}
-use Rattle.st_io.proofs.Progress.{LinesSoFar}
-use Rattle.st_telling.specs.Report.{dumps_lines}
+use Rattle.st_telling.proofs.Common.{drop, LinesSoFar, dumps_lines}
 use Rattle.st_telling.proofs.block.write_dumps.Given as goal
 
 abbrev pub invariant-loop-first : goal.invariant-loop-first

@@ -1,5 +1,4 @@
-use Rattle.st_io.proofs.Progress.{lines_more, lines_failed, lines_for_next, lines_for_whole}
-use Rattle.st_telling.specs.Report.{register_lines}
+use Rattle.st_telling.proofs.Common.{lines_more, lines_failed, lines_for_next, lines_for_whole, register_lines}
 use Rattle.st_telling.proofs.block.write_registers.Goals as goal
 
 pub returns-in_err-write_register : goal.returns-in_err-write_register

@@ -1,6 +1,4 @@
-use Rattle.std.proofs.Common.{◌+◌}
-use Rattle.st_io.proofs.Progress.{lines_more, lines_failed, lines_for_next, lines_for_whole}
-use Rattle.st_telling.specs.Report.{memory_lines}
+use Rattle.st_telling.proofs.Common.{◌+◌, lines_more, lines_failed, lines_for_next, lines_for_whole, memory_lines}
 use Rattle.st_telling.proofs.block.write_words.Goals as goal
 
 pub returns-in_err-write_memory : goal.returns-in_err-write_memory

@@ -1,7 +1,4 @@
-use Rattle.std.proofs.Common.{◌+◌, ◌-◌}
-use Rattle.st_io.specs.Lines.{lines_for}
-use Rattle.st_io.proofs.Progress.{LinesSoFar}
-use Rattle.st_telling.specs.Report.{memory_lines}
+use Rattle.st_telling.proofs.Common.{◌+◌, ◌-◌, lines_for, LinesSoFar, memory_lines}
 use Rattle.st_telling.proofs.block.write_words.Given as goal
 
 abbrev pub invariant-loop-w : goal.invariant-loop-w

@@ -1,4 +1,4 @@
-use Rattle.std.proofs.Common.{refl, sym, ◌∙◌}
+use Rattle.st_telling.proofs.Common.{refl, sym, ◌∙◌}
 use Rattle.st_telling.proofs.Runs.{counted_skips, none_skips}
 use Rattle.st_telling.proofs.telling.pass_counted.Goals as goal
 

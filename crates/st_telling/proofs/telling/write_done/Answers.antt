@@ -1,6 +1,4 @@
-use Rattle.st_io.proofs.Progress.{lines_then, lines_cut}
-use Rattle.st_report.specs.Line.{trc_line, row_line}
-use Rattle.st_telling.specs.Report.{line_if}
+use Rattle.st_telling.proofs.Common.{lines_then, lines_cut, trc_line, row_line, line_if}
 use Rattle.st_telling.proofs.telling.write_done.Goals as goal
 
 pub returns-in_err-write_trace : goal.returns-in_err-write_trace

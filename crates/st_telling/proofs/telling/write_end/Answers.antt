@@ -1,32 +1,34 @@
-use Rattle.std.proofs.Common.{[], ◌∷◌, ◌++◌}
-use Rattle.st_io.proofs.Progress.{lines_then, lines_cut}
-use Rattle.st_report.specs.Line.{end_line, done_line, ticks_line}
-use Rattle.st_telling.specs.Report.{block, line_if}
+use Rattle.st_telling.proofs.Common.{◌∷◌, ◌++◌, refl, lines_then, lines_cut, end_line, done_line, ticks_line, block, line_if}
+use Rattle.st_telling.proofs.Snapshots.{levels_cut, levels_then}
 use Rattle.st_telling.proofs.telling.write_end.Goals as goal
 
-pub returns-in_err-write_ended : goal.returns-in_err-write_ended
-returns-in_err-write_ended g c =
+pub returns-in_err-put : goal.returns-in_err-put
+returns-in_err-put g c =
     let asked = c.args.controls.now in
     let m = c.args.moment in
-    let rest = line_if asked.time (ticks_line m.tick) ++ block asked.dumps c.args.seen.now in
-    lines_cut _ _ (end_line c.args.rests ∷ []) ((done_line m.done ∷ []) ++ rest) _ c.from_residual.result c.from_residual.ensures.0 c.in_err-write_ended.ensures
+    let rest = done_line m.done ∷ (line_if asked.time (ticks_line m.tick) ++ block asked.dumps c.args.seen.now) in
+    levels_cut _ _ (end_line c.args.rests ∷ rest) (end_line c.args.rests) _ rest _ c.from_residual.result c.from_residual.ensures.0
+    refl c.line_end.ensures c.in_err-put.ensures
 
-pub returns-in_err-write_count : goal.returns-in_err-write_count
-returns-in_err-write_count g c =
+pub returns-in_err-put-2 : goal.returns-in_err-put-2
+returns-in_err-put-2 g c =
     let asked = c.args.controls.now in
     let m = c.args.moment in
-    let rest = line_if asked.time (ticks_line m.tick) ++ block asked.dumps c.args.seen.now in
-    lines_then _ _ _ (end_line c.args.rests ∷ []) ((done_line m.done ∷ []) ++ rest) _ _ c.in_ok-write_ended.ensures
-    (lines_cut _ _ (done_line m.done ∷ []) rest _ c.from_residual-in_err-write_count.result c.from_residual-in_err-write_count.ensures.0 c.in_err-write_count.ensures)
+    let more = line_if asked.time (ticks_line m.tick) ++ block asked.dumps c.args.seen.now in
+    let rest = done_line m.done ∷ more in
+    levels_then _ _ _ (end_line c.args.rests ∷ rest) (end_line c.args.rests) _ rest _ _ refl c.line_end.ensures c.in_ok-put.ensures
+    (levels_cut _ _ rest (done_line m.done) _ more _ c.from_residual-in_err-put-2.result c.from_residual-in_err-put-2.ensures.0
+    refl c.line_done.ensures c.in_err-put-2.ensures)
 
 pub returns-in_err-write_ticks : goal.returns-in_err-write_ticks
 returns-in_err-write_ticks g c =
     let asked = c.args.controls.now in
     let m = c.args.moment in
     let ticks = line_if asked.time (ticks_line m.tick) in
-    let rest = ticks ++ block asked.dumps c.args.seen.now in
-    lines_then _ _ _ (end_line c.args.rests ∷ []) ((done_line m.done ∷ []) ++ rest) _ _ c.in_ok-write_ended.ensures
-    (lines_then _ _ _ (done_line m.done ∷ []) rest _ _ c.in_ok-write_count.ensures
+    let more = ticks ++ block asked.dumps c.args.seen.now in
+    let rest = done_line m.done ∷ more in
+    levels_then _ _ _ (end_line c.args.rests ∷ rest) (end_line c.args.rests) _ rest _ _ refl c.line_end.ensures c.in_ok-put.ensures
+    (levels_then _ _ _ rest (done_line m.done) _ more _ _ refl c.line_done.ensures c.in_ok-put-2.ensures
     (lines_cut _ _ ticks (block asked.dumps c.args.seen.now) _ c.from_residual-in_err-write_ticks.result c.from_residual-in_err-write_ticks.ensures.0 c.in_err-write_ticks.ensures))
 
 pub returns : goal.returns
@@ -34,7 +36,8 @@ returns g c =
     let asked = c.args.controls.now in
     let m = c.args.moment in
     let ticks = line_if asked.time (ticks_line m.tick) in
-    let rest = ticks ++ block asked.dumps c.args.seen.now in
-    lines_then _ _ _ (end_line c.args.rests ∷ []) ((done_line m.done ∷ []) ++ rest) _ _ c.in_ok-write_ended.ensures
-    (lines_then _ _ _ (done_line m.done ∷ []) rest _ _ c.in_ok-write_count.ensures
+    let more = ticks ++ block asked.dumps c.args.seen.now in
+    let rest = done_line m.done ∷ more in
+    levels_then _ _ _ (end_line c.args.rests ∷ rest) (end_line c.args.rests) _ rest _ _ refl c.line_end.ensures c.in_ok-put.ensures
+    (levels_then _ _ _ rest (done_line m.done) _ more _ _ refl c.line_done.ensures c.in_ok-put-2.ensures
     (lines_then _ _ _ ticks (block asked.dumps c.args.seen.now) _ _ c.in_ok-write_ticks.ensures c.write_state.ensures))

@@ -1,9 +1,4 @@
-use Rattle.std.proofs.Common.{refl, sym, subst}
-use Rattle.std.specs.Prelude.{Ok, Err}
-use Rattle.st_io.specs.Lines.{WritesLines}
-use Rattle.st_run.specs.Telling.{reported_answer}
-use Rattle.st_telling.specs.Report.{lines_at}
-use Rattle.st_telling.specs.declared.moment.Moment.{Moment}
+use Rattle.st_telling.proofs.Common.{refl, sym, subst, Ok, Err, WritesLines, reported_answer, lines_at, Moment}
 use Rattle.st_telling.proofs.Runs.{told_begins, told_skips, none_skips, told_more, told_stops, told_all, row_more, row_stops}
 use Rattle.st_telling.proofs.telling.write_rest.Goals as goal
 

@@ -1,4 +1,4 @@
-use Rattle.std.proofs.Common.{length}
+use Rattle.st_telling.proofs.Common.{length}
 use Rattle.st_telling.proofs.Runs.{ToldSoFar}
 use Rattle.st_telling.proofs.telling.write_rest.Given as goal
 

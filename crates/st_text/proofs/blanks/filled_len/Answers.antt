@@ -1,5 +1,5 @@
 -- All bytes from the place found are blanks, and the one before it is not.
-use Rattle.std.proofs.Common.{rules}
+use Rattle.st_text.proofs.Common.{rules}
 use Rattle.st_text.proofs.Filled.{take-filled}
 use Rattle.st_text.proofs.blanks.filled_len.Goals as goal
 

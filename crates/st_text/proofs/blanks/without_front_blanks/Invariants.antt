@@ -1,5 +1,4 @@
-use Rattle.std.proofs.Common.{◌≡◌, ◌≤◌, length}
-use Rattle.st_text.specs.Blanks.{without_front_blanks}
+use Rattle.st_text.proofs.Common.{◌≡◌, ◌≤◌, length, without_front_blanks}
 use Rattle.st_text.proofs.blanks.without_front_blanks.Given as goal
 
 abbrev pub invariant-blanks : goal.invariant-blanks

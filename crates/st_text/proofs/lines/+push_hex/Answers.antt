@@ -1,6 +1,5 @@
 -- The appended digit is the last one, after those of the quotient.
-use Rattle.std.proofs.Common.{append_assoc, arith}
-use Rattle.std.proofs.lemmas.List.{append-nil}
+use Rattle.st_text.proofs.Common.{append_assoc, arith, append-nil}
 use Rattle.st_text.proofs.Hexadecimal.{hex_text-zero, hex_text-last}
 use Rattle.st_text.proofs.lines.+push_hex.Goals as goal
 

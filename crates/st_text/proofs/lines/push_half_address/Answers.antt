@@ -1,6 +1,5 @@
-use Rattle.std.proofs.Common.{◌≡◌, ◌++◌, ◌/◌, ◌%◌, ◌*◌, ℕ, List, refl, sym, ap, ◌∙◌, decimal, codes, arith, append_assoc}
+use Rattle.st_text.proofs.Common.{◌≡◌, ◌++◌, ◌/◌, ◌%◌, ◌*◌, ℕ, List, refl, sym, ap, ◌∙◌, decimal, codes, arith, append_assoc, half_address}
 use Rattle.std.specs.Fmt.{digits}
-use Rattle.st_text.specs.Numerals.{half_address}
 use Rattle.st_text.proofs.lines.push_half_address.Goals as goal
 
 -- a word, and the first bit of one of its halves

@@ -1,4 +1,4 @@
-use Rattle.std.proofs.Common.{◌∙◌, sym, arith}
+use Rattle.st_text.proofs.Common.{◌∙◌, sym, arith}
 use Rattle.st_text.proofs.ListLemmas.{first_and_rest}
 use Rattle.st_text.proofs.NumberLemmas.{value_step, digits_step}
 use Rattle.st_text.proofs.numbers.read_digits.Goals as goal

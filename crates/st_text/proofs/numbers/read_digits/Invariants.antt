@@ -1,7 +1,4 @@
-use Rattle.std.proofs.Common.{◌≡◌, ◌≤◌, min, length}
-use Rattle.std.specs.Char.{is_ascii_digit}
-use Rattle.std.specs.List.{list_all}
-use Rattle.st_text.specs.Number.{digits_value, value_after}
+use Rattle.st_text.proofs.Common.{◌≡◌, ◌≤◌, min, length, is_ascii_digit, list_all, digits_value, value_after}
 use Rattle.st_text.proofs.numbers.read_digits.Given as goal
 
 abbrev pub invariant-digits : goal.invariant-digits

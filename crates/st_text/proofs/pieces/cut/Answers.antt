@@ -1,5 +1,4 @@
-use Rattle.std.proofs.Common.{ℕ, List, ◌∷◌, length, drop, refl, sym, ap, subst, ◌∙◌, IsTrue, arith}
-use Rattle.st_text.specs.Pieces.{pieces_of, lacks}
+use Rattle.st_text.proofs.Common.{ℕ, List, ◌∷◌, length, drop, refl, sym, ap, subst, ◌∙◌, IsTrue, arith, pieces_of, lacks}
 use Rattle.st_text.proofs.PieceLemmas.{parted_at, parted_nowhere, lacks_before, lacks_all}
 use Rattle.st_text.proofs.pieces.cut.Goals as goal
 

@@ -1,4 +1,4 @@
-use Rattle.std.proofs.Common.{sym, ◌∙◌}
+use Rattle.st_text.proofs.Common.{sym, ◌∙◌}
 use Rattle.st_text.proofs.TableLemmas.{row_found, row_passed}
 use Rattle.st_text.proofs.tables.row_of.Goals as goal
 

@@ -1,4 +1,4 @@
-use Rattle.std.proofs.Common.{◌≡◌, drop}
+use Rattle.st_text.proofs.Common.{◌≡◌, drop}
 use Rattle.st_text.specs.Tables as spec
 use Rattle.st_text.proofs.tables.row_of.Given as goal
 

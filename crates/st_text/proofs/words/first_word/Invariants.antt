@@ -1,5 +1,4 @@
-use Rattle.std.proofs.Common.{◌≡◌, ◌≤◌, length}
-use Rattle.st_text.specs.Pieces.{words}
+use Rattle.st_text.proofs.Common.{◌≡◌, ◌≤◌, length, words}
 use Rattle.st_text.proofs.words.first_word.Given as goal
 
 abbrev pub invariant-blanks : goal.invariant-blanks

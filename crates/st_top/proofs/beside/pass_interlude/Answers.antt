@@ -1,7 +1,4 @@
-use Rattle.std.proofs.Common.{sym, subst}
-use Rattle.st_run.specs.Run.{interlude}
-use Rattle.st_run.specs.ExternalEvents.{scene_at}
-use Rattle.st_top.specs.Beside.{Beside, IsBesideReady, IsMoved}
+use Rattle.st_top.proofs.Common.{sym, subst, interlude, scene_at, Beside, IsBesideReady, IsMoved}
 use Rattle.st_top.proofs.Besides.{moved_between}
 use Rattle.st_top.proofs.beside.pass_interlude.Goals as goal
 

@@ -1,9 +1,5 @@
-use Rattle.std.proofs.Common.{◌+◌, drop, sym, ◌∙◌, ap, arith}
-use Rattle.st_state.specs.Machine.{Machine}
-use Rattle.st_exec.specs.Transfer.{all_stored}
+use Rattle.st_top.proofs.Common.{◌+◌, drop, sym, ◌∙◌, ap, arith, Machine, all_stored, newest_step, put-states}
 use Rattle.st_exec.proofs.TransferLemmas.{all_stored-next, all_stored-all}
-use Rattle.st_back.specs.Steps.{newest_step}
-use Rattle.st_back.proofs.ManyLemmas.{put-states}
 use Rattle.st_top.proofs.Besides.{put-fresh, room_at}
 use Rattle.st_top.proofs.beside.put_card.Goals as goal
 

@@ -1,7 +1,4 @@
-use Rattle.std.proofs.Common.{◌≡◌, ◌+◌, drop}
-use Rattle.std.specs.Prelude.{MatchOption}
-use Rattle.st_exec.specs.Transfer.{all_stored}
-use Rattle.st_back.specs.Steps.{newest_step, states_before}
+use Rattle.st_top.proofs.Common.{◌≡◌, ◌+◌, drop, MatchOption, all_stored, newest_step, states_before}
 use Rattle.st_top.proofs.beside.put_card.Given as goal
 
 abbrev pub invariant-loop-k : goal.invariant-loop-k

@@ -1,8 +1,6 @@
-use Rattle.std.proofs.Common.{◌≡◌, ◌∙◌, ap, subst}
+use Rattle.st_top.proofs.Common.{◌≡◌, ◌∙◌, ap, subst, Machine, IsMachine, states_before}
 use Rattle.std.specs.Prelude.{None}
-use Rattle.st_state.specs.Machine.{Machine, IsMachine}
 use Rattle.st_state.specs.Interrupts.{state_with_signal}
-use Rattle.st_back.specs.Steps.{states_before}
 use Rattle.st_top.proofs.Besides.{states_beside, states_unread}
 use Rattle.st_top.proofs.beside.read_noted.Goals as goal
 

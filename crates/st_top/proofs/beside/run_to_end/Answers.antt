@@ -1,4 +1,4 @@
-use Rattle.std.proofs.Common.{sym, ◌∙◌, arith}
+use Rattle.st_top.proofs.Common.{sym, ◌∙◌, arith}
 use Rattle.st_top.proofs.Rewinds.{states_begin, states_rest, states_used, states_next, states_few, states_count}
 use Rattle.st_top.proofs.beside.run_to_end.Goals as goal
 

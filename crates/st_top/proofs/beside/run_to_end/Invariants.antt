@@ -1,5 +1,4 @@
-use Rattle.std.proofs.Common.{◌≡◌, ℕ, ◌+◌, []}
-use Rattle.st_top.specs.Beside.{IsBesideReady, IsBeside}
+use Rattle.st_top.proofs.Common.{◌≡◌, ℕ, ◌+◌, [], IsBesideReady, IsBeside}
 use Rattle.st_top.proofs.Rewinds.{StatesSoFar}
 use Rattle.st_top.proofs.beside.run_to_end.Given as goal
 

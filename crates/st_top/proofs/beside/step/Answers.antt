@@ -1,7 +1,4 @@
-use Rattle.std.proofs.Common.{◌≡◌, false, refl, subst}
-use Rattle.st_exec.specs.Step.{rests}
-use Rattle.st_run.specs.ExternalEvents.{scene_at}
-use Rattle.st_top.specs.Beside.{Beside, IsBesideReady, IsStepped}
+use Rattle.st_top.proofs.Common.{◌≡◌, false, refl, subst, rests, scene_at, Beside, IsBesideReady, IsStepped}
 use Rattle.st_top.proofs.Besides.{stepped_by}
 use Rattle.st_top.proofs.beside.step.Goals as goal
 

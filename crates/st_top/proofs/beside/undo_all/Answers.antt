@@ -1,5 +1,4 @@
-use Rattle.std.proofs.Common.{◌≡◌, ◌≢◌, [], ◌∷◌, ◌++◌, length, arith}
-use Rattle.st_back.specs.Steps.{states_before}
+use Rattle.st_top.proofs.Common.{◌≡◌, ◌≢◌, [], ◌∷◌, ◌++◌, length, arith, states_before}
 use Rattle.st_top.proofs.Rewinds.{undo_begins, undo_next, undo_fewer, undone_all}
 use Rattle.st_top.proofs.beside.undo_all.Goals as goal
 

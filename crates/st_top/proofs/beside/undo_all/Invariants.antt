@@ -1,5 +1,4 @@
-use Rattle.std.proofs.Common.{◌≡◌, ◌+◌, [], ◌∷◌, ◌++◌, length}
-use Rattle.st_back.specs.Steps.{states_before}
+use Rattle.st_top.proofs.Common.{◌≡◌, ◌+◌, [], ◌∷◌, ◌++◌, length, states_before}
 use Rattle.st_top.proofs.Rewinds.{LeftToUndo}
 use Rattle.st_top.proofs.beside.undo_all.Given as goal
 

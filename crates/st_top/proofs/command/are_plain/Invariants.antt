@@ -1,7 +1,4 @@
-use Rattle.std.proofs.Common.{◌≡◌, length, map}
-use Rattle.std.specs.List.{list_all}
-use Rattle.std.specs.String.{string_bytes}
-use Rattle.st_top.specs.CommandLine.{is_plain}
+use Rattle.st_top.proofs.Common.{◌≡◌, length, map, list_all, string_bytes, is_plain}
 use Rattle.st_top.proofs.command.are_plain.Given as goal
 
 abbrev pub invariant-words : goal.invariant-words

@@ -1,7 +1,4 @@
-use Rattle.std.proofs.Common.{◌≡◌, ◌≤◌, ℕ, List, codes, length, map, ◌∙◌, ap, sym, subst}
-use Rattle.std.proofs.lemmas.List.{length-map}
-use Rattle.std.specs.String.{string_bytes}
-use Rattle.clap.specs.Words.{first_of, found_of, is_simple, matches_of, takes}
+use Rattle.st_top.proofs.Common.{◌≡◌, ◌≤◌, ℕ, List, codes, length, map, ◌∙◌, ap, sym, subst, length-map, string_bytes, first_of, found_of, is_simple, matches_of, takes}
 use Rattle.clap.proofs.WalkLemmas.{first_value-rows}
 use Rattle.st_top.proofs.CommandLines.{read_command, commands_agree, not_taken, never_both}
 use Rattle.st_top.proofs.command.read_arguments.Goals as goal

@@ -1,10 +1,7 @@
-use Rattle.std.proofs.Common.{◌≡◌, ◌<◌, ℕ, List, length, map, ◌∙◌, sym, subst}
-use Rattle.std.proofs.lemmas.List.{length-map}
-use Rattle.std.proofs.lemmas.Bool.{eqb-true}
-use Rattle.std.specs.String.{string_bytes}
+use Rattle.st_top.proofs.Common.{◌≡◌, ◌<◌, ℕ, List, length, map, ◌∙◌, sym, subst, length-map, eqb-true, string_bytes}
 use Rattle.st_top.proofs.CommandLines.{means_nothing, none_means_nothing, many_mean_nothing}
-use Rattle.st_top.proofs.command.read_words.Goals as goal
 use Rattle.st_top.proofs.command.read_words.Goals.{then-not-are_plain-via-then-not-are_plain, then-not-are_plain-via-else-not-are_plain+then-is_empty, then-not-are_plain-via-else-not-are_plain+else-is_empty+then-words-gt-MOST_WORDS}
+use Rattle.st_top.proofs.command.read_words.Goals as goal
 
 pub returns-then-not-are_plain-clause-ok : goal.returns-then-not-are_plain-clause-ok
 returns-then-not-are_plain-clause-ok c =

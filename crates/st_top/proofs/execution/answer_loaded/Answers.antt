@@ -1,6 +1,4 @@
-use Rattle.std.proofs.Common.{[], refl}
-use Rattle.st_top.specs.StepsBack.{moment_at_end}
-use Rattle.st_top.specs.Output.{output_of_run}
+use Rattle.st_top.proofs.Common.{[], refl, moment_at_end, output_of_run}
 use Rattle.st_top.proofs.Outputs.{writes_run}
 use Rattle.st_top.proofs.execution.answer_loaded.Goals as goal
 

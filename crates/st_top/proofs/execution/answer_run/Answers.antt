@@ -1,8 +1,4 @@
-use Rattle.std.proofs.Common.{refl}
-use Rattle.st_asm.specs.Assembly.{assembly_parts}
-use Rattle.st_top.specs.Listing.{front_lines}
-use Rattle.st_top.specs.StepsBack.{moment_at_end}
-use Rattle.st_top.specs.Output.{output_of_run}
+use Rattle.st_top.proofs.Common.{refl, assembly_parts, front_lines, moment_at_end, output_of_run}
 use Rattle.st_top.proofs.Outputs.{writes_run}
 use Rattle.st_top.proofs.execution.answer_run.Goals as goal
 

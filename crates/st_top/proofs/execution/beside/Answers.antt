@@ -1,7 +1,4 @@
-use Rattle.std.proofs.Common.{◌≡◌, ◌≢◌, ◌≤◌, ◌∙◌, ap, arith}
-use Rattle.st_card.specs.Controls.{Asked}
-use Rattle.st_back.specs.Steps.{none_of}
-use Rattle.st_run.specs.Run.{Scene}
+use Rattle.st_top.proofs.Common.{◌≡◌, ◌≢◌, ◌≤◌, ◌∙◌, ap, arith, Asked, none_of, Scene}
 use Rattle.st_top.proofs.Besides.{begins_beside}
 use Rattle.st_top.proofs.Starts.{scene_is}
 use Rattle.st_top.proofs.execution.beside.Goals as goal

@@ -1,12 +1,9 @@
-use Rattle.std.proofs.Common.{List, ℕ, ap}
-use Rattle.st_asm.specs.Assembly.{assembly_parts}
-use Rattle.st_top.specs.Listing.{front_lines}
-use Rattle.st_top.specs.Output.{scene_at_start, output_of_run}
+use Rattle.st_top.proofs.Common.{List, ℕ, ap, assembly_parts, front_lines, scene_at_start, output_of_run}
 use Rattle.st_top.proofs.Listings.{has_cards}
 use Rattle.st_top.proofs.Outputs.{writes_output}
 use Rattle.st_top.proofs.Times.{keeps_time}
-use Rattle.st_top.proofs.execution.execute.Goals as goal
 use Rattle.st_card.proofs.Laws.{cards_stand_in_their_job}
+use Rattle.st_top.proofs.execution.execute.Goals as goal
 
 pub answer_run-requires-clause-cards : goal.answer_run-requires-clause-cards
 answer_run-requires-clause-cards g c =

@@ -1,8 +1,4 @@
-use Rattle.std.proofs.Common.{◌≡◌, List, ℕ, [], sym, ◌∙◌, ap, subst}
-use Rattle.std.specs.Prelude.{Ok}
-use Rattle.st_object.specs.Object.{Program, IsProgram}
-use Rattle.st_top.specs.Output.{scene_at_start, output_of_run, loaded_by}
-use Rattle.st_top.specs.Answers.{KeepsTime}
+use Rattle.st_top.proofs.Common.{◌≡◌, List, ℕ, [], sym, ◌∙◌, ap, subst, Ok, Program, IsProgram, scene_at_start, output_of_run, loaded_by, KeepsTime}
 use Rattle.st_top.proofs.Outputs.{loaded_is, writes_output}
 use Rattle.st_top.proofs.Times.{keeps_time}
 use Rattle.st_top.proofs.execution.execute_loaded.Goals as goal

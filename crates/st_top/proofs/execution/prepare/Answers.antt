@@ -1,5 +1,4 @@
-use Rattle.std.proofs.Common.{refl}
-use Rattle.st_top.specs.Output.{scene_at_start}
+use Rattle.st_top.proofs.Common.{refl, scene_at_start}
 use Rattle.st_top.proofs.Starts.{scene_is, rest_is, is_scene}
 use Rattle.st_top.proofs.execution.prepare.Goals as goal
 

@@ -1,7 +1,5 @@
-use Rattle.st_asm.specs.Assembly.{assembly_parts}
-use Rattle.st_top.specs.Listing.{front_lines}
-use Rattle.st_top.specs.StepsBack.{moment_at_end, run_report}
-use Rattle.st_telling.proofs.Runs.{lines_and_run, lines_alone}
+use Rattle.st_top.proofs.Common.{assembly_parts, front_lines, moment_at_end, run_report, lines_and_run}
+use Rattle.st_telling.proofs.Runs.{lines_alone}
 use Rattle.st_top.proofs.execution.write_output.Goals as goal
 
 pub returns-in_err-write_front : goal.returns-in_err-write_front

@@ -1,6 +1,4 @@
-use Rattle.st_asm.specs.Assembly.{assembly_parts}
-use Rattle.st_io.proofs.Progress.{lines_then, lines_cut}
-use Rattle.st_top.specs.Listing.{listing, made_lines}
+use Rattle.st_top.proofs.Common.{assembly_parts, lines_then, lines_cut, listing, made_lines}
 use Rattle.st_top.proofs.listing.write_front.Goals as goal
 
 pub returns-in_err-write_made : goal.returns-in_err-write_made

@@ -1,6 +1,4 @@
-use Rattle.std.proofs.Common.{drop}
-use Rattle.st_io.proofs.Progress.{LinesSoFar}
-use Rattle.st_top.specs.Listing.{rows_lines}
+use Rattle.st_top.proofs.Common.{drop, LinesSoFar, rows_lines}
 use Rattle.st_top.proofs.listing.write_rows.Given as goal
 
 abbrev pub invariant-loop-k : goal.invariant-loop-k

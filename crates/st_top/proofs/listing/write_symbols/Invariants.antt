@@ -1,6 +1,4 @@
-use Rattle.std.proofs.Common.{drop}
-use Rattle.st_io.proofs.Progress.{LinesSoFar}
-use Rattle.st_top.specs.Listing.{symbols_lines}
+use Rattle.st_top.proofs.Common.{drop, LinesSoFar, symbols_lines}
 use Rattle.st_top.proofs.listing.write_symbols.Given as goal
 
 abbrev pub invariant-loop-k : goal.invariant-loop-k

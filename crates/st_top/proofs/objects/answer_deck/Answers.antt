@@ -1,10 +1,4 @@
-use Rattle.std.proofs.Common.{◌≡◌, ◌≤◌, ℕ, List, ◌∙◌, ap, subst}
-use Rattle.st_text.specs.Pieces.{pieces_of}
-use Rattle.st_object.specs.Object.{Program}
-use Rattle.st_dis.specs.Deck.{card_count, deck_text}
-use Rattle.st_top.specs.ObjectText.{deck_lines, whole_lines}
-use Rattle.st_top.specs.Output.{lines_alone}
-use Rattle.st_top.specs.declared.answer.Status.TheVariants.{Done}
+use Rattle.st_top.proofs.Common.{◌≡◌, ◌≤◌, ℕ, List, ◌∙◌, ap, subst, pieces_of, Program, card_count, deck_text, deck_lines, whole_lines, lines_alone, Done}
 use Rattle.st_top.proofs.Decks.{deck_few}
 use Rattle.st_top.proofs.ObjectTexts.{deck_text-lines}
 use Rattle.st_top.proofs.Outputs.{writes_output}

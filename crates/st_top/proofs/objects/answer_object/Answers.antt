@@ -1,7 +1,4 @@
-use Rattle.std.proofs.Common.{◌∙◌, ap}
-use Rattle.st_object.specs.Object.{read_text}
-use Rattle.st_top.specs.Output.{lines_alone}
-use Rattle.st_top.specs.declared.answer.Status.TheVariants.{Done}
+use Rattle.st_top.proofs.Common.{◌∙◌, ap, read_text, lines_alone, Done}
 use Rattle.st_top.proofs.ObjectTexts.{object_text-lines}
 use Rattle.st_top.proofs.Outputs.{writes_output}
 use Rattle.st_top.proofs.objects.answer_object.Goals as goal

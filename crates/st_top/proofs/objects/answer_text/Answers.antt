@@ -1,6 +1,4 @@
-use Rattle.st_text.specs.Pieces.{pieces_of}
-use Rattle.st_io.proofs.Writing.{stopped_at_moment}
-use Rattle.st_top.specs.ObjectText.{whole_lines}
+use Rattle.st_top.proofs.Common.{pieces_of, stopped_at_moment, whole_lines}
 use Rattle.st_top.proofs.Outputs.{wrote_alone}
 use Rattle.st_top.proofs.objects.answer_text.Goals as goal
 

@@ -1,7 +1,4 @@
-use Rattle.std.proofs.Common.{length}
-use Rattle.st_text.specs.Pieces.{pieces_of}
-use Rattle.st_io.proofs.Progress.{LinesSoFar}
-use Rattle.st_top.specs.ObjectText.{whole_lines}
+use Rattle.st_top.proofs.Common.{length, pieces_of, LinesSoFar, whole_lines}
 use Rattle.st_top.proofs.objects.write_ended.Given as goal
 
 abbrev pub invariant-lines : goal.invariant-lines

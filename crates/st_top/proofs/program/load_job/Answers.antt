@@ -1,8 +1,4 @@
-use Rattle.std.proofs.Common.{◌≡◌, ℕ, sym, subst}
-use Rattle.std.specs.Prelude.{Result, Ok}
-use Rattle.st_object.specs.Object.{Program, read_text}
-use Rattle.st_top.specs.Output.{loaded_by}
-use Rattle.st_top.specs.Layers.{Ends}
+use Rattle.st_top.proofs.Common.{◌≡◌, ℕ, sym, subst, Result, Ok, Program, read_text, loaded_by, Ends}
 use Rattle.st_top.proofs.program.load_job.Goals as goal
 
 pub returns : goal.returns

@@ -1,10 +1,4 @@
-use Rattle.std.proofs.Common.{◌≡◌, sym, subst}
-use Rattle.std.specs.Prelude.{Result, Ok}
-use Rattle.st_asm.specs.Pass.{Refusal}
-use Rattle.st_asm.specs.Assembly.{Assembly, assembly, assembly_parts}
-use Rattle.st_top.specs.Listing.{made_lines}
-use Rattle.st_top.specs.Output.{ran_by}
-use Rattle.st_top.specs.Layers.{Ends}
+use Rattle.st_top.proofs.Common.{◌≡◌, sym, subst, Result, Ok, Refusal, Assembly, assembly, assembly_parts, made_lines, ran_by, Ends}
 use Rattle.st_top.proofs.program.run_job.Goals as goal
 
 pub returns : goal.returns

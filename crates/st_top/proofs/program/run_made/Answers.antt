@@ -1,10 +1,6 @@
-use Rattle.std.proofs.Common.{◌≡◌, List, ℕ, ◌∙◌, subst}
+use Rattle.st_top.proofs.Common.{◌≡◌, List, ℕ, ◌∙◌, subst, assembly, made_lines, ran_by, Ends}
 use Rattle.std.specs.Prelude.{Some}
 use Rattle.st_gen.specs.Deck.{made_deck}
-use Rattle.st_asm.specs.Assembly.{assembly}
-use Rattle.st_top.specs.Listing.{made_lines}
-use Rattle.st_top.specs.Output.{ran_by}
-use Rattle.st_top.specs.Layers.{Ends}
 use Rattle.st_top.proofs.program.run_made.Goals as goal
 
 pub returns : goal.returns

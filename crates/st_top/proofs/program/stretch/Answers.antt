@@ -1,5 +1,4 @@
-use Rattle.std.proofs.Common.{◌≡◌, Some, map, ◌∙◌, rules}
-use Rattle.std.specs.String.{string_bytes}
+use Rattle.st_top.proofs.Common.{◌≡◌, Some, map, ◌∙◌, rules, string_bytes}
 use Rattle.st_top.proofs.CommandLines.{command_within}
 use Rattle.st_top.proofs.program.stretch.Goals as goal
 

@@ -1,9 +1,4 @@
-use Rattle.std.proofs.Common.{◌≡◌, sym, subst}
-use Rattle.std.specs.Prelude.{Result, Ok}
-use Rattle.st_asm.specs.Pass.{Refusal}
-use Rattle.st_asm.specs.Assembly.{Assembly, assembly, assembly_parts}
-use Rattle.st_top.specs.Output.{swept_by}
-use Rattle.st_top.specs.Layers.{Ends}
+use Rattle.st_top.proofs.Common.{◌≡◌, sym, subst, Result, Ok, Refusal, Assembly, assembly, assembly_parts, swept_by, Ends}
 use Rattle.st_top.proofs.program.sweep_job.Goals as goal
 
 pub returns : goal.returns

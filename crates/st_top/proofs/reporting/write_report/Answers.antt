@@ -1,3 +1,4 @@
+use Rattle.st_top.proofs.Common.{ℕ, subst, StandsAtEnd}
 use Rattle.st_top.proofs.Moments.{report_cut, report_then}
 use Rattle.st_top.proofs.reporting.write_report.Goals as goal
 
@@ -7,4 +8,7 @@ returns-in_err-write_run g c = λ start is stands.
 
 pub returns : goal.returns
 returns g c = λ start is stands.
-    report_then _ _ _ c.args.controls.now start _ _ _ _ _ is c.in_ok-write_run.ensures (c.write_second.ensures start stands)
+    let back = c.args.controls.now.back in
+    report_then _ _ _ c.args.controls.now start _ _ _ _ _ is c.in_ok-write_run.ensures
+    (c.write_back.ensures start
+    (subst (λ (n : ℕ). StandsAtEnd back n start c.run_beside.new.second) c.budget.ensures (c.run_beside.ensures.end back start stands)))

@@ -1,8 +1,5 @@
-use Rattle.std.proofs.Common.{[]}
-use Rattle.std.proofs.lemmas.List.{nil_from_length}
-use Rattle.st_io.proofs.Progress.{wrote_nothing}
+use Rattle.st_top.proofs.Common.{[], nil_from_length, wrote_nothing, levels_cut, levels_then}
 use Rattle.st_top.proofs.Listings.{lines_are}
-use Rattle.st_telling.proofs.Snapshots.{levels_cut, levels_then}
 use Rattle.st_top.proofs.Sweeps.{first_lines, no_lines}
 use Rattle.st_top.proofs.sweeping.+write_levels.Goals as goal
 

@@ -1,6 +1,4 @@
-use Rattle.std.proofs.Common.{refl}
-use Rattle.st_io.proofs.Writing.{stopped_at_moment}
-use Rattle.st_top.specs.Sweep.{sweep_lines}
+use Rattle.st_top.proofs.Common.{refl, stopped_at_moment, sweep_lines}
 use Rattle.st_top.proofs.Sweeps.{swept_all}
 use Rattle.st_top.proofs.sweeping.answer_swept.Goals as goal
 

@@ -1,7 +1,4 @@
-use Rattle.std.proofs.Common.{List, ℕ, ◌∙◌, ap}
-use Rattle.st_asm.specs.Assembly.{assembly_parts}
-use Rattle.st_top.specs.Sweep.{sweep_of}
-use Rattle.st_top.specs.Output.{output_of_sweep}
+use Rattle.st_top.proofs.Common.{List, ℕ, ◌∙◌, ap, assembly_parts, sweep_of, output_of_sweep}
 use Rattle.st_top.proofs.Outputs.{writes_output}
 use Rattle.st_top.proofs.Times.{keeps_sweep}
 use Rattle.st_top.proofs.sweeping.execute_sweep.Goals as goal

@@ -1,4 +1,4 @@
-use Rattle.std.proofs.Common.{arith}
+use Rattle.st_top.proofs.Common.{arith}
 use Rattle.st_top.proofs.Sweeps.{delays_last, swept_is, sweeps_scene}
 use Rattle.st_top.proofs.sweeping.sweep_image.Goals as goal
 

@@ -1,7 +1,5 @@
-use Rattle.std.proofs.Common.{[], ◌∷◌}
-use Rattle.st_io.proofs.Progress.{lines_then, lines_cut}
-use Rattle.st_report.specs.Line.{calm_line}
-use Rattle.st_top.specs.Sweep.{levels_lines}
+use Rattle.st_top.proofs.Common.{List, ℕ, [], ◌∷◌, ap, lines_then, lines_cut, calm_line, levels_lines}
+use Rattle.st_top.proofs.Listings.{lines_are}
 use Rattle.st_top.proofs.sweeping.write_sweep.Goals as goal
 
 pub returns-in_err-write_levels : goal.returns-in_err-write_levels
@@ -12,4 +10,4 @@ returns-in_err-write_levels g c =
 pub returns : goal.returns
 returns g c =
     lines_then _ _ _ (levels_lines 1 c.args.swept.ticks) (calm_line c.args.swept.hazard_free ∷ []) _ _
-    c.in_ok-write_levels.ensures c.write_calm.ensures
+    c.in_ok-write_levels.ensures (lines_are _ _ _ _ _ (ap (λ (l : List ℕ). l ∷ []) c.line_calm.ensures) c.put.ensures)

@@ -1,7 +1,4 @@
-use Rattle.std.proofs.Common.{List, ℕ, length, ap, sym, ◌∙◌, arith}
-use Rattle.std.proofs.lemmas.List.{length-take}
-use Rattle.st_text.specs.Pieces.{words}
-use Rattle.st_card.specs.Controls.{with_words}
+use Rattle.st_card.proofs.Common.{List, ℕ, length, ap, sym, ◌∙◌, arith, length-take, words, with_words}
 use Rattle.st_card.proofs.LimitLemmas.{added-kept}
 use Rattle.st_card.proofs.control_cards.Controls.add.Goals as goal
 

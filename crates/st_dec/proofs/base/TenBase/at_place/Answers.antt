@@ -1,7 +1,5 @@
-use Rattle.std.proofs.Common.{◌≡◌, ◌∙◌, sym, refl}
+use Rattle.st_dec.proofs.Common.{◌≡◌, ◌∙◌, sym, refl, last_digit_place, digit_bytes, codes_at_place, any_code, number_of_bytes, codes_value}
 use Rattle.std.specs.Prelude.{take, drop}
-use Rattle.st_dec.specs.DecimalOperand.{last_digit_place, digit_bytes, codes_at_place, any_code}
-use Rattle.st_dec.specs.DigitLists.{number_of_bytes, codes_value}
 use Rattle.st_dec.proofs.PartLemmas.{value_small, joined-at_place, value-at_place, any_code-lost}
 use Rattle.st_dec.proofs.base.TenBase.at_place.Goals as goal
 

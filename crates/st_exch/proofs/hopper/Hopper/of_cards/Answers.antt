@@ -1,11 +1,7 @@
-use Rattle.std.proofs.Common.{List, take, sym, ap, ◌∙◌, subst, arith, All}
-use Rattle.std.proofs.lemmas.List.{take_all, take_more}
-use Rattle.st_card.specs.declared.cards.Card.{Card}
-use Rattle.st_card.specs.Cards.{IsCardOf}
-use Rattle.st_exch.specs.Reader.{behind_statements, texts_in, reader_cards}
+use Rattle.st_exch.proofs.Common.{List, take, sym, ap, ◌∙◌, subst, arith, All, take_all, take_more, Card, IsCardOf, behind_statements, texts_in, reader_cards}
 use Rattle.st_exch.proofs.ReaderLemmas.{texts-more, behind-all}
-use Rattle.st_exch.proofs.hopper.Hopper.of_cards.Goals as goal
 use Rattle.st_card.proofs.Laws.{cards_stand_in_their_job}
+use Rattle.st_exch.proofs.hopper.Hopper.of_cards.Goals as goal
 
 pub loop-card-init : goal.loop-card-init
 unfolding texts_in

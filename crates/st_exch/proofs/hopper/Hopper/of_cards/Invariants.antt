@@ -1,6 +1,4 @@
-use Rattle.std.proofs.Common.{◌≡◌, take, All}
-use Rattle.st_card.specs.Cards.{IsCardOf}
-use Rattle.st_exch.specs.Reader.{texts_in}
+use Rattle.st_exch.proofs.Common.{◌≡◌, take, All, IsCardOf, texts_in}
 use Rattle.st_exch.proofs.hopper.Hopper.of_cards.Given as goal
 
 abbrev pub invariant-loop-card : goal.invariant-loop-card

@@ -1,4 +1,4 @@
-use Rattle.std.proofs.Common.{refl, arith}
+use Rattle.st_io.proofs.Common.{refl, arith}
 use Rattle.st_io.proofs.MemoryLemmas.{gave_front}
 use Rattle.st_io.proofs.sure.SureSourceSource.read.Goals as goal
 

@@ -1,6 +1,4 @@
-use Rattle.std.proofs.Common.{◌≡◌, length}
-use Rattle.st_object.specs.Order.{are_met}
-use Rattle.st_object.specs.Draft.{has_line}
+use Rattle.st_object.proofs.Common.{◌≡◌, length, are_met, has_line}
 use Rattle.st_object.proofs.drafts.Draft.are_met.Given as goal
 
 abbrev pub invariant-kinds : goal.invariant-kinds

@@ -1,6 +1,4 @@
-use Rattle.std.proofs.Common.{◌≡◌, length}
-use Rattle.st_object.specs.Order.{none_stands}
-use Rattle.st_object.specs.Draft.{has_line}
+use Rattle.st_object.proofs.Common.{◌≡◌, length, none_stands, has_line}
 use Rattle.st_object.proofs.drafts.Draft.none_stands.Given as goal
 
 abbrev pub invariant-kinds : goal.invariant-kinds

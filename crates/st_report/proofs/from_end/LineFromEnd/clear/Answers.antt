@@ -1,5 +1,4 @@
-use Rattle.std.proofs.Common.{arith}
-use Rattle.std.proofs.lemmas.List.{drop_all}
+use Rattle.st_report.proofs.Common.{arith, drop_all}
 use Rattle.st_report.proofs.from_end.LineFromEnd.clear.Goals as goal
 
 pub returns : goal.returns

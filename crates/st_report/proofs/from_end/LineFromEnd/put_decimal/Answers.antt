@@ -1,5 +1,4 @@
-use Rattle.std.proofs.Common.{◌≡◌, ◌-◌, ◌≤◌, length, decimal, arith, ap, sym, ◌∙◌, length-drop}
-use Rattle.std.proofs.lemmas.Fmt.{length-decimal-le}
+use Rattle.st_report.proofs.Common.{◌≡◌, ◌-◌, ◌≤◌, length, decimal, arith, ap, sym, ◌∙◌, length-drop, length-decimal-le}
 use Rattle.st_report.proofs.from_end.LineFromEnd.put_decimal.Goals as goal
 
 pub write_digits-self-inside-requires : goal.write_digits-self-inside-requires

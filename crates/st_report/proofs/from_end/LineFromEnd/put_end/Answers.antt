@@ -1,5 +1,4 @@
-use Rattle.std.proofs.Common.{◌-◌, ◌≡◌, length, drop, ap, sym, ◌∙◌, arith, length-drop, length-append}
-use Rattle.std.proofs.lemmas.List.{drop-append-le, drop-drop}
+use Rattle.st_report.proofs.Common.{◌-◌, ◌≡◌, length, drop, ap, sym, ◌∙◌, arith, length-drop, length-append, drop-append-le, drop-drop}
 use Rattle.st_report.proofs.from_end.LineFromEnd.put_end.Goals as goal
 
 pub invariant_of-self : goal.invariant_of-self

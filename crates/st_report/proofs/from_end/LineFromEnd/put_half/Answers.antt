@@ -1,5 +1,4 @@
-use Rattle.std.proofs.Common.{◌≡◌, ◌++◌, ◌*◌, ℕ, List, refl, sym, ap, ◌∙◌, codes, decimal, arith}
-use Rattle.std.specs.Fmt.{digits}
+use Rattle.st_report.proofs.Common.{◌≡◌, ◌++◌, ◌*◌, ℕ, List, refl, sym, ap, ◌∙◌, codes, decimal, arith, digits}
 use Rattle.st_report.proofs.from_end.LineFromEnd.put_half.Goals as goal
 
 first_half : codes ".0" ≡ codes "." ++ decimal (32 * 0)

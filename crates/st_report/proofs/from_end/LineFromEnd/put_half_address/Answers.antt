@@ -1,4 +1,4 @@
-use Rattle.std.proofs.Common.{◌++◌, ◌/◌, ◌%◌, ◌*◌, ℕ, List, sym, ap, ◌∙◌, codes, decimal, append_assoc}
+use Rattle.st_report.proofs.Common.{◌++◌, ◌/◌, ◌%◌, ◌*◌, ℕ, List, sym, ap, ◌∙◌, codes, decimal, append_assoc}
 use Rattle.st_report.proofs.from_end.LineFromEnd.put_half_address.Goals as goal
 
 pub returns-clause-bytes : goal.returns-clause-bytes

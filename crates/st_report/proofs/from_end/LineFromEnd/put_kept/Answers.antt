@@ -1,5 +1,4 @@
-use Rattle.std.proofs.Common.{◌≡◌, ◌++◌, ◌≤◌, length, decimal, ap, ◌∙◌, arith, length-append}
-use Rattle.std.proofs.lemmas.Fmt.{length-decimal-le}
+use Rattle.st_report.proofs.Common.{◌≡◌, ◌++◌, ◌≤◌, length, decimal, ap, ◌∙◌, arith, length-append, length-decimal-le}
 use Rattle.st_report.proofs.KeptLemmas.{near-pieces}
 use Rattle.st_report.proofs.from_end.LineFromEnd.put_kept.Goals as goal
 

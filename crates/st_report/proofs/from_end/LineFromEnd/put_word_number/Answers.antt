@@ -1,5 +1,4 @@
-use Rattle.std.proofs.Common.{◌≤◌, length, decimal, ap, ◌∙◌, arith, length-append}
-use Rattle.std.proofs.lemmas.Fmt.{length-decimal-le}
+use Rattle.st_report.proofs.Common.{◌≤◌, length, decimal, ap, ◌∙◌, arith, length-append, length-decimal-le}
 use Rattle.st_report.proofs.from_end.LineFromEnd.put_word_number.Goals as goal
 
 pub returns-then-n-lt100-clause-room : goal.returns-then-n-lt100-clause-room

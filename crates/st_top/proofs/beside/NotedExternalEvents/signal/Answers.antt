@@ -1,7 +1,4 @@
-use Rattle.std.proofs.Common.{◌∙◌, ap, refl, subst, sym}
-use Rattle.st_state.specs.Machine.{Machine}
-use Rattle.st_back.specs.Steps.{states_before}
-use Rattle.st_top.specs.Beside.{HasRoomForCard}
+use Rattle.st_top.proofs.Common.{◌∙◌, ap, refl, subst, sym, Machine, states_before, HasRoomForCard}
 use Rattle.st_top.proofs.Besides.{states_beside}
 use Rattle.st_top.proofs.beside.NotedExternalEvents.signal.Goals as goal
 
