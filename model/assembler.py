@@ -9,7 +9,7 @@ import cards
 import expressions
 import formats
 import statements
-from program import Controls, Fault, Program, Refused
+from program import Fault, Program, Refused
 
 MOST_NAMES = 4000
 ADDRESSES = 1 << 24
@@ -52,7 +52,7 @@ def over(rows, work):
 
 def form_pass(rows):
     """Reads each card; gives the controls and the number of the card END."""
-    seen = SimpleNamespace(controls=Controls(), end=0)
+    seen = SimpleNamespace(controls=cards.Controls(), end=0)
     over(rows, lambda row: read_card(row, seen))
     if not seen.end:
         raise Refused(len(rows) + 1, 'NO END')

@@ -1,5 +1,6 @@
 """Jobs cut into cards, and control cards. Follows docs/strap.md, "Cards", "Names" and "Control cards"."""
 import re
+from collections.abc import Callable
 from dataclasses import dataclass
 
 from program import Fault
@@ -67,51 +68,79 @@ def fault_of(number, line):
     return ''
 
 
-MARKS = ('LIST', 'TRACE', 'TIME', 'CHART')          # cards that stand once and have no numbers
+# Control cards.
+
+@dataclass
+class Control:
+    """A kind of control card: a row of the table of strap.md, in its order."""
+    keyword: str
+    field: str                                          # of Controls
+    limits: list                                        # the least and the most of each number of a request
+    most: int = 1                                       # how many requests there may be
+    fits: Callable = lambda before, *numbers: True      # whether numbers fit each other, and the requests before them
+    default: int = 0                                    # the number where no card asks; 0 where there is none
+    listed: bool = False                                # a card has one request or more, one for each number
+
+    @property
+    def numbers(self):
+        """How many numbers a request has."""
+        return len(self.limits)
+
+    def allows(self, before, numbers):
+        return (len(numbers) == self.numbers and self.fits(before, *numbers)
+                and all(least <= n <= most for n, (least, most) in zip(numbers, self.limits)))
+
+
+CONTROLS = [
+    Control('BUDGET', 'budget', [(1, 10_000_000)], default=1000),
+    Control('DELAYS', 'delays', [(1, 255)], 4096, default=1, listed=True),
+    Control('SIGNAL', 'signals', [(0, 10_000_000), (0, 13)], 4096,
+            lambda before, count, indicator: not before or before[-1][0] <= count),
+    Control('DUMP', 'dumps', [(0, 98303), (0, 98303)], 16, lambda before, first, last: first <= last),
+    Control('TRACE', 'trace', []),
+    Control('TIME', 'time', []),
+    Control('CHART', 'chart', []),
+    Control('SNAP', 'snaps', [(0, 10**12 - 1)], 64, lambda before, tick: not before or before[-1] < tick),
+    Control('BACK', 'back', [(1, 64)]),
+    Control('LIST', 'list', [])]
+KIND = {kind.keyword: kind for kind in CONTROLS}
+
+
+class Controls:
+    """What control cards ask for, a field for each kind. Numbers are 0, lists empty and marks off where no card asked."""
+
+    def __init__(self):
+        for kind in CONTROLS:
+            setattr(self, kind.field, [] if kind.most > 1 else 0 if kind.numbers else False)
+
+    def requests(self, kind):
+        """The numbers of each request of a kind, in the order of their cards."""
+        held = getattr(self, kind.field)
+        held = held if kind.most > 1 else [held] if held else []
+        return [one if kind.numbers > 1 else (one,) * kind.numbers for one in held]
+
+    def add(self, kind, numbers):
+        """Adds a request; raises Fault where it is past a limit."""
+        held = getattr(self, kind.field)
+        count = len(held) if kind.most > 1 else bool(held)
+        if count >= kind.most or not kind.allows(held, numbers):
+            raise Fault('BAD CONTROL CARD')
+        if kind.most > 1:
+            held.append(tuple(numbers) if kind.numbers > 1 else numbers[0])
+        else:
+            setattr(self, kind.field, numbers[0] if numbers else True)
+
+    def set_defaults(self):
+        for kind in CONTROLS:
+            if kind.default and not self.requests(kind):
+                self.add(kind, [kind.default])
 
 
 def add_control(words, controls):
     """Adds what a control card asks for."""
-    if not all(NUMBER.fullmatch(word) for word in words[1:]):
+    kind, numbers = KIND.get(words[0][1:]), words[1:]
+    if not kind or not all(map(NUMBER.fullmatch, numbers)) or kind.listed and not numbers:
         raise Fault('BAD CONTROL CARD')
-    add_wish(words[0][1:], [int(word) for word in words[1:]], controls)
-
-
-def add_wish(keyword, numbers, controls):
-    """Adds what a keyword and its numbers ask for; lines of an object text ask by the same rules."""
-    if not may_stand(keyword, numbers, controls):
-        raise Fault('BAD CONTROL CARD')
-    if keyword in MARKS:
-        setattr(controls, keyword.lower(), True)
-    elif keyword in ('BUDGET', 'BACK'):
-        setattr(controls, keyword.lower(), numbers[0])
-    elif keyword == 'DELAYS':
-        controls.delays += numbers
-    elif keyword == 'SNAP':
-        controls.snaps += numbers
-    else:
-        {'SIGNAL': controls.signals, 'DUMP': controls.dumps}[keyword].append(tuple(numbers))
-
-
-def may_stand(keyword, numbers, controls):
-    """Whether a control card is within its limits, and behind those before it not one too many."""
-    if keyword in MARKS:
-        return not numbers and not getattr(controls, keyword.lower())
-    if keyword == 'DELAYS':
-        return bool(numbers) and all(1 <= d <= 255 for d in numbers) and len(controls.delays) + len(numbers) <= 4096
-    if len(numbers) == 1:
-        n, = numbers
-        if keyword == 'BUDGET':
-            return 1 <= n <= 10_000_000 and not controls.budget
-        if keyword == 'BACK':
-            return 1 <= n <= 64 and not controls.back
-        if keyword == 'SNAP':
-            return len(controls.snaps) < 64 and (not controls.snaps or controls.snaps[-1] < n)
-    if len(numbers) == 2:
-        a, b = numbers
-        if keyword == 'SIGNAL':
-            before = controls.signals[-1][0] if controls.signals else 0
-            return before <= a <= 10_000_000 and b <= 13 and len(controls.signals) < 4096
-        if keyword == 'DUMP':
-            return a <= b <= 98303 and len(controls.dumps) < 16
-    return False
+    numbers = [int(number) for number in numbers]
+    for request in [[number] for number in numbers] if kind.listed else [numbers]:
+        controls.add(kind, request)

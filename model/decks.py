@@ -11,6 +11,7 @@ import expressions
 import formats
 import objects
 import statements
+from cards import CONTROLS
 
 INDEXED = [name for name, fields in statements.FIELDS.items() if fields == 'jx']
 OPERATIONS = list(formats.FIELD.values())
@@ -175,9 +176,8 @@ def controls(d, budget, listed=True):
     return deck + [d.choice(['/DUMP 32 200', '/DUMP 7 80', '/DUMP 98300 98303'])] * d.odds(.8)
 
 
-KEYWORDS = {                # how many numbers a control card has, and the most that they can be
-    'BUDGET': (1, 10**7), 'DELAYS': (3, 255), 'SIGNAL': (2, 13), 'DUMP': (2, 98303), 'SNAP': (1, 10**12 - 1),
-    'BACK': (1, 64), 'LIST': (0, 0), 'TRACE': (0, 0), 'TIME': (0, 0), 'CHART': (0, 0)}
+# How many numbers a control card has, and the most that they can be.
+KEYWORDS = {kind.keyword: (3 if kind.listed else kind.numbers, kind.limits[-1][1] if kind.limits else 0) for kind in CONTROLS}
 
 
 def controls_deck(d):

@@ -26,7 +26,8 @@ def statements_of(program):
 
 
 def control_cards(program):
-    return ('/' + line for line in objects.wishes_of(program.controls, 'DELAYS'))
+    for kind in objects.REQUESTS.values():
+        yield from objects.requests_of(program.controls, kind, '/' + kind.keyword)
 
 
 def texts_of(word):

@@ -1,15 +1,22 @@
 """Object texts written and read. Follows docs/object-text.md."""
 import re
 
-import cards
-from program import Controls, Fault, Program, Refused
+from cards import CONTROLS, Controls
+from program import Fault, Program, Refused
 
+
+def often(kind):
+    """How often a line of a request stands."""
+    return ('+' if kind.default else '*') if kind.most > 1 else '1' if kind.default else '?'
+
+
+# The lines of requests by their keywords: a delay has a line of its own, and a listing none.
+REQUESTS = {'DELAY' if kind.keyword == 'DELAYS' else kind.keyword: kind for kind in CONTROLS if kind.keyword != 'LIST'}
 # The kinds of lines in their order: keyword, how many numbers, and how often it stands (`1` once, `?` once or not,
 # `+` once or more, `*` any number of times).
 KINDS = [
-    ('OBJECT', 0, '1'), ('START', 1, '1'), ('W', 2, '*'), ('BUDGET', 1, '1'), ('DELAY', 1, '+'), ('SIGNAL', 2, '*'),
-    ('DUMP', 2, '*'), ('TRACE', 0, '?'), ('TIME', 0, '?'), ('CHART', 0, '?'), ('SNAP', 1, '*'), ('BACK', 1, '?'),
-    ('FIN', 0, '1')]
+    ('OBJECT', 0, '1'), ('START', 1, '1'), ('W', 2, '*'),
+    *((keyword, kind.numbers, often(kind)) for keyword, kind in REQUESTS.items()), ('FIN', 0, '1')]
 PLACE = {keyword: place for place, (keyword, _, _) in enumerate(KINDS)}
 NUMBER = re.compile('0|[1-9][0-9]{0,11}')
 
@@ -23,20 +30,14 @@ def lines_of(program):
     yield 'OBJECT'
     yield f'START {program.start // 64}.{program.start % 64}'
     yield from (f'W {word} {program.words[word]:016X}' for word in sorted(program.words) if program.words[word])
-    yield from wishes_of(controls, 'DELAY')
+    for keyword, kind in REQUESTS.items():
+        yield from requests_of(controls, kind, keyword)
     yield 'FIN'
 
 
-def wishes_of(controls, delay):
-    """What controls ask for, a line each, in the order of an object text; `delay` is how a delay is called."""
-    yield f'BUDGET {controls.budget}'
-    yield from (f'{delay} {d}' for d in controls.delays)
-    yield from (f'SIGNAL {count} {indicator}' for count, indicator in controls.signals)
-    yield from (f'DUMP {first} {last}' for first, last in controls.dumps)
-    yield from (mark for mark in ('TRACE', 'TIME', 'CHART') if getattr(controls, mark.lower()))
-    yield from (f'SNAP {tick}' for tick in controls.snaps)
-    if controls.back:
-        yield f'BACK {controls.back}'
+def requests_of(controls, kind, word):
+    """The requests of a kind, a line or card each, which begins with a word."""
+    return (' '.join([word, *map(str, numbers)]) for numbers in controls.requests(kind))
 
 
 def read_object(text):
@@ -69,7 +70,7 @@ def add_line(program, before, line):
         add_word(program, *numbers)
     elif keyword not in ('OBJECT', 'FIN'):
         want(all(map(NUMBER.fullmatch, numbers)))
-        cards.add_wish('DELAYS' if keyword == 'DELAY' else keyword, [int(n) for n in numbers], program.controls)
+        program.controls.add(REQUESTS[keyword], [int(number) for number in numbers])
 
 
 def may_follow(before, keyword):

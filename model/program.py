@@ -1,6 +1,6 @@
 """What the assembler gives and the machine runs: a program with its controls, or a refusal.
 
-Follows docs/strap.md ("Control cards") and docs/object-text.md.
+Follows docs/strap.md and docs/object-text.md.
 """
 from dataclasses import dataclass, field
 
@@ -21,29 +21,10 @@ class Fault(Exception):
 
 
 @dataclass
-class Controls:
-    """What control cards ask for. Numbers are 0, lists empty and marks off where no card asked."""
-    budget: int = 0
-    delays: list = field(default_factory=list)
-    signals: list = field(default_factory=list)     # (count, indicator)
-    dumps: list = field(default_factory=list)       # (from, to)
-    snaps: list = field(default_factory=list)       # ticks
-    back: int = 0
-    list: bool = False
-    trace: bool = False
-    time: bool = False
-    chart: bool = False
-
-    def set_defaults(self):
-        self.budget = self.budget or 1000
-        self.delays = self.delays or [1]
-
-
-@dataclass
 class Program:
     words: dict                                     # word address -> 64 bits, where a card emitted any
     start: int                                      # bit address
-    controls: Controls
+    controls: object                                # Controls of cards.py
     reader: list = field(default_factory=list)      # cards of the reader, 64 bytes each
     listing: list = field(default_factory=list)     # its lines, without line ends, whether asked for or not
     emitted: dict = field(default_factory=dict)        # half-word address -> the first card whose bits begin in it

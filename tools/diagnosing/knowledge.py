@@ -67,7 +67,7 @@ class Knowledge:
         self.rows = [Row(one["name"], cause) for one in faults["faults"] for cause in one["causes"]]
         self.seen = {one["seen"]: one["says"] for one in faults["odd"]}
         self.operations = {one["name"]: Operation(one) for one in mnemonics["operations"]}
-        self.controls = [one["name"] for one in mnemonics["controls"]]
+        self.controls = {one["name"]: one for one in mnemonics["controls"]}
         self.elsewhere = {word: one["here"] for word, one in mnemonics["elsewhere"].items()}
         self.here = {word: one["says"] for word, one in mnemonics["elsewhere"].items()}
         self.symbols = {one["name"] for one in symbols["symbols"]}

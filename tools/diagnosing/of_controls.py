@@ -4,7 +4,6 @@ import re
 
 from .cards import NINE, end_of, is_number, is_statement, put, start_of
 
-ONCE, MARKS = ("/BUDGET", "/BACK"), ("/LIST", "/TRACE", "/TIME", "/CHART")
 SIGNALS = 14              # so many indicators can be turned on from outside
 
 
@@ -22,10 +21,11 @@ def of_control(cards, k, fault, known):
         yield "a control card before the end", None if end is None else cards[:k] + cards[k + 1:end + 1] + [cards[k]] + cards[end + 1:]
         return
     yield from of_numbers(cards, k, words, known)
-    if words[0] in ONCE + MARKS:
+    kind = known.controls.get(words[0])
+    if kind and kind["often"] == "once":
         if any(card[:72].split()[:1] == words[:1] for card in cards[:k]):
             yield "the same control card a second time", put(cards, k)
-        elif words[0] in MARKS and len(words) > 1:
+        elif not kind["numbers"] and len(words) > 1:
             yield "a control card that is none", put(cards, k, words[0])
     if words[0] in ("/SNAP", "/SIGNAL"):
         yield "numbers that do not rise", rising(cards, words[0])

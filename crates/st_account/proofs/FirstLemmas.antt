@@ -1,5 +1,5 @@
 -- Lemmas on the first cards whose bits begin in half-words, row by row.
-use Rattle.st_account.proofs.Common.{nat_eq, IfSome, All, slice_index, slice_set, ◌≡◌, ◌≢◌, ℕ, zero, suc, ◌<◌, ◌≤◌, inl, inr, true, false, List, ◌∷◌, length, drop, get_or, get_or-set_other, refl, sym, ◌∙◌, ap, subst, arith, cases_eq, nat_tests, get_or-set_same, Assembly, Machine, card_by, is_kept, origin_by, origin_at, Origins, beginning, first_card, origin_of}
+use Rattle.st_account.proofs.Common.{nat_eq, IfSome, All, slice_index, slice_set, ◌≡◌, ◌≢◌, ℕ, zero, suc, ◌<◌, ◌≤◌, inl, inr, true, false, List, ◌∷◌, length, drop, get_or, get_or-set_other, refl, sym, ◌∙◌, ap, arith, cases_eq, nat_tests, get_or-set_same, Assembly, Machine, card_by, is_kept, origin_by, origin_at, Origins, beginning, first_card, origin_of}
 use Rattle.std.specs.Prelude.{Option, None, Some}
 use Rattle.std.specs.Option.{option_or}
 use Rattle.std.proofs.Math.ListN.{drop_of_length-le}
@@ -35,48 +35,36 @@ card-some (suc n) o some = refl
 
 -- ---- a row is entered
 
-pub row-free : (xs ys : List ℕ) (row : Listed) (rows : List Listed) (b h : ℕ) → beginning row ≡ Some b → b < length xs → 1 ≤ row.card → slice_index xs b ≡ 0
-    → ys ≡ slice_set xs b row.card
-    → option_or (card_by (slice_index ys h)) (first_card rows h) ≡ option_or (card_by (slice_index xs h)) (first_card (row ∷ rows) h)
-row-free xs ys row rows b h is inside some free made = elim (cases_eq b h) [
+pub row-free : (xs : List ℕ) (row : Listed) (rows : List Listed) (b h : ℕ) → beginning row ≡ Some b → b < length xs → 1 ≤ row.card → slice_index xs b ≡ 0
+    → option_or (card_by (slice_index (slice_set xs b row.card) h)) (first_card rows h) ≡ option_or (card_by (slice_index xs h)) (first_card (row ∷ rows) h)
+row-free xs row rows b h is inside some free = elim (cases_eq b h) [
   | inl here ↦
-      let now : slice_index ys h ≡ row.card = ap (λ zs. slice_index zs h) made ∙ ap (λ k. slice_index (slice_set xs b row.card) k) (sym here) ∙ get_or-set_same xs b row.card 0 inside in
+      let now : slice_index (slice_set xs b row.card) h ≡ row.card = ap (λ k. slice_index (slice_set xs b row.card) k) (sym here) ∙ get_or-set_same xs b row.card 0 inside in
       let before : slice_index xs h ≡ 0 = ap (slice_index xs) (sym here) ∙ free in
       ap (λ n. option_or (card_by n) (first_card rows h)) now
       ∙ card-some row.card (first_card rows h) (λ none. omega (arith, none, some))
       ∙ sym (first-here row rows h (is ∙ ap Some here))
       ∙ ap (λ n. option_or (card_by n) (first_card (row ∷ rows) h)) (sym before)
   | inr other ↦
-      let now : slice_index ys h ≡ slice_index xs h = ap (λ zs. slice_index zs h) made ∙ get_or-set_other xs b h row.card 0 (λ e. other (sym e)) in
+      let now : slice_index (slice_set xs b row.card) h ≡ slice_index xs h = get_or-set_other xs b h row.card 0 (λ e. other (sym e)) in
       ap (λ n. option_or (card_by n) (first_card rows h)) now
       ∙ ap (option_or (card_by (slice_index xs h))) (sym (first-other row rows b h is other))
 ]
 
-pub row-taken : (xs ys : List ℕ) (row : Listed) (rows : List Listed) (b h : ℕ) → beginning row ≡ Some b → slice_index xs b ≢ 0 → ys ≡ xs
-    → option_or (card_by (slice_index ys h)) (first_card rows h) ≡ option_or (card_by (slice_index xs h)) (first_card (row ∷ rows) h)
-row-taken xs ys row rows b h is taken made = elim (cases_eq b h) [
+pub row-taken : (xs : List ℕ) (row : Listed) (rows : List Listed) (b h : ℕ) → beginning row ≡ Some b → slice_index xs b ≢ 0
+    → option_or (card_by (slice_index xs h)) (first_card rows h) ≡ option_or (card_by (slice_index xs h)) (first_card (row ∷ rows) h)
+row-taken xs row rows b h is taken = elim (cases_eq b h) [
   | inl here ↦
       let some : slice_index xs h ≢ 0 = λ none. taken (ap (slice_index xs) here ∙ none) in
-      ap (λ zs. option_or (card_by (slice_index zs h)) (first_card rows h)) made
-      ∙ card-some (slice_index xs h) (first_card rows h) some
+      card-some (slice_index xs h) (first_card rows h) some
       ∙ sym (card-some (slice_index xs h) (first_card (row ∷ rows) h) some)
-  | inr other ↦
-      ap (λ zs. option_or (card_by (slice_index zs h)) (first_card rows h)) made
-      ∙ ap (option_or (card_by (slice_index xs h))) (sym (first-other row rows b h is other))
+  | inr other ↦ ap (option_or (card_by (slice_index xs h))) (sym (first-other row rows b h is other))
 ]
 
 -- a row that assembles to no bits is not entered
 pub first-skipped : (xs : List ℕ) (row : Listed) (rows : List Listed) (h : ℕ) → beginning row ≡ None
     → option_or (card_by (slice_index xs h)) (first_card rows h) ≡ option_or (card_by (slice_index xs h)) (first_card (row ∷ rows) h)
 first-skipped xs row rows h is = ap (option_or (card_by (slice_index xs h))) (sym (first-none row rows h is))
-
-pub row-entered : (xs ys : List ℕ) (row : Listed) (rows : List Listed) (b h : ℕ) → beginning row ≡ Some b → IfSome (beginning row) (λ k. k < length xs) → 1 ≤ row.card
-    → (slice_index xs b ≡ 0 → ys ≡ slice_set xs b row.card) → (slice_index xs b ≢ 0 → ys ≡ xs)
-    → option_or (card_by (slice_index ys h)) (first_card rows h) ≡ option_or (card_by (slice_index xs h)) (first_card (row ∷ rows) h)
-row-entered xs ys row rows b h is within some free taken = elim (cases_eq (slice_index xs b) 0) [
-  | inl none ↦ row-free xs ys row rows b h is (subst (λ o. IfSome o (λ k. k < length xs)) is within) some none (free none)
-  | inr card ↦ row-taken xs ys row rows b h is card (taken card)
-]
 
 -- ---- all rows
 

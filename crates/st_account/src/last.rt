@@ -106,26 +106,8 @@ pub(crate) fn at_start(ic: u32, enabled: bool) -> Last
     }
 }
 
-/// Begins a segment with the next entry, after `dropped` dropped entries, at most 8.
-pub(crate) fn open_segment(last: &mut Last, banks: LastAnswers, dropped: u64)
-    requires dropped { dropped ≤ 8 }
-    requires early { last.old.tick ≤ 2 ^ 62 }
-    requires soon { All (λ t. t ≤ last.old.tick + MOST_DELAY) banks.ticks }
-
-    ensures issue { last.new.issue ≡ opening_issue banks (last.old.tick + 1 + dropped) }
-    ensures opened { IsOpen last.new }
-    ensures rest { last.new ≡ record last.old {
-      issue = last.new.issue;
-      past = last.new.past;
-    } }
-{
-    let start = last.tick + 1 + dropped;
-    last.issue = IssueState::new(banks, start);
-    last.past = KeptPast::new();
-}
-
-/// Begins a segment with the next entry if the last segment ends; otherwise the issue state is
-/// unchanged.
+/// Begins a segment with the next entry, after `dropped` dropped entries, at most 8, if the last
+/// segment ends; otherwise the issue state is unchanged.
 pub(crate) fn open_if(ends: bool, last: &mut Last, banks: LastAnswers, dropped: u64)
     requires dropped { dropped ≤ 8 }
     requires early { last.old.tick ≤ 2 ^ 62 }
@@ -141,7 +123,9 @@ pub(crate) fn open_if(ends: bool, last: &mut Last, banks: LastAnswers, dropped: 
     } }
 {
     if ends {
-        open_segment(last, banks, dropped);
+        let start = last.tick + 1 + dropped;
+        last.issue = IssueState::new(banks, start);
+        last.past = KeptPast::new();
     }
 }
 

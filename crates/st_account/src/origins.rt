@@ -10,7 +10,7 @@
 //! of the job or from none. Pinned: that the first of several cards counts, by this definition,
 //! docs/ledger.md and vectors/ledger/lines.txt. Free: the length of the table, if it covers the
 //! last half-word of a card; the bodies, if proofs/origins follows.
-ghost use Rattle.std.specs.Prelude.{◌≡◌, ◌≢◌, ℕ, ◌<◌, ◌≤◌, ◌^◌, ◌∷◌, List, length, slice_index, slice_set, All, IfOk, IfSome};
+ghost use Rattle.std.specs.Prelude.{◌≡◌, ℕ, ◌<◌, ◌≤◌, ◌^◌, ◌∷◌, List, length, slice_index, All, IfOk, IfSome};
 ghost use Rattle.std.specs.Option.{option_or};
 ghost use Rattle.st_asm.specs.declared.valuing.Listed.{Listed as ListedOf};
 ghost use Rattle.st_lines.specs.Origins.{card_by};
@@ -57,20 +57,8 @@ fn extent(rows: &[Listed]) -> u32
     n
 }
 
-// Enters a card at a half-word, unless an earlier card is entered there.
-fn enter(cards: &mut Vec<u32>, h: u32, card: u32)
-    requires { h < length cards.old.items }
-    ensures free { slice_index cards.old.items h ≡ 0 →
-        cards.new.items ≡ slice_set cards.old.items h card }
-    ensures taken { slice_index cards.old.items h ≢ 0 → cards.new.items ≡ cards.old.items }
-    ensures size { length cards.new.items ≡ length cards.old.items }
-{
-    if cards[h as usize] == 0 {
-        cards[h as usize] = card;
-    }
-}
-
-// Enters a card at the half-word in which its bits begin, if it assembles to any.
+// Enters a card at the half-word in which its bits begin, if it assembles to any, unless an earlier
+// card is entered there.
 fn enter_row(cards: &mut Vec<u32>, row: &Listed)
     requires within { IfSome (beginning_of row.now) (λ h. h < length cards.old.items) }
     requires number { 1 ≤ row.now.card }
@@ -80,7 +68,9 @@ fn enter_row(cards: &mut Vec<u32>, row: &Listed)
         ≡ option_or (card_by (slice_index cards.old.items h)) (first_card (row.now ∷ rows) h) }
 {
     if let Some(h) = beginning(row) {
-        enter(cards, h, row.card);
+        if cards[h as usize] == 0 {
+            cards[h as usize] = row.card;
+        }
     }
 }
 

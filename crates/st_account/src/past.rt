@@ -48,7 +48,6 @@ impl KeptPast {
     }
 
     /// Adds an entry as the newest one, and keeps the seven before it.
-    #[inline(always)]
     pub fn put(&mut self, newest: Past)
         ensures { self.new ≡ newest ∷ take 7 self.old }
     {

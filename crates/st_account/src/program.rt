@@ -215,20 +215,12 @@ fn read_words(words: &[String]) -> Option<Asked>
     }
 }
 
-// Writes the line of a refused card.
-fn write_refusal<K: Sink>(out: &mut K, card: u32, fault: Fault) -> Result<(), Failed>
-    ensures { WritesLines (K.output out.old) (K.output out.new)
-        (fault_line card (name_of fault) ∷ []) result }
-{
-    put(out, &line_fault(card, &fault.name()))
-}
-
 // Refuses a job at a card: writes its line and returns the status.
 fn refuse<K: Sink>(out: &mut K, card: u32, fault: Fault) -> Status
     ensures { Writes result (K.output out.old) (K.output out.new)
         (fault_line card (name_of fault) ∷ []) Status.Refused }
 {
-    match write_refusal(out, card, fault) {
+    match put(out, &line_fault(card, &fault.name())) {
         Ok(()) => Status::Refused,
         Err(_) => Status::WriteFault,
     }
@@ -361,13 +353,6 @@ fn write_part<K: Sink>(
     }
 }
 
-// The number of a job's cards.
-fn card_count(job: &Job<'_>) -> u32
-    ensures { result ≡ length (cards_of job.now.text.now) }
-{
-    job.cards.len() as u32
-}
-
 // Writes what is requested of the run of an assembled job, or returns why it does not.
 fn run_program<K: Sink>(
     alloc: Global,
@@ -384,7 +369,8 @@ fn run_program<K: Sink>(
     let Ok((ready, controls)) = prepare(alloc, asked.levels, job, program) else {
         return Status::NoMemory;
     };
-    write_part(alloc, out, asked.part, card_count(job), ready, &controls)
+    let cards = job.cards.len() as u32;
+    write_part(alloc, out, asked.part, cards, ready, &controls)
 }
 
 // Writes what is requested of a job that has been read, or returns why it does not.

@@ -10,7 +10,7 @@
 //! before its budget is looked at, by `ledger`. Free: the bodies, if proofs/running follows. Laws
 //! that sums add up to the ticks of the run: `WaitSumsAddUp` and `StageSumsAddUp` (specs/Laws.antt
 //! of `st_causes`).
-ghost use Rattle.std.specs.Prelude.{◌≡◌, ◌≤◌, ◌^◌, suc, [], IsOk, All, length, min};
+ghost use Rattle.std.specs.Prelude.{◌≡◌, ◌≤◌, ◌^◌, [], IsOk, All, length, min};
 ghost use Rattle.std.specs.List.{AllPass};
 ghost use Rattle.st_bits.specs.declared.limits.TheConstants.{MOST_INSTRUCTIONS};
 ghost use Rattle.st_bits.specs.Storage.{words_of_storage};
@@ -257,21 +257,6 @@ pub fn write_ledger<K: Sink>(out: &mut K, ready: Ready, controls: &Controls) -> 
     write_wait_sums(out, &waits)
 }
 
-// The budget of a run of at most `most` rows.
-fn budget_of(controls: &Controls, most: u32) -> u64
-    ensures value { result ≡ min most controls.now.budget }
-    ensures within { result ≤ controls.now.budget }
-{
-    controls.budget().min(u64::from(most))
-}
-
-// The number of the row before which so many rows are skipped.
-fn first_row(skipped: u32) -> u64
-    ensures { result ≡ suc skipped }
-{
-    u64::from(skipped) + 1
-}
-
 /// Writes the ledger of a run from one row on, without its sums: the lines of the machine, the state
 /// before that row, its segment, and the lines of all rows from it on up to the end of the run, which
 /// ends after at most `most` rows; of a run that ends before, only the machine and the end. `skipped`
@@ -304,8 +289,8 @@ pub fn write_ledger_rows<K: Sink>(
         out,
         ready,
         controls,
-        budget_of(controls, most),
-        first_row(skipped),
+        u64::from(most).min(controls.budget()),
+        u64::from(skipped) + 1,
         &mut sums,
         &mut waits,
     )

@@ -127,7 +127,6 @@ fn find_if(
 }
 
 // Keeps the facts of an entry that its lines need, if they are wanted.
-#[inline(always)]
 fn keep_if(wanted: bool, known: &Known, kept: &mut Known)
     ensures { wanted ≡ true → kept.new ≡ known.now }
 {

@@ -75,7 +75,6 @@ impl UsesInTurn {
     }
 
     /// Removes the words of the last entry.
-    #[inline(always)]
     pub fn clear(&mut self)
         ensures { self.new ≡ record self.old { items = [] } }
     {
@@ -88,7 +87,6 @@ impl UsesInTurn {
 
     /// Begins the next entry, whose words can be appended to the result, which is empty; the words
     /// of the last entry are those before.
-    #[inline(always)]
     pub fn turn(&mut self) -> &mut Uses
         ensures* writes_back { sem 𝓛 (LendsNext self.entry result) }
         ensures value { result.now.items ≡ [] }

@@ -1,5 +1,5 @@
 -- The next entry is prepared at the tick or later, and its remaining reads are requested then or later.
-use Rattle.st_ahead.proofs.Common.{All, ◌==◌, if◌then◌else◌, IfSome, ◌≡◌, ℕ, zero, suc, ◌+◌, ◌<◌, ◌≤◌, ◌||◌, max, Bool, true, false, not, List, [], ◌∷◌, ◌++◌, append_assoc, length, length-append, Option, None, Some, refl, sym, subst, ◌∙◌, ap, ap₂, arith, lt-ltb, le-ltb, append-nil, All-append, All-weaker, All-head, All-tail, Machine, IsMachine, prediction, fetches_asked, words_asked, side_asked, side_count, following_asked, formed_asked, prepared_asked, data_of, bus_after_reads, made_before, Read, notes_of_reads, answers_left, AreEarly, AreDelaysUpTo, IsEntryInTime, IsNear, IsTight, row_of_entry, issue_after_entry, wanted_from, tick_a, tick_p, operands, reads_of_entry, fetch_words, fetch_word, Bus, WordRun, Fetching, Entry, IssueState, undone_is_made_before, few_are_undone, logs_go_on, made-more, asked-parts, two-parts, at-prepared, free-formed, made-bounds, served-append, served-asked, few-words, few-side, few-operands, few-following, served-formed, tight-after, Level, entry, predictions, table_behind, ahead, reads_before, entry-ranges, prediction-machine, behind-none, AreLevels, PlannedRow, levels-beside, asked_so_far, IsNext, IsPlanned, Rests, reads_so_far, FetchUnit, address-late, rest-left, LookaheadView, IsOutlook, IsNextIf, count, is_open, asked_ahead, reads_of, uses, wishes}
+use Rattle.st_ahead.proofs.Common.{All, ◌==◌, if◌then◌else◌, IfSome, ◌≡◌, ℕ, zero, suc, ◌+◌, ◌<◌, ◌≤◌, ◌||◌, max, Bool, true, false, not, List, [], ◌∷◌, ◌++◌, append_assoc, length, length-append, Option, None, Some, refl, sym, subst, ◌∙◌, ap, ap₂, arith, lt-ltb, le-ltb, append-nil, All-append, All-weaker, All-head, All-tail, Machine, IsMachine, prediction, fetches_asked, words_asked, side_asked, side_count, formed_asked, prepared_asked, data_of, bus_after_reads, made_before, Read, notes_of_reads, answers_left, AreEarly, AreDelaysUpTo, IsEntryInTime, IsNear, IsTight, row_of_entry, issue_after_entry, wanted_from, tick_a, tick_p, operands, reads_of_entry, fetch_words, fetch_word, Bus, WordRun, Fetching, Entry, IssueState, undone_is_made_before, few_are_undone, logs_go_on, made-more, asked-parts, two-parts, at-prepared, free-formed, made-bounds, served-append, served-asked, few-words, few-side, few-operands, few-following, served-formed, tight-after, Level, entry, predictions, table_behind, ahead, reads_before, entry-ranges, prediction-machine, behind-none, AreLevels, PlannedRow, levels-beside, asked_so_far, IsNext, IsPlanned, Rests, reads_so_far, FetchUnit, address-late, rest-left, LookaheadView, IsOutlook, IsNextIf, count, is_open, asked_ahead, reads_of, uses, wishes}
 use Rattle.std.proofs.Common.{drop}
 use Rattle.st_ahead.proofs.Further.{bus-ahead, some-by}
 

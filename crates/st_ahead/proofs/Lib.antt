@@ -21,5 +21,7 @@ pub mod Idling
 pub mod Passing
 pub mod NotedRows
 pub mod Runs
+pub mod Ticks
+pub mod Ends
 pub mod Stopping
 pub mod Laws

@@ -1,5 +1,5 @@
 -- The look-ahead of a machine that makes ticks, with completions at some of them.
-use Rattle.st_ahead.proofs.Common.{◌≡◌, ℕ, zero, suc, ◌+◌, ◌<◌, ◌≤◌, Bool, true, false, List, [], ◌∷◌, ◌++◌, Option, None, Some, refl, sym, subst, ◌∙◌, ap, arith, ◌*◌, eq-eqb, true_from_ne_false, cond-true, append-nil, All-weaker, Machine, IsMachine, plan, state_after_execution, prediction, is_mispredicted, interrupt, rests, made_before, reads_of_entry, row_of_entry, issue_after_entry, IssueState, Level, ahead, reads_before, entry, IsCompleted, Completed, ahead-rests, Overlap, state_ahead, oldest_row, interrupt_due, banks_at_its_end, machine_between_ticks, is_done, row_done, machine_after_completion, machine_after_tick, machine_after_pass, machine_after_settling, answer, answer_by, ArePassed, may_come_from_outside, Queue, queue_with, rows_in_ticks, IsAwake, GoesFrom, HasPassed, LookaheadView, IsLookahead, IsOutlook, count, IsGoing, IsDueAt, answers_before, Row, Goes, after-c, most_ticks_of_entry}
+use Rattle.st_ahead.proofs.Common.{◌≡◌, ℕ, zero, suc, ◌+◌, ◌<◌, ◌≤◌, Bool, true, false, List, [], ◌∷◌, ◌++◌, Option, None, Some, refl, sym, subst, ◌∙◌, ap, arith, ◌*◌, eq-eqb, true_from_ne_false, cond-true, append-nil, All-weaker, Machine, IsMachine, plan, state_after_execution, prediction, is_mispredicted, interrupt, rests, made_before, reads_of_entry, row_of_entry, issue_after_entry, IssueState, Level, ahead, reads_before, entry, IsCompleted, Completed, ahead-rests, Overlap, state_ahead, oldest_row, interrupt_due, banks_at_its_end, machine_between_ticks, is_done, row_done, machine_after_completion, machine_after_tick, machine_after_pass, machine_after_settling, answer, answer_by, ArePassed, may_come_from_outside, is_quiet, order_is_due, or_parts, nat_le, not, is_some, ◌||◌, ◌⊎◌, inl, inr, nat_tests, Queue, queue_with, rows_in_ticks, IsAwake, GoesFrom, HasPassed, LookaheadView, IsLookahead, IsOutlook, count, IsGoing, IsDueAt, answers_before, Row, Goes, after-c, most_ticks_of_entry}
 use Rattle.std.specs.Prelude.{◌-◌}
 use Rattle.std.proofs.Common.{if◌then◌else◌}
 use Rattle.std.specs.Option.{IfSome}
@@ -50,17 +50,51 @@ goes-parts None behind true m goes = absurd (cc goes)
 goes-parts None (Some h) false m goes = absurd (cc goes)
 goes-parts None None false m goes = (refl, refl, refl)
 
-pub stopped-comes : (ds : List ℕ) (n count now : ℕ) (t : Option ℕ) (s : Machine) (f : IssueState) → (row_of_entry ds n f (entry t s)).c ≡ now
-    → (may_come_from_outside count (state_after_execution t s) ≡ false → (if is_mispredicted (plan s t) s then Some (plan s t).following else None) ≡ None
-    → interrupt (state_after_execution t s) ≡ None → rests (state_after_execution t s) ≡ false → ⊥)
+-- whether no order is due and the decision is to continue, by the state and branch of the completed entry
+pub quiet-after : (ds : List ℕ) (n now : ℕ) (t : Option ℕ) (s x : Machine) (f : IssueState) (mispredicted : Option ℕ)
+    → (row_of_entry ds n f (entry t s)).c ≡ now → x ≡ state_after_execution t s
+    → mispredicted ≡ (if is_mispredicted (plan s t) s then Some (plan s t).following else None)
+    → not (order_is_due x || is_some mispredicted || is_some (interrupt x) || rests x) ≡ is_quiet (machine_after_tick (machine_between_ticks ds n s t f now))
+unfolding machine_after_completion state_ahead
+quiet-after ds n now t s x f mispredicted due state branch = rw (state, branch) (ap {A = Overlap} is_quiet (sym (ticked-done ds n now t s f due)))
+
+-- the decision is to continue and no order is due
+pub goes-quiet : (m : Overlap) → answer m ≡ Goes → order_is_due m.state ≡ false → is_quiet m ≡ true
+unfolding answer
+goes-quiet m goes none =
+    let parts = goes-parts (interrupt_due m) m.mispredicted (rests m.state) m goes in
+    rw (none, parts.2, parts.0, parts.1) refl
+
+reached : (count done : ℕ) (order : Bool) → count ≤ done → (nat_le count done || order) ≡ true
+reached count done order most = grind (arith, nat_tests)
+
+-- the run stops at a completion that is not quiet or reaches the count
+pub stopped-comes : (ds : List ℕ) (n count now : ℕ) (t : Option ℕ) (s x : Machine) (f : IssueState) (quiet : Bool)
+    → (row_of_entry ds n f (entry t s)).c ≡ now → x ≡ state_after_execution t s
+    → quiet ≡ is_quiet (machine_after_tick (machine_between_ticks ds n s t f now)) → (quiet ≡ false) ⊎ (count ≤ x.done)
     → answer (machine_after_tick (machine_between_ticks ds n s t f now)) ≡ Goes → may_come_from_outside count (machine_after_tick (machine_between_ticks ds n s t f now)).state ≡ true
-unfolding answer machine_after_completion state_ahead
-stopped-comes ds n count now t s f due stops goes =
-    let m = machine_after_completion (machine_between_ticks ds n s t f now) in
-    let same = ticked-done ds n now t s f due in
-    let goes_on : answer m ≡ Goes = ap {A = Overlap} answer (sym same) ∙ goes in
-    let parts = goes-parts (interrupt_due m) m.mispredicted (rests m.state) m goes_on in
-    ap {A = Overlap} (λ m. may_come_from_outside count m.state) same ∙ true_from_ne_false (may_come_from_outside count (state_after_execution t s)) (λ nothing. stops nothing parts.2 parts.0 parts.1)
+unfolding machine_after_completion state_ahead
+stopped-comes ds n count now t s x f quiet due state is (inl still) goes =
+    let m = machine_after_tick (machine_between_ticks ds n s t f now) in
+    true_from_ne_false (may_come_from_outside count m.state) (λ nothing.
+    let same : true ≡ false = sym (goes-quiet m goes (or_parts (nat_le count m.state.done) (order_is_due m.state) nothing).1) ∙ sym is ∙ still in
+    absurd (cc same))
+stopped-comes ds n count now t s x f quiet due state is (inr most) goes =
+    let m = machine_after_tick (machine_between_ticks ds n s t f now) in
+    let done : m.state.done ≡ x.done = ap {A = Overlap} (λ y. y.state.done) (ticked-done ds n now t s f due) ∙ ap {A = Machine} (λ y. y.done) (sym state) in
+    reached count m.state.done (order_is_due m.state) (omega (arith, most, done))
+
+-- a completion after which the run continues, by its parts
+pub quiet-parts : (x : Machine) (count : ℕ) (mispredicted : Option ℕ)
+    → not (order_is_due x || is_some mispredicted || is_some (interrupt x) || rests x) ≡ true → x.done < count
+    → (may_come_from_outside count x ≡ false) × (mispredicted ≡ None) × (interrupt x ≡ None) × (rests x ≡ false)
+quiet-parts x count mispredicted quiet few =
+    parts-by (order_is_due x) (rests x) mispredicted (interrupt x) x.done count quiet few
+  where
+    parts-by : (order resting : Bool) (mispredicted due : Option ℕ) (done count : ℕ)
+        → not (order || is_some mispredicted || is_some due || resting) ≡ true → done < count
+        → ((nat_le count done || order) ≡ false) × (mispredicted ≡ None) × (due ≡ None) × (resting ≡ false)
+    parts-by order resting mispredicted due done count quiet few = grind (arith, nat_tests)
 
 -- ---- ticks without a completion
 

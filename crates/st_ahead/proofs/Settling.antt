@@ -1,7 +1,6 @@
 -- The invariant of a machine when a tick is settled.
-use Rattle.st_ahead.proofs.Common.{All, is_none, is_some, if◌then◌else◌, ◌≡◌, ℕ, ◌+◌, ◌-◌, ◌<◌, ◌≤◌, ◌^◌, Bool, true, false, List, length, Option, None, Some, refl, sym, subst, ◌∙◌, ap, arith, ◌*◌, All-weaker, All-replicate, cond_both, Machine, IsMachine, pending, place_of, index_words, Place, interrupt, rests, LastAnswers, BANKS, opening_issue, IssueState, Level, oldest_issue, ahead, prepared_before, length-ahead, Phase, Ready, Ticked, Ended, Stopped, has_ended, Overlap, state_ahead, with_counter, levels_of, interrupt_due, MaySettle, MayServe, may_serve, may_settle, drop_count, machine_after_segment, run_ended, machine_after_pass, machine_after_settling, answer, settled_by, answer_by, LookaheadView, IsLookahead, IsOpened, count, is_open, IsGoing, overlap_of, phase_of, answers_before, IsBetween, IsInside, Goes, Interrupt, Mispredicted, Waits, most_ticks_of_entry}
+use Rattle.st_ahead.proofs.Common.{All, is_none, is_some, if◌then◌else◌, ◌≡◌, ℕ, ◌+◌, ◌-◌, ◌<◌, ◌≤◌, ◌^◌, Bool, true, false, List, length, Option, None, Some, refl, sym, subst, ◌∙◌, ap, arith, ◌*◌, All-weaker, All-replicate, cond_both, Machine, IsMachine, pending, place_of, index_words, Place, interrupt, rests, LastAnswers, BANKS, opening_issue, IssueState, Level, oldest_issue, ahead, prepared_before, length-ahead, Phase, Ready, Ticked, Ended, Stopped, has_ended, Overlap, state_ahead, with_counter, levels_of, interrupt_due, MaySettle, MayServe, may_serve, may_settle, drop_count, machine_after_segment, run_ended, machine_after_pass, machine_after_settling, answer, settled_by, answer_by, LookaheadView, IsLookahead, IsOpened, count, is_open, IsGoing, overlap_of, phase_of, answers_before, IsBetween, IsInside, Goes, Interrupt, Mispredicted, Waits, most_ticks_of_entry, idle_banks}
 use Rattle.std.specs.Prelude.{◌&&◌}
-use Rattle.st_banks.specs.Bank.{idle_banks}
 use Rattle.st_ahead.specs.Overlap.{Completed}
 use Rattle.st_ahead.specs.declared.phase.Phase.{Phase as PhaseField}
 use Rattle.st_ahead.proofs.Openings.{opening-lookahead}

@@ -10,7 +10,7 @@ use Rattle.std.specs.Prelude.{◌≡◌, true, false, None, Some, is_some, ◌<�
 use Rattle.st_exec.specs.Step.{rests}
 use Rattle.st_ahead.specs.Overlap.{Overlap, interrupt_due}
 use Rattle.st_ahead.specs.Calls.{MayServe}
-use Rattle.st_ahead.specs.Inside.{IsQuiet}
+use Rattle.st_ahead.specs.Inside.{Continues}
 use Rattle.st_ahead.specs.declared.phase.Decision.{Decision}
 use Rattle.st_ahead.specs.declared.phase.Decision.TheVariants.{Interrupt, Waits, Mispredicted, Goes}
 
@@ -21,4 +21,4 @@ IsDecision m (Interrupt i) = (interrupt_due m ≡ Some i) × (i < 64) × MayServ
 IsDecision m Waits = (interrupt_due m ≡ None) × (rests m.state ≡ true) × MayServe m
 IsDecision m Mispredicted = (interrupt_due m ≡ None) × (rests m.state ≡ false)
     × (is_some m.mispredicted ≡ true) × MayServe m
-IsDecision m Goes = IsQuiet m
+IsDecision m Goes = Continues m

@@ -66,8 +66,9 @@ abbrev pub IsInTime : Bool → ℕ → Type 0
 IsInTime true now = now < 2 ^ 63
 IsInTime false now = now ≤ 2 ^ 63
 
--- no interrupt is due, the machine is not at rest, and no branch was mispredicted
-pub record IsQuiet (m : Overlap) : Type 0 where
+-- the decision is to continue: no interrupt is due, the machine is not at rest, and no branch was
+-- mispredicted
+pub record Continues (m : Overlap) : Type 0 where
   pub due : interrupt_due m ≡ None
   pub goes : rests m.state ≡ false
   pub right : m.mispredicted ≡ None
@@ -83,8 +84,8 @@ pub record IsUnstarted (m : Overlap) : Type 0 where
 -- did, no table instruction comes next, and until the segment ends the issue state is that after
 -- it, and the banks have answers in the range of delays
 abbrev pub IsInPhase : Phase → Overlap → Type 0
-IsInPhase Ready m = IsQuiet m × (m.now ≡ 0 → IsUnstarted m)
-IsInPhase Ticked m = IsQuiet m
+IsInPhase Ready m = Continues m × (m.now ≡ 0 → IsUnstarted m)
+IsInPhase Ticked m = Continues m
 IsInPhase (Completed banks) m = (m.taken ≡ None) × (m.issue.c ≡ m.now)
     × All (λ b. b ≤ m.now + MOST_DELAY) banks.ticks
 IsInPhase Ended m = m.taken ≡ None

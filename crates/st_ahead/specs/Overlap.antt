@@ -1,8 +1,8 @@
 -- The abstract state of an overlapped machine, and values derived from it.
 --
 -- Proved: by their `ensures` clauses these calls do what definitions here say: `run_to`
--- (lookahead_run.rt), `ends` (machine.rt), `has_ended` (machine.rt), `interrupt_due` (machine.rt),
--- and others.
+-- (lookahead_run.rt), `has_ended` (machine.rt), `interrupt_due` (machine.rt), `last_tick`
+-- (machine.rt), and others.
 -- Read by: definitions in Calls, Inside, Shown, Decided, and others.
 -- Laws: LevelsAreUnwound (specs/Laws.antt of st_refine), OpeningsFollow (specs/Laws.antt of
 -- st_refine), RowsTellTheLevels (specs/Laws.antt of st_refine), TheStateIsSplit (specs/Laws.antt of

@@ -1,17 +1,18 @@
 -- Settled ticks in sequence, up to a completion after which an event is possible.
 --
--- Proved: by their `ensures` clauses these calls do what definitions here say: `is_stopped`
--- (lookahead_run.rt), `may_come` (lookahead_run.rt), `run_to` (machine.rt), `run_many` (ticking.rt
--- of st_run).
+-- Proved: by their `ensures` clauses these calls do what definitions here say: `run_to`
+-- (machine.rt), `is_quiet` (lookahead_run.rt), `run_many` (ticking.rt of st_run), `run_until`
+-- (ticking.rt of st_run).
 -- Read by: definitions in Running.
 -- Laws: RunsAreReached (specs/Laws.antt of st_refine).
 -- Change: no page fixes these definitions, since no contract of a program unfolds to them; they
 -- change together with the clauses, definitions and laws that name them. docs/inside.md describes
 -- the subject.
-use Rattle.std.specs.Prelude.{ℕ, zero, suc, ◌≡◌, ◌+◌, ◌-◌, ◌<◌, ◌≤◌, ◌||◌, nat_le, Bool, true, false, Option, None, Some}
+use Rattle.std.specs.Prelude.{ℕ, zero, suc, ◌≡◌, ◌+◌, ◌-◌, ◌<◌, ◌≤◌, ◌||◌, nat_le, Bool, true, false, not, is_some, Option, None, Some}
 use Rattle.st_state.specs.Machine.{Machine}
 use Rattle.st_state.specs.Orders.{is_due}
-use Rattle.st_ahead.specs.Overlap.{Overlap}
+use Rattle.st_exec.specs.Step.{rests}
+use Rattle.st_ahead.specs.Overlap.{Overlap, interrupt_due}
 use Rattle.st_ahead.specs.Calls.{is_done, row_done, machine_after_tick, machine_after_settling, answer}
 use Rattle.st_ahead.specs.declared.events.Row.{Row}
 use Rattle.st_ahead.specs.declared.events.Settled.TheVariants.{Goes}
@@ -21,11 +22,19 @@ unfoldable pub after_ticks : ℕ → Overlap → Overlap
 after_ticks zero m = m
 after_ticks (suc k) m = after_ticks k (machine_after_settling (machine_after_tick m))
 
+-- whether an order of the reader or the printer is due
+abbrev pub order_is_due : Machine → Bool
+order_is_due s = is_due s.done s.reader || is_due s.done s.printer
+
 -- whether an external event is possible after a completion: `count` instructions are completed, or
 -- an order is due
 abbrev pub may_come_from_outside : ℕ → Machine → Bool
-may_come_from_outside count s = nat_le count s.done
-    || (is_due s.done s.reader || is_due s.done s.printer)
+may_come_from_outside count s = nat_le count s.done || order_is_due s
+
+-- whether no order is due and the decision is to continue
+abbrev pub is_quiet : Overlap → Bool
+is_quiet m = not (order_is_due m.state || is_some m.mispredicted || is_some (interrupt_due m)
+    || rests m.state)
 
 -- the decision after the next tick is to continue, and no external event is possible after an entry
 -- that completes at it

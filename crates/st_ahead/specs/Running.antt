@@ -6,7 +6,7 @@
 -- Change: no page fixes these definitions, since no contract of a program unfolds to them; they
 -- change together with the clauses, definitions and laws that name them. docs/inside.md describes
 -- the subject.
-use Rattle.std.specs.Prelude.{ℕ, ◌≡◌, ◌+◌, ◌-◌, ◌≤◌, true, false, All, List, Option, None, Some, is_none, if◌then◌else◌}
+use Rattle.std.specs.Prelude.{ℕ, ◌≡◌, ◌+◌, ◌-◌, ◌≤◌, Bool, true, false, All, List, Option, None, Some, is_none, if◌then◌else◌}
 use Rattle.st_bits.specs.Indicators.{IsIndicatorIfAny}
 use Rattle.st_bits.specs.declared.limits.TheConstants.{MOST_DELAY}
 use Rattle.st_state.specs.Machine.{Machine, IsMachine}
@@ -15,7 +15,7 @@ use Rattle.st_rows.specs.declared.issue.IssueState.{IssueState}
 use Rattle.st_ring.specs.declared.levels.Completed.{Completed}
 use Rattle.st_ahead.specs.Overlap.{machine_between_ticks, banks_at_its_end}
 use Rattle.st_ahead.specs.Calls.{machine_after_tick, answer}
-use Rattle.st_ahead.specs.RunTo.{may_come_from_outside, ArePassed}
+use Rattle.st_ahead.specs.RunTo.{may_come_from_outside, is_quiet, ArePassed}
 use Rattle.st_ahead.specs.Forecast.{LookaheadView, IsLookahead}
 use Rattle.st_ahead.specs.Ticked.{IsDoneAt}
 use Rattle.st_ahead.specs.Inside.{answers_before}
@@ -45,8 +45,8 @@ module _ (ds : List ℕ) (n count last now : ℕ) (t : Option ℕ) (s : Machine)
     pub lookahead : IsLookahead ds n last (last + 1) k u issue v
 
   -- the ticks before the tick `tick` are passed, and at this one an entry completes after which an
-  -- event is possible
-  pub record HasStopped (tick : ℕ) (done : Completed) : Type 0 where
+  -- event is possible; `quiet` says whether no order is due and the decision is to continue
+  pub record HasStopped (tick : ℕ) (done : Completed) (quiet : Bool) : Type 0 where
     pub table : Option ℕ
     pub state : Machine
     pub issue : IssueState
@@ -61,10 +61,12 @@ module _ (ds : List ℕ) (n count last now : ℕ) (t : Option ℕ) (s : Machine)
     pub banks : banks_at_its_end (machine_between_ticks ds n state table issue tick)
         ≡ answers_before tick v
     pub near : All (λ b. b ≤ tick + MOST_DELAY) (answers_before tick v).ticks
+    pub quiet_is : quiet
+        ≡ is_quiet (machine_after_tick (machine_between_ticks ds n state table issue tick))
     pub stops : let m = machine_after_tick (machine_between_ticks ds n state table issue tick) in
         answer m ≡ Goes → may_come_from_outside count m.state ≡ true
 
   -- a run to `last`, or to a completion after which an event is possible
   abbrev pub HasRunTo : Option Stop → Type 0
   HasRunTo None = HasPassed
-  HasRunTo (Some stop) = HasStopped stop.tick stop.done
+  HasRunTo (Some stop) = HasStopped stop.tick stop.done stop.quiet

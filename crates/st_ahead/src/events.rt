@@ -1,5 +1,5 @@
 //! The results of the machine's calls, and the view of the machine: `Event` is the result of
-//! `tick`, `Row` of `run_to`, `Settled` of `settle`, and `View` of `view`. docs/inside.md has the
+//! `tick`, `Halt` of `run_to`, `Settled` of `settle`, and `View` of `view`. docs/inside.md has the
 //! calls. `st_run` turns rows and decisions into events, and `st_time` formats rows and views.
 //! Ticks count from 0 at the start of the run; addresses are half-word addresses. A level is an
 //! entry (instruction) in flight, prepared and not complete.
@@ -25,6 +25,15 @@ pub struct Row {
     pub r: u64,
     /// C, the tick at which the entry completed.
     pub c: u64,
+}
+
+/// A completion at which `run_to` stops: an event is possible after it.
+#[derive(Clone, Copy, Debug, PartialEq, Eq)]
+pub struct Halt {
+    /// The row of the completed entry.
+    pub row: Row,
+    /// Whether no order is due and the decision is to continue.
+    pub quiet: bool,
 }
 
 /// The result of a tick.

@@ -22,7 +22,7 @@ mod machine;
 mod phase;
 mod row_queue;
 
-pub use events::{Event, LevelView, Row, Settled, View};
+pub use events::{Event, Halt, LevelView, Row, Settled, View};
 pub use lookahead::Lookahead;
 pub use machine::Machine;
 pub use row_queue::RowQueue;

@@ -11,7 +11,7 @@
 //! levels at which P, by this definition, docs/timetable.md and vectors/timetable.txt; that
 //! operands are not put into levels here, which lookahead_tick.rt does (`fill`). Free: inlining,
 //! the order of tests, and the bodies, if proofs/lookahead follows.
-ghost use Rattle.std.specs.Prelude.{◌≡◌, ℕ, ◌+◌, ◌<◌, ◌≤◌, ◌^◌, true, false, nat_le, if◌then◌else◌, Option, None, Some};
+ghost use Rattle.std.specs.Prelude.{◌≡◌, ℕ, ◌+◌, ◌-◌, ◌<◌, ◌≤◌, ◌^◌, true, false, nat_le, if◌then◌else◌, Option, None, Some};
 ghost use Rattle.st_rows.specs.declared.issue.IssueState.{IssueState as IssueStateOf};
 ghost use Rattle.st_ring.specs.Levels.{due_of};
 
@@ -45,7 +45,7 @@ impl<const N: usize> Lookahead<N> {
     {
         'entries: loop {
             let due = self.due();
-            self.plan_before(due, last, state, delays);
+            self.plan_before(due, state, delays);
             if !self.is_next_before(due, last) {
                 return stop_at(due, last);
             }
@@ -86,14 +86,14 @@ impl<const N: usize> Lookahead<N> {
     }
 
     // Advances the fetch unit by the facts known before the tick `due`, at which the oldest level
-    // completes. The next entry is planned as soon as its words are known.
+    // completes. The next entry is planned as soon as its words are known. The look-ahead has
+    // advanced to a tick below 2^63.
     #[inline(always)]
-    fn plan_before<'a>(&mut self, due: u64, last: u64, state: &'a State, delays: &'a Delays)
+    fn plan_before<'a>(&mut self, due: u64, state: &'a State, delays: &'a Delays)
         requires some { 1 ≤ N }
         requires few { N ≤ 8 }
-        requires early { last < 2 ^ 63 }
         requires due { due ≡ due_of self.old.levels.plans }
-        requires going { Reaches delays.now.list N last state.now self.old }
+        requires going { Reaches delays.now.list N (2 ^ 63 - 1) state.now self.old }
 
         ensures going { (t : Option ℕ) (f : IssueStateOf) (tick : ℕ) →
             IsGoing delays.now.list N tick tick t state.now f self.old →
@@ -103,7 +103,6 @@ impl<const N: usize> Lookahead<N> {
         if self.next.planned {
             return;
         }
-        let _last = last;
         let timing = Timing { delays, levels: N };
         let context = PlanContext {
             timing,

@@ -11,12 +11,13 @@
 //! continuing (`HasRunTo` in specs/Running.antt, `rows_in_ticks` in specs/RowsDone.antt), if the
 //! machine neither rests nor takes an interrupt at the start (`GoesFrom`). Pinned: the conditions
 //! of a stop, by `may_come_from_outside` in specs/RunTo.antt (count and orders) and by `answer` in
-//! specs/Calls.antt (the other three). Free: the loop, if proofs/lookahead follows. Speed is only
-//! measured (`docs/COSTS.md`).
-ghost use Rattle.std.specs.Prelude.{◌≡◌, ℕ, ◌<◌, ◌≤◌, ◌^◌, true, false, None, option_map};
+//! specs/Calls.antt (the other three), and what the result says of them, by `is_quiet` in
+//! specs/RunTo.antt. Free: the loop, if proofs/lookahead follows. Speed is only measured
+//! (`docs/COSTS.md`).
+ghost use Rattle.std.specs.Prelude.{◌≡◌, ℕ, ◌<◌, ◌≤◌, ◌^◌, ◌||◌, not, is_some, option_map};
 ghost use Rattle.st_exec.specs.Step.{interrupt as interrupt_of, rests};
 ghost use Rattle.st_rows.specs.declared.issue.IssueState.{IssueState as IssueStateOf};
-ghost use Rattle.st_ahead.specs.RunTo.{may_come_from_outside};
+ghost use Rattle.st_ahead.specs.RunTo.{order_is_due};
 
 use crate::committed::CommittedState;
 use crate::events::Row;
@@ -25,7 +26,7 @@ use crate::row_queue::RowQueue;
 use st_banks::Delays;
 use st_exec::{interrupt, is_at_rest};
 use st_ring::Completed;
-use st_state::{State, is_due};
+use st_state::{State, done_in, is_due};
 
 /// The limits of a run: `count`, the number of completed instructions at which it ends, at most
 /// 2^63, and `last`, its last tick, below 2^63.
@@ -46,6 +47,8 @@ pub struct Stop {
     pub done: Completed,
     /// The tick at which the entry completed.
     pub tick: u64,
+    /// Whether no order is due and the decision is to continue.
+    pub quiet: bool,
 }
 
 impl<const N: usize> Lookahead<N> {
@@ -88,9 +91,10 @@ impl<const N: usize> Lookahead<N> {
             };
             let done = self.complete(&mut committed.state);
             committed.taken = None;
-            if is_stopped(&done, &committed.state, count) {
+            let quiet = is_quiet(&done, &committed.state);
+            if !quiet || count <= done_in(&committed.state) {
                 self.fill(&committed.state, tick);
-                return Some(Stop { done, tick });
+                return Some(Stop { done, tick, quiet });
             }
             rows.put(row_of(&done, tick, &committed.state));
         }
@@ -117,32 +121,20 @@ fn row_of(done: &Completed, tick: u64, state: &State) -> Row
     }
 }
 
-// Whether an external event is possible after a completion, or the decision is not to continue.
+// Whether, after a completion, no order is due and the decision is to continue.
 #[inline(always)]
-fn is_stopped(done: &Completed, state: &State, count: u64) -> bool
-    ensures goes { result ≡ false → (may_come_from_outside count state.now ≡ false)
-        × (done.now.mispredicted ≡ None) × (interrupt_of state.now ≡ None)
-        × (rests state.now ≡ false) }
-    ensures stops { result ≡ true → may_come_from_outside count state.now ≡ false → done.now.mispredicted
-        ≡ None → interrupt_of state.now ≡ None → rests state.now ≡ false → ⊥ }
+fn is_quiet(done: &Completed, state: &State) -> bool
+    ensures { result ≡ not (order_is_due state.now || is_some done.now.mispredicted
+        || is_some (interrupt_of state.now) || rests state.now) }
 {
-    if may_come(state, count) {
-        return true;
-    }
-    if done.mispredicted.is_some() {
-        return true;
-    }
     if interrupt(state).is_some() {
-        return true;
+        return false;
     }
-    is_at_rest(state)
-}
-
-// Whether an external event is possible after a completion: `count` instructions are completed, or
-// an order is due.
-#[inline(always)]
-fn may_come(state: &State, count: u64) -> bool
-    ensures { result ≡ may_come_from_outside count state.now }
-{
-    count <= state.done || (is_due(state.reader, state.done) || is_due(state.printer, state.done))
+    if is_due(state.reader, state.done) || is_due(state.printer, state.done) {
+        return false;
+    }
+    if is_at_rest(state) {
+        return false;
+    }
+    done.mispredicted.is_none()
 }

@@ -37,7 +37,6 @@ impl<const N: usize> Lookahead<N> {
     }
 
     // Whether the next entry is planned, with P after the tick `now`.
-    #[inline(always)]
     fn is_prepared_behind(&self, now: u64) -> bool
         ensures { result ≡ true → (self.now.next.planned ≡ true) × (now < self.now.next.formed.p) }
     {

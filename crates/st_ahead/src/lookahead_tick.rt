@@ -53,7 +53,6 @@ impl<const N: usize> Lookahead<N> {
 
     // Completes the oldest entry. After a serializing entry the place of the next one is known only
     // now.
-    #[inline(always)]
     pub(crate) fn complete(&mut self, state: &mut State) -> Completed
         requires some { 0 < count self.old }
         requires few { state.old.done < 2 ^ 63 }

@@ -12,11 +12,11 @@
 //! and docs/machine.md; the protocol, by the clauses `requires`, docs/inside.md and `st_run`. Free:
 //! the fields, as long as `IsInside` of specs/Inside.antt holds of them, and the bodies, if
 //! proofs/machine follows.
-ghost use Rattle.std.specs.Prelude.{◌≡◌, ◌<◌, ◌≤◌, ◌^◌, true, false, is_some, IsSome, IfSome, None, Some, option_map, get_or, length, ◌||◌};
+ghost use Rattle.std.specs.Prelude.{◌≡◌, ◌<◌, ◌≤◌, ◌^◌, false, is_some, IsSome, IfSome, None, Some, option_map, get_or, length};
 ghost use Rattle.st_bits.specs.Indicators.{IsIndicatorIfAny};
 
 use crate::committed::CommittedState;
-use crate::events::{Event, LevelView, Row, Settled, View};
+use crate::events::{Event, Halt, LevelView, Row, Settled, View};
 use crate::lookahead::Lookahead;
 use crate::lookahead_run::Limits;
 use crate::phase::{Decision, Phase};
@@ -66,7 +66,7 @@ impl<const N: usize> Machine<N> {
     ghost use Rattle.st_exec.specs.Transfer.{read_in as read_in_of, words_from};
     ghost use Rattle.st_ahead.specs.Overlap.{last_tick_made as last_tick_of};
     ghost use Rattle.st_ahead.specs.Shown.{AreLevelsOf, lent_index_words, view_at_tick};
-    ghost use Rattle.st_ahead.specs.RunTo.{RunsTo};
+    ghost use Rattle.st_ahead.specs.RunTo.{RunsTo, is_quiet};
     ghost use Rattle.st_ahead.specs.RowsDone.{queue_with, rows_in_ticks, ticks_passed};
 
     /// A machine before its first tick. Interrupts are disabled, and the state is not waiting.
@@ -122,21 +122,22 @@ impl<const N: usize> Machine<N> {
 
     /// Makes ticks as repeated calls of `tick` and `settle` do, until an entry completes after
     /// which an event is possible: `count` instructions are completed, an order is due, or `settle`
-    /// would not answer `Goes`. Returns the row of this entry, and leaves its decision owed. If
-    /// there is no such entry up to the tick `last`, that tick is settled too, and the result is
-    /// None. The rows of earlier completions are appended to `rows`, if there is room. Before the
-    /// call no decision is owed; `last` and the number of completed instructions are below 2^63,
-    /// and `count` is at most 2^63.
-    pub fn run_to(&mut self, count: u64, last: u64, rows: &mut RowQueue) -> Option<Row>
+    /// would not answer `Goes`. Returns the row of this entry, and whether no order is due and
+    /// `settle` would answer `Goes`; its decision is left owed. If there is no such entry up to the
+    /// tick `last`, that tick is settled too, and the result is None. The rows of earlier
+    /// completions are appended to `rows`, if there is room. Before the call no decision is owed;
+    /// `last` and the number of completed instructions are below 2^63, and `count` is at most 2^63.
+    pub fn run_to(&mut self, count: u64, last: u64, rows: &mut RowQueue) -> Option<Halt>
         requires settled { self.old.phase ≡ Ready }
         requires count { count ≤ 2 ^ 63 }
         requires last { last < 2 ^ 63 }
         requires done { self.old.state.done < 2 ^ 63 }
 
-        // The ticks that are made, and the rows that are queued.
-        ensures runs { RunsTo count last result self.old self.new }
+        // The ticks that are made, what is known of the decision, and the rows that are queued.
+        ensures runs { RunsTo count last (option_map (λ h. h.row) result) self.old self.new }
+        ensures quiet { IfSome result (λ h. h.quiet ≡ is_quiet self.new) }
         ensures rows { rows.new ≡ queue_with (rows_in_ticks (ticks_passed last self.old.now
-            (option_map (λ row. row.c) result)) self.old) rows.old }
+            (option_map (λ h. h.row.c) result)) self.old) rows.old }
     {
         let now = self.now;
         if now > last {
@@ -154,12 +155,16 @@ impl<const N: usize> Machine<N> {
         self.mispredicted = stop.done.mispredicted;
         self.phase = Phase::Completed;
         self.now = stop.tick;
-        Some(Row {
+        let row = Row {
             number,
             address: stop.done.address,
             p: stop.done.p,
             r: stop.done.r,
             c: stop.tick,
+        };
+        Some(Halt {
+            row,
+            quiet: stop.quiet,
         })
     }
 
@@ -254,15 +259,6 @@ impl<const N: usize> Machine<N> {
         ensures { result ≡ is_some self.entry.now.mispredicted }
     {
         self.mispredicted.is_some()
-    }
-
-    /// Whether an interrupt is due or a branch was mispredicted: the next decision ends the
-    /// segment.
-    pub fn ends(&self) -> bool
-        ensures { result ≡ (is_some self.entry.now.mispredicted
-            || is_some (interrupt_due_of self.entry.now)) }
-    {
-        self.is_mispredicted() || self.interrupt_due().is_some()
     }
 
     // Ends the segment at this tick, which completed an entry, unless it has already ended. Returns

@@ -1,5 +1,5 @@
 -- The names that proofs of this crate use, passed on from one place. Declares nothing.
-pub use Rattle.std.proofs.Common.{◌≡◌, ◌≤◌, ◌<◌, ◌+◌, ◌*◌, ◌==◌, ◌^◌, ◌&&◌, ℕ, ℤ, pos, negsuc, Bool, true, false, not, List, [], ◌∷◌, None, nat_lt, nat_le, length, is_some, unsigned_abs, refl, arith, Option, Some, Result, Ok, Err, All, if◌then◌else◌, mod-eq_of_lt, ◌-◌, ◌/◌, ◌%◌, ◌||◌, zero, suc, subst, ap, sym, ◌∙◌, get_or, ◌++◌, map, replicate, unwrap_or, append_assoc, append-nil, length-append, lit≤, lit<, take, drop, ◌⊎◌, inl, inr, cond}
+pub use Rattle.std.proofs.Common.{◌≡◌, ◌≤◌, ◌<◌, ◌+◌, ◌*◌, ◌==◌, ◌^◌, ◌&&◌, ℕ, ℤ, pos, negsuc, Bool, true, false, not, List, [], ◌∷◌, None, nat_lt, nat_le, length, is_some, unsigned_abs, refl, arith, Option, Some, Result, Ok, Err, All, if◌then◌else◌, mod-eq_of_lt, ◌-◌, ◌/◌, ◌%◌, ◌||◌, zero, suc, subst, ap, sym, ◌∙◌, get_or, ◌++◌, map, replicate, unwrap_or, append_assoc, append-nil, length-append, lit≤, lit<, take, drop, ◌⊎◌, inl, inr, cond, rules}
 pub use Rattle.std.proofs.lemmas.List.Elements.{All-cons, All-nil, All-head, All-tail, All-push, All-append, All-weaker, All-same}
 pub use Rattle.std.specs.Bool.{IsTrue, IsFalse}
 pub use Rattle.std.specs.List.{zip, list_all, cons_option}

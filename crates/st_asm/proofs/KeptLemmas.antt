@@ -1,5 +1,6 @@
 -- Invariants of the passes.
 use Rattle.st_asm.proofs.Common.{◌≡◌, ◌≤◌, ◌<◌, ◌+◌, ◌-◌, ◌^◌, ◌&&◌, ◌==◌, ℕ, zero, suc, ℤ, pos, negsuc, Bool, true, false, not, nat_le, List, [], ◌∷◌, ◌++◌, length, map, get_or, replicate, Option, Some, None, unwrap_or, Result, Ok, Err, refl, ap, sym, ◌∙◌, subst, append_assoc, append-nil, length-append, lit≤, lit<, arith, if◌then◌else◌, zip, list_all, length-take, get_or-take, IfSome, IfOk, All-nil, All-cons, All-head, All-tail, All-push, All-append, text_in, card_at, cards_from, cards_of, Asked, asked_with_card, is_in_range, Card, CardKind, Comment, Control, Fault, BadControlCard, CardAfterEnd, next_reading, reading_map, statement_of, Statement, read-is, read-named, Refusal, onward, pass, unless_faulty, pass_then, name_field, statement_field, name_in, silent_line, saying, Found, found_at_start, first_fault_of, with_statement, with_control, with_end, form_control, form_statement, form_kind, form_card, form_pass, table, value_fault, placing_of, place_in, Named, naming_at_start, name_fault, name_step, name_card, name_pass, place_of_card, symbol_of, Emitted, emitting_at_start, value_statement, value_saying, value_card, value_pass, together, with_defaults, IsLocation, IsSymbol, IsAssemblySound, IsReadCard, IsDeck, IsNamed, IsSoundLayout, ReadCard, Placing, Emits, Passes, Sets, Names, Ends}
+use Rattle.st_card.specs.declared.keywords.Once.TheVariants.{Budget}
 use Rattle.std.proofs.lemmas.Bool.{and_parts as both}
 use Rattle.std.specs.List.{All}
 use Rattle.std.specs.Str.{IsAscii}
@@ -374,7 +375,7 @@ pub defaults-within : (asked : Asked) → IsWithinLimits asked →
     IsWithinLimits (with_defaults asked) × (1 ≤ (with_defaults asked).budget) × (1 ≤ length (with_defaults asked).delays)
 unfolding with_defaults
 defaults-within asked is =
-    let budget = budget-within asked.budget is.budget in
+    let budget = budget-within asked.budget (is.once Budget) in
     let delays = delays-within asked.delays is.delays in (
       others-within asked _ _ is budget.0 delays.0,
       budget.1,

@@ -1,7 +1,7 @@
 -- The bits that a single statement assembles to, on a card without a name at a location in storage.
 --
 -- Proved: by their `ensures` clauses these calls do what definitions here say: `emitted_alone`
--- (alone.rt), `emitted_by` (alone.rt), `emitted_with` (alone.rt).
+-- (alone.rt), `emitted_by` (alone.rt).
 -- Read by: definitions in Read of st_dis, Spelling of st_dis.
 -- Laws: none names a definition of this file itself.
 -- Change: the meaning is fixed by docs/strap.md, since the contract of `st_top::stretch` unfolds to

@@ -20,7 +20,7 @@ use crate::emitting::bits_of;
 use crate::naming::FIRST_LOCATION;
 use crate::places::placing_of;
 use crate::symbols::knows_all;
-use crate::values::{Values, values_of};
+use crate::values::values_of;
 use st_expr::Symbols;
 use st_strap::{CompactStatement, read_compact};
 
@@ -53,14 +53,7 @@ fn emitted_by(symbols: &Symbols, s: &CompactStatement) -> Option<EmittedBits>
     if !knows_all(symbols, s) {
         return None;
     }
-    emitted_with(s, values_of(symbols, s))
-}
-
-// Assembles a statement whose values are known.
-fn emitted_with(s: &CompactStatement, v: Values) -> Option<EmittedBits>
-    requires { IsWellFormed s.now }
-    ensures { result ≡ spec.emitted_with s.now v }
-{
+    let v = values_of(symbols, s);
     let placing = placing_of(s);
     match value_fault(s, placing, v, FIRST_LOCATION) {
         Some(_) => None,

@@ -109,19 +109,9 @@ fn add_card(deck: &mut Deck, job: &[u8], card: Card) -> Result<(), PassStop>
 fn first_fault_of(kind: CardKind, fault: Option<Fault>) -> Option<Fault>
     ensures { result ≡ spec.first_fault_of kind fault }
 {
-    match kind {
-        CardKind::Comment | CardKind::Control => fault,
-        CardKind::Statement => before_end(fault),
-    }
-}
-
-// The fault of a statement card that precedes `CardAfterEnd`.
-fn before_end(fault: Option<Fault>) -> Option<Fault>
-    ensures { result ≡ spec.before_end fault }
-{
-    match fault {
-        Some(Fault::BadName) => None,
-        fault => fault,
+    match (kind, fault) {
+        (CardKind::Statement, Some(Fault::BadName)) => None,
+        _ => fault,
     }
 }
 

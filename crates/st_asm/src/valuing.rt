@@ -12,12 +12,11 @@
 //! fields of `Listed`, by `st_top` and `st_account`. Free: the bodies, if proofs/valuing follows
 //! `emit`, `value_pass` and `put_bits`.
 
-ghost use Rattle.std.specs.Prelude.{◌≡◌, ◌<◌, ◌≤◌, ◌^◌, ◌++◌, ◌∷◌, [], All, IfOk, IfErr, OnOk, IsTrue, None, length, unwrap_or, unsigned_abs, if◌then◌else◌};
+ghost use Rattle.std.specs.Prelude.{◌≡◌, ◌<◌, ◌≤◌, ◌^◌, ◌++◌, ◌∷◌, [], All, IfOk, IfErr, OnOk, IsTrue, None, length, unwrap_or};
 ghost use Rattle.st_asm.specs.Answers.{Stops, Explains};
 ghost use Rattle.st_asm.specs.Checks.{value_fault, in_storage};
 ghost use Rattle.st_asm.specs.Valuing as spec;
 ghost use Rattle.st_asm.specs.Forming.{is_end};
-ghost use Rattle.st_asm.specs.Emitting.{half_word_bits};
 ghost use Rattle.st_bits.specs.Storage.{IsImage};
 ghost use Rattle.st_asm.specs.Sound.{IsRow, IsLocation};
 ghost use Rattle.st_asm.specs.Kept.{IsSoundLayout};
@@ -211,7 +210,9 @@ fn emit(
         length,
         bits,
     );
-    layout.start = start_behind(layout.start, s, v);
+    if is_end(s) {
+        layout.start = half_word(v.first);
+    }
     add_row(
         layout,
         Listed {
@@ -221,15 +222,6 @@ fn emit(
             length,
         },
     )
-}
-
-// The start after a statement: that of END, or else unchanged.
-fn start_behind(start: u32, s: &CompactStatement, v: Values) -> u32
-    requires { unsigned_abs v.first < 2 ^ 24 }
-    ensures start { result ≡ (if is_end s.now then half_word_bits v.first else start) }
-    ensures below { start < 2 ^ 19 → result < 2 ^ 19 }
-{
-    if is_end(s) { half_word(v.first) } else { start }
 }
 
 // Writes `length` bits into the image, from bit address `place` on.

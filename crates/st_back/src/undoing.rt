@@ -11,15 +11,15 @@
 ghost use Rattle.std.specs.Prelude.{◌≡◌, ◌+◌, ◌≤◌, ℕ};
 ghost use Rattle.st_bits.specs.Storage.{words_of_storage};
 ghost use Rattle.st_state.specs.Machine.{Machine};
-ghost use Rattle.st_prep.specs.Ranges.{IsRuns, AreInside, IsPrepared};
+ghost use Rattle.st_prep.specs.Ranges.{IsPrepared};
 ghost use Rattle.st_exec.specs.Completion.{state_after_completion};
 ghost use Rattle.st_exec.specs.Trails.{CanBePutBack};
-ghost use Rattle.st_back.specs.Undone.{state_with_words, restored_words, unput, with_rest, state_undone};
+ghost use Rattle.st_back.specs.Undone.{state_with_words, unput, with_rest, state_undone};
 ghost use Rattle.st_back.specs.Steps.{IsStepSound};
 
 use crate::kept::KeptStep;
 use st_exec::{Trail, trail_of};
-use st_prep::{Prepared, Words};
+use st_prep::Prepared;
 use st_state::State;
 
 // Stores `len` words from the word address `w`, those of `words` from place `from`.
@@ -31,16 +31,6 @@ fn restore(w: u32, len: u8, from: u8, words: &[u64; 32], state: &mut State)
     for k in 0..len {
         state.store(w + u32::from(k), words[(from + k) as usize]);
     }
-}
-
-// Restores the words that an entry wrote.
-fn restore_written(words: Words, before: &[u64; 32], state: &mut State)
-    requires runs { IsRuns words }
-    requires inside { AreInside words }
-    ensures { state.new ≡ restored_words words before.now state.old }
-{
-    restore(words.first, words.len, 0, before, state);
-    restore(words.first2, words.len2, words.len, before, state);
 }
 
 // Undoes the puts since the step, the last one first.
@@ -92,7 +82,10 @@ pub fn undo(kept: &KeptStep, state: &mut State)
     ensures { state.new ≡ state_undone kept.now state.old }
 {
     remove_puts(kept, state);
-    restore_written(kept.trail.writes, &kept.trail.before, state);
+    let words = kept.trail.writes;
+    let before = &kept.trail.before;
+    restore(words.first, words.len, 0, before, state);
+    restore(words.first2, words.len2, words.len, before, state);
     restore(0, 32, 0, &kept.trail.registers, state);
     restore_rest(&kept.trail, state);
 }

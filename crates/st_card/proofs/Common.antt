@@ -13,15 +13,14 @@ pub use Rattle.std.proofs.lemmas.Bool.Decides.{nat_tests}
 pub use Rattle.st_text.specs.Pieces.{pieces_of, IsFront, IsBehind, words, lacks, onto_first}
 pub use Rattle.st_card.specs.Cards.{card_at, cards_from, IsCardOf, columns, cards_of, first_column, is_blank, kind_of, fault_of, text_in}
 pub use Rattle.st_card.specs.declared.cards.Card.{Card}
-pub use Rattle.st_card.specs.Controls.{Asked, nothing_asked, is_in_range, last_passes, with_budget, with_delays, with_signal, with_dump, with_snap, with_back, with_control, with_words}
-pub use Rattle.st_card.specs.Keywords.{keyword_in, keyword_order, numbers_before, card_number, card_numbers, place, keyword_of, keyword_text, numbers_of, control_of}
+pub use Rattle.st_card.specs.Controls.{Asked, nothing_asked, is_in_range, last_passes, number_of, with_number, is_marked, with_mark, with_delays, with_signal, with_dump, with_snap, with_once, with_control, with_words}
+pub use Rattle.st_card.specs.Keywords.{keyword_in, keyword_order, numbers_before, card_number, card_numbers, most, place, keyword_of, keyword_text, numbers_of, control_of}
 pub use Rattle.st_text.specs.Number.{number_if_good, is_number, digits_value, reading, is_filled}
 pub use Rattle.st_card.specs.Limits.{is_signal, is_part, is_tick, AreDelays, IsWithinLimits, AreSignals, AreDumps, AreSnaps}
 pub use Rattle.st_card.specs.declared.control_cards.Signal.{Signal}
 pub use Rattle.st_card.specs.declared.keywords.Keyword.{Keyword}
-pub use Rattle.st_card.specs.declared.keywords.Keyword.TheVariants.{Listing, Mark, Number, Pair}
-pub use Rattle.st_card.specs.declared.keywords.Mark.TheVariants.{Trace, Time, Chart}
-pub use Rattle.st_card.specs.declared.keywords.Number.TheVariants.{Budget, Delays, Snap, Back}
+pub use Rattle.st_card.specs.declared.keywords.Keyword.TheVariants.{Listing, Mark, Number, Pair, Once}
 pub use Rattle.st_card.specs.declared.keywords.Pair.TheVariants.{Signals, Dump}
+pub use Rattle.st_card.specs.declared.keywords.Number.TheVariants.{Delays, Snap}
 pub use Rattle.st_card.specs.Written.{text_of_lines, IsShort, where_asked, unless_zero, asked_by, requests, IsShortControl, control_line}
 pub use Rattle.st_text.proofs.FrontLemmas.{front_of_front, front_of_whole, front_itself, front_taken, behind_whole, behind_behind, behind_itself}

@@ -1,11 +1,14 @@
 -- Adding a control card keeps the limits.
-use Rattle.st_card.proofs.Common.{◌≡◌, ◌≤◌, ◌<◌, ◌+◌, ◌-◌, ◌&&◌, ℕ, Bool, true, false, nat_le, nat_lt, List, [], ◌∷◌, ◌++◌, Option, Some, None, if◌then◌else◌, length, get_or, refl, ap, sym, subst, ◌∙◌, arith, lit≤, length-append, AllPass, option_map_or, IsStrictlyIncreasing, slice_get-get_or, get_or-append_seam, All-nil, All-append, Asked, nothing_asked, is_in_range, last_passes, keyword_in, keyword_order, numbers_before, card_number, card_numbers, number_if_good, is_number, digits_value, reading, words, columns, is_signal, is_part, is_tick, AreDelays, IsWithinLimits, Signal, Keyword, Listing, Mark, Number, Pair, Trace, Time, Chart, Budget, Delays, Snap, Back, Signals, Dump}
+use Rattle.st_card.proofs.Common.{◌≡◌, ◌≤◌, ◌<◌, ◌+◌, ◌-◌, ◌&&◌, ℕ, Bool, true, false, nat_le, nat_lt, List, [], ◌∷◌, ◌++◌, Option, Some, None, if◌then◌else◌, length, get_or, refl, ap, sym, subst, ◌∙◌, arith, lit≤, length-append, AllPass, option_map_or, IsStrictlyIncreasing, slice_get-get_or, get_or-append_seam, All-nil, All-append, Asked, nothing_asked, is_in_range, last_passes, keyword_in, keyword_order, numbers_before, card_number, card_numbers, number_if_good, is_number, digits_value, reading, words, columns, is_signal, is_part, is_tick, AreDelays, IsWithinLimits, Signal, Keyword, Listing, Mark, Number, Pair, Signals, Dump, number_of, with_number, is_marked, with_mark, most, Once, Delays, Snap}
 use Rattle.std.proofs.lemmas.Bool.{and_parts as both, leb-true as at_most, ltb-false as not_below, ltb-true as below}
 use Rattle.std.proofs.Math.ListN.{get_or-append}
 use Rattle.std.proofs.lemmas.List.Sums.{AllPass-from_list_all}
 use Rattle.std.proofs.lemmas.List.Sorted.{IsNonDecreasingBy-push}
 use Rattle.st_text.specs.declared.numbers.Reading.TheVariants.{Bad, Large, Good}
 use Rattle.st_card.specs.declared.keywords.ControlForm.TheVariants.{Card}
+use Rattle.st_card.specs.declared.keywords.Mark.{Mark as MarkKeyword}
+use Rattle.st_card.specs.declared.keywords.Once.{Once as OnceKeyword}
+use Rattle.st_card.specs.declared.keywords.Once.TheVariants.{Budget}
 use Rattle.st_card.specs.Controls as spec
 
 -- a conditional result is present only if its test is true
@@ -16,38 +19,44 @@ given false x new same = cc
 only : {X : Type 0} (p : X → Bool) (x : X) → p x ≡ true → AllPass p (x ∷ [])
 only p x holds = AllPass-from_list_all p (x ∷ []) (ap (λ b. b && true) holds)
 
--- adding the card of one keyword keeps the limits if the rest is unchanged
-budget-kept : (kept new : Asked) (numbers : List ℕ) → spec.with_budget kept numbers ≡ Some new →
-    IsWithinLimits kept → IsWithinLimits new
-budget-kept kept new [] same limits = cc
-budget-kept kept new (n ∷ []) same limits =
-    let parts = given _ _ new same in
-    let ranges = both _ _ (both _ _ parts.0).1 in
-    subst (λ (a : Asked). IsWithinLimits a) parts.1 (record {
-      budget = at_most n 10000000 ranges.1;
-      delays = limits.delays;
-      signals = limits.signals;
-      dumps = limits.dumps;
-      snaps = limits.snaps;
-      back = limits.back;
-    })
-budget-kept kept new (n ∷ m ∷ ms) same limits = cc
+-- limits are kept if the numbers are within theirs and the lists are unchanged
+within-by : (a b : Asked) → ((once : OnceKeyword) → number_of once b ≤ most once) → b.delays ≡ a.delays → b.signals ≡ a.signals →
+    b.dumps ≡ a.dumps → b.snaps ≡ a.snaps → IsWithinLimits a → IsWithinLimits b
+within-by a b numbers delays signals dumps snaps limits = record {
+  once = numbers;
+  delays = rw delays limits.delays;
+  signals = rw signals limits.signals;
+  dumps = rw dumps limits.dumps;
+  snaps = rw snaps limits.snaps;
+}
 
-back-kept : (kept new : Asked) (numbers : List ℕ) → spec.with_back kept numbers ≡ Some new →
+-- a list of requests has no numbers of requests that are allowed once
+numbers-beside : (once : OnceKeyword) (a : Asked) (delays snaps : List ℕ) (signals : List Signal) (dumps : List (ℕ × ℕ)) →
+    number_of once a ≤ most once →
+    number_of once (record a { delays = delays; signals = signals; dumps = dumps; snaps = snaps }) ≤ most once
+numbers-beside once a delays snaps signals dumps few = grind arith
+
+number-in : (once other : OnceKeyword) (n : ℕ) (a : Asked) → n ≤ most once → number_of other a ≤ most other →
+    number_of other (with_number once n a) ≤ most other
+number-in once other n a few most = grind arith
+
+lists-of-number : (once : OnceKeyword) (n : ℕ) (a : Asked) →
+    ((with_number once n a).delays ≡ a.delays) × ((with_number once n a).signals ≡ a.signals)
+    × ((with_number once n a).dumps ≡ a.dumps) × ((with_number once n a).snaps ≡ a.snaps)
+lists-of-number once n a = grind arith
+
+-- adding the card of one keyword keeps the limits if the rest is unchanged
+once-kept : (once : OnceKeyword) (kept new : Asked) (numbers : List ℕ) → spec.with_once once kept numbers ≡ Some new →
     IsWithinLimits kept → IsWithinLimits new
-back-kept kept new [] same limits = cc
-back-kept kept new (n ∷ []) same limits =
+once-kept once kept new [] same limits = cc
+once-kept once kept new (n ∷ []) same limits =
     let parts = given _ _ new same in
     let ranges = both _ _ (both _ _ parts.0).1 in
-    subst (λ (a : Asked). IsWithinLimits a) parts.1 (record {
-      budget = limits.budget;
-      delays = limits.delays;
-      signals = limits.signals;
-      dumps = limits.dumps;
-      snaps = limits.snaps;
-      back = at_most n 64 ranges.1;
-    })
-back-kept kept new (n ∷ m ∷ ms) same limits = cc
+    let few : n ≤ most once = at_most n (most once) ranges.1 in
+    let lists = lists-of-number once n kept in
+    subst (λ (a : Asked). IsWithinLimits a) parts.1
+    (within-by kept (with_number once n kept) (λ other. number-in once other n kept few (limits.once other)) lists.0 lists.1 lists.2 lists.3 limits)
+once-kept once kept new (n ∷ m ∷ ms) same limits = cc
 
 delays-kept : (kept new : Asked) (numbers : List ℕ) → spec.with_delays kept numbers ≡ Some new →
     IsWithinLimits kept → IsWithinLimits new
@@ -57,7 +66,7 @@ delays-kept kept new (n ∷ ns) same limits =
     let tests = both _ _ parts.0 in
     let few : length kept.delays + length (n ∷ ns) ≤ 4096 = at_most _ 4096 tests.0 in
     subst (λ (a : Asked). IsWithinLimits a) parts.1 (record {
-      budget = limits.budget;
+      once = λ once. numbers-beside once kept _ _ _ _ (limits.once once);
       delays = record {
         each = All-append (λ d. is_in_range 1 255 d ≡ true) kept.delays (n ∷ ns) limits.delays.each (AllPass-from_list_all (is_in_range 1 255) (n ∷ ns) tests.1);
         few = omega (arith, few, length-append kept.delays (n ∷ ns));
@@ -65,7 +74,6 @@ delays-kept kept new (n ∷ ns) same limits =
       signals = limits.signals;
       dumps = limits.dumps;
       snaps = limits.snaps;
-      back = limits.back;
     })
 
 dump-kept : (kept new : Asked) (numbers : List ℕ) → spec.with_dump kept numbers ≡ Some new →
@@ -79,7 +87,7 @@ dump-kept kept new (first ∷ last ∷ []) same limits =
     let room : length kept.dumps < 16 = below _ 16 sizes.0 in
     let part : is_part (first, last) ≡ true = ap (λ b. b && nat_le last 98303) sizes.1 ∙ tests.1 in
     subst (λ (a : Asked). IsWithinLimits a) parts.1 (record {
-      budget = limits.budget;
+      once = λ once. numbers-beside once kept _ _ _ _ (limits.once once);
       delays = limits.delays;
       signals = limits.signals;
       dumps = record {
@@ -87,7 +95,6 @@ dump-kept kept new (first ∷ last ∷ []) same limits =
         few = omega (arith, room, length-append kept.dumps ((first, last) ∷ []));
       };
       snaps = limits.snaps;
-      back = limits.back;
     })
 dump-kept kept new (first ∷ last ∷ n ∷ ns) same limits = cc
 
@@ -113,7 +120,7 @@ signal-kept kept new (count ∷ indicator ∷ []) same limits =
     let room : length kept.signals < 4096 = below _ 4096 sizes.0 in
     let good : is_signal signal ≡ true = ap (λ b. b && nat_le indicator 13) sizes.1 ∙ ranges.1 in
     subst (λ (a : Asked). IsWithinLimits a) parts.1 (record {
-      budget = limits.budget;
+      once = λ once. numbers-beside once kept _ _ _ _ (limits.once once);
       delays = limits.delays;
       signals = record {
         each = All-append (λ s. is_signal s ≡ true) kept.signals (signal ∷ []) limits.signals.each (only is_signal signal good);
@@ -123,7 +130,6 @@ signal-kept kept new (count ∷ indicator ∷ []) same limits =
       };
       dumps = limits.dumps;
       snaps = limits.snaps;
-      back = limits.back;
     })
 signal-kept kept new (count ∷ indicator ∷ n ∷ ns) same limits = cc
 
@@ -158,7 +164,7 @@ snap-kept kept new (tick ∷ []) short same limits =
     let tests = both _ _ parts.0 in
     let room : length kept.snaps < 64 = below _ 64 tests.0 in
     subst (λ (a : Asked). IsWithinLimits a) parts.1 (record {
-      budget = limits.budget;
+      once = λ once. numbers-beside once kept _ _ _ _ (limits.once once);
       delays = limits.delays;
       signals = limits.signals;
       dumps = limits.dumps;
@@ -168,66 +174,51 @@ snap-kept kept new (tick ∷ []) short same limits =
             (λ some. below _ tick (last_item (λ t. nat_lt t tick) kept.snaps tests.1 0 some));
         few = omega (arith, room, length-append kept.snaps (tick ∷ []));
       };
-      back = limits.back;
     })
 snap-kept kept new (tick ∷ n ∷ ns) short same limits = cc
 
--- flags have no limits, so changing them keeps the limits
-marks-kept : (kept : Asked) (list trace time chart : Bool) → IsWithinLimits kept →
-    IsWithinLimits (record kept { list = list; trace = trace; time = time; chart = chart })
-marks-kept kept list trace time chart limits = record {
-  budget = limits.budget;
+-- marks have no limits, so making their requests keeps the limits
+mark-parts : (mark : MarkKeyword) (made : Bool) (once : OnceKeyword) (a : Asked) →
+    (number_of once (with_mark mark made a) ≡ number_of once a) × ((with_mark mark made a).delays ≡ a.delays)
+    × ((with_mark mark made a).signals ≡ a.signals) × ((with_mark mark made a).dumps ≡ a.dumps) × ((with_mark mark made a).snaps ≡ a.snaps)
+mark-parts mark made once a = grind arith
+
+flag-kept : (b : Bool) (kept marked new : Asked) (numbers : List ℕ) → IsWithinLimits marked → spec.with_flag b marked numbers ≡ Some new →
+    IsWithinLimits new
+flag-kept true kept marked new [] limits same = cc
+flag-kept false kept marked new [] limits same =
+    let is_new : marked ≡ new = cc in
+    subst (λ (a : Asked). IsWithinLimits a) is_new limits
+flag-kept b kept marked new (n ∷ ns) limits same = cc
+
+mark-kept : (mark : MarkKeyword) (kept : Asked) → IsWithinLimits kept → IsWithinLimits (with_mark mark true kept)
+mark-kept mark kept limits =
+    let parts = λ (once : OnceKeyword). mark-parts mark true once kept in
+    let lists = parts Budget in
+    within-by kept (with_mark mark true kept) (λ once. rw (parts once).0 (limits.once once)) lists.1 lists.2 lists.3 lists.4 limits
+
+listed-beside : (once : OnceKeyword) (a : Asked) → number_of once a ≤ most once → number_of once (record a { list = true }) ≤ most once
+listed-beside once a few = grind arith
+
+list-kept : (kept : Asked) → IsWithinLimits kept → IsWithinLimits (record kept { list = true })
+list-kept kept limits = record {
+  once = λ once. listed-beside once kept (limits.once once);
   delays = limits.delays;
   signals = limits.signals;
   dumps = limits.dumps;
   snaps = limits.snaps;
-  back = limits.back;
 }
-
-mark-kept : (b : Bool) (kept marked new : Asked) → IsWithinLimits marked → (if b then None else Some marked) ≡ Some new →
-    IsWithinLimits new
-mark-kept true kept marked new limits same = cc
-mark-kept false kept marked new limits same =
-    let is_new : marked ≡ new = cc in
-    subst (λ (a : Asked). IsWithinLimits a) is_new limits
-
-list-kept : (kept new : Asked) (numbers : List ℕ) → spec.with_once kept.list (record kept { list = true }) numbers ≡ Some new →
-    IsWithinLimits kept → IsWithinLimits new
-list-kept kept new [] same limits =
-    mark-kept kept.list kept _ new (marks-kept kept true kept.trace kept.time kept.chart limits) same
-list-kept kept new (n ∷ ns) same limits = cc
-
-trace-kept : (kept new : Asked) (numbers : List ℕ) → spec.with_once kept.trace (record kept { trace = true }) numbers ≡ Some new →
-    IsWithinLimits kept → IsWithinLimits new
-trace-kept kept new [] same limits =
-    mark-kept kept.trace kept _ new (marks-kept kept kept.list true kept.time kept.chart limits) same
-trace-kept kept new (n ∷ ns) same limits = cc
-
-time-kept : (kept new : Asked) (numbers : List ℕ) → spec.with_once kept.time (record kept { time = true }) numbers ≡ Some new →
-    IsWithinLimits kept → IsWithinLimits new
-time-kept kept new [] same limits =
-    mark-kept kept.time kept _ new (marks-kept kept kept.list kept.trace true kept.chart limits) same
-time-kept kept new (n ∷ ns) same limits = cc
-
-chart-kept : (kept new : Asked) (numbers : List ℕ) → spec.with_once kept.chart (record kept { chart = true }) numbers ≡ Some new →
-    IsWithinLimits kept → IsWithinLimits new
-chart-kept kept new [] same limits =
-    mark-kept kept.chart kept _ new (marks-kept kept kept.list kept.trace kept.time true limits) same
-chart-kept kept new (n ∷ ns) same limits = cc
 
 -- adding the request of a keyword keeps the limits
 pub keyword-kept : (keyword : Keyword) (kept new : Asked) (numbers : List ℕ) → AllPass is_tick numbers →
     spec.with_keyword keyword kept numbers ≡ Some new → IsWithinLimits kept → IsWithinLimits new
-keyword-kept (Number Budget) kept new numbers short same limits = budget-kept kept new numbers same limits
+keyword-kept Listing kept new numbers short same limits = flag-kept kept.list kept _ new numbers (list-kept kept limits) same
+keyword-kept (Mark mark) kept new numbers short same limits = flag-kept _ kept _ new numbers (mark-kept mark kept limits) same
+keyword-kept (Once once) kept new numbers short same limits = once-kept once kept new numbers same limits
 keyword-kept (Number Delays) kept new numbers short same limits = delays-kept kept new numbers same limits
+keyword-kept (Number Snap) kept new numbers short same limits = snap-kept kept new numbers short same limits
 keyword-kept (Pair Signals) kept new numbers short same limits = signal-kept kept new numbers same limits
 keyword-kept (Pair Dump) kept new numbers short same limits = dump-kept kept new numbers same limits
-keyword-kept (Number Snap) kept new numbers short same limits = snap-kept kept new numbers short same limits
-keyword-kept (Number Back) kept new numbers short same limits = back-kept kept new numbers same limits
-keyword-kept Listing kept new numbers short same limits = list-kept kept new numbers same limits
-keyword-kept (Mark Trace) kept new numbers short same limits = trace-kept kept new numbers same limits
-keyword-kept (Mark Time) kept new numbers short same limits = time-kept kept new numbers same limits
-keyword-kept (Mark Chart) kept new numbers short same limits = chart-kept kept new numbers same limits
 
 good-short : (a b : Bool) (v n : ℕ) → nat_le v 999999999999 ≡ b →
     number_if_good (if a then (if b then Good v else Large) else Bad) ≡ Some n → is_tick n ≡ true
@@ -281,10 +272,13 @@ words-kept kept new (word ∷ more) same limits =
 pub added-kept : (kept new : Asked) (text : List ℕ) → spec.asked_with_card kept text ≡ Some new → IsWithinLimits kept → IsWithinLimits new
 added-kept kept new text same limits = words-kept kept new (words (columns text)) same limits
 
+none-within : (once : OnceKeyword) → number_of once nothing_asked ≤ most once
+none-within once = grind arith
+
 -- no requests are within the limits
 pub nothing-within : IsWithinLimits nothing_asked
 nothing-within = record {
-  budget = lit≤ tt;
+  once = none-within;
   delays = record { each = All-nil (λ n. is_in_range 1 255 n ≡ true); few = lit≤ tt };
   signals = record {
     each = All-nil (λ s. is_signal s ≡ true);
@@ -293,17 +287,19 @@ nothing-within = record {
   };
   dumps = record { each = All-nil (λ p. is_part p ≡ true); few = lit≤ tt };
   snaps = record { each = All-nil (λ t. is_tick t ≡ true); rising = λ i below. omega arith; few = lit≤ tt };
-  back = lit≤ tt;
 }
+
+others-beside : (once : OnceKeyword) (a : Asked) (budget : ℕ) (delays : List ℕ) → budget ≤ 10000000 → number_of once a ≤ most once →
+    number_of once (record a { budget = budget; delays = delays }) ≤ most once
+others-beside once a budget delays few own = grind arith
 
 -- requests with another budget and other delays
 pub others-within : (a : Asked) (budget : ℕ) (delays : List ℕ) → IsWithinLimits a → budget ≤ 10000000 → AreDelays delays →
     IsWithinLimits (record a { budget = budget; delays = delays })
 others-within a budget delays limits few are = record {
-  budget = few;
+  once = λ once. others-beside once a budget delays few (limits.once once);
   delays = are;
   signals = limits.signals;
   dumps = limits.dumps;
   snaps = limits.snaps;
-  back = limits.back;
 }

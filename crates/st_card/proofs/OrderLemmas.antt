@@ -1,5 +1,6 @@
 -- Requests within their limits can be added one by one.
-use Rattle.st_card.proofs.Common.{◌≡◌, ◌≤◌, ◌<◌, ◌+◌, ◌-◌, ◌==◌, ℕ, Bool, true, false, nat_le, nat_lt, List, [], ◌∷◌, ◌++◌, length, get_or, Option, Some, None, if◌then◌else◌, refl, ap, sym, ◌∙◌, length-append, arith, AllPass, IsNonDecreasingBy, IsStrictlyIncreasing, option_map_or, slice_get-get_or, get_or_append_left, get_or_at, get_or_default, Asked, is_in_range, last_passes, with_budget, with_delays, with_signal, with_dump, with_snap, with_back, is_signal, is_part, is_tick, AreDelays, AreSignals, AreDumps, AreSnaps, IsShort, Signal}
+use Rattle.st_card.proofs.Common.{◌≡◌, ◌≤◌, ◌<◌, ◌+◌, ◌-◌, ◌==◌, ℕ, Bool, true, false, nat_le, nat_lt, List, [], ◌∷◌, ◌++◌, length, get_or, Option, Some, None, if◌then◌else◌, refl, ap, sym, ◌∙◌, length-append, arith, AllPass, IsNonDecreasingBy, IsStrictlyIncreasing, option_map_or, slice_get-get_or, get_or_append_left, get_or_at, get_or_default, Asked, is_in_range, last_passes, with_delays, with_signal, with_dump, with_snap, is_signal, is_part, is_tick, AreDelays, AreSignals, AreDumps, AreSnaps, IsShort, Signal, number_of, with_number, with_once, most}
+use Rattle.st_card.specs.declared.keywords.Once.{Once as OnceKeyword}
 use Rattle.std.proofs.lemmas.Bool.{and_from as both_true, and_parts as holds_both, le-leb as at_most, leb-true as is_at_most, lt-ltb as below}
 
 -- a conditional result is present if its test is true
@@ -53,9 +54,10 @@ last_tick done rest t order =
     below _ t (omega (arith, ordered, left, right, same)))
 
 module _ (a : Asked) where
-  pub budget-asked : (n : ℕ) → (a.budget == 0) ≡ true → 1 ≤ n → n ≤ 10000000 → with_budget a (n ∷ []) ≡ Some (record a { budget = n })
-  budget-asked n none some few =
-      taken _ _ (both_true (a.budget == 0) (is_in_range 1 10000000 n) none (both_true _ _ (at_most 1 n some) (at_most n 10000000 few)))
+  pub once-asked : (once : OnceKeyword) (n : ℕ) → (number_of once a == 0) ≡ true → 1 ≤ n → n ≤ most once →
+      with_once once a (n ∷ []) ≡ Some (with_number once n a)
+  once-asked once n none some few =
+      taken _ _ (both_true (number_of once a == 0) (is_in_range 1 (most once) n) none (both_true _ _ (at_most 1 n some) (at_most n (most once) few)))
 
   pub delay-asked : (d : ℕ) (rest : List ℕ) → AreDelays (a.delays ++ d ∷ rest) →
       with_delays a (d ∷ []) ≡ Some (record a { delays = a.delays ++ d ∷ [] })
@@ -85,10 +87,6 @@ module _ (a : Asked) where
       let room : nat_lt (length a.snaps) 64 ≡ true = below _ 64 (omega (arith, are.few, length-append a.snaps (t ∷ rest))) in
       taken _ _ (both_true _ _ room (last_tick a.snaps rest t are.rising))
 
-  pub back-asked : (k : ℕ) → (a.back == 0) ≡ true → 1 ≤ k → k ≤ 64 → with_back a (k ∷ []) ≡ Some (record a { back = k })
-  back-asked k none some few =
-      taken _ _ (both_true (a.back == 0) (is_in_range 1 64 k) none (both_true _ _ (at_most 1 k some) (at_most k 64 few)))
-
 pub delay-short : (done rest : List ℕ) (d : ℕ) → AreDelays (done ++ d ∷ rest) → IsShort d
 delay-short done rest d are =
     let range = holds_both (nat_le 1 d) (nat_le d 255) (one_passes (is_in_range 1 255) done rest d are.each) in
@@ -108,3 +106,7 @@ dump-short done rest p are =
 
 pub snap-short : (done rest : List ℕ) (t : ℕ) → AreSnaps (done ++ t ∷ rest) → IsShort t
 snap-short done rest t are = is_at_most t 999999999999 (one_passes is_tick done rest t are.each)
+
+-- the greatest number of a request that is allowed once has at most 12 digits
+pub once-short : (once : OnceKeyword) (n : ℕ) → n ≤ most once → IsShort n
+once-short once n few = grind arith

@@ -1,11 +1,13 @@
 -- Requests with a line: what adding one changes, and that requests within their limits can be added
 -- one by one.
-use Rattle.st_card.proofs.Common.{◌≡◌, ◌≤◌, ◌+◌, ◌==◌, ◌&&◌, ℕ, Bool, true, false, nat_le, nat_lt, List, [], ◌∷◌, ◌++◌, length, map, Some, if◌then◌else◌, refl, ap, sym, subst, arith, append_assoc, append-nil, flat_map, nat_tests, map-append, length-map, All-nil, All-cons, All-append, is_filled, lacks, keyword_order, place, keyword_of, keyword_text, keyword_in, numbers_of, control_of, Asked, nothing_asked, with_control, AreDelays, AreSignals, AreDumps, AreSnaps, IsWithinLimits, where_asked, unless_zero, asked_by, requests, IsShortControl, Signal, Trace, Time, Chart, Budget, Delays, Snap, Back, Signals, Dump, Keyword, Listing, Mark, Number, Pair}
+use Rattle.st_card.proofs.Common.{◌≡◌, ◌≤◌, ◌+◌, ◌==◌, ℕ, Bool, true, false, nat_le, List, [], ◌∷◌, ◌++◌, length, map, Some, refl, ap, sym, subst, arith, append_assoc, append-nil, flat_map, nat_tests, map-append, length-map, All-nil, All-cons, All-append, is_filled, lacks, keyword_order, place, keyword_of, keyword_text, keyword_in, numbers_of, control_of, Asked, nothing_asked, with_control, AreDelays, AreSignals, AreDumps, AreSnaps, IsWithinLimits, where_asked, unless_zero, asked_by, requests, IsShortControl, Signal, Signals, Dump, Keyword, Listing, Mark, Number, Pair, take, number_of, with_number, is_marked, with_mark, most, Once, Delays, Snap}
 use Rattle.std.specs.List.{All}
 use Rattle.std.proofs.lemmas.Bool.{cond_both, eqb-true as same_number}
 use Rattle.st_card.specs.declared.keywords.Control.{Control}
 use Rattle.st_card.specs.declared.keywords.ControlForm.{ControlForm}
-use Rattle.st_card.proofs.OrderLemmas.{budget-asked, delay-asked, signal-asked, dump-asked, snap-asked, back-asked, delay-short, signal-short, dump-short, snap-short}
+use Rattle.st_card.proofs.OrderLemmas.{once-asked, once-short, delay-asked, signal-asked, dump-asked, snap-asked, delay-short, signal-short, dump-short, snap-short}
+use Rattle.st_card.specs.declared.keywords.Mark.{Mark as MarkKeyword}
+use Rattle.st_card.specs.declared.keywords.Once.{Once as OnceKeyword}
 use Rattle.st_card.specs.declared.keywords.Control.TheVariants as asks
 
 -- ---- words
@@ -28,13 +30,10 @@ control-parts keyword numbers c same = grind arith
 
 -- the requests with one more, whether it is allowed or not
 abbrev pub asked_then : Asked → Control → Asked
-asked_then a (asks.Mark Trace) = record a { trace = true }
-asked_then a (asks.Mark Time) = record a { time = true }
-asked_then a (asks.Mark Chart) = record a { chart = true }
-asked_then a (asks.Number Budget n) = record a { budget = n }
+asked_then a (asks.Mark mark) = with_mark mark true a
+asked_then a (asks.Once once n) = with_number once n a
 asked_then a (asks.Number Delays n) = record a { delays = a.delays ++ n ∷ [] }
 asked_then a (asks.Number Snap t) = record a { snaps = a.snaps ++ t ∷ [] }
-asked_then a (asks.Number Back k) = record a { back = k }
 asked_then a (asks.Pair Signals c i) = record a { signals = a.signals ++ record { count = c; indicator = i } ∷ [] }
 asked_then a (asks.Pair Dump f t) = record a { dumps = a.dumps ++ (f, t) ∷ [] }
 
@@ -76,54 +75,69 @@ steps-each keyword at line Fits step done (x ∷ rest) fits =
     let regrouped = append_assoc done (x ∷ []) rest in
     (at (done ++ x ∷ []), this.0, this.1, this.2, rw regrouped at (steps-each keyword at line Fits step (done ++ x ∷ []) rest (rw regrouped fits)))
 
--- a request if a flag is set
-steps-marked : (keyword : Keyword) (at : Bool → Asked) (c : Control) → IsStep keyword (at false) c (at true) → (b : Bool) →
-    Steps keyword (at false) (where_asked b c) (at b)
-steps-marked keyword at c step false = refl
-steps-marked keyword at c step true = one keyword (at false) (at true) c step
+-- the request of a mark, if it is made
+steps-marked : (mark : MarkKeyword) (made : Bool) (a b : Asked) → is_marked mark b ≡ false → with_mark mark false b ≡ b →
+    Steps (Mark mark) b (where_asked made (asks.Mark mark)) (with_mark mark made b)
+steps-marked mark false a b none same = sym same
+steps-marked mark true a b none same = one (Mark mark) b (with_mark mark true b) (asks.Mark mark) (rw none refl, refl, tt)
 
--- a request if a number is not zero
-steps-counted : (keyword : Keyword) (at : ℕ → Asked) (c : Control) (n : ℕ) → (1 ≤ n → IsStep keyword (at 0) c (at n)) →
-    Steps keyword (at 0) (unless_zero n c) (at n)
-steps-counted keyword at c n step =
-    cond_both (n == 0) [] (c ∷ []) (λ cs. Steps keyword (at 0) cs (at n))
-    (λ none. ap at (sym (same_number n 0 none)))
-    (λ some. one keyword (at 0) (at n) c (step (grind (arith, nat_tests))))
+-- a request that is allowed once, if its number is not zero
+steps-counted : (once : OnceKeyword) (n : ℕ) (b : Asked) → number_of once b ≡ 0 → with_number once 0 b ≡ b → n ≤ most once →
+    Steps (Once once) b (unless_zero n (asks.Once once n)) (with_number once n b)
+steps-counted once n b none same few =
+    cond_both (n == 0) [] (asks.Once once n ∷ []) (λ cs. Steps (Once once) b cs (with_number once n b))
+    (λ zero. rw (same_number n 0 zero) (sym same))
+    (λ some. one (Once once) b (with_number once n b) (asks.Once once n)
+    (once-asked b once n (rw none refl) (grind (arith, nat_tests)) few, refl, once-short once n few))
 
 -- keywords that are consecutive in the order from a position on
 abbrev AreNext : ℕ → List Keyword → Type 0
 AreNext i [] = Unit {0}
 AreNext i (keyword ∷ more) = (place keyword ≡ i) × AreNext (i + 1) more
 
+-- requests with those of one keyword taken from others
+abbrev copied : Keyword → Asked → Asked → Asked
+copied Listing from to = to
+copied (Mark mark) from to = with_mark mark (is_marked mark from) to
+copied (Once once) from to = with_number once (number_of once from) to
+copied (Number Delays) from to = record to { delays = from.delays }
+copied (Number Snap) from to = record to { snaps = from.snaps }
+copied (Pair Signals) from to = record to { signals = from.signals }
+copied (Pair Dump) from to = record to { dumps = from.dumps }
+
+-- requests with those of some keywords taken from others
+abbrev all_copied : List Keyword → Asked → Asked → Asked
+all_copied [] from to = to
+all_copied (keyword ∷ more) from to = all_copied more from (copied keyword from to)
+
+in-order : AreNext 0 keyword_order
+in-order = grind arith
+
 module _ (a : Asked) where
   -- the requests with the keywords before a position
   abbrev pub asked_before : ℕ → Asked
-  asked_before i = record {
-    budget = if nat_lt 0 i then a.budget else 0;
-    delays = if nat_lt 1 i then a.delays else [];
-    signals = if nat_lt 2 i then a.signals else [];
-    dumps = if nat_lt 3 i then a.dumps else [];
-    snaps = if nat_lt 7 i then a.snaps else [];
-    list = false;
-    trace = nat_lt 4 i && a.trace;
-    time = nat_lt 5 i && a.time;
-    chart = nat_lt 6 i && a.chart;
-    back = if nat_lt 8 i then a.back else 0;
-  }
+  asked_before i = all_copied (take i keyword_order) a nothing_asked
+
+  -- those of the next keyword are taken, of which there are none yet
+  next-before : (keyword : Keyword) → asked_before (place keyword + 1) ≡ copied keyword a (asked_before (place keyword))
+  next-before keyword = grind arith
+
+  unmarked : (mark : MarkKeyword) → let b = asked_before (place (Mark mark)) in (is_marked mark b ≡ false) × (with_mark mark false b ≡ b)
+  unmarked mark = grind arith
+
+  uncounted : (once : OnceKeyword) → let b = asked_before (place (Once once)) in (number_of once b ≡ 0) × (with_number once 0 b ≡ b)
+  uncounted once = grind arith
 
   module _ (limits : IsWithinLimits a) where
     -- the requests with a keyword lead from those before it to those that include its own
     pub steps-of : (keyword : Keyword) → Steps keyword (asked_before (place keyword)) (asked_by keyword a) (asked_before (place keyword + 1))
     steps-of Listing = refl
-    steps-of (Mark Trace) = steps-marked (Mark Trace) (λ b. record (asked_before 4) { trace = b }) (asks.Mark Trace) (refl, refl, tt) a.trace
-    steps-of (Mark Time) = steps-marked (Mark Time) (λ b. record (asked_before 5) { time = b }) (asks.Mark Time) (refl, refl, tt) a.time
-    steps-of (Mark Chart) = steps-marked (Mark Chart) (λ b. record (asked_before 6) { chart = b }) (asks.Mark Chart) (refl, refl, tt) a.chart
-    steps-of (Number Budget) =
-        steps-counted (Number Budget) (λ n. record (asked_before 0) { budget = n }) (asks.Number Budget a.budget) a.budget
-        (λ some. (budget-asked (asked_before 0) a.budget refl some limits.budget, refl, omega (arith, limits.budget)))
-    steps-of (Number Back) =
-        steps-counted (Number Back) (λ n. record (asked_before 8) { back = n }) (asks.Number Back a.back) a.back
-        (λ some. (back-asked (asked_before 8) a.back refl some limits.back, refl, omega (arith, limits.back)))
+    steps-of (Mark mark) =
+        let none = unmarked mark in
+        rw (next-before (Mark mark)) (steps-marked mark (is_marked mark a) a (asked_before (place (Mark mark))) none.0 none.1)
+    steps-of (Once once) =
+        let none = uncounted once in
+        rw (next-before (Once once)) (steps-counted once (number_of once a) (asked_before (place (Once once))) none.0 none.1 (limits.once once))
     steps-of (Number Delays) =
         let at = λ (done : List ℕ). record (asked_before 1) { delays = done } in
         steps-each (Number Delays) at (λ n. asks.Number Delays n) (λ xs. AreDelays xs)
@@ -145,8 +159,7 @@ module _ (a : Asked) where
     pub few-asked : (keyword : Keyword) → length (asked_by keyword a) ≤ 4096
     few-asked Listing = omega arith
     few-asked (Mark mark) = grind arith
-    few-asked (Number Budget) = grind arith
-    few-asked (Number Back) = grind arith
+    few-asked (Once once) = grind arith
     few-asked (Number Delays) = simp length-map (omega (arith, limits.delays.few))
     few-asked (Number Snap) = simp length-map (omega (arith, limits.snaps.few))
     few-asked (Pair Signals) = simp length-map (omega (arith, limits.signals.few))
@@ -167,7 +180,7 @@ module _ (a : Asked) where
         (rw next.0 at (each keyword)) (rw same at (steps-from more (i + 1) next.1))
 
     pub all-steps : R nothing_asked (requests a) (record a { list = false })
-    all-steps = steps-from keyword_order 0 (refl, (refl, (refl, (refl, (refl, (refl, (refl, (refl, (refl, (refl, tt))))))))))
+    all-steps = steps-from keyword_order 0 in-order
 
 steps-short : (keyword : Keyword) (b c : Asked) (cs : List Control) → Steps keyword b cs c → All IsShortControl cs
 steps-short keyword b c [] steps = All-nil IsShortControl
@@ -196,11 +209,8 @@ module _ (P : Control → Type 0) where
 -- the requests with a keyword have that keyword
 pub asked-keyword : (keyword : Keyword) (a : Asked) → All (λ c. keyword_of c ≡ keyword) (asked_by keyword a)
 asked-keyword Listing a = All-nil _
-asked-keyword (Mark Trace) a = where-all (λ c. keyword_of c ≡ Mark Trace) a.trace (asks.Mark Trace) refl
-asked-keyword (Mark Time) a = where-all (λ c. keyword_of c ≡ Mark Time) a.time (asks.Mark Time) refl
-asked-keyword (Mark Chart) a = where-all (λ c. keyword_of c ≡ Mark Chart) a.chart (asks.Mark Chart) refl
-asked-keyword (Number Budget) a = unless-all (λ c. keyword_of c ≡ Number Budget) a.budget (asks.Number Budget a.budget) refl
-asked-keyword (Number Back) a = unless-all (λ c. keyword_of c ≡ Number Back) a.back (asks.Number Back a.back) refl
+asked-keyword (Mark mark) a = where-all (λ c. keyword_of c ≡ Mark mark) (is_marked mark a) (asks.Mark mark) refl
+asked-keyword (Once once) a = unless-all (λ c. keyword_of c ≡ Once once) (number_of once a) (asks.Once once (number_of once a)) refl
 asked-keyword (Number Delays) a = each-all (λ c. keyword_of c ≡ Number Delays) (λ n. asks.Number Delays n) (λ n. refl) a.delays
 asked-keyword (Number Snap) a = each-all (λ c. keyword_of c ≡ Number Snap) (λ t. asks.Number Snap t) (λ t. refl) a.snaps
 asked-keyword (Pair Signals) a = each-all (λ c. keyword_of c ≡ Pair Signals) (λ s. asks.Pair Signals s.count s.indicator) (λ s. refl) a.signals

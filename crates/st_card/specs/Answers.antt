@@ -2,7 +2,7 @@
 -- says of the controls before and after the call.
 --
 -- Proved: by their `ensures` clauses these calls do what definitions here say: `add`
--- (control_cards.rt), `add_back` (control_cards.rt), `add_budget` (control_cards.rt), `add_control`
+-- (control_cards.rt), `add_control` (control_cards.rt), `add_delays` (control_cards.rt), `add_dump`
 -- (control_cards.rt), and others.
 -- Laws: none names a definition of this file itself.
 -- Change: no page fixes these definitions, since no contract of a program unfolds to them; they

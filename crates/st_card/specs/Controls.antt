@@ -1,9 +1,9 @@
 -- The requests of a job's control cards.
 --
--- Proved: by their `ensures` clauses these calls do what definitions here say: `add`
--- (control_cards.rt), `add_back` (control_cards.rt), `add_budget` (control_cards.rt), `add_control`
+-- Proved: by their `ensures` clauses these calls do what definitions here say: `add_mark`
+-- (control_cards.rt), `add` (control_cards.rt), `add_control` (control_cards.rt), `add_delays`
 -- (control_cards.rt), and others.
--- Read by: definitions in Limits, Answers, Written, Forming of st_asm, and others.
+-- Read by: definitions in Limits, Written, Answers, Forming of st_asm, and others.
 -- Laws: ControlsComeBack (specs/Laws.antt of st_dis), DelaysChangeNothingButTheTimetable
 -- (specs/DelayLaws.antt of st_top), MarksAreTheReport (specs/DelayLaws.antt of st_top).
 -- Change: the meaning is fixed by docs/strap.md, since the contracts of `st_top::stretch` and
@@ -14,18 +14,21 @@ use Rattle.std.specs.List.{list_all}
 use Rattle.std.specs.Option.{option_map_or}
 use Rattle.st_bits.specs.declared.limits.TheConstants.{LAST_WORD, MOST_INSTRUCTIONS, LONGEST_LIST, MOST_DELAY}
 use Rattle.st_bits.specs.declared.indicators.TheConstants.{CHANNEL_SIGNAL}
-use Rattle.st_card.specs.declared.limits.TheConstants.{MOST_DUMPS, MOST_SNAPS, MOST_BACK}
+use Rattle.st_card.specs.declared.limits.TheConstants.{MOST_DUMPS, MOST_SNAPS}
 use Rattle.st_text.specs.Pieces.{words}
 use Rattle.st_card.specs.Cards.{columns}
 use Rattle.st_card.specs.declared.control_cards.Signal.{Signal}
 use Rattle.st_card.specs.declared.keywords.Keyword.{Keyword}
-use Rattle.st_card.specs.declared.keywords.Keyword.TheVariants.{Listing, Mark, Number, Pair}
+use Rattle.st_card.specs.declared.keywords.Keyword.TheVariants.{Listing, Mark, Once, Number, Pair}
+use Rattle.st_card.specs.declared.keywords.Mark.{Mark as MarkKeyword}
 use Rattle.st_card.specs.declared.keywords.Mark.TheVariants.{Trace, Time, Chart}
-use Rattle.st_card.specs.declared.keywords.Number.TheVariants.{Budget, Delays, Snap, Back}
+use Rattle.st_card.specs.declared.keywords.Once.{Once as OnceKeyword}
+use Rattle.st_card.specs.declared.keywords.Once.TheVariants.{Budget, Back}
+use Rattle.st_card.specs.declared.keywords.Number.TheVariants.{Delays, Snap}
 use Rattle.st_card.specs.declared.keywords.Pair.TheVariants.{Signals, Dump}
 use Rattle.st_card.specs.declared.keywords.Control.{Control}
 use Rattle.st_card.specs.declared.keywords.ControlForm.TheVariants.{Card}
-use Rattle.st_card.specs.Keywords.{keyword_order, keyword_in, keyword_of, numbers_of, card_numbers}
+use Rattle.st_card.specs.Keywords.{keyword_order, most, keyword_in, keyword_of, numbers_of, card_numbers}
 
 -- the requests of control cards: without a card numbers are 0, lists empty and flags off
 pub record Asked : Type 0 where
@@ -55,6 +58,28 @@ nothing_asked = record {
   back = 0;
 }
 
+-- whether the request of a mark is made
+abbrev pub is_marked : MarkKeyword → Asked → Bool
+is_marked Trace asked = asked.trace
+is_marked Time asked = asked.time
+is_marked Chart asked = asked.chart
+
+-- the requests with that of a mark made or not
+abbrev pub with_mark : MarkKeyword → Bool → Asked → Asked
+with_mark Trace made asked = record asked { trace = made }
+with_mark Time made asked = record asked { time = made }
+with_mark Chart made asked = record asked { chart = made }
+
+-- the number of a request that is allowed once, 0 without it
+abbrev pub number_of : OnceKeyword → Asked → ℕ
+number_of Budget asked = asked.budget
+number_of Back asked = asked.back
+
+-- the requests with this number in one that is allowed once
+abbrev pub with_number : OnceKeyword → ℕ → Asked → Asked
+with_number Budget n asked = record asked { budget = n }
+with_number Back n asked = record asked { back = n }
+
 -- whether a number is in a range
 abbrev pub is_in_range : ℕ → ℕ → ℕ → Bool
 is_in_range least most n = nat_le least n && nat_le n most
@@ -64,12 +89,11 @@ abbrev pub last_passes : {X : Type 0} → (X → Bool) → List X → Bool
 last_passes test [] = true
 last_passes test (item ∷ more) = option_map_or test (slice_get (item ∷ more) (length more)) true
 
--- the requests with `/BUDGET n` added: allowed once, n from 1 to 10,000,000
-abbrev pub with_budget : Asked → List ℕ → Option Asked
-with_budget kept (n ∷ []) =
-    if kept.budget == 0 && is_in_range 1 MOST_INSTRUCTIONS n then Some (record kept { budget = n })
-    else None
-with_budget kept _ = None
+-- the requests with one added that is allowed once, its number from 1 to its greatest one
+abbrev pub with_once : OnceKeyword → Asked → List ℕ → Option Asked
+with_once once kept (n ∷ []) = if number_of once kept == 0 && is_in_range 1 (most once) n
+    then Some (with_number once n kept) else None
+with_once once kept _ = None
 
 -- the requests with `/DELAYS d d` added: one or more delays, each from 1 to 255, at most 4,096 over
 -- all cards
@@ -104,29 +128,20 @@ with_snap kept (n ∷ []) =
     then Some (record kept { snaps = kept.snaps ++ n ∷ [] }) else None
 with_snap kept _ = None
 
--- the requests with `/BACK k` added: allowed once, k from 1 to 64
-abbrev pub with_back : Asked → List ℕ → Option Asked
-with_back kept (k ∷ []) =
-    if kept.back == 0 && is_in_range 1 MOST_BACK k then Some (record kept { back = k }) else None
-with_back kept _ = None
-
 -- the requests with a further one, which is allowed once and without numbers
-abbrev pub with_once : Bool → Asked → List ℕ → Option Asked
-with_once asked new [] = if asked then None else Some new
-with_once asked new _ = None
+abbrev pub with_flag : Bool → Asked → List ℕ → Option Asked
+with_flag asked new [] = if asked then None else Some new
+with_flag asked new _ = None
 
 -- the requests with a card added that has this keyword and these numbers, if they are allowed
 abbrev pub with_keyword : Keyword → Asked → List ℕ → Option Asked
-with_keyword (Number Budget) kept = with_budget kept
+with_keyword Listing kept = with_flag kept.list (record kept { list = true })
+with_keyword (Mark mark) kept = with_flag (is_marked mark kept) (with_mark mark true kept)
+with_keyword (Once once) kept = with_once once kept
 with_keyword (Number Delays) kept = with_delays kept
+with_keyword (Number Snap) kept = with_snap kept
 with_keyword (Pair Signals) kept = with_signal kept
 with_keyword (Pair Dump) kept = with_dump kept
-with_keyword (Number Snap) kept = with_snap kept
-with_keyword (Number Back) kept = with_back kept
-with_keyword Listing kept = with_once kept.list (record kept { list = true })
-with_keyword (Mark Trace) kept = with_once kept.trace (record kept { trace = true })
-with_keyword (Mark Time) kept = with_once kept.time (record kept { time = true })
-with_keyword (Mark Chart) kept = with_once kept.chart (record kept { chart = true })
 
 -- the requests with one request added, if it is allowed
 abbrev pub with_control : Asked → Control → Option Asked

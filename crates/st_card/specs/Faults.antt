@@ -1,8 +1,7 @@
 -- The names of the faults of cards.
 --
 -- Proved: by their `ensures` clauses these calls do what definitions here say: `name` (faults.rt),
--- `text_of` (faults.rt), `refuse` (program.rt of st_account), `write_refusal` (program.rt of
--- st_account).
+-- `text_of` (faults.rt), `refuse` (program.rt of st_account).
 -- Read by: definitions in Output of st_top, Answers of st_account.
 -- Laws: none names a definition of this file itself.
 -- Change: the meaning is fixed by docs/strap.md, since the contracts of `st_top::stretch` and

@@ -3,23 +3,26 @@
 -- Proved: by their `ensures` clauses these calls do what definitions here say: `keyword_in`
 -- (keywords.rt), `place` (keywords.rt), `card_number` (keywords.rt), `control_in` (keywords.rt),
 -- and others.
--- Read by: definitions in Controls, Written, Order of st_object, Meaning of st_object, and others.
+-- Read by: definitions in Controls, Written, Limits, Order of st_object, and others.
 -- Laws: NumbersAgree (specs/Laws.antt of st_laws).
 -- Change: the meaning is fixed by docs/strap.md, since the contracts of `st_top::stretch` and
 -- `st_account::ledger` unfold to a definition here. The form is free, with the proofs that unfold
 -- it.
 use Rattle.std.specs.Prelude.{ℕ, Bool, true, false, nat_lt, List, [], ◌∷◌, ◌++◌, length, codes, Option, Some, None, if◌then◌else◌}
 use Rattle.std.specs.Option.{option_and_then}
-use Rattle.st_card.specs.declared.limits.TheConstants.{MOST_NUMBER}
+use Rattle.st_bits.specs.declared.limits.TheConstants.{MOST_INSTRUCTIONS}
+use Rattle.st_card.specs.declared.limits.TheConstants.{MOST_NUMBER, MOST_BACK}
 use Rattle.st_text.specs.Number.{number_up_to}
 use Rattle.st_text.specs.Pieces.{words}
 use Rattle.st_text.specs.Tables.{is_same}
 use Rattle.st_card.specs.Cards.{columns}
 use Rattle.st_card.specs.declared.keywords.Mark.TheVariants.{Trace, Time, Chart}
-use Rattle.st_card.specs.declared.keywords.Number.TheVariants.{Budget, Delays, Snap, Back}
+use Rattle.st_card.specs.declared.keywords.Once.{Once as OnceKeyword}
+use Rattle.st_card.specs.declared.keywords.Once.TheVariants.{Budget, Back}
+use Rattle.st_card.specs.declared.keywords.Number.TheVariants.{Delays, Snap}
 use Rattle.st_card.specs.declared.keywords.Pair.TheVariants.{Signals, Dump}
 use Rattle.st_card.specs.declared.keywords.Keyword.{Keyword}
-use Rattle.st_card.specs.declared.keywords.Keyword.TheVariants.{Listing, Mark, Number, Pair}
+use Rattle.st_card.specs.declared.keywords.Keyword.TheVariants.{Listing, Mark, Once, Number, Pair}
 use Rattle.st_card.specs.declared.keywords.Control.{Control}
 use Rattle.st_card.specs.declared.keywords.Control.TheVariants as asks
 use Rattle.st_card.specs.declared.keywords.ControlForm.{ControlForm}
@@ -28,12 +31,12 @@ use Rattle.st_card.specs.declared.keywords.ControlForm.TheVariants.{Card, Object
 -- the keywords in the order in which requests are written
 abbrev pub keyword_order : List Keyword
 keyword_order =
-    Number Budget ∷ Number Delays ∷ Pair Signals ∷ Pair Dump ∷ Mark Trace ∷ Mark Time ∷ Mark Chart
-    ∷ Number Snap ∷ Number Back ∷ Listing ∷ []
+    Once Budget ∷ Number Delays ∷ Pair Signals ∷ Pair Dump ∷ Mark Trace ∷ Mark Time ∷ Mark Chart
+    ∷ Number Snap ∷ Once Back ∷ Listing ∷ []
 
 -- a keyword's position in that order
 abbrev pub place : Keyword → ℕ
-place (Number Budget) = 0
+place (Once Budget) = 0
 place (Number Delays) = 1
 place (Pair Signals) = 2
 place (Pair Dump) = 3
@@ -41,12 +44,12 @@ place (Mark Trace) = 4
 place (Mark Time) = 5
 place (Mark Chart) = 6
 place (Number Snap) = 7
-place (Number Back) = 8
+place (Once Back) = 8
 place Listing = 9
 
 -- the word of a keyword: a card may list several delays, a line of an object text has one
 abbrev pub word : Keyword → ControlForm → List ℕ
-word (Number Budget) form = codes "BUDGET"
+word (Once Budget) form = codes "BUDGET"
 word (Number Delays) Card = codes "DELAYS"
 word (Number Delays) ObjectLine = codes "DELAY"
 word (Pair Signals) form = codes "SIGNAL"
@@ -55,24 +58,31 @@ word (Mark Trace) form = codes "TRACE"
 word (Mark Time) form = codes "TIME"
 word (Mark Chart) form = codes "CHART"
 word (Number Snap) form = codes "SNAP"
-word (Number Back) form = codes "BACK"
+word (Once Back) form = codes "BACK"
 word Listing form = codes "LIST"
+
+-- the greatest number of a request that is allowed once
+abbrev pub most : OnceKeyword → ℕ
+most Budget = MOST_INSTRUCTIONS
+most Back = MOST_BACK
 
 -- whether an object text has to have a line with this keyword
 abbrev pub is_required : Keyword → Bool
-is_required (Number Budget) = true
+is_required (Once Budget) = true
 is_required (Number Delays) = true
 is_required _ = false
 
 -- the keyword of a request
 abbrev pub keyword_of : Control → Keyword
 keyword_of (asks.Mark mark) = Mark mark
+keyword_of (asks.Once once n) = Once once
 keyword_of (asks.Number number n) = Number number
 keyword_of (asks.Pair pair a b) = Pair pair
 
 -- the numbers of a request
 abbrev pub numbers_of : Control → List ℕ
 numbers_of (asks.Mark mark) = []
+numbers_of (asks.Once once n) = n ∷ []
 numbers_of (asks.Number number n) = n ∷ []
 numbers_of (asks.Pair pair a b) = a ∷ b ∷ []
 
@@ -81,6 +91,8 @@ abbrev pub control_of : Keyword → List ℕ → Option Control
 control_of Listing numbers = None
 control_of (Mark mark) [] = Some (asks.Mark mark)
 control_of (Mark mark) (n ∷ ns) = None
+control_of (Once once) (n ∷ []) = Some (asks.Once once n)
+control_of (Once once) _ = None
 control_of (Number number) (n ∷ []) = Some (asks.Number number n)
 control_of (Number number) _ = None
 control_of (Pair pair) (a ∷ b ∷ []) = Some (asks.Pair pair a b)

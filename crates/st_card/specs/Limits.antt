@@ -14,8 +14,10 @@ use Rattle.std.specs.List.{AllPass}
 use Rattle.std.specs.List.Sorted.{IsNonDecreasingBy, IsStrictlyIncreasing}
 use Rattle.st_bits.specs.declared.limits.TheConstants.{LAST_WORD, MOST_INSTRUCTIONS, LONGEST_LIST, MOST_DELAY}
 use Rattle.st_bits.specs.declared.indicators.TheConstants.{CHANNEL_SIGNAL}
-use Rattle.st_card.specs.declared.limits.TheConstants.{MOST_DUMPS, MOST_SNAPS, MOST_BACK, MOST_NUMBER}
-use Rattle.st_card.specs.Controls.{Asked, is_in_range}
+use Rattle.st_card.specs.declared.limits.TheConstants.{MOST_DUMPS, MOST_SNAPS, MOST_NUMBER}
+use Rattle.st_card.specs.Controls.{Asked, number_of, is_in_range}
+use Rattle.st_card.specs.Keywords.{most}
+use Rattle.st_card.specs.declared.keywords.Once.{Once}
 use Rattle.st_card.specs.declared.control_cards.Signal.{Signal}
 
 -- whether a signal's count is at most 10,000,000 and its indicator is 0 to 13
@@ -54,9 +56,8 @@ pub record AreSnaps (ticks : List ℕ) : Type 0 where
 
 -- requests that control cards can make
 pub record IsWithinLimits (asked : Asked) : Type 0 where
-  pub budget : asked.budget ≤ MOST_INSTRUCTIONS
+  pub once : (once : Once) → number_of once asked ≤ most once
   pub delays : AreDelays asked.delays
   pub signals : AreSignals asked.signals
   pub dumps : AreDumps asked.dumps
   pub snaps : AreSnaps asked.snaps
-  pub back : asked.back ≤ MOST_BACK

@@ -11,13 +11,12 @@
 use Rattle.std.specs.Prelude.{ℕ, ◌≤◌, ◌==◌, Bool, List, [], ◌∷◌, ◌++◌, map, codes, decimal, if◌then◌else◌}
 use Rattle.std.specs.List.{flat_map}
 use Rattle.st_text.specs.Bytes.{lf}
-use Rattle.st_card.specs.Controls.{Asked}
+use Rattle.st_card.specs.Controls.{Asked, is_marked, number_of}
 use Rattle.st_card.specs.declared.limits.TheConstants.{MOST_NUMBER}
-use Rattle.st_card.specs.declared.keywords.Mark.TheVariants.{Trace, Time, Chart}
-use Rattle.st_card.specs.declared.keywords.Number.TheVariants.{Budget, Delays, Snap, Back}
+use Rattle.st_card.specs.declared.keywords.Number.TheVariants.{Delays, Snap}
 use Rattle.st_card.specs.declared.keywords.Pair.TheVariants.{Signals, Dump}
 use Rattle.st_card.specs.declared.keywords.Keyword.{Keyword}
-use Rattle.st_card.specs.declared.keywords.Keyword.TheVariants.{Listing, Mark, Number, Pair}
+use Rattle.st_card.specs.declared.keywords.Keyword.TheVariants.{Listing, Mark, Once, Number, Pair}
 use Rattle.st_card.specs.declared.keywords.Control.{Control}
 use Rattle.st_card.specs.declared.keywords.Control.TheVariants as asks
 use Rattle.st_card.specs.declared.keywords.ControlForm.{ControlForm}
@@ -26,6 +25,7 @@ use Rattle.st_card.specs.Keywords.{keyword_order, keyword_text}
 -- the line of one request, without its line end
 unfoldable pub control_line : ControlForm → Control → List ℕ
 control_line form (asks.Mark mark) = keyword_text form (Mark mark)
+control_line form (asks.Once once n) = keyword_text form (Once once) ++ codes " " ++ decimal n
 control_line form (asks.Number number n) =
     keyword_text form (Number number) ++ codes " " ++ decimal n
 control_line form (asks.Pair pair a b) =
@@ -45,16 +45,13 @@ unless_zero n x = if n == 0 then [] else x ∷ []
 
 -- the requests with this keyword; a listing has no line
 abbrev pub asked_by : Keyword → Asked → List Control
-asked_by (Number Budget) a = unless_zero a.budget (asks.Number Budget a.budget)
+asked_by Listing a = []
+asked_by (Mark mark) a = where_asked (is_marked mark a) (asks.Mark mark)
+asked_by (Once once) a = unless_zero (number_of once a) (asks.Once once (number_of once a))
 asked_by (Number Delays) a = map (λ d. asks.Number Delays d) a.delays
 asked_by (Pair Signals) a = map (λ s. asks.Pair Signals s.count s.indicator) a.signals
 asked_by (Pair Dump) a = map (λ p. asks.Pair Dump p.0 p.1) a.dumps
-asked_by (Mark Trace) a = where_asked a.trace (asks.Mark Trace)
-asked_by (Mark Time) a = where_asked a.time (asks.Mark Time)
-asked_by (Mark Chart) a = where_asked a.chart (asks.Mark Chart)
 asked_by (Number Snap) a = map (λ t. asks.Number Snap t) a.snaps
-asked_by (Number Back) a = unless_zero a.back (asks.Number Back a.back)
-asked_by Listing a = []
 
 -- all requests that have a line, in the order in which they are written
 abbrev pub requests : Asked → List Control
@@ -67,5 +64,6 @@ IsShort n = n ≤ MOST_NUMBER
 -- a request whose numbers all have at most 12 digits
 abbrev pub IsShortControl : Control → Type 0
 IsShortControl (asks.Mark mark) = Unit {0}
+IsShortControl (asks.Once once n) = IsShort n
 IsShortControl (asks.Number number n) = IsShort n
 IsShortControl (asks.Pair pair a b) = IsShort a × IsShort b

@@ -11,10 +11,11 @@
 //! proofs/control_cards follows those of `delays_in` and `add`. A new request touches the files
 //! that docs/changing.md lists.
 
-ghost use Rattle.std.specs.Prelude.{◌≡◌, ◌≤◌, [], ◌∷◌, length, slice_get, Some, None, if◌then◌else◌, OnOk, OnErr, IfErr};
+ghost use Rattle.std.specs.Prelude.{◌≡◌, ◌≤◌, [], ◌∷◌, length, slice_get, true, Some, None, if◌then◌else◌, OnOk, OnErr, IfErr};
 ghost use Rattle.std.specs.List.{list_all};
 ghost use Rattle.std.specs.Option.{option_map};
 ghost use Rattle.st_card.specs.Controls as spec;
+ghost use Rattle.st_card.specs.Keywords.{most as most_of};
 ghost use Rattle.st_text.specs.Pieces.{words};
 ghost use Rattle.st_card.specs.Limits.{IsWithinLimits};
 ghost use Rattle.st_card.specs.Written.{asked_by, where_asked, unless_zero};
@@ -23,9 +24,10 @@ ghost use Rattle.st_card.specs.Answers.{Settles, Appends, Marks, Explains};
 use crate::cards::columns;
 use crate::faults::Fault;
 use crate::keywords::{
-    Addition, Control, ControlForm, Keyword, Mark, Number, Pair, keyword_in, read_numbers,
+    Addition, Control, ControlForm, Keyword, Mark, Number, Once, Pair, keyword_in, most,
+    read_numbers,
 };
-use crate::limits::{MOST_BACK, MOST_DUMPS, MOST_SNAPS};
+use crate::limits::{MOST_DUMPS, MOST_SNAPS};
 use arrayvec::ArrayVec;
 use st_bits::indicators::CHANNEL_SIGNAL;
 use st_bits::limits::{LAST_WORD, LONGEST_LIST, MOST_DELAY, MOST_INSTRUCTIONS};
@@ -157,7 +159,6 @@ impl Controls {
     }
 
     /// Whether a trace, one line for each instruction, is requested.
-    #[inline(always)]
     pub fn is_traced(&self) -> bool
         ensures { result ≡ self.now.trace }
     {
@@ -165,7 +166,6 @@ impl Controls {
     }
 
     /// Whether the timing of the run in ticks is requested.
-    #[inline(always)]
     pub fn is_timed(&self) -> bool
         ensures { result ≡ self.now.time }
     {
@@ -173,7 +173,6 @@ impl Controls {
     }
 
     /// Whether the timetable is requested.
-    #[inline(always)]
     pub fn is_charted(&self) -> bool
         ensures { result ≡ self.now.chart }
     {
@@ -213,6 +212,7 @@ impl Controls {
     {
         match control {
             Control::Mark(mark) => self.ask(Keyword::Mark(mark), &[]),
+            Control::Once(once, n) => self.ask(Keyword::Once(once), &[n]),
             Control::Number(number, n) => self.ask(Keyword::Number(number), &[n]),
             Control::Pair(pair, a, b) => self.ask(Keyword::Pair(pair), &[a, b]),
         }
@@ -224,13 +224,10 @@ impl Controls {
     {
         match keyword {
             Keyword::Listing => 0,
-            Keyword::Mark(Mark::Trace) => usize::from(self.trace),
-            Keyword::Mark(Mark::Time) => usize::from(self.time),
-            Keyword::Mark(Mark::Chart) => usize::from(self.chart),
-            Keyword::Number(Number::Budget) => usize::from(self.budget != 0),
+            Keyword::Mark(mark) => usize::from(self.is_marked(mark)),
+            Keyword::Once(once) => usize::from(self.number(once) != 0),
             Keyword::Number(Number::Delays) => self.delays.len(),
             Keyword::Number(Number::Snap) => self.snaps.len(),
-            Keyword::Number(Number::Back) => usize::from(self.back != 0),
             Keyword::Pair(Pair::Signals) => self.signals.len(),
             Keyword::Pair(Pair::Dump) => self.dumps.len(),
         }
@@ -242,15 +239,10 @@ impl Controls {
     {
         match keyword {
             Keyword::Listing => None,
-            Keyword::Mark(Mark::Trace) => only(index, self.trace, Control::Mark(Mark::Trace)),
-            Keyword::Mark(Mark::Time) => only(index, self.time, Control::Mark(Mark::Time)),
-            Keyword::Mark(Mark::Chart) => only(index, self.chart, Control::Mark(Mark::Chart)),
-            Keyword::Number(Number::Budget) => {
-                nonzero(
-                    index,
-                    self.budget,
-                    Control::Number(Number::Budget, self.budget),
-                )
+            Keyword::Mark(mark) => only(index, self.is_marked(mark), Control::Mark(mark)),
+            Keyword::Once(once) => {
+                let n = self.number(once);
+                nonzero(index, n, Control::Once(once, n))
             }
             Keyword::Number(Number::Delays) => match self.delays.get(index) {
                 Some(delay) => Some(Control::Number(Number::Delays, u64::from(*delay))),
@@ -260,10 +252,6 @@ impl Controls {
                 Some(tick) => Some(Control::Number(Number::Snap, *tick)),
                 None => None,
             },
-            Keyword::Number(Number::Back) => {
-                let back = u64::from(self.back);
-                nonzero(index, back, Control::Number(Number::Back, back))
-            }
             Keyword::Pair(Pair::Signals) => match self.signals.get(index) {
                 Some(signal) => Some(Control::Pair(
                     Pair::Signals,
@@ -294,14 +282,11 @@ impl Controls {
             (spec.with_keyword keyword self.old numbers.now) result }
     {
         match keyword {
-            Keyword::Listing => set_mark(&mut self.list, numbers),
-            Keyword::Mark(Mark::Trace) => set_mark(&mut self.trace, numbers),
-            Keyword::Mark(Mark::Time) => set_mark(&mut self.time, numbers),
-            Keyword::Mark(Mark::Chart) => set_mark(&mut self.chart, numbers),
-            Keyword::Number(Number::Budget) => self.add_budget(numbers),
+            Keyword::Listing => set_flag(&mut self.list, numbers),
+            Keyword::Mark(mark) => self.add_mark(mark, numbers),
+            Keyword::Once(once) => self.add_once(once, numbers),
             Keyword::Number(Number::Delays) => self.add_delays(numbers),
             Keyword::Number(Number::Snap) => self.add_snap(numbers),
-            Keyword::Number(Number::Back) => self.add_back(numbers),
             Keyword::Pair(Pair::Signals) => self.add_signal(numbers),
             Keyword::Pair(Pair::Dump) => self.add_dump(numbers),
         }
@@ -324,13 +309,68 @@ impl Controls {
         self.ask(keyword, numbers.as_slice())
     }
 
-    // Adds `/BUDGET n`.
-    fn add_budget(&mut self, numbers: &[u64]) -> Addition
-        ensures { Settles self.old self.new (spec.with_budget self.old numbers.now) result }
+    // Whether the request of this mark is made.
+    fn is_marked(&self, mark: Mark) -> bool
+        ensures { result ≡ spec.is_marked mark self.now }
+    {
+        match mark {
+            Mark::Trace => self.trace,
+            Mark::Time => self.time,
+            Mark::Chart => self.chart,
+        }
+    }
+
+    // Makes the request of this mark.
+    fn set_mark(&mut self, mark: Mark)
+        ensures { self.new ≡ spec.with_mark mark true self.old }
+    {
+        match mark {
+            Mark::Trace => self.trace = true,
+            Mark::Time => self.time = true,
+            Mark::Chart => self.chart = true,
+        }
+    }
+
+    // The number of a request that is allowed once; 0 without it.
+    fn number(&self, once: Once) -> u64
+        ensures { result ≡ spec.number_of once self.now }
+    {
+        match once {
+            Once::Budget => self.budget,
+            Once::Back => u64::from(self.back),
+        }
+    }
+
+    // Makes a request that is allowed once, with a number within its limit.
+    fn set_number(&mut self, once: Once, n: u64)
+        requires { n ≤ most_of once }
+        ensures { self.new ≡ spec.with_number once n self.old }
+    {
+        match once {
+            Once::Budget => self.budget = n,
+            Once::Back => self.back = n as u8,
+        }
+    }
+
+    // Adds a request without a number.
+    fn add_mark(&mut self, mark: Mark, numbers: &[u64]) -> Addition
+        ensures { Settles self.old self.new (spec.with_flag (spec.is_marked mark self.old)
+            (spec.with_mark mark true self.old) numbers.now) result }
+    {
+        if self.is_marked(mark) || !numbers.is_empty() {
+            return Addition::Refused;
+        }
+        self.set_mark(mark);
+        Addition::Added
+    }
+
+    // Adds a request that is allowed once.
+    fn add_once(&mut self, once: Once, numbers: &[u64]) -> Addition
+        ensures { Settles self.old self.new (spec.with_once once self.old numbers.now) result }
     {
         match numbers {
-            [budget] if self.budget == 0 && (1..=MOST_INSTRUCTIONS).contains(budget) => {
-                self.budget = *budget;
+            [n] if self.number(once) == 0 && (1..=most(once)).contains(n) => {
+                self.set_number(once, *n);
                 Addition::Added
             }
             _ => Addition::Refused,
@@ -397,19 +437,6 @@ impl Controls {
             _ => Addition::Refused,
         }
     }
-
-    // Adds `/BACK k`.
-    fn add_back(&mut self, numbers: &[u64]) -> Addition
-        ensures { Settles self.old self.new (spec.with_back self.old numbers.now) result }
-    {
-        match numbers {
-            [back] if self.back == 0 && (1..=MOST_BACK).contains(back) => {
-                self.back = *back as u8;
-                Addition::Added
-            }
-            _ => Addition::Refused,
-        }
-    }
 }
 
 // The control, if the flag is set and the index is zero.
@@ -435,13 +462,13 @@ fn nonzero(index: usize, n: u64, control: Control) -> Option<Control>
 }
 
 // Sets a flag that is not set yet, if no numbers follow its keyword.
-fn set_mark(mark: &mut bool, numbers: &[u64]) -> Addition
-    ensures { Marks mark.old mark.new numbers.now result }
+fn set_flag(flag: &mut bool, numbers: &[u64]) -> Addition
+    ensures { Marks flag.old flag.new numbers.now result }
 {
-    if *mark || !numbers.is_empty() {
+    if *flag || !numbers.is_empty() {
         return Addition::Refused;
     }
-    *mark = true;
+    *flag = true;
     Addition::Added
 }
 

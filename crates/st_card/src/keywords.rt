@@ -6,9 +6,9 @@
 //! decks; numbers have 1 to 12 digits. The law `NumbersAgree` (specs/Laws.antt of `st_laws`)
 //! compares them with those of object texts. Pinned: keywords, order and numbers, by
 //! specs/Keywords.antt, docs/strap.md, docs/object-text.md and vectors/controls.txt. Free: the
-//! bodies, if proofs/keywords follows the loops. A new request is a variant of `Mark`, `Number` or
-//! `Pair`, by how many numbers its line has, and a row of ORDER, `place` and `word`; `Controls`
-//! (control_cards.rt) has its field.
+//! bodies, if proofs/keywords follows the loops. A new request is a variant of `Mark`, `Once`, `Number`
+//! or `Pair`, by how many numbers its line has, and a row of ORDER, `place`, `word` and, if it is
+//! allowed once, `most`; `Controls` (control_cards.rt) has its field.
 
 ghost use Rattle.std.specs.Prelude.{◌≡◌, ◌≤◌, ◌<◌, ◌++◌, length};
 ghost use Rattle.std.specs.Option.{option_map};
@@ -17,8 +17,9 @@ ghost use Rattle.st_text.specs.Pieces.{words};
 ghost use Rattle.st_card.specs.Keywords as spec;
 
 use crate::cards::columns;
-use crate::limits::MOST_NUMBER;
+use crate::limits::{MOST_BACK, MOST_NUMBER};
 use arrayvec::ArrayVec;
+use st_bits::limits::MOST_INSTRUCTIONS;
 use st_text::{Line, first_word, number_up_to, open_line};
 
 /// The keyword of a request whose line has no number. It may be requested once.
@@ -32,18 +33,24 @@ pub enum Mark {
     Chart,
 }
 
-/// The keyword of a request whose line has one number.
+/// The keyword of a request whose line has one number, from 1 up to the request's own limit. It may
+/// be requested once.
+#[derive(Clone, Copy, Debug, PartialEq, Eq)]
+pub enum Once {
+    /// The budget, the most instructions that the run may complete: 1 to 10,000,000.
+    Budget,
+    /// The number of instructions to step back at the end of the run, 1 to 64.
+    Back,
+}
+
+/// The keyword of a request whose line has one number, and which may be requested several times.
 #[derive(Clone, Copy, Debug, PartialEq, Eq)]
 pub enum Number {
-    /// The budget, the most instructions that the run may complete: 1 to 10,000,000; allowed once.
-    Budget,
     /// A delay of storage in ticks, 1 to 255; at most 4,096 delays in all. A card may have several.
     Delays,
     /// A tick at which a snapshot of the machine is printed, greater than the last one; at most 64
     /// ticks.
     Snap,
-    /// The number of instructions to step back at the end of the run, 1 to 64; allowed once.
-    Back,
 }
 
 /// The keyword of a request whose line has two numbers.
@@ -65,6 +72,8 @@ pub enum Keyword {
     Listing,
     /// A request without a number.
     Mark(Mark),
+    /// A request with one number, allowed once.
+    Once(Once),
     /// A request with one number.
     Number(Number),
     /// A request with two numbers.
@@ -76,6 +85,8 @@ pub enum Keyword {
 pub enum Control {
     /// A request without a number.
     Mark(Mark),
+    /// A request with one number, allowed once.
+    Once(Once, u64),
     /// A request with one number.
     Number(Number, u64),
     /// A request with two numbers.
@@ -104,7 +115,7 @@ pub enum Addition {
 
 /// The keywords in the order in which requests are written.
 pub const ORDER: [Keyword; 10] = [
-    Keyword::Number(Number::Budget),
+    Keyword::Once(Once::Budget),
     Keyword::Number(Number::Delays),
     Keyword::Pair(Pair::Signals),
     Keyword::Pair(Pair::Dump),
@@ -112,7 +123,7 @@ pub const ORDER: [Keyword; 10] = [
     Keyword::Mark(Mark::Time),
     Keyword::Mark(Mark::Chart),
     Keyword::Number(Number::Snap),
-    Keyword::Number(Number::Back),
+    Keyword::Once(Once::Back),
     Keyword::Listing,
 ];
 
@@ -122,7 +133,7 @@ pub fn place(keyword: Keyword) -> usize
     ensures within { result < length spec.keyword_order }
 {
     match keyword {
-        Keyword::Number(Number::Budget) => 0,
+        Keyword::Once(Once::Budget) => 0,
         Keyword::Number(Number::Delays) => 1,
         Keyword::Pair(Pair::Signals) => 2,
         Keyword::Pair(Pair::Dump) => 3,
@@ -130,7 +141,7 @@ pub fn place(keyword: Keyword) -> usize
         Keyword::Mark(Mark::Time) => 5,
         Keyword::Mark(Mark::Chart) => 6,
         Keyword::Number(Number::Snap) => 7,
-        Keyword::Number(Number::Back) => 8,
+        Keyword::Once(Once::Back) => 8,
         Keyword::Listing => 9,
     }
 }
@@ -141,7 +152,7 @@ fn word(keyword: Keyword, form: ControlForm) -> &'static str
     ensures short { length result.now ≤ 7 }
 {
     match keyword {
-        Keyword::Number(Number::Budget) => "BUDGET",
+        Keyword::Once(Once::Budget) => "BUDGET",
         Keyword::Number(Number::Delays) => match form {
             ControlForm::Card => "DELAYS",
             ControlForm::ObjectLine => "DELAY",
@@ -152,8 +163,18 @@ fn word(keyword: Keyword, form: ControlForm) -> &'static str
         Keyword::Mark(Mark::Time) => "TIME",
         Keyword::Mark(Mark::Chart) => "CHART",
         Keyword::Number(Number::Snap) => "SNAP",
-        Keyword::Number(Number::Back) => "BACK",
+        Keyword::Once(Once::Back) => "BACK",
         Keyword::Listing => "LIST",
+    }
+}
+
+// The greatest number of a request that is allowed once.
+pub(crate) fn most(once: Once) -> u64
+    ensures { result ≡ spec.most once }
+{
+    match once {
+        Once::Budget => MOST_INSTRUCTIONS,
+        Once::Back => MOST_BACK,
     }
 }
 
@@ -162,7 +183,7 @@ pub fn is_required(keyword: Keyword) -> bool
     ensures { result ≡ spec.is_required keyword }
 {
     match keyword {
-        Keyword::Number(Number::Budget) | Keyword::Number(Number::Delays) => true,
+        Keyword::Once(Once::Budget) | Keyword::Number(Number::Delays) => true,
         _ => false,
     }
 }
@@ -173,6 +194,7 @@ pub fn keyword_of(control: Control) -> Keyword
 {
     match control {
         Control::Mark(mark) => Keyword::Mark(mark),
+        Control::Once(once, _) => Keyword::Once(once),
         Control::Number(number, _) => Keyword::Number(number),
         Control::Pair(pair, _, _) => Keyword::Pair(pair),
     }
@@ -186,6 +208,10 @@ fn control_of(keyword: Keyword, numbers: &[u64]) -> Option<Control>
         Keyword::Listing => None,
         Keyword::Mark(mark) => match numbers {
             [] => Some(Control::Mark(mark)),
+            _ => None,
+        },
+        Keyword::Once(once) => match numbers {
+            [n] => Some(Control::Once(once, *n)),
             _ => None,
         },
         Keyword::Number(number) => match numbers {

@@ -20,7 +20,7 @@ pub use cards::{Card, CardKind, columns, split};
 pub use control_cards::{CardError, Controls, Signal};
 pub use faults::Fault;
 pub use keywords::{
-    Addition, Control, ControlForm, Keyword, Mark, Number, ORDER, Pair, control_in, is_required,
-    keyword_in, keyword_of, place,
+    Addition, Control, ControlForm, Keyword, Mark, Number, ORDER, Once, Pair, control_in,
+    is_required, keyword_in, keyword_of, place,
 };
 pub use written::{control_line, push_controls};

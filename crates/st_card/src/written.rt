@@ -48,6 +48,7 @@ pub fn control_line(form: ControlForm, control: Control) -> Line
 {
     match control {
         Control::Mark(mark) => keyword_line(form, Keyword::Mark(mark)),
+        Control::Once(once, n) => with_number(form, Keyword::Once(once), n),
         Control::Number(number, n) => with_number(form, Keyword::Number(number), n),
         Control::Pair(pair, a, b) => with_numbers(form, Keyword::Pair(pair), a, b),
     }

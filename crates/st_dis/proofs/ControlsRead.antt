@@ -96,6 +96,15 @@ module _ (kept : Asked) where
       ∙ ap (λ o. with_card kept o (card_numbers texts)) (keyword-found Card keyword)
       ∙ ap (λ (ns : Option (List ℕ)). with_card kept (Some keyword) ns) read
 
+  -- the request that a card with one number adds
+  number-card : (keyword : Keyword) (n : ℕ) → IsShort n →
+      asked_with_card kept (keyword_text Card keyword ++ 32 ∷ [] ++ decimal n) ≡ with_keyword keyword kept (n ∷ [])
+  number-card keyword n short =
+      let is = is-word Card keyword in
+      let text : List ℕ = keyword_text Card keyword ++ 32 ∷ decimal n in
+      ap (λ (t : List ℕ). asked_with_card kept t) (append_assoc (keyword_text Card keyword) (32 ∷ []) (decimal n))
+      ∙ found-card keyword (n ∷ []) text (decimal n ∷ []) (one-number (keyword_text Card keyword) n is.0 is.1 (short-word keyword) short) (numbers-one n short)
+
   -- the request that each card adds
   card-read : (c : Control) → IsShortControl c → asked_with_card kept (control_card c) ≡ with_control kept c
   unfolding control_line
@@ -103,12 +112,8 @@ module _ (kept : Asked) where
       let keyword = keywords.Mark mark in
       let is = is-word Card keyword in
       found-card keyword [] (keyword_text Card keyword) [] (no-number (keyword_text Card keyword) is.0 is.1 (short-word keyword)) refl
-  card-read (asks.Number number n) short =
-      let keyword = keywords.Number number in
-      let is = is-word Card keyword in
-      let text : List ℕ = keyword_text Card keyword ++ 32 ∷ decimal n in
-      ap (λ (t : List ℕ). asked_with_card kept t) (append_assoc (keyword_text Card keyword) (32 ∷ []) (decimal n))
-      ∙ found-card keyword (n ∷ []) text (decimal n ∷ []) (one-number (keyword_text Card keyword) n is.0 is.1 (short-word keyword) short) (numbers-one n short)
+  card-read (asks.Once once n) short = number-card (keywords.Once once) n short
+  card-read (asks.Number number n) short = number-card (keywords.Number number) n short
   card-read (asks.Pair pair a b) short =
       let keyword = keywords.Pair pair in
       let is = is-word Card keyword in

@@ -163,6 +163,7 @@ end_of p = End (number_expr (32 * p.start))
 card-kind : (c : Control) → IsControl (control_line Card c)
 unfolding control_line
 card-kind (asks.Mark mark) = refl
+card-kind (asks.Once once n) = refl
 card-kind (asks.Number number n) = refl
 card-kind (asks.Pair pair a b) = refl
 

@@ -1,5 +1,6 @@
 -- Bounds on the lengths of a deck and of its cards.
 use Rattle.st_dis.proofs.Common.{◌≤◌, ◌<◌, ◌+◌, ◌*◌, ◌/◌, ◌%◌, ◌^◌, ◌==◌, ◌++◌, ℕ, true, false, List, [], ◌∷◌, length, map, codes, decimal, if◌then◌else◌, length-append, arith, All, All-nil, All-cons, All-head, All-tail, All-append, leb-true, length-decimal-le, lf, half_address, words_of_storage_is, Asked, IsWithinLimits, keyword_text, control_line, requests, IsShortControl, text_of_lines, Keyword, Control, Card, is-word, requests-short, Program, IsProgram, AreWords, number_text, statements_of, statement_card, location_statement, location_cards, cards_of_word, word_cards, end_text, control_cards, deck_cards, deck_text, card_count}
+use Rattle.st_card.specs.Written.{IsShort as IsShortNumber}
 use Rattle.st_dis.proofs.Spelled.{statements-cases, says-short, whole_bits, half_bits}
 use Rattle.st_card.specs.declared.keywords.Keyword.TheVariants as keywords
 use Rattle.st_card.specs.declared.keywords.Control.TheVariants as asks
@@ -113,15 +114,20 @@ paired_card word a b few small_a small_b = let short = paired word a b few small
 word-short : (keyword : Keyword) → length (keyword_text Card keyword) ≤ 8
 word-short keyword = leb-true (length (keyword_text Card keyword)) 8 (is-word Card keyword).2
 
+-- the length of a control card with one number
+number-short : (keyword : Keyword) (n : ℕ) → IsShortNumber n → IsCard (keyword_text Card keyword ++ codes " " ++ decimal n)
+number-short keyword n short =
+    let word = keyword_text Card keyword in
+    let few = word-short keyword in
+    let size = length-append word (codes " ") in
+    labelled_card (word ++ codes " ") n (omega (arith, few, size)) (omega (arith, short))
+
 -- the length of a control card
 card-short : (c : Control) → IsShortControl c → IsCard (control_line Card c)
 unfolding control_line
 card-short (asks.Mark mark) short = let few = word-short (keywords.Mark mark) in omega (arith, few)
-card-short (asks.Number number n) short =
-    let word = keyword_text Card (keywords.Number number) in
-    let few = word-short (keywords.Number number) in
-    let size = length-append word (codes " ") in
-    labelled_card (word ++ codes " ") n (omega (arith, few, size)) (omega (arith, short))
+card-short (asks.Once once n) short = number-short (keywords.Once once) n short
+card-short (asks.Number number n) short = number-short (keywords.Number number) n short
 card-short (asks.Pair pair a b) short =
     let word = keyword_text Card (keywords.Pair pair) in
     let few = word-short (keywords.Pair pair) in

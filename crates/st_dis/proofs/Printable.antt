@@ -1,5 +1,5 @@
 -- The cards of a deck have only blanks and visible ASCII characters.
-use Rattle.st_dis.proofs.Common.{◌≡◌, ◌+◌, ◌*◌, ◌/◌, ◌%◌, ◌^◌, ◌==◌, ◌&&◌, ◌++◌, ℕ, zero, suc, Bool, true, false, not, nat_le, Option, Some, None, List, [], ◌∷◌, map, codes, decimal, slice_index_or, if◌then◌else◌, refl, ap, ◌∙◌, append_assoc, arith, All, list_all, and_from, and_parts, nat_tests, All-nil, All-cons, All-head, All-tail, All-append, is_full, instruction_of, is_valid, Instr, pieces_of, lacks, is_column_1, first_column, is_printable, bit_address, half_address, flag, place, Program, Asked, word, control_line, requests, text_of_lines, Keyword, Control, Card, EmittedBits, index_field_text, index_part_text, half_field, bit_field, second_field, number_field, offset_field, has_index, listed_fields, half_text, branch_text, description, operand_text, instruction_text, says, spelling_of, word_spelling, half_spelling, number_text, statements_by, statements_of, statement_card, location_statement, location_cards, cards_of_word, word_cards, end_text, control_cards, deck_cards, deck_text}
+use Rattle.st_dis.proofs.Common.{keyword_text, ◌≡◌, ◌+◌, ◌*◌, ◌/◌, ◌%◌, ◌^◌, ◌==◌, ◌&&◌, ◌++◌, ℕ, zero, suc, Bool, true, false, not, nat_le, Option, Some, None, List, [], ◌∷◌, map, codes, decimal, slice_index_or, if◌then◌else◌, refl, ap, ◌∙◌, append_assoc, arith, All, list_all, and_from, and_parts, nat_tests, All-nil, All-cons, All-head, All-tail, All-append, is_full, instruction_of, is_valid, Instr, pieces_of, lacks, is_column_1, first_column, is_printable, bit_address, half_address, flag, place, Program, Asked, word, control_line, requests, text_of_lines, Keyword, Control, Card, EmittedBits, index_field_text, index_part_text, half_field, bit_field, second_field, number_field, offset_field, has_index, listed_fields, half_text, branch_text, description, operand_text, instruction_text, says, spelling_of, word_spelling, half_spelling, number_text, statements_by, statements_of, statement_card, location_statement, location_cards, cards_of_word, word_cards, end_text, control_cards, deck_cards, deck_text}
 use Rattle.std.specs.Fmt.{digits, digits_onto, digit_glyph}
 use Rattle.std.proofs.lemmas.List.Folds.{list_all-append}
 use Rattle.st_bits.specs.declared.operations.HalfOp.{HalfOp}
@@ -386,13 +386,17 @@ word_plain keyword = grind arith
 spaced_plain : (keyword : Keyword) → IsPlain (word keyword Card ++ codes " ")
 spaced_plain keyword = join (word keyword Card) (codes " ") (word_plain keyword) refl
 
+labelled_plain : (keyword : Keyword) (n : ℕ) → IsWritten (keyword_text Card keyword ++ codes " " ++ decimal n)
+labelled_plain keyword n =
+    let front = word keyword Card ++ codes " " in
+    control_plain (front ++ decimal n) (join front (decimal n) (spaced_plain keyword) (number n))
+
 -- each control card is printable
 card_written : (c : Control) → IsWritten (control_line Card c)
 unfolding control_line
 card_written (asks.Mark mark) = control_plain (word (keywords.Mark mark) Card) (word_plain (keywords.Mark mark))
-card_written (asks.Number keyword n) =
-    let front = word (keywords.Number keyword) Card ++ codes " " in
-    control_plain (front ++ decimal n) (join front (decimal n) (spaced_plain (keywords.Number keyword)) (number n))
+card_written (asks.Once once n) = labelled_plain (keywords.Once once) n
+card_written (asks.Number keyword n) = labelled_plain (keywords.Number keyword) n
 card_written (asks.Pair pair a b) =
     let front = word (keywords.Pair pair) Card ++ codes " " in
     control_plain (front ++ decimal a ++ codes " " ++ decimal b) (two_numbers front a b (spaced_plain (keywords.Pair pair)))

@@ -26,15 +26,6 @@ use crate::sheet::{Sheet, across, sheet_of};
 use st_entries::{DrawnEntry, first_text, push_decimal, second_text, third_text, title};
 use std::alloc::{AllocError, Global};
 
-// An entry, and the y of its row's upper edge.
-#[derive(Clone, Copy)]
-struct DrawnRow {
-    // The y of the row's upper edge.
-    y: u128,
-    // The entry.
-    entry: DrawnEntry,
-}
-
 // Appends a vertical line across the sheet.
 fn push_down(out: &mut Vec<u8>, class: &[u8], sheet: &Sheet, x: u128) -> Result<(), AllocError>
     ensures { IfOk result (λ _. out.new.items ≡ out.old.items
@@ -133,14 +124,14 @@ fn push_bars(
     alloc: Global,
     out: &mut Vec<u8>,
     sheet: &Sheet,
-    row: DrawnRow,
+    y: u128,
+    entry: DrawnEntry,
 ) -> Result<(), AllocError>
     requires sheet { IsSheet sheet.now }
-    requires low { row.y < 2 ^ 70 }
+    requires low { y < 2 ^ 70 }
     ensures { IfOk result (λ _. out.new.items ≡ out.old.items
-        ++ elements_text (spec.bars sheet.now row.y row.entry)) }
+        ++ elements_text (spec.bars sheet.now y entry)) }
 {
-    let DrawnRow { y, entry } = row;
     let title = title(alloc, entry)?;
     let title = title.as_slice();
     match entry {
@@ -186,23 +177,6 @@ fn push_caption(
     push_card(out, Point { x: 120, y }, third_text(report, entry))
 }
 
-// Appends the row of an entry at y.
-fn push_row(
-    alloc: Global,
-    out: &mut Vec<u8>,
-    sheet: &Sheet,
-    report: &[u8],
-    row: DrawnRow,
-) -> Result<(), AllocError>
-    requires sheet { IsSheet sheet.now }
-    requires low { row.y < 2 ^ 70 }
-    ensures { IfOk result (λ _. out.new.items ≡ out.old.items
-        ++ elements_text (spec.row_elements sheet.now report.now row.y row.entry)) }
-{
-    push_caption(alloc, out, report, row.y, row.entry)?;
-    push_bars(alloc, out, sheet, row)
-}
-
 // Appends the rows of entries, from top to bottom.
 fn push_rows(
     alloc: Global,
@@ -218,7 +192,8 @@ fn push_rows(
     let mut y = 36;
     let mut rest = entries;
     'entries: while let [entry, after @ ..] = rest {
-        push_row(alloc, out, sheet, report, DrawnRow { y, entry: *entry })?;
+        push_caption(alloc, out, report, y, *entry)?;
+        push_bars(alloc, out, sheet, y, *entry)?;
         y += 16;
         rest = after;
     }
@@ -255,16 +230,6 @@ fn push_line_keys(out: &mut Vec<u8>, y: u128) -> Result<(), AllocError>
     push_line_key(out, b"s", 186, y, b"snapshot")
 }
 
-// Appends the legend.
-fn push_legend(out: &mut Vec<u8>, y: u128) -> Result<(), AllocError>
-    requires { y < 2 ^ 70 + 8 }
-    ensures { IfOk result (λ _. out.new.items ≡ out.old.items ++ elements_text (spec.legend y)) }
-{
-    push_waiting_keys(out, y)?;
-    push_ending_keys(out, y)?;
-    push_line_keys(out, y + 16)
-}
-
 /// The remark on the numbers of rows that are shown and that follow.
 pub fn remark(alloc: Global, shown: u64, later: u64) -> Result<Vec<u8>, AllocError>
     ensures { IfOk result (λ text. text.items ≡ spec.remark shown later) }
@@ -277,44 +242,20 @@ pub fn remark(alloc: Global, shown: u64, later: u64) -> Result<Vec<u8>, AllocErr
     Ok(text)
 }
 
-// Appends the axis and the rows.
-fn push_chart(
-    alloc: Global,
-    out: &mut Vec<u8>,
-    sheet: &Sheet,
-    report: &[u8],
-    entries: &[DrawnEntry],
-) -> Result<(), AllocError>
-    requires { IsSheet sheet.now }
-    ensures { IfOk result (λ _. out.new.items ≡ out.old.items
-        ++ elements_text (spec.chart sheet.now report.now entries.now)) }
-{
-    let marks = marks_of(alloc, sheet.axis)?;
-    push_grid(alloc, out, sheet, marks.as_slice())?;
-    push_rows(alloc, out, sheet, report, entries)
-}
-
 // Appends the legend and the remark under it.
 fn push_foot(out: &mut Vec<u8>, bottom: u128, remark: &[u8]) -> Result<(), AllocError>
     requires { bottom < 2 ^ 70 }
     ensures { IfOk result (λ _. out.new.items ≡ out.old.items
         ++ elements_text (spec.foot bottom remark.now)) }
 {
-    push_legend(out, bottom + 8)?;
+    push_waiting_keys(out, bottom + 8)?;
+    push_ending_keys(out, bottom + 8)?;
+    push_line_keys(out, bottom + 24)?;
     let spot = Point {
         x: 12,
         y: bottom + 54,
     };
     push_text(out, b"c", spot, remark)
-}
-
-// Appends the beginning of a chart with this height.
-fn push_opening(out: &mut Vec<u8>, height: u128) -> Result<(), AllocError>
-    ensures { IfOk result (λ _. out.new.items ≡ out.old.items ++ spec.picture_front height) }
-{
-    out.extend_from_slice(preamble())?;
-    push_decimal(out, height)?;
-    out.extend_from_slice(styles())
 }
 
 /// Draws entries as SVG: `shown` of them are rows, and `later` rows follow.
@@ -328,11 +269,15 @@ pub fn draw_svg(
     ensures { IfOk result (λ out. out.items ≡ spec.svg report.now entries.now shown later) }
 {
     let sheet = sheet_of(report, entries);
+    let marks = marks_of(alloc, sheet.axis)?;
     let remark = remark(alloc, shown, later)?;
     let mut out = Vec::new(alloc);
-    push_opening(&mut out, sheet.bottom + 60)?;
+    out.extend_from_slice(preamble())?;
+    push_decimal(&mut out, sheet.bottom + 60)?;
+    out.extend_from_slice(styles())?;
     push_ground(&mut out, &sheet, entries)?;
-    push_chart(alloc, &mut out, &sheet, report, entries)?;
+    push_grid(alloc, &mut out, &sheet, marks.as_slice())?;
+    push_rows(alloc, &mut out, &sheet, report, entries)?;
     push_foot(&mut out, sheet.bottom, remark.as_slice())?;
     out.extend_from_slice(b"</svg>\n")?;
     Ok(out)

@@ -1,9 +1,9 @@
 -- The effect of an operation on a field on the accumulator, the other registers, the indicators and
 -- the field.
 --
--- Proved: by their `ensures` clauses these calls do what definitions here say: `leave`
--- (carrying.rt), `put_accumulator` (carrying.rt), `put_field` (carrying.rt), `put_register`
--- (carrying.rt), and others.
+-- Proved: by their `ensures` clauses these calls do what definitions here say: `put_field`
+-- (carrying.rt), `put_register` (carrying.rt), `put_registers` (carrying.rt), `connect_field`
+-- (fields.rt), and others.
 -- Read by: definitions in Effect.
 -- Laws: none names a definition of this file itself.
 -- Change: the meaning is fixed by docs/machine.md, since the contracts of `st_top::stretch` and

@@ -9,9 +9,8 @@
 //! a register wins; a device with an order keeps this order and turns on CBJ. Free: the bodies and
 //! the split into functions. A new kind of `Effect` needs a case here and in `carried_out`.
 ghost use Rattle.std.specs.Prelude.{◌≡◌, ◌<◌, IfSome};
-ghost use Rattle.st_field.specs.declared.accumulator.Acc.{Acc};
 ghost use Rattle.st_state.specs.Machine.{HasArea};
-ghost use Rattle.st_exec.specs.Outcome.{with_register, with_accumulator, with_registers, with_field, with_result};
+ghost use Rattle.st_exec.specs.Outcome.{with_register, with_registers, with_field};
 ghost use Rattle.st_exec.specs.Effect.{IsField, CanBeDone, order_standing as order_by, machine_with_order, state_with_order, carried_out};
 
 use crate::effects::Effect;
@@ -19,7 +18,7 @@ use crate::transmission::{copy, exchange};
 use st_bits::indicators::CHANNEL_BUSY_REJECT;
 use st_bits::register::{COUNTS, FACTOR, LEFT_HALF, REMAINDER, RIGHT_HALF, SIGN_BYTE, TRANSIT};
 use st_bits::{Ind, indicator};
-use st_field::{Acc, Done};
+use st_field::Done;
 use st_state::{Order, State};
 
 // The order of the printer if `write` is true, of the reader otherwise.
@@ -63,20 +62,13 @@ fn put_register(w: u32, value: Option<u64>, state: &mut State)
     }
 }
 
-// Writes the accumulator and its sign byte to their registers.
-fn put_accumulator(acc: &Acc, state: &mut State)
-    ensures { state.new ≡ with_accumulator acc.now state.old }
-{
-    state.store(LEFT_HALF, (acc.mag / (1 << 64)) as u64);
-    state.store(RIGHT_HALF, (acc.mag % (1 << 64)) as u64);
-    state.store(SIGN_BYTE, u64::from(acc.sb) * (1 << 56));
-}
-
 // Writes the registers of a result.
 fn put_registers(left: &Done, state: &mut State)
     ensures { state.new ≡ with_registers left.now state.old }
 {
-    put_accumulator(&left.acc, state);
+    state.store(LEFT_HALF, (left.acc.mag / (1 << 64)) as u64);
+    state.store(RIGHT_HALF, (left.acc.mag % (1 << 64)) as u64);
+    state.store(SIGN_BYTE, u64::from(left.acc.sb) * (1 << 56));
     put_register(REMAINDER, left.rm, state);
     put_register(FACTOR, left.ft, state);
     put_register(TRANSIT, left.tr, state);
@@ -91,17 +83,6 @@ fn put_field(field: Option<u64>, a: u32, n: u8, state: &mut State)
     if let Some(bits) = field {
         state.put_field(a, n, bits);
     }
-}
-
-// Writes the result of an operation on a field: registers first, then the indicators, then the
-// field.
-fn leave(left: &Done, a: u32, n: u8, state: &mut State)
-    requires { IfSome left.now.field (IsField a n) }
-    ensures { state.new ≡ with_result left.now a n state.old }
-{
-    put_registers(left, state);
-    state.apply(left.ind);
-    put_field(left.field, a, n, state);
 }
 
 /// Applies an effect to the state.
@@ -124,6 +105,10 @@ pub fn carry_out(effect: &Effect, state: &mut State)
             state.waiting = true;
         }
         Effect::Give { write, order } => give(write, order, state),
-        Effect::Leave { left, at, length } => leave(&left, at, length, state),
+        Effect::Leave { left, at, length } => {
+            put_registers(&left, state);
+            state.apply(left.ind);
+            put_field(left.field, at, length, state);
+        }
     }
 }

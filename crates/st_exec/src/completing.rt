@@ -117,7 +117,6 @@ pub fn complete_with(p: &Prepared, operands: &[u64; 2], state: &mut State)
 /// program counter. The first `p.reads.len` operands, and the next `p.reads.len2`, are the words of
 /// the state that `p` reads. If the speculative change of the entry writes a register that is an
 /// operand, the new contents are used. Returns the words that are written.
-#[inline(always)]
 pub fn complete(p: &Prepared, operands: &[u64; 32], state: &mut State) -> Words
     requires prepared { IsPrepared p.now }
     requires operands { AreOperands p.now.reads operands.now state.old }

@@ -19,7 +19,7 @@ ghost use Rattle.st_state.specs.Machine.{word};
 ghost use Rattle.st_prep.specs.Entry.{no_words, field_words, operand_words};
 ghost use Rattle.st_prep.specs.Ranges.{AreInside};
 ghost use Rattle.st_exec.specs.Operand.{AreRead, taken_words, operand_bits as operand_of, accumulator as accumulator_of};
-ghost use Rattle.st_exec.specs.Outcome.{bits_taken as taken_of, result_by as result_by_of, operation_outcome, connects};
+ghost use Rattle.st_exec.specs.Outcome.{result_by as result_by_of, operation_outcome, connects};
 ghost use Rattle.st_exec.specs.Effect.{IsField};
 
 use crate::operands::operand_field;
@@ -89,21 +89,6 @@ fn registers(state: &State) -> Registers
     }
 }
 
-// The bits of the field that an operation reads; 0 for ST, which does not read its field.
-fn taken(op: VflOp, at: &Addressed<'_>, n: u8) -> u64
-    requires some { 1 ≤ n }
-    requires few { n ≤ 64 }
-    requires short { at.now.p ≡ 1 → n ≤ 24 }
-    requires inside { AreInside (taken_words op at.now.p at.now.e n) }
-    requires read { AreRead (taken_words op at.now.p at.now.e n)
-        at.now.operands.now at.now.state.now }
-
-    ensures value { result ≡ taken_of op at.now.p at.now.e n at.now.state.now }
-    ensures bound { result < 2 ^ n }
-{
-    if reads_field(op) { operand(at, n) } else { 0 }
-}
-
 // The result of an operation, decimal or binary, on a field with the bits `bits`.
 fn result_by(is_decimal: bool, op: VflOp, registers: &Registers, bits: u64, shape: &Shape) -> Done
     requires shape { IsBinaryShape shape.now }
@@ -135,7 +120,12 @@ pub fn operate(is_decimal: bool, op: VflOp, shape: &Shape, at: &Addressed<'_>) -
         ≡ operation_outcome is_decimal op shape.now at.now.p at.now.e at.now.state.now }
     ensures field { IfSome result.field (IsField at.now.e shape.now.length) }
 {
-    let bits = taken(op, at, shape.length);
+    // ST does not read its field.
+    let bits = if reads_field(op) {
+        operand(at, shape.length)
+    } else {
+        0
+    };
     let registers = registers(at.state);
     result_by(is_decimal, op, &registers, bits, shape)
 }

@@ -8,15 +8,15 @@
 //! `SpeculativeChangesLeaveTheirIndexWords` (specs/Laws.antt). Pinned, by these two definitions,
 //! docs/machine.md, vectors/index.txt and vectors/interrupts.txt: the changes. Free: the bodies,
 //! and the order of index word and indicators, which are different words.
-ghost use Rattle.std.specs.Prelude.{◌≡◌, ◌<◌, IfSome};
+ghost use Rattle.std.specs.Prelude.{◌≡◌};
 ghost use Rattle.st_bits.specs.Indicators.{IsIndicatorIfAny};
 ghost use Rattle.st_prep.specs.Plan.{state_at_entry};
 ghost use Rattle.st_prep.specs.Ranges.{IsPrepared};
-ghost use Rattle.st_exec.specs.Completion.{with_change, state_with_speculative_changes as early_of};
+ghost use Rattle.st_exec.specs.Completion.{state_with_speculative_changes as early_of};
 
 use st_bits::register::FIRST_INDEX_WORD;
 use st_bits::{Ind, indicator};
-use st_prep::{IndexChange, Prepared};
+use st_prep::Prepared;
 use st_state::State;
 
 /// Takes the interrupt of a table instruction: its indicator is turned off, and a wait ends.
@@ -34,21 +34,13 @@ pub fn take(table: Option<u8>, state: &mut State)
     state.waiting = false;
 }
 
-// Changes an index word, if there is a change.
-fn change_index(index: Option<IndexChange>, state: &mut State)
-    requires { IfSome index (λ c. c.number < 16) }
-    ensures { state.new ≡ with_change index state.old }
-{
-    if let Some(change) = index {
-        state.store(FIRST_INDEX_WORD + u32::from(change.number), change.word);
-    }
-}
-
 /// Applies the speculative change of an entry.
 pub fn change_speculatively(p: &Prepared, state: &mut State)
     requires { IsPrepared p.now }
     ensures { state.new ≡ early_of p.now state.old }
 {
-    change_index(p.index, state);
+    if let Some(change) = p.index {
+        state.store(FIRST_INDEX_WORD + u32::from(change.number), change.word);
+    }
     state.apply(p.ind);
 }

@@ -108,7 +108,6 @@ pub fn full_op(second: u32) -> Option<FullOp>
 }
 
 // The operation with this number in bits 55-59, connectives excluded.
-#[inline(always)]
 fn numbered_op(number: u32) -> Option<FullOp>
     requires { number < 32 }
     ensures { result ≡ numbered_op_of number }

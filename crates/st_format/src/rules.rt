@@ -18,7 +18,6 @@ use crate::fields::{
 use crate::operations::{FullOp, writes_field};
 
 /// Whether the bits of a full word with this operation break a rule.
-#[inline(always)]
 pub fn breaks_rules(op: FullOp, first: u32, second: u32) -> bool
     ensures { result ≡ breaks_rules_of op first second }
 {
@@ -105,7 +104,6 @@ fn has_misused_p(op: FullOp, first: u32, second: u32) -> bool
 
 // An immediate operand (form 1) cannot be written and has at most 24 bits; forms 2 to 7 need an
 // index word.
-#[inline(always)]
 fn misuses_form(writes: bool, p: u8, length: u8, i: u8) -> bool
     ensures { result ≡ misuses_p writes p length i }
 {

@@ -44,16 +44,16 @@ one_here from w next behind u all rest older ws one two now is is_one h k l =
     let here = word_first from w next u all rest older true is is_one in
     l ∙ rw (k, h) (simp append_assoc refl) ∙ ap (λ xs. ws ++ xs) (sym here)
 
-pub turns_one : (from w tick : ℕ) (next behind read : Accepted) (u : Use) (all rest older : List Use) (ws one two now : List Wait) → all ≡ u ∷ rest
-    → is_accepted_between from next.tick u.supply ≡ true → read ≡ acceptance_of u → tick ≡ read.tick + 1
-    → one ≡ ws ++ wait_piece tick next.tick Bank w next.word
-    → two ≡ one ++ wait_piece read.tick tick Turn w u.word
+pub turns_one : (from w : ℕ) (next behind read : Accepted) (u : Use) (all rest older : List Use) (ws one two now : List Wait) → all ≡ u ∷ rest
+    → is_accepted_between from next.tick u.supply ≡ true → read ≡ acceptance_of u
+    → one ≡ ws ++ wait_piece (read.tick + 1) next.tick Bank w next.word
+    → two ≡ one ++ wait_piece read.tick (read.tick + 1) Turn w u.word
     → now ++ turns from w behind older ≡ two ++ turns from w read (rest ++ older)
     → now ++ turns from w behind older ≡ ws ++ turns from w next (all ++ older)
-turns_one from w tick next behind read u all rest older ws one two now is is_one same is_tick h k l =
+turns_one from w next behind read u all rest older ws one two now is is_one same h k l =
     one_here from w next behind u all rest older ws one two now is is_one
-    (h ∙ ap (λ n. ws ++ wait_piece n next.tick Bank w next.word) is_tick ∙ ap (λ r. ws ++ wait_piece (r.tick + 1) next.tick Bank w next.word) same)
-    (k ∙ ap (λ n. one ++ wait_piece read.tick n Turn w u.word) is_tick ∙ ap (λ r. one ++ wait_piece r.tick (r.tick + 1) Turn w u.word) same)
+    (h ∙ ap (λ r. ws ++ wait_piece (r.tick + 1) next.tick Bank w next.word) same)
+    (k ∙ ap (λ r. one ++ wait_piece r.tick (r.tick + 1) Turn w u.word) same)
     (l ∙ ap (λ r. two ++ turns from w r (rest ++ older)) same)
 
 -- the waits of the words of the row, and then of those of the row before

@@ -128,7 +128,6 @@ fn is_any_due(role: Role, t: u64, uses: &[Use]) -> bool
 
 /// Whether a word is the first of its role that is answered at tick `t`; `earlier` are the words
 /// before it.
-#[inline(always)]
 pub(crate) fn decides(role: Role, t: u64, one: &Use, earlier: &[Use]) -> bool
     ensures { result ≡ decides_of role t one.now (reverse earlier.now) }
 {

@@ -11,7 +11,7 @@
 //! clauses and proofs/waits: room for 514 waits, from 48 words of each row and four instruction
 //! words; by `st_lines`, `st_tally` and `st_account`: the types. Free: the recursions, if
 //! proofs/waits follows.
-ghost use Rattle.std.specs.Prelude.{◌≡◌, ◌+◌, ◌*◌, ◌≤◌, ◌<◌, ◌++◌, List, length, take, reverse, nat_eq, ◌&&◌};
+ghost use Rattle.std.specs.Prelude.{◌≡◌, ◌+◌, ◌*◌, ◌≤◌, ◌<◌, ◌++◌, List, length, reverse, nat_eq, ◌&&◌};
 ghost use Rattle.st_rows.specs.declared.uses.Use.{Use as UseOf};
 ghost use Rattle.st_ledger.specs.Words.{is_read as is_read_of, read_of as read_by};
 ghost use Rattle.st_ledger.specs.Waits.{wait_piece, acceptance_of as accepted_of, is_accepted_between as is_between_of, turns, read_waits, data_waits, held_waits, bus_waits, fetch_waits, charge_waits};
@@ -119,14 +119,6 @@ fn is_between(from: u64, before: u64, supply: &Supply) -> bool
     is_read(supply) && from <= accept && accept < before
 }
 
-// The tick after `tick`; the later tick `before` shows that it does not overflow.
-fn tick_behind(tick: u64, before: u64) -> u64
-    requires { tick < before }
-    ensures { result ≡ tick + 1 }
-{
-    tick + 1
-}
-
 // Adds the waits before the acceptance of a read, from tick `from` on, given the reads among some
 // words, the last one first. Returns the read that is then next.
 fn add_turns(waits: &mut Waits, from: u64, word: u32, next: Accepted, uses: &[Use]) -> Accepted
@@ -141,7 +133,7 @@ fn add_turns(waits: &mut Waits, from: u64, word: u32, next: Accepted, uses: &[Us
     };
     if is_between(from, next.tick, &last.supply) {
         let read = acceptance(last);
-        let behind = tick_behind(read.tick, next.tick);
+        let behind = read.tick + 1;
         let at_bank = Span {
             from: behind,
             to: next.tick,
@@ -301,14 +293,6 @@ fn add_fetches(waits: &mut Waits, span: Span, words: &[Use], before: &[Use])
     add_fetches(waits, until_wanted, earlier, before);
 }
 
-// The first four of some words.
-fn first_four(uses: &[Use]) -> &[Use]
-    ensures value { result.now ≡ take 4 uses.now }
-    ensures few { length result.now ≤ 4 }
-{
-    &uses[..uses.len().min(4)]
-}
-
 /// Fills a list with the waits of a charge of a row that uses the words `uses`; `before` are the
 /// words of the row before it in its segment, none for the first row of a segment. The previous
 /// contents are overwritten.
@@ -324,7 +308,7 @@ pub fn fill_waits(waits: &mut Waits, charge: Charge, uses: &[Use], before: &[Use
         to: charge.to,
     };
     match charge.stage {
-        Stage::Instruction => add_fetches(waits, span, first_four(uses), before),
+        Stage::Instruction => add_fetches(waits, span, &uses[..uses.len().min(4)], before),
         Stage::Index => add_data(waits, Role::Index, span, uses, before),
         Stage::Operand => add_data(waits, Role::Operand, span, uses, before),
         Stage::Restart | Stage::Address | Stage::Preparing | Stage::Executing => {}

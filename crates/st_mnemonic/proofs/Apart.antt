@@ -1,10 +1,9 @@
 -- Tables that have no word in common.
-use Rattle.st_mnemonic.proofs.Common.{◌≡◌, ◌||◌, ℕ, Bool, true, false, nat_eq, cond, List, [], ◌∷◌, Option, Some, None, is_none, refl, ap, sym, ◌∙◌, list_all, option_map, option_or, is_same, row_of}
+use Rattle.st_mnemonic.proofs.Common.{◌≡◌, ◌||◌, ℕ, Bool, true, false, nat_eq, cond, List, [], ◌∷◌, Option, Some, None, is_none, refl, ap, sym, ◌∙◌, list_all, option_map, option_or, other_operations, index_operations, field_operations, index_operation, field_operation, Half, Vfl}
+use Rattle.st_text.specs.Tables.{is_same, row_of}
 use Rattle.std.specs.Cmp.Lexicographic.{pointwise}
 use Rattle.std.proofs.lemmas.Bool.{and_parts, eqb-true}
-use Rattle.st_mnemonic.specs.Table.{other_operations, index_operations, field_operations, index_operation, field_operation}
 use Rattle.st_mnemonic.specs.declared.operations.Operation.{Operation}
-use Rattle.st_mnemonic.specs.declared.operations.Operation.TheVariants.{Half, Vfl}
 
 -- two words that the comparison finds the same are equal
 pub same_words : (a b : List ℕ) → is_same a b ≡ true → a ≡ b

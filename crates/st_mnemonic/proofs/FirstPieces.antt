@@ -1,8 +1,7 @@
--- Seventeen pieces are enough: later pieces make no difference to a description.
-use Rattle.st_mnemonic.proofs.Common.{◌≡◌, ◌∙◌, ◌++◌, ℕ, List, [], ◌∷◌, length, take, Option, Some, None, refl, ap, sym, append_assoc, option_and_then, length-map, map-append, pieces_of, row_of, texts, in_mode, in_pieces, modes, FieldText}
+-- The pieces that are kept of a text are its first seventeen.
+use Rattle.st_mnemonic.proofs.Common.{◌≡◌, ◌∙◌, ◌++◌, ℕ, List, [], ◌∷◌, length, take, ap, sym, append_assoc, length-map, map-append, pieces_of, texts}
+use Rattle.st_mnemonic.specs.declared.field.FieldText.{FieldText}
 use Rattle.std.proofs.Math.Seq.{take-append_seam}
-use Rattle.st_mnemonic.specs.declared.descriptions.Mode.{Mode}
-use Rattle.st_mnemonic.specs.declared.descriptions.Mode.TheVariants.{Field, Normalized, Unnormalized}
 
 -- the first seventeen of a list are those that were found
 pub first_found : (found rest pieces : List (List ℕ)) → found ++ rest ≡ pieces → length found ≡ 17 → found ≡ take 17 pieces
@@ -21,20 +20,3 @@ no_room kept new f left after text pushed so_far cut full =
     ∙ (append_assoc (texts kept) (f.text.now ∷ []) (pieces_of 44 after)
     ∙ (ap (λ (ps : List (List ℕ)). texts kept ++ ps) (sym cut) ∙ so_far)) in
     first_found (texts new) (pieces_of 44 after) (pieces_of 44 text) all (length-map new (λ (g : FieldText). g.text.now) ∙ full)
-
--- ---- descriptions
-
-past_three : (mode : Option Mode) (a b c : List ℕ) (more others : List (List ℕ)) →
-    option_and_then (λ m. in_mode m (a ∷ b ∷ c ∷ more)) mode ≡ option_and_then (λ m. in_mode m (a ∷ b ∷ c ∷ others)) mode
-unfolding in_mode
-past_three None a b c more others = refl
-past_three (Some (Field d u)) a b c more others = refl
-past_three (Some Normalized) a b c more others = refl
-past_three (Some Unnormalized) a b c more others = refl
-
-pub enough_pieces : (ps : List (List ℕ)) → in_pieces (take 17 ps) ≡ in_pieces ps
-enough_pieces [] = refl
-enough_pieces (m ∷ []) = refl
-enough_pieces (m ∷ a ∷ []) = refl
-enough_pieces (m ∷ a ∷ b ∷ []) = refl
-enough_pieces (m ∷ a ∷ b ∷ c ∷ more) = past_three (row_of m modes) a b c (take 13 more) more

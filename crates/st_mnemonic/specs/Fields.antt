@@ -1,8 +1,8 @@
 -- The texts of fields.
 --
--- Proved: by their `ensures` clauses these calls do what definitions here say: `in_fields`
--- (descriptions.rt), `in_form` (descriptions.rt), `in_mode` (descriptions.rt), `fields` (parts.rt),
--- and others.
+-- Proved: by their `ensures` clauses these calls do what definitions here say: `in_form`
+-- (descriptions.rt), `in_mode` (descriptions.rt), `fields` (parts.rt), `pieces` (parts.rt), and
+-- others.
 -- Laws: none names a definition of this file itself.
 -- Change: no page fixes these definitions, since no contract of a program unfolds to them; they
 -- change together with the clauses, definitions and laws that name them. docs/strap.md describes

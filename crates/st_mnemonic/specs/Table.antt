@@ -2,7 +2,7 @@
 --
 -- Proved: by their `ensures` clauses these calls do what definitions here say: `listed_operation`
 -- (operations.rt), `connective` (operations.rt), `field_operation` (operations.rt),
--- `index_operation` (operations.rt), and others.
+-- `negated_operation` (operations.rt), and others.
 -- Read by: definitions in Faults of st_strap, Saying of st_strap.
 -- Laws: none names a definition of this file itself.
 -- Change: the meaning is fixed by docs/strap.md, since the contracts of `st_top::stretch` and

@@ -7,7 +7,7 @@
 //!
 //! Pinned, by these definitions, docs/strap.md, vectors/mnemonics.txt and vectors/faults.txt: the
 //! descriptions and which operation allows them. A new mode is a row in `modes` and here. Free: the
-//! split into functions, if proofs/descriptions follows `in_pieces`.
+//! split into functions.
 
 ghost use Rattle.std.specs.Prelude.{◌≡◌, ◌≤◌, length, IfSome};
 ghost use Rattle.std.specs.Option.{option_and_then};
@@ -161,14 +161,7 @@ fn in_pieces(text: &[u8]) -> Option<Description>
     requires { length text.now ≤ 63 }
     ensures { result ≡ spec.in_pieces (pieces_of comma text.now) }
 {
-    in_fields(pieces(text).as_slice())
-}
-
-// The description of the pieces between the commas of a group.
-fn in_fields(fields: &[FieldText]) -> Option<Description>
-    ensures { result ≡ spec.in_pieces (texts fields.now) }
-{
-    match fields {
+    match pieces(text).as_slice() {
         [] => None,
         [mode, more @ ..] => in_mode(row_of(&MODES, mode.text)?, more),
     }

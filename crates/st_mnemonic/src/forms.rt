@@ -91,15 +91,9 @@ fn with_group(op: Operation, form: Form, group: &[u8]) -> Option<Form>
     ensures { result ≡ option_and_then (spec.form_with_number op form)
         (spec.form_number group.now) }
 {
-    with_number(op, form, form_number(group)?)
-}
-
-// The form with progressive form `number`, if the operation allows it.
-fn with_number(op: Operation, form: Form, number: u8) -> Option<Form>
-    ensures { result ≡ spec.form_with_number op form number }
-{
-    if may_have_form(op, form.length, number) {
-        Some(Form { p: number, ..form })
+    let p = form_number(group)?;
+    if may_have_form(op, form.length, p) {
+        Some(Form { p, ..form })
     } else {
         None
     }

@@ -277,17 +277,10 @@ fn listed_operation(word: &[u8]) -> Option<Operation>
     if let Some(op) = field_operation(word, false) {
         return Some(op);
     }
-    if let Some(op) = index_operation(word) {
-        return Some(op);
+    if let Some(op) = row_of(&INDEX_OPERATIONS, word) {
+        return Some(Operation::Half(op));
     }
     row_of(&OTHER_OPERATIONS, word)
-}
-
-// The operation on an index word that a word names.
-fn index_operation(word: &[u8]) -> Option<Operation>
-    ensures { result ≡ spec.index_operation word.now }
-{
-    row_of(&INDEX_OPERATIONS, word).map(Operation::Half)
 }
 
 // The operation on a field that a word names; `negated` is passed on.

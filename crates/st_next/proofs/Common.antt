@@ -39,7 +39,7 @@ pub use Rattle.st_segment.specs.Entries.{reading_at, entry_with}
 unfoldable pub use Rattle.st_segment.specs.Entries.{entry, instruction_words, own_count, side_to_read, run_of}
 pub use Rattle.st_segment.proofs.EntryRanges.{entry-ranges, entry-words, entry-own}
 pub use Rattle.st_next.specs.Words.{words_alone, words_so_far, asked_so_far, IsStart, AreFirstWords, run_with_word}
-pub use Rattle.st_next.specs.Progress.{IsKnown, reads_so_far, wanted_next, IsUnread, IsNext, IsPlanned, IsNextReady, IsReadOn, Rests, preparation_without_side}
+pub use Rattle.st_next.specs.Progress.{IsKnown, reads_so_far, wanted_next, IsUnread, IsNext, Rests, IsPlanned, IsNextReady, IsReadOn, preparation_without_side}
 pub use Rattle.st_next.specs.Going.{IsIssueInTime, IsEarly, IsReadFurther, prepared_as, GoesOnTo, as_entry, AreLeft, IsPreparedBy}
 unfoldable pub use Rattle.st_next.specs.Going.{AdvancesTo}
 pub use Rattle.st_next.specs.Told.{IsToldFurther, told_so_far, formed_told}

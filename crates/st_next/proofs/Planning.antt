@@ -1,5 +1,5 @@
 -- The next entry of a state is planned from nothing.
-use Rattle.st_next.proofs.Common.{◌≡◌, ℕ, ◌+◌, ◌≤◌, Bool, true, false, List, [], ◌++◌, Option, refl, sym, ◌∙◌, ap, arith, Machine, IsMachine, index_words, place_of, needs, decode_context, formed_asked, log_after_reads, AreDelaysUpTo, tick_a, index_uses, told, uses, wishes, Entry, WordRun, Fetching, IssueState, Made, Past, Use, a-within, entry, side_to_read, entry-ranges, IsStateBefore, IsUnread, IsNext, IsPlanned, IsKnown, IsNextReady, reads_so_far, GoesOnTo, IsReadFurther, IsIssueInTime, words_told, told_so_far, formed_told, IsToldFurther, FetchUnit}
+use Rattle.st_next.proofs.Common.{◌≡◌, ℕ, ◌+◌, ◌≤◌, Bool, true, false, List, [], ◌++◌, Option, refl, sym, ◌∙◌, ap, arith, Machine, IsMachine, index_words, place_of, needs, decode_context, formed_asked, log_after_reads, AreDelaysUpTo, tick_a, index_uses, told, uses, wishes, Entry, WordRun, Fetching, IssueState, Made, Past, Use, a-within, entry, side_to_read, entry-ranges, IsStateBefore, IsUnread, IsNext, Rests, IsPlanned, IsKnown, IsNextReady, reads_so_far, GoesOnTo, IsReadFurther, IsIssueInTime, words_told, told_so_far, formed_told, IsToldFurther, FetchUnit}
 use Rattle.st_bits.specs.Indicators.{IsIndicatorIfAny}
 use Rattle.st_next.proofs.Resting.{address-late}
 use Rattle.st_next.proofs.Starting.{new-next, new-reads}
@@ -29,69 +29,76 @@ nothing-told : (ds : List ℕ) (f : IssueState) → words_told ds f nothing noth
 unfolding words_told uses wishes
 nothing-told ds f = refl
 
-module _ (ds : List ℕ) (n : ℕ) (f : IssueState) (x : List ℕ) (s : Machine) (t : Option ℕ) (fresh : FetchUnit) (place : fresh.place ≡ place_of s t)
-    (unread : IsUnread f.bus fresh) (machine : IsMachine s) (index : x ≡ index_words s) (table : IsIndicatorIfAny t) where
-  fresh-next : IsNext ds n t s f fresh
-  fresh-next = new-next ds n t s f fresh place unread.1 unread.2 unread.3 unread.0
+-- a fresh fetch unit for s and t has advanced by the facts known before the tick `later`, late enough to plan the entry
+pub record IsAdvanced (ds : List ℕ) (n : ℕ) (f : IssueState) (x : List ℕ) (s : Machine) (t : Option ℕ) (fresh : FetchUnit) (now later : ℕ) (after : FetchUnit) : Type 0 where
+  pub place : fresh.place ≡ place_of s t
+  pub unread : IsUnread f.bus fresh
+  pub machine : IsMachine s
+  pub index : x ≡ index_words s
+  pub table : IsIndicatorIfAny t
+  pub goes : GoesOnTo ds n now f x s fresh after later
+  pub are : AreDelaysUpTo 255 ds
+  pub issue : IsIssueInTime f
+  pub late : f.c + 1792 ≤ later
 
-  pub fresh-known : (now : ℕ) → IsKnown ds n now f x s fresh
-  fresh-known now = record { table = t; state = s; indicator = table; before = self-before now f.past x s machine index; is_next = fresh-next }
+fresh-next : (ds : List ℕ) (n : ℕ) (f : IssueState) (s : Machine) (t : Option ℕ) (fresh : FetchUnit) → fresh.place ≡ place_of s t → IsUnread f.bus fresh → IsNext ds n t s f fresh
+fresh-next ds n f s t fresh place unread = new-next ds n t s f fresh place unread.1 unread.2 unread.3 unread.0
 
-  fresh-reads : reads_so_far ds f fresh ≡ []
-  fresh-reads = new-reads ds f fresh unread.1 unread.2 unread.0
+pub fresh-known : (ds : List ℕ) (n : ℕ) (f : IssueState) (x : List ℕ) (s : Machine) (t : Option ℕ) (fresh : FetchUnit) → fresh.place ≡ place_of s t
+    → IsUnread f.bus fresh → IsMachine s → x ≡ index_words s → IsIndicatorIfAny t → (now : ℕ) → IsKnown ds n now f x s fresh
+fresh-known ds n f x s t fresh place unread machine index table now =
+    record { table = t; state = s; indicator = table; before = self-before now f.past x s machine index; is_next = fresh-next ds n f s t fresh place unread }
 
-  fresh-told : told_so_far ds f fresh ≡ []
-  fresh-told =
-      told-fetches ds f fresh unread.0
-      ∙ ap (λ run. words_told ds f run fresh.entry.target) unread.1
-      ∙ ap (words_told ds f nothing) unread.2
-      ∙ nothing-told ds f
+module _ {ds : List ℕ} {n : ℕ} {f : IssueState} {x : List ℕ} {s : Machine} {t : Option ℕ} {fresh : FetchUnit} {now later : ℕ} {after : FetchUnit}
+    (has : IsAdvanced ds n f x s t fresh now later after) where
+  abbrev e : Entry
+  e = entry t s
 
-  -- after the call
-  module _ (now later : ℕ) (after : FetchUnit) (goes : GoesOnTo ds n now f x s fresh after later) (are : AreDelaysUpTo 255 ds) (issue : IsIssueInTime f)
-      (late : f.c + 1792 ≤ later) where
-    abbrev e : Entry
-    e = entry t s
+  before : IsStateBefore now f.past x s s
+  before = self-before now f.past x s has.machine has.index
 
-    pub after-next : IsNext ds n t s f after
-    after-next = (goes.each t s table (self-before now f.past x s machine index) fresh-next).0
+  each : IsNext ds n t s f after × Rests later t s f after
+  each = has.goes.each t s has.table before (fresh-next ds n f s t fresh has.place has.unread)
 
-    planned-by : (b : Bool) → after.planned ≡ b → after.planned ≡ true
-    planned-by true is = is
-    planned-by false un =
-        let it = goes.each t s table (self-before now f.past x s machine index) fresh-next in
-        let soon = a-within 255 ds are f e (entry-ranges t s machine table) issue.tight in
-        absurd (omega (arith, late, soon, address-late ds later t s f after it.0.read_on un it.1))
+  pub after-next : IsNext ds n t s f after
+  after-next = each.0
 
-    pub after-planned : after.planned ≡ true
-    after-planned = planned-by after.planned refl
+  planned-by : (b : Bool) → after.planned ≡ b → after.planned ≡ true
+  planned-by true is = is
+  planned-by false un =
+      let soon = a-within 255 ds has.are f e (entry-ranges t s has.machine has.table) has.issue.tight in
+      absurd (omega (arith, has.late, soon, address-late ds later t s f after after-next.read_on un each.1))
 
-    pub after-known : IsPlanned ds n t s f after
-    after-known = after-next.planned after-planned
+  pub after-planned : after.planned ≡ true
+  after-planned = planned-by after.planned refl
 
-    pub after-ready : IsNextReady x s after
-    after-ready = record {
-      delays = ds;
-      levels = n;
-      tick = now;
-      issue = f;
-      known = record { table = t; state = s; indicator = table; before = self-before now f.past x s machine index; is_next = after-next };
-    }
+  pub after-known : IsPlanned ds n t s f after
+  after-known = after-next.planned after-planned
 
-    pub after-log : (log new : List Made) → IsReadFurther ds f fresh after log new → new ≡ log_after_reads ds (formed_asked ds f e) f.bus log
-    after-log log new is =
-        let added : is.added ≡ formed_asked ds f e =
-        ap (λ reads. reads ++ is.added) (sym fresh-reads) ∙ sym is.so_far ∙ planned-reads ds n t s f after after-next after-planned in
-        is.kept ∙ ap (λ reads. log_after_reads ds reads fresh.words.bus log) added
-        ∙ ap (λ (w : Fetching). log_after_reads ds (formed_asked ds f e) w.bus log) unread.3
+  pub after-ready : IsNextReady x s after
+  after-ready =
+      record { delays = ds; levels = n; tick = now; issue = f; known = record { table = t; state = s; indicator = has.table; before = before; is_next = after-next } }
 
-    whole-told : told_so_far ds f after ≡ formed_told ds f e
-    unfolding words_told
-    whole-told =
-        told-planned ds f after after-planned (after-known.address ∙ ap (tick_a ds f) (sym after-known.entry))
-        ∙ ap (λ (g : Entry). words_told ds f g.own g.target ++ told ds f.past (index_uses ds f g)) after-known.entry
+  pub after-log : (log new : List Made) → IsReadFurther ds f fresh after log new → new ≡ log_after_reads ds (formed_asked ds f e) f.bus log
+  after-log log new is =
+      let none : reads_so_far ds f fresh ≡ [] = new-reads ds f fresh has.unread.1 has.unread.2 has.unread.0 in
+      let added : is.added ≡ formed_asked ds f e =
+      ap (λ reads. reads ++ is.added) (sym none) ∙ sym is.so_far ∙ planned-reads ds n t s f after after-next after-planned in
+      is.kept ∙ ap (λ reads. log_after_reads ds reads fresh.words.bus log) added
+      ∙ ap (λ (w : Fetching). log_after_reads ds (formed_asked ds f e) w.bus log) has.unread.3
 
-    pub after-told : {A : Type 0} (noted : List Use → A → A) (m o : A) → IsToldFurther noted ds f fresh after m o → o ≡ noted (formed_told ds f e) m
-    after-told noted m o is =
-        let used : is.used ≡ formed_told ds f e = ap (λ us. us ++ is.used) (sym fresh-told) ∙ sym is.so_far ∙ whole-told in
-        is.told ∙ ap (λ us. noted us m) used
+  whole-told : told_so_far ds f after ≡ formed_told ds f e
+  unfolding words_told
+  whole-told =
+      told-planned ds f after after-planned (after-known.address ∙ ap (tick_a ds f) (sym after-known.entry))
+      ∙ ap (λ (g : Entry). words_told ds f g.own g.target ++ told ds f.past (index_uses ds f g)) after-known.entry
+
+  pub after-told : {A : Type 0} (noted : List Use → A → A) (m o : A) → IsToldFurther noted ds f fresh after m o → o ≡ noted (formed_told ds f e) m
+  after-told noted m o is =
+      let none : told_so_far ds f fresh ≡ [] =
+      told-fetches ds f fresh has.unread.0
+      ∙ ap (λ run. words_told ds f run fresh.entry.target) has.unread.1
+      ∙ ap (words_told ds f nothing) has.unread.2
+      ∙ nothing-told ds f in
+      let used : is.used ≡ formed_told ds f e = ap (λ us. us ++ is.used) (sym none) ∙ sym is.so_far ∙ whole-told in
+      is.told ∙ ap (λ us. noted us m) used

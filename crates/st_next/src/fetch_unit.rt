@@ -412,34 +412,28 @@ impl FetchUnit {
         ensures prepared { result ≡ true → IsPreparedBy (due - 1) context.now.index.now
             context.now.state.now self.new }
     {
-        self.begin(due, context, log, watch);
+        self.begin(context, log, watch);
         self.prepare_before(due, context, log, watch)
     }
 
-    // Requests the first word, if none is requested yet and it is one of the entry's own.
+    // Requests the first word, if none is requested yet and it is one of the entry's own. Of the
+    // state it needs what is known once the writers of the words so far have completed.
     #[inline(always)]
-    fn begin<W: Watch>(
-        &mut self,
-        due: u64,
-        context: &PlanContext<'_, '_>,
-        log: &mut Log,
-        watch: &mut W,
-    )
-        requires known { let b = context.now in let t = b.timing in IsKnown
-            t.delays.now.list t.levels (due - 1) b.issue.now b.index.now b.state.now self.old }
+    fn begin<W: Watch>(&mut self, context: &PlanContext<'_, '_>, log: &mut Log, watch: &mut W)
+        requires known { let b = context.now in let t = b.timing in IsKnown t.delays.now.list
+            t.levels self.old.words.awaited b.issue.now b.index.now b.state.now self.old }
         requires issue { IsIssueInTime context.now.issue.now }
         requires unplanned { self.old.planned ≡ false }
-        requires soon { self.old.words.awaited < due }
 
         ensures next { let b = context.now in let t = b.timing in GoesOnTo t.delays.now.list
-            t.levels (due - 1) b.issue.now b.index.now b.state.now self.old self.new 0 }
+            t.levels self.old.words.awaited b.issue.now b.index.now b.state.now self.old
+            self.new 0 }
         ensures further { let b = context.now in IsReadFurther
             b.timing.delays.now.list b.issue.now self.old self.new log.old log.new }
         ensures told { let b = context.now in IsToldFurther W.noted
             b.timing.delays.now.list b.issue.now self.old self.new watch.old watch.new }
         ensures unplanned { self.new.planned ≡ false }
     {
-        let _ = due;
         if self.entry.own.len != 0 || self.entry.target.len != 0 {
             return;
         }
@@ -596,7 +590,6 @@ impl FetchUnit {
     }
 
     // The half-words of the instruction, if its own words so far contain all of it.
-    #[inline(always)]
     fn halves(&self, state: &State) -> Option<(u32, u32)>
         requires place { IsPlace self.now.place }
         requires words { IsEntryInTime (words_alone self.now.entry.own self.now.entry.target) }
@@ -709,7 +702,6 @@ impl FetchUnit {
 }
 
 // The instruction of two half-words, with its format; None if it is EX.
-#[inline(always)]
 fn spelled_unless_execute(first: u32, second: u32) -> Option<Spelled>
     ensures same { IfSome result (λ r. (r.first ≡ first) × (r.second ≡ second)) }
     ensures format { IfSome result (λ r. spelled_as r.format first second

@@ -1,5 +1,5 @@
 -- Lines that were read can be followed by other lines up to a complete program.
-use Rattle.st_object.proofs.Common.{◌≡◌, ◌≤◌, ◌==◌, ℕ, Bool, true, false, not, List, [], ◌∷◌, ◌++◌, Some, unwrap_or, if◌then◌else◌, refl, ap, subst, ◌∙◌, append_assoc, arith, or_right, cond_both, nat_tests, length-map, flat_map, is_in_range, AreDelays, order, row_of_kind, kinds_before, kinds_behind, kind_of_line, is_met, are_met, none_stands, Draft, draft_at_start, IsDraft, is_empty, kind_lines, lines_read, has_line, is_whole, with_item, object_text_of, program_of, BeginsObjectText, Item, Kind}
+use Rattle.st_object.proofs.Common.{IsWithinLimits, others-within, Budget, ◌≡◌, ◌≤◌, ◌==◌, ℕ, Bool, true, false, not, List, [], ◌∷◌, ◌++◌, Some, unwrap_or, if◌then◌else◌, refl, ap, subst, ◌∙◌, append_assoc, arith, or_right, cond_both, nat_tests, length-map, flat_map, is_in_range, AreDelays, order, row_of_kind, kinds_before, kinds_behind, kind_of_line, is_met, are_met, none_stands, Draft, draft_at_start, IsDraft, is_empty, kind_lines, lines_read, has_line, is_whole, with_item, object_text_of, program_of, BeginsObjectText, Item, Kind}
 use Rattle.std.proofs.lemmas.List.Sums.{AllPass-from_list_all}
 use Rattle.st_object.proofs.FurtherLines.{no_lines_of, cut, IsPut, added}
 use Rattle.st_object.proofs.WrittenLines.{text_of-append}
@@ -75,7 +75,8 @@ some_limits n ds few are = (
 completion_draft : (d : Draft) → IsDraft d → IsDraft (completion d)
 completion_draft d draft =
     let small = start_small d.start draft.start in
-    let some = some_limits d.asked.budget d.asked.delays draft.limits.budget draft.limits.delays in
+    let some = some_limits d.asked.budget d.asked.delays (draft.limits.once Budget) draft.limits.delays in
+    let limits : IsWithinLimits (completion d).asked = others-within d.asked _ _ draft.limits some.0 some.1 in
     assumption
 
 completion_whole : (d : Draft) → is_whole (completion d) ≡ true

@@ -16,3 +16,4 @@ pub mod BadLines
 pub mod ReadingLemmas
 pub mod Laws
 pub mod OtherDelays
+mod Places

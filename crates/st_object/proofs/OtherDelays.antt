@@ -2,7 +2,7 @@
 -- delays.
 use Rattle.st_object.proofs.Common.{◌≡◌, ◌≤◌, ◌+◌, ◌==◌, ℕ, Bool, true, false, not, List, [], ◌∷◌, ◌++◌, drop, map, filter, Ok, refl, sym, subst, ◌∙◌, ap, append_assoc, append-nil, arith, cond_both, nat_tests, map-append, filter-append, line_end, pieces_of, All, flat_map, list_all, All-head, All-tail, keyword_order, keyword_of, Asked, control_line, asked_by, Budget, Delays, Keyword, Control, others-within, asked-keyword, line_text, word_lines, draft_at_start, Program, IsProgram, AreWords, object_lines, object_text, read_from, read_text, Item, Object, Start, Word, Fin, Ask}
 use Rattle.std.proofs.lemmas.Bool.{and_parts as both}
-use Rattle.st_card.specs.declared.keywords.Control.TheVariants.{Number}
+use Rattle.st_card.specs.declared.keywords.Control.TheVariants.{Number, Once}
 use Rattle.st_object.proofs.AcceptedTexts.{accepted}
 use Rattle.st_object.proofs.ProgramLines.{made_again}
 use Rattle.st_object.proofs.ReadBack.{parted-text_of, read_back}
@@ -83,7 +83,7 @@ head p = Object ∷ Start p.start ∷ [] ++ word_lines 0 p.words
 
 -- the line of the budget
 abbrev budget_lines : Program → List Item
-budget_lines p = map (λ c. Ask c) (asked_by (keywords.Number Budget) p.controls)
+budget_lines p = map (λ c. Ask c) (asked_by (keywords.Once Budget) p.controls)
 
 -- the lines of a program after the delays
 abbrev rest : Program → List Item
@@ -95,7 +95,7 @@ pieces p = lines_of (object_lines p) ++ [] ∷ []
 
 in-parts : (p : Program) → object_lines p ≡ head p ++ (budget_lines p ++ (delay_lines p.controls.delays ++ rest p))
 in-parts p =
-    let budget = asked_by (keywords.Number Budget) p.controls in
+    let budget = asked_by (keywords.Once Budget) p.controls in
     let delays = asked_by (keywords.Number Delays) p.controls in
     let more = flat_map (λ k. asked_by k p.controls) (drop 2 keyword_order) in
     let ask : List Control → List Item = λ cs. map (λ c. Ask c) cs in
@@ -124,7 +124,7 @@ unfolding line_text control_line is_delay_line
 stay-head p = ap (λ l. line_text Object ∷ line_text (Start p.start) ∷ l) (stay-words 0 p.words)
 
 stay-budget : (p : Program) → Stay (budget_lines p)
-stay-budget p = stay-asks (keywords.Number Budget) refl (asked_by (keywords.Number Budget) p.controls) (asked-keyword (keywords.Number Budget) p.controls)
+stay-budget p = stay-asks (keywords.Once Budget) refl (asked_by (keywords.Once Budget) p.controls) (asked-keyword (keywords.Once Budget) p.controls)
 
 stay-rest : (p : Program) → Stay (rest p)
 stay-rest p =
@@ -187,7 +187,7 @@ spelled-each : (delays : List ℕ) → map (λ d. line_text (Ask (Number Delays 
 spelled-each [] = refl
 spelled-each (d ∷ delays) = ap (λ l. line_text (Ask (Number Delays d)) ∷ l) (spelled-each delays)
 
-one-budget : (p : Program) → 1 ≤ p.controls.budget → budget_lines p ≡ Ask (Number Budget p.controls.budget) ∷ []
+one-budget : (p : Program) → 1 ≤ p.controls.budget → budget_lines p ≡ Ask (Once Budget p.controls.budget) ∷ []
 one-budget p some = let is : (p.controls.budget == 0) ≡ false = grind (arith, nat_tests) in rw is refl
 
 -- the delay lines are inserted after the budget line
@@ -196,7 +196,7 @@ comes : (delays : List ℕ) (p : Program) (more : List (List ℕ)) → 1 ≤ p.c
 unfolding line_text control_line is_budget_line
 comes delays p more some =
     ap (λ items. with_delay_lines delays (lines_of items ++ more)) (one-budget p some)
-    ∙ ap (λ l. line_text (Ask (Number Budget p.controls.budget)) ∷ (l ++ more)) (spelled-each delays)
+    ∙ ap (λ l. line_text (Ask (Once Budget p.controls.budget)) ∷ (l ++ more)) (spelled-each delays)
     ∙ sym (ap (λ items. lines_of items ++ (lines_of (delay_lines delays) ++ more)) (one-budget p some))
 
 exchanged : (p : Program) (delays : List ℕ) → 1 ≤ p.controls.budget → with_delay_lines delays (others (pieces p)) ≡ pieces (with_delays p delays)
@@ -240,7 +240,7 @@ again-read text other delays p read same good =
     let program : IsProgram (with_delays p delays) = record {
       image = is.program.image;
       start = is.program.start;
-      limits = others-within p.controls p.controls.budget delays is.program.limits is.program.limits.budget good.limits;
+      limits = others-within p.controls p.controls.budget delays is.program.limits (is.program.limits.once Budget) good.limits;
       budget = is.program.budget;
       delays = good.some;
       unlisted = is.program.unlisted;

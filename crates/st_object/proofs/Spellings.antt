@@ -1,5 +1,5 @@
 -- The line of an item is read as that item, and a line that is read as an item is its line.
-use Rattle.st_object.proofs.Common.{◌≡◌, ◌<◌, ◌+◌, ◌*◌, ◌/◌, ◌%◌, ◌^◌, ◌==◌, ℕ, suc, zero, true, not, List, [], ◌∷◌, ◌++◌, Option, Some, None, if◌then◌else◌, nat_lt, false, ◌≤◌, length, decimal, refl, sym, ◌∙◌, ap, append_assoc, length-append, arith, rules, list_all, other_text, nat_tests, common_steps, eq-eqb, take_all, list_all-append, pieces_of, lacks, columns, option_map, option_and_then, keyword_text, card_number, control_in, IsShort, control_line, ObjectLine, Keyword, Control, line_text, parts_at, short_number, two_numbers, IsItem, hex_digit_in, hex_number, word_in, kind_of_word, item_behind, item_loosely, item_in, Item, Object, Start, Word, Ask, Fin, is-word}
+use Rattle.st_object.proofs.Common.{◌≡◌, ◌<◌, ◌+◌, ◌*◌, ◌/◌, ◌%◌, ◌^◌, ◌==◌, ℕ, suc, zero, true, not, List, [], ◌∷◌, ◌++◌, Option, Some, None, if◌then◌else◌, nat_lt, false, ◌≤◌, length, decimal, refl, sym, ◌∙◌, ap, append_assoc, length-append, arith, rules, list_all, other_text, nat_tests, common_steps, eq-eqb, take_all, list_all-append, pieces_of, lacks, columns, option_map, option_and_then, keyword_text, card_number, control_in, IsShort, control_line, ObjectLine, Keyword, Control, line_text, parts_at, short_number, two_numbers, IsItem, hex_digit_in, hex_number, word_in, kind_of_word, item_behind, item_loosely, item_in, Item, Object, Start, Word, Ask, Fin, is-word, control_of}
 use Rattle.std.specs.Char.{is_ascii_digit}
 use Rattle.std.proofs.lemmas.Str.Parse.{IsNumeralModel, numerals_by_fold}
 use Rattle.std.proofs.lemmas.Fmt.{digits_decimal, digits_value-decimal, decimal_nonempty, length-decimal-le}
@@ -8,7 +8,6 @@ use Rattle.st_text.specs.Numerals.{hex_digit, hex_text, hex_word, half_address}
 use Rattle.st_text.specs.Number.{is_filled, digits_value, value_after}
 use Rattle.st_text.specs.Tables.{is_same}
 use Rattle.st_card.specs.declared.keywords.Mark.{Mark}
-use Rattle.st_card.specs.declared.keywords.Number.{Number}
 use Rattle.st_card.specs.declared.keywords.Pair.{Pair}
 use Rattle.st_object.proofs.Parts.{parts_around, parts_none}
 use Rattle.st_card.specs.declared.keywords.Keyword.TheVariants as keywords
@@ -127,11 +126,11 @@ number_read n short =
     ap (λ b. if b then None else short_number (decimal n)) fits ∙ short_number-decimal n short
 
 -- the number of a request is read from its line
-one_read : (number : Number) (n : ℕ) → IsShort n → control_in (keywords.Number number) (decimal n) ≡ Some (asks.Number number n)
-one_read number n short =
+one_read : (keyword : Keyword) (n : ℕ) (c : Control) → control_of keyword (n ∷ []) ≡ Some c → IsShort n → control_in keyword (decimal n) ≡ Some c
+one_read keyword n c same short =
     let few = decimal_length n short in
     let whole : columns (decimal n) ≡ decimal n = take_all 72 (decimal n) (omega (arith, few)) in
-    rw (whole, one_piece 32 (decimal n) (lacks-decimal 32 n (omega arith) (short_small n short)), decimal_filled n short, number_read n short)
+    rw (whole, one_piece 32 (decimal n) (lacks-decimal 32 n (omega arith) (short_small n short)), decimal_filled n short, number_read n short) same
 
 -- the two numbers of a request are read from its line
 two_read : (pair : Pair) (a b : ℕ) → IsShort a → IsShort b → control_in (keywords.Pair pair) (decimal a ++ 32 ∷ [] ++ decimal b) ≡ Some (asks.Pair pair a b)
@@ -169,13 +168,18 @@ mark_again mark =
     ap (λ parts. item_loosely parts front) (parts_none 32 front (is-word ObjectLine (keywords.Mark mark)).0)
     ∙ ap (λ kind. option_and_then (λ k. item_behind k []) kind) (word_kind (keywords.Mark mark))
 
+-- the line of a request with one number has its meaning
+number_again : (keyword : Keyword) (n : ℕ) (c : Control) → control_of keyword (n ∷ []) ≡ Some c → IsShort n →
+    let line = keyword_text ObjectLine keyword ++ 32 ∷ [] ++ decimal n in item_loosely (parts_at 32 line) line ≡ Some (Ask c)
+number_again keyword n c same short =
+    ask_again keyword (decimal n) _ c (one_read keyword n c same short) (append_assoc (keyword_text ObjectLine keyword) (32 ∷ []) (decimal n))
+
 -- a line has the meaning of its item
 loosely_again : (item : Item) → IsItem item → item_loosely (parts_at 32 (line_text item)) (line_text item) ≡ Some item
 unfolding line_text control_line
 loosely_again (Ask (asks.Mark mark)) short = mark_again mark
-loosely_again (Ask (asks.Number number n)) short =
-    ask_again (keywords.Number number) (decimal n) _ (asks.Number number n) (one_read number n short)
-    (append_assoc (keyword_text ObjectLine (keywords.Number number)) (32 ∷ []) (decimal n))
+loosely_again (Ask (asks.Once once n)) short = number_again (keywords.Once once) n (asks.Once once n) refl short
+loosely_again (Ask (asks.Number number n)) short = number_again (keywords.Number number) n (asks.Number number n) refl short
 loosely_again (Ask (asks.Pair pair a b)) short =
     ask_again (keywords.Pair pair) (decimal a ++ 32 ∷ [] ++ decimal b)
     (keyword_text ObjectLine (keywords.Pair pair) ++ 32 ∷ [] ++ decimal a ++ 32 ∷ [] ++ decimal b) (asks.Pair pair a b) (two_read pair a b short.0 short.1)

@@ -1,7 +1,7 @@
 -- The order of the lines in an object text.
 --
--- Proved: by their `ensures` clauses these calls do what definitions here say: `row` (order.rt),
--- `are_met` (drafts.rt), `is_met` (drafts.rt), `none_stands` (drafts.rt), and others.
+-- Proved: by their `ensures` clauses these calls do what definitions here say: `are_met`
+-- (drafts.rt), `none_stands` (drafts.rt), `row` (order.rt), `is_met` (drafts.rt), and others.
 -- Read by: definitions in Draft.
 -- Laws: none names a definition of this file itself.
 -- Change: no page fixes these definitions, since no contract of a program unfolds to them; they

@@ -12,13 +12,13 @@
 //! view of `Draft` stays; the bodies, if proofs/drafts follows `none_stands` and `are_met`. A line
 //! that is no request needs a case of `stands` and `put`.
 
-ghost use Rattle.std.specs.Prelude.{◌≡◌, ◌≤◌, ◌-◌, ◌++◌, [], ◌∷◌, length, vec_len, replicate, true, Some, OnOk};
+ghost use Rattle.std.specs.Prelude.{◌≡◌, ◌≤◌, ◌-◌, ◌++◌, [], ◌∷◌, length, vec_len, replicate, take, drop, true, Some, OnOk};
 ghost use Rattle.st_object.specs.Draft as spec;
-ghost use Rattle.st_object.specs.Order.{is_met, are_met, none_stands};
+ghost use Rattle.st_object.specs.Order.{order, is_met, are_met, none_stands};
 ghost use Rattle.st_object.specs.Answers.{Settles, Appends};
 
 use crate::items::{Item, Kind};
-use crate::order::{KindRow, ORDER, kind_of, row};
+use crate::order::{KINDS, KindRow, kind_at, kind_of, row};
 use st_bits::WORDS;
 use st_bits::register::FIRST_STORAGE_WORD;
 use st_card::{Addition, Controls};
@@ -81,31 +81,28 @@ impl Draft {
         !needed || self.stands(kind)
     }
 
-    // Whether every required line among some kinds has been read.
-    fn are_met(&self, kinds: &[Kind]) -> bool
-        ensures { result ≡ are_met (spec.has_line self.now) kinds.now }
+    // Whether every required line of the kinds before a position has been read.
+    fn are_met(&self, end: usize) -> bool
+        requires { end ≤ length order }
+        ensures { result ≡ are_met (spec.has_line self.now) (take end order) }
     {
-        let mut rest = kinds;
         // Proofs name the loops by their labels.
-        'kinds: while let [kind, after @ ..] = rest {
-            if !self.is_met(*kind) {
+        'kinds: for place in 0..end {
+            if !self.is_met(kind_at(place)) {
                 return false;
             }
-            rest = after;
         }
         true
     }
 
-    // Whether no line of some kinds has been read.
-    fn none_stands(&self, kinds: &[Kind]) -> bool
-        ensures { result ≡ none_stands (spec.has_line self.now) kinds.now }
+    // Whether no line of the kinds from a position on has been read.
+    fn none_stands(&self, start: usize) -> bool
+        ensures { result ≡ none_stands (spec.has_line self.now) (drop start order) }
     {
-        let mut rest = kinds;
-        'kinds: while let [kind, after @ ..] = rest {
-            if self.stands(*kind) {
+        'kinds: for place in start..KINDS {
+            if self.stands(kind_at(place)) {
                 return false;
             }
-            rest = after;
         }
         true
     }
@@ -114,7 +111,7 @@ impl Draft {
     pub(crate) fn is_whole(&self) -> bool
         ensures { result ≡ spec.is_whole self.now }
     {
-        self.are_met(&ORDER)
+        self.are_met(KINDS)
     }
 
     // Whether a line of a kind may come next.
@@ -122,9 +119,7 @@ impl Draft {
         ensures { result ≡ spec.has_place self.now kind }
     {
         let KindRow { place, repeats, .. } = row(kind);
-        let (before, _) = ORDER.split_at(place);
-        let (_, behind) = ORDER.split_at(place + 1);
-        self.are_met(before) && (repeats || !self.stands(kind)) && self.none_stands(behind)
+        self.are_met(place) && (repeats || !self.stands(kind)) && self.none_stands(place + 1)
     }
 }
 

@@ -1,37 +1,38 @@
 //! The order of the lines in an object text: the position of each kind, whether it repeats, and
-//! whether it is required. docs/object-text.md has this table. drafts.rt decides by `row` and ORDER
-//! which line may come next. No other crate sees them.
+//! whether it is required. docs/object-text.md has this table. drafts.rt decides by `row` and
+//! `kind_at` which line may come next. No other crate sees them.
 //!
-//! Proved: `row` is the table `row_of_kind` of specs/Order.antt, and `kind_of` is `kind_of_line`
-//! there. That ORDER has the kinds by position is used in the proofs of drafts.rt.
+//! Proved: `row` is the table `row_of_kind` of specs/Order.antt, `kind_at` gives the kinds of
+//! `order` there by position, and `kind_of` is `kind_of_line` there.
 //!
 //! Pinned, by `row_of_kind`, docs/object-text.md and vectors/objects.txt: the table; requests come
 //! between words and FIN, in the order of `st_card`. Free: the form of the match. A new request is
-//! a row of ORDER here and a row of the table in `st_card`.
+//! a row of the table in `st_card`, and nothing here.
 
-ghost use Rattle.std.specs.Prelude.{◌≡◌, ◌<◌, length};
+ghost use Rattle.std.specs.Prelude.{◌≡◌, ◌<◌, length, get_or};
+ghost use Rattle.st_object.specs.declared.items.Kind.TheVariants as kinds;
 ghost use Rattle.st_object.specs.Order as spec;
 
 use crate::items::{Item, Kind};
-use st_card::{Keyword, Mark, Number, Pair, is_required, keyword_of, place};
+use st_card::{is_required, keyword_of, place};
 
-// The kinds of lines in their order in an object text.
-pub(crate) const ORDER: [Kind; 14] = [
-    Kind::Object,
-    Kind::Start,
-    Kind::Word,
-    Kind::Ask(Keyword::Number(Number::Budget)),
-    Kind::Ask(Keyword::Number(Number::Delays)),
-    Kind::Ask(Keyword::Pair(Pair::Signals)),
-    Kind::Ask(Keyword::Pair(Pair::Dump)),
-    Kind::Ask(Keyword::Mark(Mark::Trace)),
-    Kind::Ask(Keyword::Mark(Mark::Time)),
-    Kind::Ask(Keyword::Mark(Mark::Chart)),
-    Kind::Ask(Keyword::Number(Number::Snap)),
-    Kind::Ask(Keyword::Number(Number::Back)),
-    Kind::Ask(Keyword::Listing),
-    Kind::Fin,
-];
+// The number of kinds of lines.
+pub(crate) const KINDS: usize = 4 + st_card::ORDER.len();
+
+// The kind of line at a position in an object text; the last kind at a position behind it.
+pub(crate) fn kind_at(place: usize) -> Kind
+    ensures { result ≡ get_or spec.order place kinds.Fin }
+{
+    match place {
+        0 => Kind::Object,
+        1 => Kind::Start,
+        2 => Kind::Word,
+        _ => match st_card::ORDER.get(place - 3) {
+            Some(keyword) => Kind::Ask(*keyword),
+            None => Kind::Fin,
+        },
+    }
+}
 
 // The position of a kind of line in an object text.
 #[derive(Clone, Copy)]
@@ -66,7 +67,7 @@ pub(crate) fn row(kind: Kind) -> KindRow
         Kind::Start => kind_row(1, false, true),
         Kind::Word => kind_row(2, true, false),
         Kind::Ask(keyword) => kind_row(3 + place(keyword), true, is_required(keyword)),
-        Kind::Fin => kind_row(3 + st_card::ORDER.len(), false, true),
+        Kind::Fin => kind_row(KINDS - 1, false, true),
     }
 }
 

@@ -1,5 +1,6 @@
 -- What is known of an entry that is planned, where it asks for following words.
-use Rattle.st_plain.proofs.Common.{if◌then◌else◌, is_none, nat_lt, ◌≡◌, ℕ, ◌+◌, ◌-◌, ◌/◌, ◌≤◌, true, false, ◌==◌, List, [], ◌∷◌, length, Option, None, Some, refl, sym, ◌∙◌, ap, arith, and_parts, nat_tests, length-drop, Machine, word, place_of, index_words, reading_by, words_fetched, needs, decode_context, resolved, resolved_at, entry_at, suppressed_entry, prepared_by, prepared_entry, plan, Needs, Prepared, Entry, run_of, reading_at, instruction_words, own_count, entry, code_of, code_found, side_at, executes_at, executed_code, known_at, Code, Known}
+use Rattle.st_plain.proofs.Common.{if◌then◌else◌, is_none, nat_lt, ◌≡◌, ℕ, ◌+◌, ◌-◌, ◌/◌, ◌≤◌, true, false, ◌==◌, List, [], ◌∷◌, length, Option, None, Some, refl, sym, ◌∙◌, ap, arith, and_parts, nat_tests, length-drop, Machine, word, needs, decode_context, resolved, resolved_at, entry_at, suppressed_entry, prepared_by, prepared_entry, plan, Needs, Prepared, Entry, run_of, reading_at, instruction_words, own_count, entry, code_of, code_found, side_at, executes_at, executed_code, known_at, Code, Known}
+use Rattle.st_prep.specs.Fetch.{place_of, index_words, reading_by, words_fetched}
 use Rattle.std.proofs.Common.{Bool}
 use Rattle.st_format.specs.declared.instruction.Decoded.{Decoded}
 use Rattle.st_format.specs.Formats.{decoded_entry}

@@ -4,4 +4,5 @@ pub mod RowLemmas
 pub mod LookLemmas
 pub mod SideLemmas
 pub mod UseLemmas
+pub mod Looked
 pub mod Laws

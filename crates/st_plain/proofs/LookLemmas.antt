@@ -1,6 +1,5 @@
 -- The search for predicted entries, step by step.
-use Rattle.st_plain.proofs.Common.{Bool, if◌then◌else◌, map, ◌≡◌, ℕ, zero, suc, ◌+◌, ◌-◌, ◌≤◌, ◌<◌, true, false, List, [], ◌∷◌, ◌++◌, None, get_or, take, refl, sym, subst, ap, ◌∙◌, append_assoc, arith, append-nil, lt-ltb, le-ltb, Machine, Prepared, state_after_completion, predicted_state, prediction, formed_asked, bus_after_reads, Read, no_runs, log_after_reads, row_of_entry, issue_after_entry, bus_a, tick_p, tick_c, preparation_tick, done_before, reads_of_entry, Entry, Made, Past, noted-two, served-append, served-asked, served-formed, IssueState, EntryTicks, entry, Bus, seen_ahead, first_late, reads_up_to}
-use Rattle.st_segment.specs.Ahead.{Ahead, ahead, next_ahead, prepared_before}
+use Rattle.st_plain.proofs.Common.{Bool, if◌then◌else◌, map, ◌≡◌, ℕ, zero, suc, ◌+◌, ◌-◌, ◌≤◌, ◌<◌, true, false, List, [], ◌∷◌, ◌++◌, None, get_or, take, refl, sym, subst, ap, ◌∙◌, append_assoc, arith, append-nil, lt-ltb, le-ltb, Machine, Prepared, state_after_completion, predicted_state, prediction, formed_asked, bus_after_reads, Read, no_runs, log_after_reads, row_of_entry, issue_after_entry, bus_a, tick_p, tick_c, preparation_tick, done_before, reads_of_entry, Entry, Made, Past, noted-two, served-append, served-asked, served-formed, IssueState, entry, Bus, seen_ahead, first_late, reads_up_to, Ahead, ahead, next_ahead, prepared_before}
 use Rattle.st_exec.proofs.Unchanged.{completed-done}
 use Rattle.st_plain.specs.declared.looking.Ahead.{Ahead as SeenAhead}
 

@@ -1,5 +1,5 @@
 -- The reads of an entry in the log, part by part.
-use Rattle.st_plain.proofs.Common.{◌≡◌, ℕ, List, refl, sym, ap, ◌∙◌, runs_asked, following_asked, formed_asked, prepared_asked, log_after_reads, bus_a, tick_p, operands, reads_of_entry, row_of_entry, issue_after_entry, Bus, Entry, EntryTicks, IssueState, Made, noted-two, served-runs, served-formed}
+use Rattle.st_plain.proofs.Common.{◌≡◌, ℕ, List, sym, ap, ◌∙◌, formed_asked, prepared_asked, log_after_reads, bus_a, reads_of_entry, row_of_entry, issue_after_entry, Bus, Entry, EntryTicks, IssueState, Made, noted-two, served-formed}
 use Rattle.st_rows.proofs.Parts.{two-parts}
 
 module _ (ds : List ℕ) (f : IssueState) (e : Entry) where

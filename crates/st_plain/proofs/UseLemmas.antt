@@ -1,5 +1,7 @@
 -- Words are noted in sequence.
-use Rattle.st_plain.proofs.Common.{Bool, map, if◌then◌else◌, nat_lt, nat_le, ◌≡◌, ℕ, zero, suc, true, ◌+◌, ◌-◌, ◌<◌, ◌≤◌, max, List, [], ◌∷◌, ◌++◌, Option, inl, inr, refl, sym, ◌∙◌, ap, append_assoc, length-append, arith, cases_Bool, lt-ltb, nat_tests, append-nil, take_all, ArrayVec, IsEntryInTime, wanted_from, own_uses, own_fetched, target_uses, words_tick, tick_a, bus_a, tick_p, index_uses, first_uses, first_read, second_uses, operands, followings, operands_read, read_words, request_inside, Bus, Entry, WordRuns, IssueState, Past, registers_among, fetch_uses, side_uses, operand_uses, data_uses, inside_uses, following_uses, formed_uses, prepared_uses, side_register, uses_of_entry, Use, uses, words_of, wish_of, use_of, unused, behind_use, bus_after_request, wishes-length, followings-length, side_to_read}
+use Rattle.st_plain.proofs.Common.{Bool, map, if◌then◌else◌, nat_lt, nat_le, ◌≡◌, ℕ, zero, suc, true, ◌+◌, ◌<◌, ◌≤◌, max, List, [], ◌∷◌, ◌++◌, Option, inl, inr, refl, sym, ◌∙◌, ap, append_assoc, length-append, arith, cases_Bool, lt-ltb, nat_tests, append-nil, take_all, IsEntryInTime, wanted_from, own_uses, own_fetched, target_uses, words_tick, tick_a, bus_a, tick_p, index_uses, first_uses, first_read, second_uses, operands, followings, read_words, request_inside, Bus, Entry, IssueState, Past, registers_among, fetch_uses, side_uses, operand_uses, data_uses, inside_uses, following_uses, formed_uses, prepared_uses, side_register, uses_of_entry, Use, uses, words_of, wish_of, use_of, unused, behind_use, bus_after_request, wishes-length, followings-length, side_to_read}
+use Rattle.arrayvec.specs.ArrayVec.{ArrayVec}
+use Rattle.st_rows.specs.declared.entry.WordRuns.{WordRuns}
 use Rattle.std.specs.Prelude.{None, Some, false, length}
 use Rattle.st_bits.specs.declared.register.TheConstants.{FIRST_STORAGE_WORD}
 use Rattle.st_bits.specs.Storage.{words_of_storage}

@@ -16,7 +16,6 @@ ghost use Rattle.st_bits.specs.Indicators.{IsIndicatorIfAny};
 ghost use Rattle.st_bits.specs.declared.limits.TheConstants.{MOST_DELAY};
 ghost use Rattle.st_banks.specs.Bank.{last_of};
 ghost use Rattle.st_banks.specs.declared.answers.TheConstants.{BANKS as banks_there};
-ghost use Rattle.st_prep.specs.Fetch.{index_words as index_words_of};
 ghost use Rattle.st_prep.specs.Plan.{plan as plan_of};
 ghost use Rattle.st_prep.specs.Ranges.{IsPrepared, IsRuns};
 ghost use Rattle.st_state.specs.Machine.{IsMachine};
@@ -33,24 +32,14 @@ ghost use Rattle.st_plain.specs.Uses.{formed_uses, prepared_uses, registers_amon
 
 use crate::known::{Known, known_if};
 use st_banks::{BANKS, LastAnswers};
-use st_bits::register::{FIRST_INDEX_WORD, FIRST_STORAGE_WORD};
+use st_bits::register::FIRST_STORAGE_WORD;
 use st_next::{FetchUnit, PlanContext};
-use st_prep::Words;
+use st_prep::{Words, index_words_in};
 use st_rows::{
     Bus, Entry, EntryTicks, Formed, FormedEntry, IssueState, LastEntries, Log, Role, Timing, Uses,
     Watch, WordRun, WordRuns,
 };
 use st_state::State;
-
-// The sixteen index words of a state, where they stand in storage.
-#[inline(always)]
-fn index_words_in(state: &State) -> &[u64; 16]
-    ensures { result.now ≡ index_words_of state.now }
-{
-    let words = state.words();
-    let first = FIRST_INDEX_WORD as usize;
-    <&[u64; 16]>::try_from(&words[first..first + 16]).unwrap()
-}
 
 // The last answer of the bank of the word `w`, given those of all banks.
 fn last_answer(ticks: &[u64; BANKS], w: u32) -> u64

@@ -1,6 +1,6 @@
 -- The names that proofs of this crate use, passed on from one place. Declares nothing.
-pub use Rattle.std.proofs.Common.{ℕ, ◌*◌, ◌^◌, ◌<◌, ℤ, pos, negsuc, ◌+ℤ◌, List, arith, ◌≡◌, ◌≢◌, ◌+◌, ◌%◌, ◌≤◌, Bool, true, false, ◌==◌, length, take, drop, get_or, set, Option, None, Some, refl, sym, subst, ◌∙◌, ap, get_or-set_other, zero, suc, ◌/◌, neg_ℤ, if◌then◌else◌, is_none, is_some, [], ◌∷◌, ◌-◌, ◌||◌, bit_and, inl, inr, ◌++◌, not, ◌&&◌}
-pub use Rattle.std.specs.Prelude.{nat_lt, slice_index, All, IfSome, unwrap_or, unsigned_abs, nat_le}
+pub use Rattle.std.proofs.Common.{ℕ, ◌*◌, ◌^◌, ◌<◌, ℤ, pos, negsuc, ◌+ℤ◌, List, arith, ◌≡◌, ◌≢◌, ◌+◌, ◌%◌, ◌≤◌, Bool, true, false, ◌==◌, length, take, drop, get_or, set, Option, None, Some, refl, sym, subst, ◌∙◌, ap, get_or-set_other, zero, suc, ◌/◌, neg_ℤ, if◌then◌else◌, is_none, is_some, [], ◌∷◌, ◌-◌, ◌||◌, bit_and, inl, inr, ◌++◌, not, ◌&&◌, rules}
+pub use Rattle.std.specs.Prelude.{nat_lt, slice_index, All, IfSome, unwrap_or, unsigned_abs, nat_le, MatchResult}
 pub use Rattle.std.proofs.lemmas.Grind.{get_or-set_at, take-set_at}
 pub use Rattle.std.proofs.lemmas.Bool.{eqb-true, ltb-false, leb-false}
 pub use Rattle.std.proofs.lemmas.Bool.Decides.{nat_tests, leb_tells}

@@ -54,16 +54,21 @@ pub enum Part {
     },
 }
 
-/// The sixteen index words of a state.
+/// The sixteen index words of a state, where they stand in storage.
+#[inline(always)]
+pub fn index_words_in(state: &State) -> &[u64; 16]
+    ensures { result.now ≡ index_words_of state.now }
+{
+    let words = state.words();
+    let first = FIRST_INDEX_WORD as usize;
+    <&[u64; 16]>::try_from(&words[first..first + 16]).unwrap()
+}
+
+/// A copy of the sixteen index words of a state.
 pub fn index_words(state: &State) -> [u64; 16]
     ensures { result ≡ index_words_of state.now }
 {
-    let words = state.words();
-    let mut x = [0; 16];
-    for j in 0..16 {
-        x[j] = words[FIRST_INDEX_WORD as usize + j];
-    }
-    x
+    *index_words_in(state)
 }
 
 /// The place of the next entry, or of the table instruction of an interrupt by the indicator in
@@ -337,7 +342,6 @@ pub fn fetch_on(place: &Place, x: &[u64; 16], contents: &[u64], state: &State) -
 
 /// The entry that is fetched at a place: its instruction, the target of EX, and the indicator that
 /// forbids one of their words. All words are read from the state, and `x` are the index words.
-#[inline(always)]
 pub fn fetch_all(place: &Place, x: &[u64; 16], state: &State) -> Fetched
     requires { IsPlace place.now }
     ensures value { result

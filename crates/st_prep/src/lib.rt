@@ -24,7 +24,9 @@ mod runs;
 mod speculative;
 
 pub use entries::{Fetched, Fetching, IndexChange, Needs, Place, Prepared, Words};
-pub use fetching::{fetch_all, fetch_on, halves_known, index_words, is_execute, place_of};
+pub use fetching::{
+    fetch_all, fetch_on, halves_known, index_words, index_words_in, is_execute, place_of,
+};
 pub use preparation::{
     change_by_side, change_index, is_execute_format, look, plan_in, prepare, prepare_in,
     prepare_without_side, side_word,

@@ -14,10 +14,9 @@
 //! suppressed one included (`suppressed_entry`); by these crates and docs/CLAIMS.md: the calls.
 //! Free: the bodies, if proofs/preparation follows.
 ghost use Rattle.std.specs.Prelude.{◌≡◌, ℕ, ◌<◌, ◌^◌, true, Option, IfSome, is_some, option_map};
-ghost use Rattle.st_bits.specs.Indicators.{indicator as indicator_of, IsIndicatorIfAny};
+ghost use Rattle.st_bits.specs.Indicators.{IsIndicatorIfAny};
 ghost use Rattle.st_bits.specs.Storage.{words_of_storage};
 ghost use Rattle.st_state.specs.Machine.{Machine, IsMachine, word};
-ghost use Rattle.st_state.specs.Interrupts.{indicator_word};
 ghost use Rattle.st_prep.specs.SpeculativeChanges.{words_after};
 ghost use Rattle.st_prep.specs.Plan.{DecodeContext, decode_context_of, resolved_at as aimed_of, resolved as resolved_of, is_serial as is_serial_of, needs_by, needs as needs_of, asks, suppressed_entry as suppressed_of, entry_at as entry_of, prepared_by, prepared_entry as prepared_of, plan as plan_of, state_at_entry, side_word as side_word_of, side_of, IsSeen, entry_by, decode_context};
 ghost use Rattle.st_prep.specs.Fetch.{place_of as place_by};
@@ -311,17 +310,9 @@ fn found_word(state: &State, table: Option<u8>, w: u32) -> u64
 {
     let word = state.word(w);
     match table {
-        Some(i) if w == INDICATORS => without(word, i),
+        Some(i) if w == INDICATORS => word & !indicator(i),
         _ => word,
     }
-}
-
-// A word of indicators with indicator `i` off.
-fn without(indicators: u64, i: u8) -> u64
-    requires { i < 64 }
-    ensures { result ≡ indicator_word 64 0 (indicator_of i) indicators }
-{
-    indicators & !indicator(i)
 }
 
 /// The index-side word, as the next entry of a state or its table instruction finds it: an
@@ -338,7 +329,6 @@ pub fn side_word(state: &State, table: Option<u8>, w: Option<u32>) -> Option<u64
 }
 
 /// Whether an instruction of this format is EX.
-#[inline(always)]
 pub fn is_execute_format(format: Format) -> bool
     ensures { (first second : ℕ) → result ≡ is_execute_of (spelled_as format first second) }
 {

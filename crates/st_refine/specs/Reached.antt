@@ -2,7 +2,7 @@
 --
 -- Proved: by their `ensures` clauses these calls do what definitions here say: `reader_of_job`
 -- (beginning.rt of st_run), `shape_of` (driven.rt of st_run), `decide` (leaving.rt of st_run),
--- `leave` (leaving.rt of st_run), and others.
+-- `end_run` (leaving.rt of st_run), and others.
 -- Read by: definitions in Overlapped of st_run, Scenes of st_run.
 -- Laws: CompletionsAreSteps (specs/Laws.antt), MachinesKeepTheirDelays (specs/Laws.antt),
 -- OpeningsAreKept (specs/Laws.antt), OpeningsFollow (specs/Laws.antt), and others.

@@ -44,7 +44,6 @@ impl Model for LineFromEnd {
 
 impl LineFromEnd {
     /// The empty line.
-    #[inline(always)]
     pub fn new() -> LineFromEnd
         ensures { result ≡ [] }
     {
@@ -55,7 +54,6 @@ impl LineFromEnd {
     }
 
     /// The bytes of the line.
-    #[inline(always)]
     pub fn as_bytes(&self) -> &[u8]
         ensures { result.now ≡ self.now }
     {
@@ -63,7 +61,6 @@ impl LineFromEnd {
     }
 
     /// Removes all bytes.
-    #[inline(always)]
     pub fn clear(&mut self)
         ensures { self.new ≡ [] }
     {
@@ -82,7 +79,6 @@ impl LineFromEnd {
     }
 
     /// Puts a number in decimal before the line; it has at most 20 digits.
-    #[inline(always)]
     pub fn put_decimal(&mut self, n: u64)
         requires { length self.old + 20 ≤ 192 }
         ensures bytes { self.new ≡ decimal n ++ self.old }

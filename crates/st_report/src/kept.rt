@@ -68,7 +68,6 @@ impl KeptDigits {
 
     /// The difference of `n` and the first number with these leading digits: below 100 if and only
     /// if `n` has them.
-    #[inline(always)]
     pub fn past(&self, n: u64) -> u64
         ensures some { 1 ≤ self.now }
         ensures has { (result < 100) ↔ (n / 100 ≡ self.now) }
@@ -78,7 +77,6 @@ impl KeptDigits {
     }
 
     /// The digits in a larger buffer, and the place where they begin.
-    #[inline(always)]
     pub fn digits(&self) -> (&[u8; 16], usize)
         ensures few { result.1 ≤ 16 }
         ensures digits { drop result.1 result.0.now ≡ decimal self.now }
@@ -115,7 +113,6 @@ pub fn two_digits(n: u64) -> [u8; 2]
 }
 
 /// The number of leading zeros in the two digits of a number below 100.
-#[inline(always)]
 pub fn zeros_before(n: u64) -> usize
     requires { n < 100 }
     ensures few { result ≤ 1 }

@@ -1,5 +1,5 @@
 -- An observer is notified of the words of an entry, in order.
-use Rattle.st_rows.proofs.Common.{Bool, map, if◌then◌else◌, nat_lt, ◌≡◌, ℕ, zero, suc, ◌+◌, ◌-◌, ◌≤◌, true, false, List, [], ◌∷◌, ◌++◌, refl, sym, ◌∙◌, ap, arith, words_of_storage, bus_after_request, followings, inside_wish, told, register_uses, use_of, behind_use, uses, wishes, unused, Wish, read_word, request_inside, Bus, Entry, Fetching, Past, Operand, Following, Use}
+use Rattle.st_rows.proofs.Common.{Bool, map, if◌then◌else◌, nat_lt, ◌≡◌, ℕ, zero, suc, ◌+◌, ◌-◌, ◌≤◌, true, false, List, [], ◌∷◌, ◌++◌, refl, sym, ◌∙◌, ap, arith, words_of_storage, bus_after_request, followings, inside_wish, told, register_uses, use_of, behind_use, uses, wishes, unused, read_word, request_inside, Bus, Entry, Fetching, Past, Operand, Following, Use}
 use Rattle.st_rows.specs.declared.uses.Supply.TheVariants.{Register}
 
 -- two successive notifications are one notification of both lists

@@ -1,7 +1,7 @@
 -- The words of runs, and the completion tick of the latest writer of a word.
 --
 -- Proved: by their `ensures` clauses these calls do what definitions here say: `keep_words`
--- (past.rt), `has` (entry.rt), `widened` (past.rt), `widened_by` (past.rt), and others.
+-- (past.rt), `has` (entry.rt), `widened_by` (past.rt), `any` (entry.rt), and others.
 -- Read by: definitions in Supplies, Levels, Rows, Uses, and others.
 -- Laws: RowsAreInOrder (specs/Laws.antt), WritersAreSeen (specs/Laws.antt of st_ring),
 -- InstructionWordsAreThoseOfTheRun (specs/Laws.antt of st_ahead).

@@ -267,6 +267,7 @@ impl IssueState {
 // Requests the index-side word of an entry, if there is one, when its address is formed. A word
 // whose latest writer completes later is forwarded. Returns the tick of its arrival, 0 if there is
 // none.
+#[inline(always)]
 fn side<W: Watch>(
     bus: &mut Bus,
     log: &mut Log,

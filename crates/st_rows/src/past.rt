@@ -194,7 +194,6 @@ fn no_entry() -> Done
 }
 
 // Sets a place to an entry.
-#[inline(always)]
 fn put_done(place: &mut Done, newest: &Past)
     ensures tick { place.new.c ≡ newest.now.c }
     ensures entry { place.new.entry.value ≡ newest.now }
@@ -205,7 +204,6 @@ fn put_done(place: &mut Done, newest: &Past)
 
 // If an entry writes any words, keeps them in its place, sets its bit, which is the lowest and is 0,
 // and extends the bounds by them.
-#[inline(always)]
 fn keep_words(place: &mut WordRuns, writers: &mut u64, bounds: &mut Bounds, words: WordRuns)
     requires { writers.old < 2 ^ 8 }
     ensures writers { writers.new ≡ writers.old + (if has_words words then 1 else 0) }
@@ -219,7 +217,8 @@ fn keep_words(place: &mut WordRuns, writers: &mut u64, bounds: &mut Bounds, word
     }
     *place = words;
     *writers += 1;
-    *bounds = widened(*bounds, words);
+    let one = widened_by(*bounds, words.one);
+    *bounds = widened_by(one, words.two);
 }
 
 // Whether a word lies outside the bounds.
@@ -231,18 +230,7 @@ fn lies_outside(bounds: Bounds, w: u32) -> bool
     word < bounds.low || word >= bounds.high
 }
 
-// The bounds extended by the words of two runs, except registers, which are not read.
-#[inline(always)]
-fn widened(bounds: Bounds, runs: WordRuns) -> Bounds
-    ensures { (w : ℕ) → 32 ≤ w → is_outside result.low result.high w ≡ true →
-        (is_in w runs.one ≡ false) × (is_in w runs.two ≡ false)
-        × (is_outside bounds.low bounds.high w ≡ true) }
-{
-    let one = widened_by(bounds, runs.one);
-    widened_by(one, runs.two)
-}
-
-// The bounds extended by the words of a run.
+// The bounds extended by the words of a run, except registers, which are not read.
 #[inline(always)]
 fn widened_by(bounds: Bounds, run: WordRun) -> Bounds
     ensures { (w : ℕ) → 32 ≤ w → is_outside result.low result.high w ≡ true →

@@ -157,7 +157,6 @@ impl Uses {
     }
 
     /// The words.
-    #[inline(always)]
     pub fn as_slice(&self) -> &[Use]
         ensures value { result.now ≡ self.now.items }
         ensures fits { length result.now ≤ 48 }
@@ -166,7 +165,6 @@ impl Uses {
     }
 
     /// Removes all words. Their places are overwritten later.
-    #[inline(always)]
     pub fn clear(&mut self)
         ensures { self.new.items ≡ [] }
     {

@@ -68,7 +68,6 @@ impl Watch for Nobody {
 
     ghost noted_more = { λ a b m. refl };
 
-    #[inline(always)]
     fn read(&mut self, role: Role, w: u32, read: &ReadTicks) {
         let _ = role;
         let _ = w;
@@ -105,7 +104,6 @@ impl Watch for Uses {
 
     ghost noted_more = { uses_with_more };
 
-    #[inline(always)]
     fn read(&mut self, role: Role, word: u32, read: &ReadTicks) {
         self.push(Use {
             role,

@@ -1,40 +1,90 @@
 -- The decision between two entries.
-use Rattle.st_run.proofs.Common.{IfSome, is_none, is_some, if◌then◌else◌, option_map, ◌≡◌, ◌≢◌, ℕ, ◌+◌, ◌<◌, ◌≤◌, Bool, true, false, ◌||◌, List, [], Option, None, Some, refl, sym, subst, ◌∙◌, ap, arith, Machine, IsMachine, of_choice, rests, interrupt, Signal, Scene, interlude, row_of_entry, tick_c, IsEntryInTime, AreDelaysUpTo, Entry, IssueState, entry, entry-ranges, Ready, Stopped, Overlap, state_ahead, levels_of, interrupt_due, oldest_row, machine_between_ticks, machine_after_segment, run_ended, settled_by, machine_after_pass, answer, answer_by, Moment, standing_at, next_scene, next_state, ends_segment, next_issue, next_segment, has_card, has_waited, IsScene, Together, scene_of, moment_of, AreTexts, IsBehindEntry, IsBeforeEntry, IsChoice, choice_of, IsDecidedBy, IsDecided, RunGoesOn, RunPhase, Before, AtEnd, Over, Decided, interrupt-below}
+use Rattle.st_run.proofs.Common.{IfSome, is_none, is_some, if◌then◌else◌, option_map, ◌≡◌, ◌≢◌, ℕ, ◌+◌, ◌<◌, ◌≤◌, Bool, true, false, ◌||◌, List, [], Option, None, Some, refl, sym, subst, ◌∙◌, ap, arith, Machine, IsMachine, of_choice, rests, interrupt, Signal, Scene, interlude, row_of_entry, tick_c, IsEntryInTime, AreDelaysUpTo, Entry, IssueState, entry, entry-ranges, Ready, Stopped, Overlap, state_ahead, levels_of, interrupt_due, oldest_row, machine_between_ticks, machine_after_segment, run_ended, settled_by, machine_after_pass, answer, answer_by, Moment, standing_at, next_scene, next_state, ends_segment, next_issue, next_segment, has_card, has_waited, IsScene, Together, scene_of, moment_of, AreTexts, IsBehindEntry, IsBeforeEntry, IsChoice, IsDecidedBy, IsChanged, IsLedOn, MayServe, has_ended, IsDecided, RunGoesOn, RunPhase, Before, AtEnd, Over, Decided, interrupt-below, ended-again}
 use Rattle.st_ahead.specs.Calls.{machine_after_settling as settled_of}
 use Rattle.st_ahead.specs.declared.events.Settled.{Settled}
+use Rattle.st_run.proofs.OverlappedLemmas.{rests-quiet, rest-ends, rest-changed}
 use Rattle.st_run.proofs.SceneLemmas.{settled-scene}
 use Rattle.st_run.proofs.InterludeLemmas.{HasCome}
 use Rattle.st_run.proofs.EndedLemmas.{opened, stopped-none, by_now, ended-since, since-is}
+use Rattle.st_ahead.specs.declared.events.Settled.TheVariants as answers
 
 -- ---- the result of a settle
 
-choice-by : (due : Option ℕ) (waits : Bool) (behind : Option ℕ) (over : Bool) (m : Overlap) → waits ≡ false
-    → choice_of (answer_by due waits behind m) over ≡ ((is_some behind || over || is_some due), due)
-choice-by (Some i) waits None true m goes = refl
-choice-by (Some i) waits None false m goes = refl
-choice-by (Some i) waits (Some h) over m goes = refl
-choice-by None true behind over m goes = absurd (cc goes)
-choice-by None false (Some h) over m goes = refl
-choice-by None false None true m goes = refl
-choice-by None false None false m goes = refl
+-- whether the segment ends and the interrupt that is taken, unless the machine waits
+abbrev pub outcome : Settled → Bool → Option (Bool × Option ℕ)
+outcome answers.Goes over = Some (over, None)
+outcome (answers.Interrupt i done ic dropped) over = Some (true, Some i)
+outcome (answers.Mispredicted dropped) over = Some (true, None)
+outcome answers.Waits over = None
 
-pub choice-is : (m : Overlap) (over : Bool) → rests m.state ≡ false
-    → choice_of (answer m) over ≡ ((is_some m.mispredicted || over || is_some (interrupt_due m)), interrupt_due m)
+outcome-by : (due behind : Option ℕ) (resting over : Bool) (m : Overlap) → (resting ≡ true → due ≡ None)
+    → outcome (answer_by due resting behind m) over ≡ (if resting then None else Some ((is_some behind || over || is_some due), due))
+outcome-by (Some i) None true over m none = absurd (cc (none refl))
+outcome-by (Some i) (Some h) true over m none = absurd (cc (none refl))
+outcome-by (Some i) None false true m none = refl
+outcome-by (Some i) None false false m none = refl
+outcome-by (Some i) (Some h) false over m none = refl
+outcome-by None behind true over m none = refl
+outcome-by None (Some h) false over m none = refl
+outcome-by None None false true m none = refl
+outcome-by None None false false m none = refl
+
+outcome-is : (m : Overlap) (over : Bool)
+    → outcome (answer m) over ≡ (if rests m.state then None else Some ((is_some m.mispredicted || over || is_some (interrupt_due m)), interrupt_due m))
 unfolding answer
-choice-is m over goes = choice-by (interrupt_due m) (rests m.state) m.mispredicted over m goes
+outcome-is m over = outcome-by (interrupt_due m) m.mispredicted (rests m.state) over m (rests-quiet m)
+
+unless-some : (resting : Bool) (x y : Bool × Option ℕ) → (if resting then None else Some x) ≡ Some y → (resting ≡ false) × (y ≡ x)
+unless-some resting x y same = grind arith
+
+if-none : (resting : Bool) (x : Bool × Option ℕ) → (if resting then None else Some x) ≡ None → resting ≡ true
+if-none resting x same = grind arith
 
 abbrev IsGoing : ℕ → Bool → Overlap → Overlap → Bool × Option ℕ → Type 0
 IsGoing left over m k r =
     (left ≢ 0) × (rests m.state ≡ false)
     × ((k ≡ settled_of m) × (r.1 ≡ interrupt_due m) × (r.0 ≡ (is_some m.mispredicted || over || is_some (interrupt_due m))))
 
+-- the machine does not wait
 pub chosen : (left : ℕ) (over : Bool) (old : Together) (m k : Overlap) (xs : List Signal) (cards : List (List ℕ)) (a : Settled) (r : Bool × Option ℕ)
-    → record { machine = m; signals = xs; cards = cards } ≡ old → left ≢ 0 → rests m.state ≡ false
-    → a ≡ answer m → k ≡ settled_of m → r ≡ choice_of a over → IsGoing left over old.machine k r
-chosen left over old m k xs cards a r view some goes is after picks =
-    let all = picks ∙ ap (λ x. choice_of x over) is ∙ choice-is m over goes in
-    subst (λ (t : Together). IsGoing left over t.machine k r) view
-    (some, goes, (after, ap (λ (p : Bool × Option ℕ). p.1) all, ap (λ (p : Bool × Option ℕ). p.0) all))
+    → record { machine = m; signals = xs; cards = cards } ≡ old → left ≢ 0
+    → a ≡ answer m → k ≡ settled_of m → outcome a over ≡ Some r → IsGoing left over old.machine k r
+chosen left over old m k xs cards a r view some is after picks =
+    let all = unless-some (rests m.state) _ r (sym (outcome-is m over) ∙ ap (λ x. outcome x over) (sym is) ∙ picks) in
+    subst {A = Together} (λ t. IsGoing left over t.machine k r) view
+    (some, all.0, (after, ap (λ (p : Bool × Option ℕ). p.1) all.1, ap (λ (p : Bool × Option ℕ). p.0) all.1))
+
+-- the machine waits
+waits-rests : (m : Overlap) → answer m ≡ answers.Waits → rests m.state ≡ true
+waits-rests m waits = if-none (rests m.state) _ (sym (outcome-is m false) ∙ ap (λ x. outcome x false) waits)
+
+segment-ends : (m : Overlap) → has_ended (machine_after_segment m).phase ≡ true
+unfolding machine_after_segment
+segment-ends m = grind arith
+
+module _ (old : Together) (m k : Overlap) (xs : List Signal) (cards : List (List ℕ)) (view : record { machine = m; signals = xs; cards = cards } ≡ old)
+    (may : MayServe old.machine) (waits : answer m ≡ answers.Waits) (after : k ≡ settled_of m) where
+  serves : MayServe m
+  serves = subst {A = Together} (λ t. MayServe t.machine) (sym view) may
+
+  changed : IsChanged true m k
+  changed = rest-changed m k (waits-rests m waits) serves after
+
+  pub waits-serves : MayServe k
+  waits-serves = changed.serves serves
+
+  pub waits-led : IsLedOn old.machine k
+  waits-led = subst {A = Together} (λ t. IsLedOn t.machine k) view changed.led
+
+  pub waits-rest : true ≡ rests old.machine.state
+  waits-rest = sym (ap {A = Together} (λ t. rests t.machine.state) (sym view) ∙ waits-rests m waits)
+
+  pub waits-ends : run_ended k ≡ run_ended old.machine
+  waits-ends =
+      let ended = machine_after_segment m in
+      ap {A = Overlap} (λ o. run_ended o) (after ∙ rest-ends m (waits-rests m waits))
+      ∙ ap {A = Overlap} (λ o. record o { phase = Stopped }) (ended-again ended (segment-ends m))
+      ∙ ap {A = Together} (λ t. run_ended t.machine) view
 
 -- ---- before the next entry
 

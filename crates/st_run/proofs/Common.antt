@@ -1,10 +1,10 @@
 -- The names that proofs of this crate use, passed on from one place. Declares nothing.
-pub use Rattle.std.specs.Prelude.{All, nat_lt, IfSome, is_none, is_some, if◌then◌else◌, option_map, slice_get, map, reverse, IsSome, nat_le, MatchOption, Result, Ok, Err, IfOk, slice_index, replicate}
+pub use Rattle.std.specs.Prelude.{All, nat_lt, IfSome, is_none, is_some, if◌then◌else◌, option_map, slice_get, map, reverse, IsSome, nat_le, MatchOption, not, Result, Ok, Err, IfOk, slice_index, replicate}
 pub use Rattle.std.proofs.Common.{◌≡◌, ℕ, zero, suc, ◌+◌, ◌*◌, ◌≤◌, List, [], ◌∷◌, length, Option, None, sym, subst, arith, ◌≢◌, ◌<◌, Bool, true, false, ◌||◌, Some, refl, ◌∙◌, ap, ◌⊎◌, ◌++◌, inl, inr, append_assoc, length-append, ◌-◌, ◌^◌, ◌&&◌, take, drop, get_or, length-take, append-nil, rules, ◌==◌}
 pub use Rattle.std.proofs.Math.Nat.{mul-add}
 pub use Rattle.std.proofs.lemmas.List.Elements.{All-replicate, All-weaker, All-nil, All-cons, All-append, All-tail, All-head, All-from_get_or}
 pub use Rattle.std.specs.List.{flat_map, AllPass, AllZip}
-pub use Rattle.std.proofs.lemmas.Bool.{cases_Bool, ltb-true, ltb-false, lt-ltb, le-ltb, false_from_ne_true, and_parts, leb-true, eqb-true}
+pub use Rattle.std.proofs.lemmas.Bool.{cases_Bool, ltb-true, ltb-false, lt-ltb, le-ltb, false_from_ne_true, and_parts, leb-true, or_parts, eqb-true}
 pub use Rattle.std.specs.Option.{option_or, option_to_list, option_map_or}
 pub use Rattle.std.proofs.lemmas.Bool.Decides.{nat_tests}
 pub use Rattle.std.proofs.lemmas.List.{reverse-append, map-append, get_or_append_left, get_or-append_right, get_or-take, get_or-drop, take-append-drop, drop-drop, length-map}
@@ -36,16 +36,19 @@ pub use Rattle.st_exec.specs.Step.{interrupt, rests}
 unfoldable pub use Rattle.st_exec.specs.Step.{address, step}
 pub use Rattle.st_card.specs.declared.control_cards.Signal.{Signal}
 pub use Rattle.st_rows.specs.declared.entry.Entry.{Entry}
-pub use Rattle.st_ahead.specs.Overlap.{Ready, Stopped, Overlap, interrupt_due, machine_between_ticks, Ended, has_ended, closing, with_counter, machine_at_start, last_tick_made}
+pub use Rattle.st_ahead.specs.Overlap.{Ready, Stopped, Overlap, interrupt_due, machine_between_ticks, has_ended, Ended, closing, with_counter, machine_at_start, last_tick_made}
 unfoldable pub use Rattle.st_ahead.specs.Overlap.{state_ahead, levels_of, oldest_row, banks_at_its_end}
-pub use Rattle.st_ahead.specs.Calls.{run_ended, settled_by, machine_after_pass, answer_by, banks_left, MayServe, row_done, signalled_by, read_in_by, printed_by, MaySettle, MaySignal, is_done, may_serve, may_settle}
+pub use Rattle.st_ahead.specs.Calls.{run_ended, settled_by, machine_after_pass, answer_by, MayServe, banks_left, row_done, signalled_by, read_in_by, printed_by, MaySettle, MaySignal, is_done, may_serve, may_settle}
 unfoldable pub use Rattle.st_ahead.specs.Calls.{machine_after_segment, answer, machine_after_completion, machine_after_settling, machine_after_tick}
 pub use Rattle.st_run.specs.Together.{Together, scene_of, moment_of, AreTexts, IsBehindEntry, IsBeforeEntry, IsSince, standing_of, IsMachineReady}
-pub use Rattle.st_run.specs.Between.{IsChoice, choice_of, IsDecidedBy, IsQuiet}
+pub use Rattle.st_run.specs.Between.{IsChoice, IsDecidedBy}
+pub use Rattle.st_run.specs.Overlapped.{IsChanged}
+pub use Rattle.st_refine.specs.Reached.{IsLedOn, CanStart, MayTick, IsLed, Starts, Settles, Signals, Reads, Prints, Stops, IsCard}
 pub use Rattle.st_run.specs.Leaving.{IsDecided, RunGoesOn, nothing_decided}
 pub use Rattle.st_run.specs.declared.run_phase.RunPhase.{RunPhase}
 pub use Rattle.st_run.specs.declared.run_phase.RunPhase.TheVariants.{Before, AtEnd, Over}
 pub use Rattle.st_run.specs.declared.leaving.Decided.{Decided}
+pub use Rattle.st_refine.proofs.OpeningLemmas.{ended-again}
 pub use Rattle.st_run.specs.Course.{Course}
 unfoldable pub use Rattle.st_run.specs.Course.{course}
 pub use Rattle.st_run.specs.Order.{told_at, asked_by}
@@ -73,12 +76,10 @@ pub use Rattle.st_run.specs.Telling.{AreInTime, IsShown, IsLeft, OutputQueue, at
 unfoldable pub use Rattle.st_run.specs.Telling.{queued_events, told_at_end, rest_of}
 pub use Rattle.st_run.specs.Ticking.{AreMade, AreTicked, at_completion, last_for}
 pub use Rattle.st_exec.proofs.BesideEntries.{beside-same, beside-printed, beside-no_card, beside-signalled, beside-then}
-pub use Rattle.st_run.specs.Overlapped.{IsChanged}
 pub use Rattle.st_card.specs.Limits.{is_signal}
 pub use Rattle.st_state.specs.Interrupts.{state_with_signal, pending}
-pub use Rattle.st_ahead.specs.RunTo.{ArePassed, RunsTo, may_come_from_outside, IsPassed}
+pub use Rattle.st_ahead.specs.RunTo.{ArePassed, RunsTo, may_come_from_outside, IsPassed, is_quiet, order_is_due}
 unfoldable pub use Rattle.st_ahead.specs.RunTo.{after_ticks}
-pub use Rattle.st_refine.specs.Reached.{CanStart, MayTick, IsLed, Starts, Settles, Signals, Reads, Prints, Stops, IsCard, IsLedOn}
 pub use Rattle.st_ahead.specs.Shown.{IsLevelOf, word_before_change, level_shown}
 unfoldable pub use Rattle.st_ahead.specs.Shown.{lent_index_words, view_at_tick}
 pub use Rattle.st_prep.proofs.PlanLemmas.{plan-prepared}

@@ -1,11 +1,10 @@
 -- The end of a segment does not depend on signals and orders without a card.
-use Rattle.st_run.proofs.Common.{if◌then◌else◌, nat_lt, ◌≡◌, ℕ, zero, suc, ◌+◌, ◌<◌, ◌≤◌, Bool, true, false, List, [], ◌∷◌, length, Option, None, refl, sym, ◌∙◌, ap, arith, ltb-true, le-ltb, false_from_ne_true, Machine, IsMachine, AreAlikeBesideOrders, prediction, LastAnswers, opening_issue, row_of_entry, issue_after_entry, address_tick, preparation_tick, tick_a, tick_p, Entry, IssueState, entry, predictions, Ahead, ahead, prepared_before, Ended, Stopped, has_ended, closing, Overlap, state_ahead, with_counter, levels_of, machine_after_segment, banks_left, MayServe, Together, IsBehindEntry, IsSince, counted-machine}
+use Rattle.st_run.proofs.Common.{if◌then◌else◌, nat_lt, ◌≡◌, ℕ, zero, suc, ◌+◌, ◌<◌, ◌≤◌, Bool, true, false, List, [], ◌∷◌, length, Option, None, refl, sym, ◌∙◌, ap, arith, ltb-true, le-ltb, false_from_ne_true, Machine, IsMachine, AreAlikeBesideOrders, prediction, LastAnswers, opening_issue, row_of_entry, issue_after_entry, address_tick, preparation_tick, tick_a, tick_p, Entry, IssueState, entry, predictions, Ahead, ahead, prepared_before, Ended, Stopped, has_ended, closing, Overlap, state_ahead, with_counter, levels_of, machine_after_segment, banks_left, MayServe, Together, IsBehindEntry, IsSince, counted-machine, ended-again}
 use Rattle.st_segment.specs.Alone.{RunAhead}
 use Rattle.st_segment.proofs.PredictionLemmas.{prediction-machine}
 use Rattle.st_segment.proofs.PassedOver.{entry-same, passed-over}
 use Rattle.st_ahead.proofs.Signals.{counted-alike}
 use Rattle.st_refine.proofs.StillLemmas.{behind-later}
-use Rattle.st_refine.proofs.OpeningLemmas.{ended-again}
 
 -- ---- entries that are prepared before the previous one completes
 

@@ -112,6 +112,13 @@ module _ (left tick : ℕ) (snaps : List ℕ) (t new : Together) (before : IsBef
         subst {A = ℕ} (λ k. IsLeft left snaps k new) (sym row-c)
         (subst {A = Together} (λ u. IsLeft left snaps (oldest_row o).c u) (sym new-done) done-left)
 
+    pub go-counts : row.number ≡ new.machine.state.done
+    go-counts =
+        ap {A = Row} (λ r. r.number) made.ticked.2
+        ∙ sym (next-done left tick snaps t before in_time)
+        ∙ ap {A = Moment} (λ m. m.scene.machine.done) (sym moment-is)
+        ∙ ap {A = Together} (λ u. u.machine.state.done) (sym new-done)
+
     -- the reported form of the row
     abbrev told_row : Row → TimedReportedEvent
     told_row r = once r.number r.c (Done r.address r.p r.r r.c)

@@ -87,10 +87,10 @@ quiet-by true true true (Some i) e = absurd (cc e)
 quiet-by true true false (Some i) e = absurd (cc e)
 
 -- a machine at rest takes no interrupt
-rests-quiet : (m : Overlap) → rests m.state ≡ true → interrupt_due m ≡ None
+pub rests-quiet : (m : Overlap) → rests m.state ≡ true → interrupt_due m ≡ None
 rests-quiet m waits = quiet-by (is_none m.taken) m.state.enabled m.state.waiting (pending m.state) waits
 
-rest-ends : (m : Overlap) → rests m.state ≡ true → settled_of m ≡ machine_after_segment m
+pub rest-ends : (m : Overlap) → rests m.state ≡ true → settled_of m ≡ machine_after_segment m
 rest-ends m waits = sym (settled-waits m (rests-quiet m waits) waits)
 
 pub rest-changed : (m k : Overlap) → rests m.state ≡ true → MayServe m → k ≡ settled_of m → IsChanged true m k

@@ -1,7 +1,8 @@
 -- Successive completions without external events between them.
-use Rattle.st_run.proofs.Common.{is_some, nat_le, MatchOption, ◌≡◌, ◌≢◌, ℕ, zero, suc, ◌+◌, ◌-◌, ◌<◌, ◌≤◌, ◌||◌, Bool, true, false, List, [], ◌∷◌, ◌++◌, Option, None, Some, refl, sym, ◌∙◌, ap, subst, arith, length-append, nat_tests, Machine, is_due, rests, Overlap, interrupt_due, is_done, row_done, machine_after_completion, machine_after_tick, machine_after_pass, machine_after_settling, answer, answer_by, after_ticks, may_come_from_outside, IsPassed, ArePassed, RunsTo, Queue, queue_with, rows_in_ticks, Row, queue-shut, row-one, row-late, rows-first, no-rows, queue-all, Moment, timed_from, timed_behind, AreRising, TimedReportedEvent, reported_events, IsQuiet, IsDecided, nothing_decided, Together, IsBeforeEntry, standing_of, moment_of, OutputQueue, queued_events, row_told, rows_then, AreLeftOut, HasGoneFar, IsLeft, IsRun, AreInTime, rest_of, AreMade, AreTicked, at_completion, last_for, signal_due}
+use Rattle.st_run.proofs.Common.{nat_le, MatchOption, ◌≡◌, ◌≢◌, ℕ, zero, suc, ◌+◌, ◌-◌, ◌<◌, ◌≤◌, Bool, true, false, List, [], ◌∷◌, ◌++◌, Option, None, Some, refl, sym, ◌∙◌, ap, subst, arith, length-append, nat_tests, Machine, Overlap, is_done, row_done, machine_after_completion, machine_after_tick, machine_after_pass, machine_after_settling, answer, after_ticks, may_come_from_outside, IsPassed, ArePassed, RunsTo, Queue, queue_with, rows_in_ticks, Row, queue-shut, row-one, row-late, rows-first, no-rows, queue-all, Moment, timed_from, timed_behind, AreRising, TimedReportedEvent, reported_events, is_quiet, order_is_due, IsDecided, nothing_decided, Together, IsBeforeEntry, standing_of, moment_of, OutputQueue, queued_events, row_told, rows_then, AreLeftOut, HasGoneFar, IsLeft, IsRun, AreInTime, rest_of, AreMade, AreTicked, at_completion, last_for, signal_due, or_parts}
 use Rattle.std.specs.Prelude.{length}
 use Rattle.st_ahead.specs.declared.events.Settled.TheVariants.{Goes}
+use Rattle.st_ahead.proofs.Runs.{goes-quiet}
 use Rattle.st_run.proofs.TickLemmas.{tick-passes, tick-early, tick-done, done-completed}
 use Rattle.st_run.proofs.MomentLemmas.{moment-next}
 use Rattle.st_run.proofs.PartLemmas.{HasParts}
@@ -20,26 +21,6 @@ unfolding AreRising
 rising-none k = tt
 
 -- ---- no external event after an entry
-
-both-none : (a b c : Bool) → (a || (b || c)) ≡ false → (a ≡ false) × (b ≡ false) × (c ≡ false)
-both-none true b c none = absurd (cc none)
-both-none false true c none = absurd (cc none)
-both-none false false true none = absurd (cc none)
-both-none false false false none = (refl, refl, refl)
-
-goes-by : (due behind : Option ℕ) (resting : Bool) (m : Overlap) → answer_by due resting behind m ≡ Goes
-    → (resting ≡ false) × ((is_some behind || is_some due) ≡ false)
-goes-by (Some i) behind resting m goes = absurd (cc goes)
-goes-by None behind true m goes = absurd (cc goes)
-goes-by None (Some h) false m goes = absurd (cc goes)
-goes-by None None false m goes = (refl, refl)
-
-goes-quiet : (m : Overlap) (count : ℕ) → answer m ≡ Goes → may_come_from_outside count m.state ≡ false → IsQuiet m
-unfolding answer
-goes-quiet m count goes none =
-    let by = goes-by (interrupt_due m) m.mispredicted (rests m.state) m goes in
-    let three = both-none (nat_le count m.state.done) (is_due m.state.done m.state.reader) (is_due m.state.done m.state.printer) none in
-    record { reader = three.1; printer = three.2; awake = by.0; open_still = by.1 }
 
 fewer : (count done : ℕ) → nat_le count done ≡ false → done < count
 fewer count done test = grind (arith, nat_tests)
@@ -106,13 +87,14 @@ module _ (left tick : ℕ) (t : Together) (before : IsBeforeEntry t) (in_time : 
     none : may_come_from_outside count m.state ≡ false
     none = subst {A = Overlap} (λ x. may_come_from_outside count x.state ≡ false) ticked-is (passes.nothing due)
 
-    quiet : IsQuiet m
-    quiet = goes-quiet m count (subst {A = Overlap} (λ x. answer x ≡ Goes) ticked-is passes.goes) none
+    both : (nat_le count m.state.done ≡ false) × (order_is_due m.state ≡ false)
+    both = or_parts (nat_le count m.state.done) (order_is_due m.state) none
+
+    quiet : is_quiet m ≡ true
+    quiet = goes-quiet m (subst {A = Overlap} (λ x. answer x ≡ Goes) ticked-is passes.goes) both.1
 
     below : m.state.done < count
-    below =
-        fewer count m.state.done
-        (both-none (nat_le count m.state.done) (is_due m.state.done m.state.reader) (is_due m.state.done m.state.printer) none).0
+    below = fewer count m.state.done both.0
 
     some : left ≢ 0
     some zero_left = omega (arith, zero_left, below, few, one-done)
@@ -122,10 +104,10 @@ module _ (left tick : ℕ) (t : Together) (before : IsBeforeEntry t) (in_time : 
 
     decided : IsDecided left (moment_of behind) nothing_decided next
     decided =
-        passed-decided left behind m (machine_after_settling (machine_after_tick o)) t.signals t.cards refl one-left.behind some (signals m.state.done below) quiet after
+        passed-decided left behind m (machine_after_settling (machine_after_tick o)) t.signals t.cards refl one-left.behind some m.state.done refl (signals m.state.done below) quiet after
 
     parts : HasParts m (machine_after_settling (machine_after_tick o))
-    parts = passed-parts left behind m (machine_after_settling (machine_after_tick o)) t.signals t.cards refl one-left.behind some (signals m.state.done below) quiet after
+    parts = passed-parts left behind m (machine_after_settling (machine_after_tick o)) t.signals t.cards refl one-left.behind some m.state.done refl (signals m.state.done below) quiet after
 
     keeps : IsRun turns.Before (left - 1) (row_done o).c [] (waits [] None None) next
     keeps = left-keeps left (row_done o).c [] behind next nothing_decided [] one-left decided parts.delays parts.levels refl
@@ -227,6 +209,7 @@ pub record PassedUpTo (count left tick : ℕ) (t new : Together) (row : Row) : T
   pub left_now : ℕ
   pub number : left_now + row.number ≡ left + t.machine.state.done + 1
   pub more : t.machine.state.done + 1 ≤ row.number
+  pub counted : row.number ≡ new.machine.state.done
   pub leaves : IsLeft left_now [] row.c new
   pub tells : (rest : List TimedReportedEvent) → reported_events (timed_from new.machine.delays new.machine.levels left_now (moment_of new) []) ≡ rest
       → rest_told left tick t ≡ rows_then (rows_in_ticks (row.c - t.machine.now) t.machine) (row_told row ∷ rest)
@@ -248,6 +231,10 @@ module _ (count left tick : ℕ) (t new : Together) (before : IsBeforeEntry t) (
         left_now = all.left_now;
         number = omega (arith, all.number, ap (λ (r : Row). r.number) row_is);
         more = omega (arith, all.number, ap (λ (r : Row). r.number) row_is, all.fewer);
+        counted =
+            ap (λ (r : Row). r.number) row_is
+            ∙ sym (one-done all.left_now all.tick_now here all.before all.in_time stop.done)
+            ∙ ap {A = Together} (λ u. u.machine.state.done) (sym is);
         leaves =
             subst {A = Row} (λ r. IsLeft all.left_now [] r.c new) (sym row_is)
             (subst {A = Together} (λ u. IsLeft all.left_now [] (row_done stop.before).c u) (sym is)

@@ -1,5 +1,5 @@
 -- The transition between two entries without external events.
-use Rattle.st_run.proofs.Common.{nat_lt, is_some, map, ◌≡◌, ◌≢◌, ℕ, Bool, true, false, ◌||◌, List, [], length, Option, None, Some, refl, sym, subst, ◌∙◌, ap, arith, le-ltb, is_due, Overlap, interrupt_due, machine_after_pass, Signal, Scene, Transition, with_due_signals, with_due_orders, with_wait, interlude, uneventful, and_then, Together, scene_of, moment_of, IsBehindEntry, IsChoice, IsQuiet, IsDecided, nothing_decided, OutputQueue, queued_events, rest_of, IsRun, AreInTime, TimedReportedEvent, reported_plain_event, has_waited, rests, RunPhase, Before, signal_due}
+use Rattle.st_run.proofs.Common.{nat_lt, is_some, map, ◌≡◌, ◌≢◌, ℕ, Bool, true, false, ◌||◌, List, [], length, Option, None, refl, sym, subst, ◌∙◌, ap, arith, le-ltb, is_due, Overlap, interrupt_due, machine_after_pass, Signal, Scene, Transition, with_due_signals, with_due_orders, with_wait, interlude, uneventful, and_then, Together, scene_of, moment_of, IsBehindEntry, IsChoice, is_quiet, IsDecided, nothing_decided, OutputQueue, queued_events, rest_of, IsRun, AreInTime, TimedReportedEvent, reported_plain_event, has_waited, rests, RunPhase, Before, signal_due, not}
 use Rattle.st_ahead.specs.Calls.{machine_after_settling as settled_of}
 use Rattle.st_run.proofs.SignalLemmas.{due-over, wait-none}
 use Rattle.st_run.proofs.InterludeLemmas.{HasCome, since-none}
@@ -27,32 +27,25 @@ module _ (c : Scene) (signals : signal_due c.machine.done c.signals ≡ false) (
   unfolding interlude
   none-comes = ap (λ r. and_then r with_wait) none-due ∙ wait-none c awake
 
--- two tests, neither of which holds
-neither-first : (behind : Bool) (due : Option ℕ) → (behind || is_some due) ≡ false → None ≡ due
-neither-first true due none = absurd (cc none)
-neither-first false None none = refl
-neither-first false (Some i) none = absurd (cc none)
+-- the parts of a quiet machine
+pub record QuietParts (m : Overlap) : Type 0 where
+  pub reader : is_due m.state.done m.state.reader ≡ false
+  pub printer : is_due m.state.done m.state.printer ≡ false
+  pub right : m.mispredicted ≡ None
+  pub due : interrupt_due m ≡ None
+  pub awake : rests m.state ≡ false
 
-neither-still : (behind : Bool) (due : Option ℕ) → (behind || is_some due) ≡ false → false ≡ (behind || false || is_some due)
-neither-still true due none = absurd (cc none)
-neither-still false due none = sym none
+four-none : (a b d : Bool) (mispredicted due : Option ℕ) → not ((a || b) || is_some mispredicted || is_some due || d) ≡ true
+    → (a ≡ false) × (b ≡ false) × (mispredicted ≡ None) × (due ≡ None) × (d ≡ false)
+four-none a b d mispredicted due quiet = grind arith
 
--- no interrupt is due and no branch was mispredicted
-still-due : (behind : Bool) (due : Option ℕ) → (behind || is_some due) ≡ false → due ≡ None
-still-due behind due none = sym (neither-first behind due none)
+pub quiet-parts-of : (m : Overlap) → is_quiet m ≡ true → QuietParts m
+quiet-parts-of m quiet =
+    let all = four-none (is_due m.state.done m.state.reader) (is_due m.state.done m.state.printer) (rests m.state) m.mispredicted (interrupt_due m) quiet in
+    record { reader = all.0; printer = all.1; right = all.2; due = all.3; awake = all.4 }
 
-still-right : (behind due : Option ℕ) → (is_some behind || is_some due) ≡ false → behind ≡ None
-still-right None due none = refl
-still-right (Some h) due none = absurd (cc none)
-
-pub quiet-due : (m : Overlap) → IsQuiet m → interrupt_due m ≡ None
-quiet-due m quiet = still-due (is_some m.mispredicted) (interrupt_due m) quiet.open_still
-
-pub quiet-right : (m : Overlap) → IsQuiet m → m.mispredicted ≡ None
-quiet-right m quiet = still-right m.mispredicted (interrupt_due m) quiet.open_still
-
-pub quiet-settled : (m : Overlap) → IsQuiet m → machine_after_pass m ≡ settled_of m
-quiet-settled m quiet = still-settled m (quiet-due m quiet) quiet.awake (quiet-right m quiet)
+pub quiet-settled : (m : Overlap) → is_quiet m ≡ true → machine_after_pass m ≡ settled_of m
+quiet-settled m quiet = let parts = quiet-parts-of m quiet in still-settled m parts.due parts.awake parts.right
 
 none-over : (n : ℕ) (waited : Bool) → waited ≡ false → false ≡ (nat_lt n n || waited)
 none-over n waited none = rw (none, le-ltb n n (omega arith)) refl
@@ -60,9 +53,12 @@ none-over n waited none = rw (none, le-ltb n n (omega arith)) refl
 -- ---- the decision
 
 module _ (left : ℕ) (b n : Together) (is : IsBehindEntry b) (some : left ≢ 0) (signals : signal_due b.machine.state.done b.signals ≡ false)
-    (quiet : IsQuiet b.machine) (rest : n ≡ record b { machine = n.machine }) (after : n.machine ≡ settled_of b.machine) where
+    (calm : is_quiet b.machine ≡ true) (rest : n ≡ record b { machine = n.machine }) (after : n.machine ≡ settled_of b.machine) where
   abbrev c : Scene
   c = scene_of b
+
+  quiet : QuietParts b.machine
+  quiet = quiet-parts-of b.machine calm
 
   came : HasCome b b None false
   came =
@@ -83,8 +79,8 @@ module _ (left : ℕ) (b n : Together) (is : IsBehindEntry b) (some : left ≢ 0
     quiet.awake,
     (
       after,
-      neither-first (is_some b.machine.mispredicted) (interrupt_due b.machine) quiet.open_still,
-      neither-still (is_some b.machine.mispredicted) (interrupt_due b.machine) quiet.open_still,
+      sym quiet.due,
+      rw (quiet.right, quiet.due) refl,
     ),
   )
 
@@ -96,25 +92,35 @@ module _ (left : ℕ) (b n : Together) (is : IsBehindEntry b) (some : left ≢ 0
 
 -- the parts of a machine with its external events, if none is due
 module _ (left : ℕ) (old : Together) (m k : Overlap) (xs : List Signal) (cards : List (List ℕ)) (view : record { machine = m; signals = xs; cards = cards } ≡ old)
-    (is : IsBehindEntry old) (some : left ≢ 0) (signals : signal_due m.state.done xs ≡ false) (quiet : IsQuiet m) (after : k ≡ machine_after_pass m) where
-  abbrev settles : k ≡ settled_of m
-  settles = after ∙ quiet-settled m quiet
-
+    (is : IsBehindEntry old) (some : left ≢ 0) (number : ℕ) (counted : number ≡ old.machine.state.done) (signals : signal_due number xs ≡ false)
+    (quiet : is_quiet old.machine ≡ true) (after : k ≡ machine_after_pass m) where
   abbrev b : Together
   b = record { machine = m; signals = xs; cards = cards }
 
   abbrev n : Together
   n = record { machine = k; signals = xs; cards = cards }
 
+  behind : IsBehindEntry b
+  behind = subst {A = Together} IsBehindEntry (sym view) is
+
+  none : signal_due m.state.done xs ≡ false
+  none = ap (λ d. signal_due d xs) (ap (λ (t : Together). t.machine.state.done) view ∙ sym counted) ∙ signals
+
+  still : is_quiet m ≡ true
+  still = ap (λ (t : Together). is_quiet t.machine) view ∙ quiet
+
+  pub passed-settles : k ≡ settled_of m
+  passed-settles = after ∙ quiet-settled m still
+
   pub passed-decided : IsDecided left (moment_of old) nothing_decided n
   passed-decided =
       subst {A = Together} (λ t. IsDecided left (moment_of t) nothing_decided n) view
-      (quiet-decided left b n (subst {A = Together} IsBehindEntry (sym view) is) some signals quiet refl settles)
+      (quiet-decided left b n behind some none still refl passed-settles)
 
   pub passed-parts : HasParts old.machine k
   passed-parts =
       subst {A = Together} (λ t. HasParts t.machine k) view
-      (quiet-parts left b n (subst {A = Together} IsBehindEntry (sym view) is) some signals quiet refl settles)
+      (quiet-parts left b n behind some none still refl passed-settles)
 
 -- ---- no event is pending in either case
 

@@ -1,20 +1,17 @@
 -- The decision between two entries: whether the run continues, and whether the segment ends.
 --
--- Proved: by their `ensures` clauses these calls do what definitions here say: `choice`
--- (leaving.rt), `decide` (leaving.rt), `is_quiet` (leaving.rt).
+-- Proved: by their `ensures` clauses these calls do what definitions here say: `decide`
+-- (leaving.rt).
 -- Read by: definitions in Leaving.
 -- Laws: none names a definition of this file itself.
 -- Change: no page fixes these definitions, since no contract of a program unfolds to them; they
 -- change together with the clauses, definitions and laws that name them. docs/machine.md describes
 -- the subject.
-use Rattle.std.specs.Prelude.{ℕ, ◌≡◌, ◌≢◌, Bool, true, false, ◌||◌, is_some, Option, None, Some}
+use Rattle.std.specs.Prelude.{ℕ, ◌≡◌, ◌≢◌, Bool, true, false, ◌||◌, is_some, None}
 use Rattle.st_state.specs.Machine.{Machine}
-use Rattle.st_state.specs.Orders.{is_due}
 use Rattle.st_exec.specs.Step.{rests}
 use Rattle.st_ahead.specs.Overlap.{Overlap, interrupt_due}
 use Rattle.st_ahead.specs.Calls.{run_ended, machine_after_settling}
-use Rattle.st_ahead.specs.declared.events.Settled.{Settled}
-use Rattle.st_ahead.specs.declared.events.Settled.TheVariants as answers
 use Rattle.st_run.specs.declared.run_phase.RunPhase.{RunPhase}
 use Rattle.st_run.specs.declared.run_phase.RunPhase.TheVariants.{Before, AtEnd, Over}
 use Rattle.st_run.specs.declared.leaving.Decided.{Decided}
@@ -34,18 +31,3 @@ IsChoice turn left over old d new = IsDecidedBy turn left old.state d
     ((new ≡ machine_after_settling old) × (d.taken ≡ interrupt_due old)
     × (d.ends ≡ (is_some old.mispredicted || over || is_some (interrupt_due old))))
     (new ≡ run_ended old)
-
--- the choice by the result of a settle: whether the segment ends, and the interrupt that is taken
-abbrev pub choice_of : Settled → Bool → Bool × Option ℕ
-choice_of (answers.Interrupt i done ic dropped) over = (true, Some i)
-choice_of (answers.Mispredicted dropped) over = (true, None)
-choice_of _ over = (over, None)
-
--- ---- no external event
-
--- no order is due, the machine does not wait, and the next decision does not end the segment
-pub record IsQuiet (o : Overlap) : Type 0 where
-  pub reader : is_due o.state.done o.state.reader ≡ false
-  pub printer : is_due o.state.done o.state.printer ≡ false
-  pub awake : rests o.state ≡ false
-  pub open_still : (is_some o.mispredicted || is_some (interrupt_due o)) ≡ false

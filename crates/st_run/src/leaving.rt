@@ -1,38 +1,38 @@
 //! External events (signals, cards, prints) between two entries (instructions), and the decision
-//! whether the run continues: at rest or with the budget used up the run stops; otherwise the
-//! machine settles its tick: it takes an interrupt, flushes after a wrong prediction, or continues.
-//! docs/timetable.md has the rules.
+//! whether the run continues: with the budget used up the run stops; otherwise the machine settles
+//! its tick: it takes an interrupt, flushes after a wrong prediction, continues, or is at rest, and
+//! then the run stops too. docs/timetable.md has the rules.
 //!
 //! Only progress.rt uses this module: it calls `pass_on` first, which handles the usual case that
-//! nothing happens, and `leave` otherwise. `left` is the number of instructions that may still
-//! complete.
+//! nothing happens, by what `Machine::run_to` of `st_ahead` found, and `leave` otherwise. `left` is
+//! the number of instructions that may still complete.
 //!
 //! Proved: the decision is that of the timed run (`IsDecided` in specs/Leaving.antt, `IsChoice` in
 //! specs/Between.antt; clauses `decided` and `choice`).
 //!
-//! Pinned, by `IsChoice`: rest comes before the budget. Free: the fast path `pass_on`, which may
-//! refuse at any time (clause `stays`).
-ghost use Rattle.std.specs.Prelude.{◌≡◌, ◌≤◌, true, false, length, map, option_map};
+//! Pinned, by `IsChoice`: a run at rest ends at rest, also with the budget used up. Free: the fast
+//! path `pass_on`, which may refuse at any time (clause `stays`).
+ghost use Rattle.std.specs.Prelude.{◌≡◌, ◌≤◌, true, false, None, length, map, option_map};
 ghost use Rattle.st_exch.specs.Printer.{line_of_words};
 ghost use Rattle.st_ahead.specs.Overlap.{levels_of};
-ghost use Rattle.st_ahead.specs.Calls.{MayServe};
+ghost use Rattle.st_ahead.specs.Calls.{MayServe, run_ended};
+ghost use Rattle.st_ahead.specs.RunTo.{is_quiet};
 ghost use Rattle.st_refine.specs.Reached.{IsLedOn};
 ghost use Rattle.st_run.specs.Events.{address_ahead};
 ghost use Rattle.st_run.specs.Together.{IsBehindEntry, moment_of};
 ghost use Rattle.st_run.specs.ExternalEvents.{ends_by};
 ghost use Rattle.st_run.specs.Leaving.{IsDecided, nothing_decided};
-ghost use Rattle.st_run.specs.Between.{IsChoice, IsQuiet, choice_of};
+ghost use Rattle.st_run.specs.Between.{IsChoice};
+ghost use Rattle.st_run.specs.declared.run_phase.RunPhase.TheVariants as turns;
 
 use crate::between::{Interlude, between};
 use crate::driven::Driven;
-use crate::plain::{printer_is_due, reader_is_due};
 use crate::run_phase::RunPhase;
 use arrayvec::{ArrayString, ArrayVec};
-use st_ahead::{Machine, Settled};
+use st_ahead::{Halt, Settled};
 use st_exch::print_text;
 use st_exec::is_at_rest;
 use st_ring::SpecRing;
-use st_state::done_in;
 
 // The decision between two entries.
 #[derive(Clone, Copy, Debug)]
@@ -86,15 +86,28 @@ fn text_of(words: Option<[u64; 8]>) -> Option<ArrayString<64>>
     }
 }
 
-// The choice by the result of a settle, and by whether the segment has already ended: whether the
-// segment ends, and the interrupt that is taken.
-fn choice(answer: Settled, over: bool) -> (bool, Option<u8>)
-    ensures { result ≡ choice_of answer over }
+// Ends the run, at rest or with the budget used up.
+fn end_run<const N: usize>(
+    driven: &mut Driven<N>,
+    resting: bool,
+    text: Option<ArrayString<64>>,
+) -> Decided
+    requires { MayServe driven.old.machine }
+    ensures rest { driven.new ≡ record driven.old { machine = run_ended driven.old.machine } }
+    ensures value { result ≡ record {
+      ends = true;
+      text = text;
+      taken = None;
+      turn = turns.AtEnd resting;
+    } }
+    ensures led { IsLedOn driven.old.machine driven.new.machine }
 {
-    match answer {
-        Settled::Interrupt { indicator, .. } => (true, Some(indicator)),
-        Settled::Mispredicted { .. } => (true, None),
-        Settled::Goes | Settled::Waits => (over, None),
+    driven.machine.stop();
+    Decided {
+        ends: true,
+        text,
+        taken: None,
+        turn: RunPhase::AtEnd(resting),
     }
 }
 
@@ -113,17 +126,16 @@ fn decide<const N: usize>(
     ensures choice { IsChoice result.turn left over driven.old.machine result driven.new.machine }
     ensures led { IsLedOn driven.old.machine driven.new.machine }
 {
-    let resting = is_at_rest(driven.machine.state());
-    if resting || left == 0 {
-        driven.machine.stop();
-        return Decided {
-            ends: true,
-            text,
-            taken: None,
-            turn: RunPhase::AtEnd(resting),
-        };
+    if left == 0 {
+        let resting = is_at_rest(driven.machine.state());
+        return end_run(driven, resting, text);
     }
-    let (ends, taken) = choice(driven.machine.settle(), over);
+    let (ends, taken) = match driven.machine.settle() {
+        Settled::Goes => (over, None),
+        Settled::Interrupt { indicator, .. } => (true, Some(indicator)),
+        Settled::Mispredicted { .. } => (true, None),
+        Settled::Waits => return end_run(driven, true, text),
+    };
     Decided {
         ends,
         text,
@@ -148,27 +160,12 @@ pub(crate) fn leave<const N: usize>(driven: &mut Driven<N>, left: u64) -> Decide
 
 // ---- no external event
 
-// Whether no order is due, the machine does not wait, and the next decision does not end the
-// segment.
-fn is_quiet<const N: usize>(machine: &Machine<N>) -> bool
-    ensures { result ≡ true → IsQuiet machine.entry.now }
-{
-    if machine.ends() {
-        return false;
-    }
-    if reader_is_due(machine.state()) {
-        return false;
-    }
-    if printer_is_due(machine.state()) {
-        return false;
-    }
-    !is_at_rest(machine.state())
-}
-
 // Continues the run at once if no external event is due and the segment does not end. Returns
-// whether it did; if not, nothing changes. `left` is the remaining budget.
-pub(crate) fn pass_on<const N: usize>(driven: &mut Driven<N>, left: u64) -> bool
-    requires { IsBehindEntry driven.old }
+// whether it did; if not, nothing changes. `left` is the remaining budget, `halt` the completion.
+pub(crate) fn pass_on<const N: usize>(driven: &mut Driven<N>, halt: &Halt, left: u64) -> bool
+    requires behind { IsBehindEntry driven.old }
+    requires quiet { halt.now.quiet ≡ is_quiet driven.old.machine }
+    requires number { halt.now.row.number ≡ driven.old.machine.state.done }
     ensures decided { result ≡ true →
         IsDecided left (moment_of driven.old) nothing_decided driven.new }
     ensures delays { driven.new.machine.delays ≡ driven.old.machine.delays }
@@ -179,10 +176,10 @@ pub(crate) fn pass_on<const N: usize>(driven: &mut Driven<N>, left: u64) -> bool
     if left == 0 {
         return false;
     }
-    if driven.pending.is_due(done_in(driven.machine.state())) {
+    if !halt.quiet {
         return false;
     }
-    if !is_quiet(&driven.machine) {
+    if driven.pending.is_due(halt.row.number) {
         return false;
     }
     driven.machine.go_on();

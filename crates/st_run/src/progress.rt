@@ -14,6 +14,7 @@
 //! events. Free: how many entries one call completes, within the 64 rows of the queue.
 ghost use Rattle.std.specs.Prelude.{◌≡◌, ◌+◌, ◌-◌, ◌<◌, ◌≤◌, ◌^◌, ℕ, true, false, if◌then◌else◌, [], ◌∷◌, MatchOption, IfSome, slice_get};
 ghost use Rattle.st_ahead.specs.Overlap.{levels_of};
+ghost use Rattle.st_ahead.specs.RunTo.{is_quiet};
 ghost use Rattle.st_refine.specs.Reached.{IsLedOn};
 ghost use Rattle.st_run.specs.ExternalEvents.{signal_due};
 ghost use Rattle.st_run.specs.Telling.{told_at_end, AreLeftOut, HasGoneFar, rows_then, IsShown, IsLeft, AreInTime};
@@ -28,7 +29,7 @@ use crate::run_events::{RunEvent, TimedRunEvent};
 use crate::run_phase::RunPhase;
 use crate::ticking::{run_many, run_until};
 use arrayvec::{ArrayString, ArrayVec};
-use st_ahead::{Row, RowQueue};
+use st_ahead::{Halt, Row, RowQueue};
 use st_card::Signal;
 use st_state::done_in;
 
@@ -173,12 +174,12 @@ fn go_far<const N: usize>(
         (told_ahead run.old) (rest_behind run.new) rows.old rows.new) }
 {
     let count = count_of(&run.driven, done, run.left, most);
-    let Some(row) = run_many(&mut run.driven, count, rows) else {
+    let Some(halt) = run_many(&mut run.driven, count, rows) else {
         return None;
     };
-    run.left -= row.number - 1 - done;
-    leave_entry(run, row.c);
-    Some(row)
+    run.left -= halt.row.number - 1 - done;
+    leave_entry(run, &halt);
+    Some(halt.row)
 }
 
 // The count of completed instructions up to which only completions can occur, at most `most`:
@@ -245,11 +246,11 @@ fn go<const N: usize>(run: &mut Progress<N>, rows: &mut RowQueue) -> TimedRunEve
     ensures told { told_ahead run.old ≡ told_by result run.new ∷ rest_behind run.new }
 {
     let snap = first_of(run.snaps);
-    let Some(row) = run_until(&mut run.driven, snap, rows) else {
+    let Some(halt) = run_until(&mut run.driven, snap, rows) else {
         return show(run);
     };
-    leave_entry(run, row.c);
-    event_of_row(row)
+    leave_entry(run, &halt);
+    event_of_row(halt.row)
 }
 
 // The snapshot whose tick has just been made (`IsShown`).
@@ -268,22 +269,24 @@ fn show<const N: usize>(run: &mut Progress<N>) -> TimedRunEvent
     at_once(&run.driven, run.tick, RunEvent::Shown(at))
 }
 
-// Queues the events that follow the completion of an entry at a tick; usually there are none. The
-// entry has just completed at that tick (`IsLeft`).
-fn leave_entry<const N: usize>(run: &mut Progress<N>, tick: u64)
-    requires left { IsLeft run.old.left run.old.snaps.now tick run.old.driven }
+// Queues the events that follow the completion of an entry; usually there are none. The entry has
+// just completed (`IsLeft`).
+fn leave_entry<const N: usize>(run: &mut Progress<N>, halt: &Halt)
+    requires left { IsLeft run.old.left run.old.snaps.now halt.now.row.c run.old.driven }
+    requires quiet { halt.now.quiet ≡ is_quiet run.old.driven.machine }
+    requires number { halt.now.row.number ≡ run.old.driven.machine.state.done }
     requires turn { run.old.turn ≡ turns.Before }
     requires waits { IsTold run.old }
     ensures kept { IsUnderWay run.new }
     ensures led { IsLedOn run.old.driven.machine run.new.driven.machine }
     ensures told { told_after run.old ≡ rest_behind run.new }
 {
-    if !pass_on(&mut run.driven, run.left) {
-        leave_fully(run, tick);
+    if !pass_on(&mut run.driven, halt, run.left) {
+        leave_fully(run, halt.row.c);
         return;
     }
-    run.tick = tick;
-    run.left = one_less(run.left);
+    run.tick = halt.row.c;
+    run.left = run.left.saturating_sub(1);
 }
 
 // Queues the events that follow the completion of an entry at a tick, in the general case.
@@ -304,7 +307,7 @@ fn leave_fully<const N: usize>(run: &mut Progress<N>, tick: u64)
     };
     run.turn = decided.turn;
     run.tick = tick;
-    run.left = one_less(run.left);
+    run.left = run.left.saturating_sub(1);
 }
 
 // At the end: the next snapshot up to the last tick, or the end event.
@@ -387,11 +390,4 @@ fn clear_unless(ends: bool, drops: &mut ArrayVec<(u32, u64), 8>)
     if !ends {
         drops.clear();
     }
-}
-
-// The number minus one, or 0 for zero.
-fn one_less(left: u64) -> u64
-    ensures { result ≡ left - 1 }
-{
-    if left == 0 { 0 } else { left - 1 }
 }

@@ -168,7 +168,6 @@ impl<'a, const N: usize> Run<'a, N> {
     }
 
     /// The next event if it is a completion, as its row. May return None while snapshots remain.
-    #[inline(always)]
     pub fn next_row(&mut self) -> Option<Row>
         ensures told { MatchOption result (self.new.rest ≡ self.old.rest) (λ row. self.old.rest
             ≡ row_told row ∷ self.new.rest) }

@@ -48,7 +48,6 @@ pub(crate) fn next_of<const N: usize>(teller: &mut Teller<N>) -> Option<TimedRun
 
 // If the queue is empty, completes entries and queues their rows, up to the next event of another
 // kind.
-#[inline(always)]
 fn make_ready<const N: usize>(teller: &mut Teller<N>)
     requires run { IsUnderWay teller.old.progress }
     requires shut { teller.old.rows.room ≡ 0 }
@@ -64,7 +63,6 @@ fn make_ready<const N: usize>(teller: &mut Teller<N>)
 }
 
 // The next event if it is a row: the first queued one, or a new one.
-#[inline(always)]
 pub(crate) fn next_row_of<const N: usize>(teller: &mut Teller<N>) -> Option<Row>
     requires run { IsUnderWay teller.old.progress }
     requires shut { teller.old.rows.room ≡ 0 }

@@ -10,7 +10,7 @@
 -- Proved: by their `ensures` clauses these calls do what definitions here say: `is_due`
 -- (devices.rt), `due` (lib.rt), `next_device` (lib.rt), `is_due_at` (plain.rt of st_run), and
 -- others.
--- Read by: definitions in Run of st_run, RunTo of st_ahead, Between of st_run.
+-- Read by: definitions in Run of st_run, RunTo of st_ahead.
 -- Laws: none names a definition of this file itself.
 -- Change: the meaning is fixed by docs/machine.md, since the contracts of `st_top::stretch` and
 -- `st_account::ledger` unfold to a definition here. The form is free, with the proofs that unfold

@@ -14,7 +14,6 @@
 
 ghost use Rattle.std.specs.Prelude.{◌≡◌, ◌≤◌, length};
 ghost use Rattle.st_mnemonic.specs.Fields.{texts};
-ghost use Rattle.st_mnemonic.specs.Text.{fields_of};
 ghost use Rattle.st_strap.specs.Saying as spec;
 
 use crate::saying::{
@@ -109,16 +108,8 @@ fn parse_formed(op: Operation, form: Form, text: &[u8]) -> Result<CompactStateme
     let (form, behind) = progressed(op, form, text);
     match form {
         None => Err(Fault::BadProgressive),
-        Some(form) => with_text(op, form, behind),
+        Some(form) => with_fields(op, form, fields(behind).as_slice()),
     }
-}
-
-// Parses the statement of an operation with its form and the text of its fields.
-fn with_text(op: Operation, form: Form, text: &[u8]) -> Result<CompactStatement, Fault>
-    requires { length text.now ≤ 63 }
-    ensures { result ≡ spec.with_fields op form (fields_of text.now) }
-{
-    with_fields(op, form, fields(text).as_slice())
 }
 
 // Parses the statement of an operation with its form and its fields.

@@ -1,6 +1,6 @@
 -- The names that proofs of this crate use, passed on from one place. Declares nothing.
-pub use Rattle.std.specs.Prelude.{◌&&◌, ◌||◌, IfOk, Result, Ok, Err, ◌==◌, not, nat_lt, nat_le, if◌then◌else◌, is_none, IfSome, map}
-pub use Rattle.std.proofs.Common.{◌≡◌, ℕ, zero, suc, List, ◌∷◌, arith, ◌+◌, ◌≤◌, ◌<◌, true, [], length, slice_index, sym, ◌∙◌, ap, subst, ◌-◌, inl, inr, Bool, false, All, Option, None, Some, refl, ◌≢◌, get_or, set, replicate, ◌⊎◌, ◌++◌}
+pub use Rattle.std.specs.Prelude.{◌&&◌, ◌||◌, ◌==◌, not, nat_lt, nat_le, if◌then◌else◌, is_none, IfSome, map}
+pub use Rattle.std.proofs.Common.{◌≡◌, ℕ, zero, suc, List, ◌∷◌, arith, ◌+◌, ◌≤◌, ◌<◌, true, [], length, slice_index, sym, ◌∙◌, ap, subst, ◌-◌, inl, inr, Bool, false, All, Option, None, Some, refl, ◌≢◌, get_or, set, replicate, ◌⊎◌, ◌++◌, rules}
 pub use Rattle.std.specs.List.{list_all, list_any, AllPass}
 pub use Rattle.std.proofs.lemmas.Bool.{and_parts, or_parts, not-true, eqb-true, leb-false, cases_lt, cases_eq, cases_Bool}
 pub use Rattle.std.proofs.lemmas.List.{length-set, get_or-set_same, get_or-set_other}

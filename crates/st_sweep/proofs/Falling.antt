@@ -1,5 +1,5 @@
 -- The ticks of a hazard-free run are non-increasing in the number of levels.
-use Rattle.st_sweep.proofs.Common.{IfOk, Result, Ok, Err, ◌≡◌, ℕ, zero, suc, ◌+◌, ◌≤◌, ◌<◌, true, List, [], ◌∷◌, length, slice_index, sym, ◌∙◌, ap, subst, arith, Scene, is_hazard_free, ticks}
+use Rattle.st_sweep.proofs.Common.{◌≡◌, ℕ, zero, suc, ◌+◌, ◌≤◌, ◌<◌, true, List, [], ◌∷◌, length, slice_index, sym, ◌∙◌, ap, subst, arith, Scene, is_hazard_free, ticks}
 use Rattle.st_sweep.specs.SideBySide.{side_by_side, AreNotRising}
 use Rattle.st_sweep.specs.declared.sweeping.Swept.{Swept}
 use Rattle.st_sweep.proofs.Segment.{hazard_free-ticks}
@@ -27,7 +27,6 @@ not-rising ds left c some hazard_free i j low inside =
     let more = hazard_free-ticks ds (1 + j) (1 + i) left c some (omega arith) hazard_free in
     omega (arith, at i (omega arith), at j inside, more)
 
-pub levels-of : {E : Type 0} (ds : List ℕ) (left : ℕ) (c : Scene) (r : Result Swept E) → 1 ≤ length ds
-    → IfOk r (λ x. x ≡ side_by_side ds left c) → IfOk r (λ x. x.hazard_free ≡ true → AreNotRising x.ticks)
-levels-of ds left c (Ok x) some same = subst (λ y. y.hazard_free ≡ true → AreNotRising y.ticks) (sym same) (not-rising ds left c some)
-levels-of ds left c (Err e) some same = tt
+pub levels-of : (ds : List ℕ) (left : ℕ) (c : Scene) (x : Swept) → 1 ≤ length ds → x ≡ side_by_side ds left c
+    → x.hazard_free ≡ true → AreNotRising x.ticks
+levels-of ds left c x some same = subst (λ y. y.hazard_free ≡ true → AreNotRising y.ticks) (sym same) (not-rising ds left c some)

@@ -15,13 +15,12 @@ unfolding step
 entry-step s t taken is made = made ∙ ap (λ i. state_after_execution i s) is
 
 -- the test whether the next entry is hazard-free
-pub entry-hazard_free : (earlier : List WordRuns) (s : Machine) (taken : Option ℕ) (p : Prepared) (straight side words : Bool) (q : Option ℕ)
+pub entry-hazard_free : (earlier : List WordRuns) (s : Machine) (taken : Option ℕ) (p : Prepared) (mispredicted side words : Bool) (q : Option ℕ)
     → taken ≡ interrupt s → p ≡ plan s taken → q ≡ (needs (decode_context s (place_of s taken))).index_read
-    → straight ≡ (is_none taken && not (is_mispredicted p s))
-    → side ≡ side_is_written earlier q → words ≡ one_is_written earlier p.reads
-    → (straight && not side && not words) ≡ is_hazard_free_entry earlier s
+    → mispredicted ≡ is_mispredicted p s → side ≡ side_is_written earlier q → words ≡ one_is_written earlier p.reads
+    → (is_none taken && not mispredicted && not side && not words) ≡ is_hazard_free_entry earlier s
 unfolding is_hazard_free_entry
-entry-hazard_free earlier s taken p straight side words q is plan_is side_is first second third =
+entry-hazard_free earlier s taken p mispredicted side words q is plan_is side_is first second third =
     rw (first, second, third, side_is, plan_is, is)
 
 -- ---- the run

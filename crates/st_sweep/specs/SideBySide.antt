@@ -1,7 +1,7 @@
 -- The result of a sweep.
 --
 -- Proved: by their `ensures` clauses these calls do what definitions here say: `sweep`
--- (sweeping.rt), `new` (start.rt), `run_all` (sweeping.rt).
+-- (sweeping.rt), `new` (start.rt).
 -- Read by: definitions in Sweep of st_top.
 -- Laws: none names a definition of this file itself.
 -- Change: the meaning is fixed by docs/timetable.md, since the contract of `st_top::stretch`

@@ -1,7 +1,7 @@
 -- A job on machines with one to eight levels.
 --
 -- Proved: by their `ensures` clauses these calls do what definitions here say: `run_plain`
--- (hazards.rt), `pass_interlude` (interlude.rt), `run_all` (sweeping.rt), `sweep` (sweeping.rt).
+-- (hazards.rt), `pass_interlude` (interlude.rt), `sweep` (sweeping.rt).
 -- Read by: definitions in Starts, SideBySide, Output of st_top, Sweep of st_top.
 -- Laws: MoreLevelsAreNoSlower (specs/Laws.antt).
 -- Change: the meaning is fixed by docs/timetable.md, since the contract of `st_top::stretch`

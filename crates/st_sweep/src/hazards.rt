@@ -11,12 +11,10 @@
 //!
 //! Pinned, by specs/HazardFree.antt and docs/timetable.md: these conditions, one by one. Free: how
 //! written words are marked (written.rt).
-ghost use Rattle.std.specs.Prelude.{◌≡◌, ◌==◌, ◌+◌, ◌≤◌, ◌<◌, ◌^◌, ◌&&◌, not, List, [], ◌∷◌, false, is_none};
+ghost use Rattle.std.specs.Prelude.{◌≡◌, ◌==◌, ◌+◌, ◌≤◌, ◌<◌, ◌^◌, ◌&&◌, List, [], ◌∷◌, false};
 ghost use Rattle.std.specs.List.{AllPass, list_all};
 ghost use Rattle.st_bits.specs.declared.limits.TheConstants.{MOST_INSTRUCTIONS};
 ghost use Rattle.st_card.specs.Limits.{is_signal};
-ghost use Rattle.st_prep.specs.Ranges.{IsPrepared};
-ghost use Rattle.st_exec.specs.Completion.{is_mispredicted as is_mispredicted_of};
 ghost use Rattle.st_exec.specs.Step.{rests, step as step_of};
 ghost use Rattle.st_run.specs.Run.{state_next, scenes};
 ghost use Rattle.st_rows.specs.declared.entry.WordRuns.{WordRuns};
@@ -48,23 +46,6 @@ pub(crate) fn are_equal(delays: &[u8]) -> bool
     are_all(*first, rest)
 }
 
-// Whether an entry takes no interrupt and is not mispredicted.
-fn goes_straight(taken: Option<u8>, p: &Prepared, state: &State) -> bool
-    requires { IsPrepared p.now }
-    ensures { result ≡ (is_none taken && not (is_mispredicted_of p.now state.now)) }
-{
-    let mispredicted = is_mispredicted(p, state);
-    taken.is_none() && !mispredicted
-}
-
-// Whether an entry is hazard-free: it takes no interrupt and is not mispredicted, and no earlier
-// entry of the run writes its index-side word or one of its operand words.
-fn is_hazard_free(straight: bool, side: bool, words: bool) -> bool
-    ensures { result ≡ (straight && not side && not words) }
-{
-    straight && !side && !words
-}
-
 // Makes the next step, and marks the words that it writes beside those of `earlier` entries.
 // Returns whether it is a hazard-free entry after these. The state is not at rest, and fewer than
 // 2^63 instructions are complete.
@@ -79,12 +60,13 @@ fn step(state: &mut State, written: &mut WrittenWords) -> bool
     let taken = interrupt(state);
     let mut p = Prepared::default();
     let side = plan_in(taken, state, &mut p);
-    let straight = goes_straight(taken, &p, state);
+    let mispredicted = is_mispredicted(&p, state);
     let side = written.has_side(side);
     let words = written.has_words(p.reads);
+    let hazard_free = taken.is_none() && !mispredicted && !side && !words;
     written.put(p.writes);
     complete_in(&p, state);
-    is_hazard_free(straight, side, words)
+    hazard_free
 }
 
 // Whether both hold; a function of its own, since proofs cite its clause.

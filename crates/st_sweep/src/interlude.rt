@@ -9,7 +9,7 @@
 //!
 //! Pinned, by `without_cards` in these clauses: no card comes, as `sweep` runs with an empty
 //! reader. Free: the bodies; the work is that of `st_run::between`.
-ghost use Rattle.std.specs.Prelude.{◌≡◌, ◌||◌, not};
+ghost use Rattle.std.specs.Prelude.{◌≡◌};
 ghost use Rattle.std.specs.List.{AllPass};
 ghost use Rattle.st_card.specs.Limits.{is_signal};
 ghost use Rattle.st_run.specs.Run.{interlude};
@@ -32,13 +32,6 @@ pub(crate) struct InterludeEnd<'a> {
     pub quiet: bool,
 }
 
-// Whether no wait was ended, by whether the machine was at rest before and after.
-fn is_kept(before: bool, after: bool) -> bool
-    ensures { result ≡ (after || not before) }
-{
-    after || !before
-}
-
 // Makes the transition between two entries: the due signals and orders, and the events that may end
 // a wait.
 pub(crate) fn pass_interlude<'a>(state: &mut State, signals: &'a [Signal]) -> InterludeEnd<'a>
@@ -53,6 +46,6 @@ pub(crate) fn pass_interlude<'a>(state: &mut State, signals: &'a [Signal]) -> In
     let (rest, _) = pending.parts();
     InterludeEnd {
         signals: rest,
-        quiet: is_kept(came.waited, is_at_rest(state)),
+        quiet: is_at_rest(state) || !came.waited,
     }
 }

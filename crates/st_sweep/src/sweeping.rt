@@ -57,19 +57,23 @@ pub struct Swept {
     pub hazard_free: bool,
 }
 
-// Allocates all memory, then runs the job on each machine in turn.
-fn run_all(alloc: Global, job: &SweptJob<'_>) -> Result<Swept, NoMemory>
+/// Runs a job on machines of one to eight levels, in sequence. The only error is a failed
+/// allocation; all memory is allocated before the first instruction. `docs/timetable.md` has the
+/// rules.
+pub fn sweep(alloc: Global, job: &SweptJob<'_>) -> Result<Swept, NoMemory>
     requires image { IsImage job.now.image.now }
     requires counter { job.now.start < 2 ^ 19 }
     requires some_delays { 1 ≤ length job.now.delays.now }
     requires few_delays { length job.now.delays.now ≤ LONGEST_LIST }
+    requires delays { All (λ d. 1 ≤ d) job.now.delays.now }
     requires signals { AllPass is_signal job.now.signals.now }
     requires some_done { 1 ≤ job.now.budget }
     requires few_done { job.now.budget ≤ MOST_INSTRUCTIONS }
 
-    ensures { IfOk result (λ r. r
+    ensures value { IfOk result (λ r. r
         ≡ side_by_side job.now.delays.now job.now.budget
         (without_cards (opening_state job.now.image.now job.now.start) job.now.signals.now)) }
+    ensures levels { IfOk result (λ r. r.hazard_free ≡ true → AreNotRising r.ticks) }
 {
     let SweptJob {
         image,
@@ -90,25 +94,4 @@ fn run_all(alloc: Global, job: &SweptJob<'_>) -> Result<Swept, NoMemory>
         done: found.done,
         hazard_free: both(are_equal(delays), found.hazard_free),
     })
-}
-
-/// Runs a job on machines of one to eight levels, in sequence. The only error is a failed
-/// allocation; all memory is allocated before the first instruction. `docs/timetable.md` has the
-/// rules.
-pub fn sweep(alloc: Global, job: &SweptJob<'_>) -> Result<Swept, NoMemory>
-    requires image { IsImage job.now.image.now }
-    requires counter { job.now.start < 2 ^ 19 }
-    requires some_delays { 1 ≤ length job.now.delays.now }
-    requires few_delays { length job.now.delays.now ≤ LONGEST_LIST }
-    requires delays { All (λ d. 1 ≤ d) job.now.delays.now }
-    requires signals { AllPass is_signal job.now.signals.now }
-    requires some_done { 1 ≤ job.now.budget }
-    requires few_done { job.now.budget ≤ MOST_INSTRUCTIONS }
-
-    ensures value { IfOk result (λ r. r
-        ≡ side_by_side job.now.delays.now job.now.budget
-        (without_cards (opening_state job.now.image.now job.now.start) job.now.signals.now)) }
-    ensures levels { IfOk result (λ r. r.hazard_free ≡ true → AreNotRising r.ticks) }
-{
-    run_all(alloc, job)
 }

@@ -43,4 +43,4 @@ unfoldable pub use Rattle.st_tally.specs.Laws.{sum_below}
 pub use Rattle.st_ledger.specs.Words.{AreWordsInTime}
 pub use Rattle.st_ledger.specs.declared.sums.WaitTotals.{WaitTotals}
 pub use Rattle.st_ledger.specs.declared.sums.Shares.{Shares}
-pub use Rattle.st_lines.proofs.LineLemmas.{same_lines, first_cut, second_cut, three_then, three_cut}
+pub use Rattle.st_lines.proofs.LineLemmas.{first_cut, second_cut, same_lines, three_then, three_cut}

@@ -10,11 +10,7 @@
 //!
 //! Pinned, by `IsTally`: index 0 is the sum of rows without a card; a row whose card has no place
 //! is in `others`, of which no line is written. Free: the bodies, if proofs/tables follows.
-ghost use Rattle.std.specs.Prelude.{◌≡◌, ◌≢◌, ◌+◌, ◌≤◌, ◌<◌, ◌^◌, ◌∷◌, ◌++◌, [], ℕ, List, true, if◌then◌else◌, not, nat_eq, length, get_or, IfOk};
-ghost use Rattle.st_ledger.specs.Charges.{ticks_for};
-ghost use Rattle.st_ledger.specs.Totals.{sum_at as ticks_at, AreWithin};
-ghost use Rattle.st_ledger.specs.declared.charges.Stage.{Stage};
-ghost use Rattle.st_lines.specs.EntryLines.{charges_of_entry};
+ghost use Rattle.std.specs.Prelude.{◌≡◌, ◌≢◌, ◌+◌, ◌≤◌, ◌<◌, ◌^◌, ◌∷◌, ◌++◌, [], ℕ, List, true, if◌then◌else◌, length, get_or, IfOk};
 ghost use Rattle.st_ledger.specs.Words.{AreWordsInTime};
 ghost use Rattle.st_tally.specs.Headings.{heading_number, heading_at as heading_for};
 ghost use Rattle.st_tally.specs.declared.headings.Heading.{Heading};
@@ -75,18 +71,6 @@ fn only_executes(done: &EntryDone) -> bool
     done.start.max(ticks.a).max(ticks.p).max(ticks.r) <= done.before
 }
 
-// Adds the ticks of an entry that only executes.
-fn add_executing(sums: &mut Totals, done: &EntryDone)
-    requires executes { OnlyExecutes done.now }
-    requires order { IsInOrder done.now }
-    requires within { AreWithin done.now.before sums.old }
-    ensures sums { (s : Stage) → ticks_at s sums.new
-        ≡ ticks_at s sums.old + ticks_for s (charges_of_entry done.now) }
-    ensures within { AreWithin done.now.row.ticks.c sums.new }
-{
-    sums.executing += done.row.ticks.c - done.before;
-}
-
 // Adds an entry with its waits to the sums of a card; `waits` lends its room.
 #[inline(always)]
 fn add_to_card(
@@ -104,12 +88,12 @@ fn add_to_card(
     requires earlier { AreWordsInTime before.now }
     ensures { AddsCard done.now uses.now before.now sum.old sum.new }
 {
+    let row = &done.row.ticks;
     sum.rows += 1;
     if executes {
-        add_executing(&mut sum.sums, done);
+        sum.sums.executing += row.c - done.before;
         return;
     }
-    let row = &done.row.ticks;
     sum.sums.add_row(row, done.before, done.start);
     add_waits(
         done.before,
@@ -234,19 +218,12 @@ pub(crate) fn sum_at(cards: &Vec<CardSum>, k: usize) -> &CardSum
     &cards[k]
 }
 
-// The number of places of a table with so many cards.
-fn places(cards: u32) -> usize
-    ensures { result ≡ cards + 1 }
-{
-    cards as usize + 1
-}
-
 // The tables of no rows, for the cards 1 to `cards`.
 fn no_tables(alloc: Global, cards: u32) -> Result<Tables, NoMemory>
     ensures size { IfOk result (λ t. length t.cards.items ≡ cards + 1) }
     ensures none { IfOk result AreTablesOfNone }
 {
-    let Ok(cards) = vec![in alloc; CardSum::default(); places(cards)] else {
+    let Ok(cards) = vec![in alloc; CardSum::default(); cards as usize + 1] else {
         return Err(NoMemory);
     };
     Ok(Tables {
@@ -278,29 +255,6 @@ impl Tables {
         no_tables(alloc, cards)
     }
 
-    // Adds an entry to the counts.
-    fn count(&mut self, done: &EntryDone)
-        requires order { IsInOrder done.now }
-        requires mispredicted { self.old.mispredicted ≤ done.now.before }
-        requires rows { self.old.level_rows ≤ done.now.before }
-        requires ticks { self.old.level_ticks + done.now.row.level_wait < 2 ^ 64 }
-
-        ensures mispredicted { self.new.mispredicted ≡ self.old.mispredicted
-            + (if done.now.mispredicted then 1 else 0) }
-        ensures rows { self.new.level_rows ≡ self.old.level_rows
-            + (if not (nat_eq done.now.row.level_wait 0) then 1 else 0) }
-        ensures ticks { self.new.level_ticks ≡ self.old.level_ticks + done.now.row.level_wait }
-        ensures rest { self.new ≡ record self.old {
-          mispredicted = self.new.mispredicted;
-          level_rows = self.new.level_rows;
-          level_ticks = self.new.level_ticks;
-        } }
-    {
-        self.mispredicted += one_if(done.mispredicted);
-        self.level_rows += one_if(done.row.level_wait != 0);
-        self.level_ticks += done.row.level_wait;
-    }
-
     /// Adds a completed entry, whose segment begins for the reason `why`. The entry uses the words
     /// `uses`, and the entry before it in its segment the words `before`; `waits` lends its room. Of
     /// the entry neither number, address, end of the segment nor the KEPT of its line LAID matter,
@@ -329,6 +283,8 @@ impl Tables {
     {
         add_card(&mut self.cards, &mut self.others, done, uses, before, waits);
         add_reason(&mut self.reasons, why, done);
-        self.count(done);
+        self.mispredicted += one_if(done.mispredicted);
+        self.level_rows += one_if(done.row.level_wait != 0);
+        self.level_ticks += done.row.level_wait;
     }
 }

@@ -13,7 +13,7 @@
 ghost use Rattle.std.specs.Prelude.{◌≡◌, ◌+◌, ◌∷◌, [], List, length};
 ghost use Rattle.st_io.specs.Lines.{WritesLines, lines_for};
 ghost use Rattle.st_tally.specs.Headings.{headings};
-ghost use Rattle.st_tally.specs.Slots.{slot_lines, reason_sum_line, tables_lines};
+ghost use Rattle.st_tally.specs.Slots.{slot_lines, reason_sum_line};
 ghost use Rattle.st_tally.specs.Tally.{TalliedRow, card_sum, reason_sum, IsTally};
 ghost use Rattle.st_tally.specs.TallyLines.{card_line, lines_by_heading, count_lines, missed_count_line, level_count_line, drop_count_line, table_lines};
 
@@ -103,14 +103,6 @@ fn all_headings() -> [Heading; 11]
     ]
 }
 
-// Writes the lines of all headings.
-fn write_reasons<K: Sink>(out: &mut K, tables: &Tables) -> Result<(), Failed>
-    ensures { WritesLines (K.output out.old) (K.output out.new)
-        (lines_by_heading (λ h. reason_sum_line h (reason_sum tables.now h)) headings) result }
-{
-    write_each(out, &all_headings(), tables)
-}
-
 // Writes the number of mispredicted branches.
 fn write_missed<K: Sink>(out: &mut K, n: u64) -> Result<(), Failed>
     ensures { WritesLines (K.output out.old) (K.output out.new) (missed_count_line n ∷ []) result }
@@ -150,16 +142,6 @@ fn write_counts<K: Sink>(out: &mut K, tables: &Tables, dropped: u64) -> Result<(
     write_dropped(out, dropped)
 }
 
-// Writes the lines of tables by their numbers.
-fn write_all<K: Sink>(out: &mut K, tables: &Tables, dropped: u64) -> Result<(), Failed>
-    ensures { WritesLines (K.output out.old) (K.output out.new)
-        (tables_lines tables.now dropped) result }
-{
-    write_cards(out, tables)?;
-    write_reasons(out, tables)?;
-    write_counts(out, tables, dropped)
-}
-
 impl Tables {
     /// Writes the lines of the tables: those of the cards that have rows, those of all headings,
     /// and the counts; `dropped` is the number of dropped entries.
@@ -168,6 +150,8 @@ impl Tables {
             WritesLines (K.output out.old) (K.output out.new)
             (table_lines (length self.now.cards.items) xs dropped) result }
     {
-        write_all(out, self, dropped)
+        write_cards(out, self)?;
+        write_each(out, &all_headings(), self)?;
+        write_counts(out, self, dropped)
     }
 }

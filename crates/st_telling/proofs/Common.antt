@@ -9,9 +9,8 @@ unfoldable pub use Rattle.st_telling.specs.Report.{dump_lines, report, block}
 pub use Rattle.st_card.specs.Controls.{Asked}
 pub use Rattle.st_io.specs.declared.Failed.{Failed}
 pub use Rattle.st_io.specs.Lines.{WritesLines, lines_for}
-pub use Rattle.st_run.specs.Telling.{row_told, rows_then, AreLeftOut, level_of, AreLevelsShown, reported_answer}
+pub use Rattle.st_run.specs.Telling.{row_told, rows_then, AreLeftOut, level_of, AreLevelsShown}
 pub use Rattle.st_telling.specs.Running.{WritesEvents, WritesNothing, moment_told}
 unfoldable pub use Rattle.st_telling.specs.Running.{last_moment, views_lines}
-pub use Rattle.st_telling.specs.declared.moment.Moment.{Moment}
 pub use Rattle.st_report.specs.Line.{snap_line, ic_line, en_line, dump_line, trc_line, row_line, end_line, done_line, ticks_line, int_line, time_line}
 unfoldable pub use Rattle.st_time.specs.Shown.{levels_standing}

@@ -1,5 +1,6 @@
 -- The writing of the report of a run, event by event, with the lines so far and the remaining ones.
-use Rattle.st_telling.proofs.Common.{◌≡◌, ℕ, ◌≤◌, false, length, List, [], ◌∷◌, ◌++◌, arith, refl, sym, ◌∙◌, ap, subst, map, Result, Ok, Err, IsErr, Asked, OutputState, Failed, WritesLines, EventsSoFar, events_none, events_more, events_stopped, events_whole, row_told, rows_then, AreLeftOut, report, lines_at, lines_told, WritesEvents, WritesNothing, moment_told, last_moment, Moment}
+use Rattle.st_telling.proofs.Common.{◌≡◌, ℕ, ◌≤◌, false, length, List, [], ◌∷◌, ◌++◌, arith, refl, sym, ◌∙◌, ap, subst, map, Result, Ok, Err, IsErr, Asked, OutputState, Failed, WritesLines, EventsSoFar, events_none, events_more, events_stopped, events_whole, row_told, rows_then, AreLeftOut, report, lines_at, lines_told, WritesEvents, WritesNothing, moment_told, last_moment}
+use Rattle.st_telling.specs.declared.moment.Moment.{Moment}
 use Rattle.st_io.specs.Event.{Event, at_moment, StoppedAt}
 use Rattle.st_io.proofs.Writing.{wrote_at_moment, stopped_at_moment, wrote_events, events_before, events_after}
 use Rattle.st_run.specs.ReportedEvents.{TimedReportedEvent}

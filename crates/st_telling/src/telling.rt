@@ -236,16 +236,6 @@ fn write_end<K: Sink>(
     write_state(out, seen, controls)
 }
 
-// The moment of an event.
-fn moment_of(told: &TimedRunEvent) -> Moment
-    ensures { result ≡ record { done = told.now.done; tick = told.now.tick } }
-{
-    Moment {
-        done: told.done,
-        tick: told.tick,
-    }
-}
-
 // The moment of a row.
 fn moment_at(row: &Row) -> Moment
     ensures { result ≡ record { done = row.now.number; tick = row.now.c } }
@@ -314,7 +304,6 @@ fn pass_counted<const N: usize>(run: &mut Run<'_, N>, moment: &mut Moment, contr
 }
 
 // The row of the next completion, if completions have lines.
-#[inline(always)]
 fn next_written<const N: usize>(run: &mut Run<'_, N>, written: bool) -> Option<Row>
     ensures { MatchOption result (run.new.rest ≡ run.old.rest) (λ row. run.old.rest ≡ row_told row
         ∷ run.new.rest) }
@@ -340,7 +329,6 @@ fn next_told<const N: usize>(
 }
 
 // Writes the report of the remaining events of a run.
-#[inline(always)]
 fn write_rest<K: Sink, const N: usize>(
     out: &mut K,
     run: &mut Run<'_, N>,
@@ -364,7 +352,10 @@ fn write_rest<K: Sink, const N: usize>(
         let Some(told) = next_told(run, moment, controls) else {
             return Ok(());
         };
-        *moment = moment_of(&told);
+        *moment = Moment {
+            done: told.done,
+            tick: told.tick,
+        };
         write_told(out, &mut line, run, told, controls)?;
     }
 }

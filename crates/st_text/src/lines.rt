@@ -15,7 +15,7 @@ ghost use Rattle.std.specs.Prelude.{◌≡◌, ◌+◌, ◌<◌, ◌≤◌, ◌+
 ghost use Rattle.arrayvec.specs.ArrayString.{array_string_len};
 ghost use Rattle.st_text.specs.Blanks.{without_end_blanks};
 ghost use Rattle.st_text.specs.Bytes.{lf};
-ghost use Rattle.st_text.specs.Numerals.{hex_digit, hex_text, place, bit_address, half_address, flag};
+ghost use Rattle.st_text.specs.Numerals.{hex_digit, hex_text, bit_address, half_address, flag};
 
 use crate::blanks::filled_len;
 use arrayvec::ArrayString;
@@ -88,24 +88,15 @@ pub fn push_hex(line: &mut Line, digits: u8, n: u64)
     line.push(hex_char((n % 16) as u8));
 }
 
-// Appends a bit of a word as word.bit.
-fn push_place(line: &mut Line, word: u32, bit: u8)
-    requires { array_string_len line.old + 14 ≤ 128 }
-    ensures bytes { line.new.bytes ≡ line.old.bytes ++ place word bit }
-    ensures room { array_string_len line.new ≤ array_string_len line.old + 14 }
-{
-    push_short_decimal(line, word);
-    line.push_str(".");
-    line.push_str(Buffer::new().format(bit));
-}
-
 /// Appends a bit address as word.bit.
 pub fn push_bit_address(line: &mut Line, address: u32)
     requires { array_string_len line.old + 14 ≤ 128 }
     ensures bytes { line.new.bytes ≡ line.old.bytes ++ bit_address address }
     ensures room { array_string_len line.new ≤ array_string_len line.old + 14 }
 {
-    push_place(line, address / 64, (address % 64) as u8);
+    push_short_decimal(line, address / 64);
+    line.push_str(".");
+    line.push_str(Buffer::new().format((address % 64) as u8));
 }
 
 /// Appends a half-word address as word.bit.

@@ -67,16 +67,8 @@ fn read_digits(text: &[u8], cap: u128) -> Option<u128>
         if !digit.is_ascii_digit() {
             return None;
         }
-        number = with_digit(number, *digit - b'0', cap);
+        number = (number * 10 + u128::from(*digit - b'0')).min(cap);
         rest = after;
     }
     Some(number)
-}
-
-// A number with one more digit appended, at most `cap`.
-fn with_digit(number: u128, digit: u8, cap: u128) -> u128
-    requires { number ≤ 2 ^ 64 }
-    ensures { result ≡ min (number * 10 + digit) cap }
-{
-    (number * 10 + u128::from(digit)).min(cap)
 }

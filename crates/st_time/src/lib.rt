@@ -20,7 +20,6 @@ use st_ahead::{LevelView, Row, View};
 use st_report::{EntryLine, EntryRow, Line, fill_row, line_drop, line_lev, line_row, line_snap};
 
 // A row as the fields of its line.
-#[inline(always)]
 fn entry_row(row: &Row) -> EntryRow
     ensures { result ≡ record {
       number = row.now.number;

@@ -43,7 +43,7 @@ unfoldable pub use Rattle.st_top.specs.ObjectText.{deck_lines, object_text_lines
 pub use Rattle.st_top.specs.Output.{Output, lines_alone, refusal_output, deck_by, ran_by, swept_by, assembled_by, loaded_by, disassembled_by, scene_of_assembly, loaded_start, output_of_run, scene_at_start, output_of_sweep}
 unfoldable pub use Rattle.st_top.specs.Output.{output_of}
 pub use Rattle.st_top.specs.declared.answer.Status.TheVariants.{Done, Refused, WriteFault, Usage, JobTooLong, ReadFault, NoMemory}
-pub use Rattle.st_card.specs.declared.keywords.Number.TheVariants.{Delays, Budget}
+pub use Rattle.st_card.specs.declared.keywords.Number.TheVariants.{Delays}
 pub use Rattle.st_run.specs.TimedRun.{timed_run, event_at, ticks_before, snapshots_from, drops_if_ends, happening_at, snapshot_at, completion, last_snapshot_at, timed_from}
 unfoldable pub use Rattle.st_run.specs.TimedRun.{drops, events_between, until_done, last_events}
 pub use Rattle.st_run.proofs.CourseLemmas.{last-same, timed-none, timed-step, scenes-same}
@@ -65,6 +65,7 @@ pub use Rattle.st_object.proofs.ReadingLemmas.{reading-only, reading-is}
 pub use Rattle.st_top.specs.declared.command.Command.TheVariants.{Run, Assemble, Load, Disassemble, Sweep, Soak}
 pub use Rattle.st_text.specs.Bytes.{lf, line_end}
 pub use Rattle.st_card.specs.Written.{control_line, asked_by, requests}
+pub use Rattle.st_card.specs.declared.keywords.Once.TheVariants.{Budget, Back}
 pub use Rattle.st_card.specs.declared.cards.Card.{Card}
 pub use Rattle.st_asm.specs.declared.naming.Symbol.{Symbol}
 pub use Rattle.st_asm.specs.declared.valuing.Listed.{Listed}

@@ -148,7 +148,7 @@ without-middle xs ds ys none =
 beside-delays : (a : Asked) (ds : List ℕ)
     → filter (λ c. not (is_delay c)) (requests (record a { delays = ds })) ≡ filter (λ c. not (is_delay c)) (requests a)
 beside-delays a ds =
-    let front = asked_by (keywords.Number Budget) a in
+    let front = asked_by (keywords.Once Budget) a in
     let back = flat_map (λ k. asked_by k a) (drop 2 keyword_order) in
     without-middle front (map (λ n. Number Delays n) ds) back (none-left ds)
     ∙ sym (without-middle front (map (λ n. Number Delays n) a.delays) back (none-left a.delays))

@@ -218,13 +218,6 @@ fn step(second: &mut MachineBeside)
     second.noted.steps.forth(&mut second.noted.state);
 }
 
-// Whether the machine waits and no indicator is pending.
-fn is_resting(second: &MachineBeside) -> bool
-    ensures { result ≡ rests second.now.0.machine }
-{
-    is_at_rest(&second.noted.state)
-}
-
 // Runs to the end: at rest, or with the budget used up. `budget` is a number of instructions, at
 // most 10,000,000. At the start no instruction is complete and the machine is ready
 // (`IsBesideAtStart`); at the end it has made the whole run (`HasMadeRun`). The loop has its label
@@ -239,7 +232,7 @@ fn run_to_end(second: &mut MachineBeside, budget: u64)
     let mut left = budget;
     'running: loop {
         pass_interlude(second);
-        if is_resting(second) {
+        if is_at_rest(second.state()) {
             return;
         }
         if left == 0 {

@@ -1,4 +1,4 @@
-use Rattle.st_account.proofs.Common.{min, sym, ◌∙◌, origin_at, at_hand}
+use Rattle.st_account.proofs.Common.{min, ◌+◌, refl, arith, sym, ◌∙◌, origin_at, at_hand}
 use Rattle.st_account.proofs.RoundLemmas.{rows-fail, rows-written}
 use Rattle.st_account.proofs.running.write_ledger_rows.Goals as goal
 
@@ -12,4 +12,4 @@ pub returns : goal.returns
 returns g c =
     rows-written (origin_at c.args.ready.origins) c.args.ready.delays.list c.args.ready.levels (min c.args.most c.args.controls.now.budget) c.args.skipped
     (at_hand c.args.ready.state c.args.controls.now.signals c.args.ready.cards) _ _ _ (c.delays.ensures ∙ sym c.requires.delays) _ _ c.write_run.result
-    c.budget_of.result c.first_row.result c.budget_of.ensures.value c.first_row.ensures c.in_ok-write_machine.ensures c.write_run.ensures.lines
+    c.min.result (c.from-2.result + 1) (rw (c.min.ensures, c.from.ensures, c.budget.ensures) refl) (omega (arith, c.from-2.ensures)) c.in_ok-write_machine.ensures c.write_run.ensures.lines

@@ -1,4 +1,4 @@
-use Rattle.st_asm.proofs.Common.{◌∙◌, ap, sym, subst, IsTrue, in_storage, placing_of, length_in}
+use Rattle.st_asm.proofs.Common.{◌∙◌, ap, sym, subst, IsTrue, in_storage, placing_of, length_in, rules}
 use Rattle.st_asm.proofs.FaultLemmas.{faultless, first-below, second-below, emitted-in_storage}
 use Rattle.st_asm.proofs.valuing.emit.Goals as goal
 
@@ -22,6 +22,7 @@ put_bits-requires-clause-inside c =
     subst (λ n. IsTrue (in_storage c.unwrap_or.result n)) (sym size)
     (subst (λ p. IsTrue (in_storage p (length_in (placing_of c.args.s.now)))) (sym c.unwrap_or.ensures) emitted)
 
-pub start_behind-layout-requires : goal.start_behind-layout-requires
-start_behind-layout-requires c =
-    let f = faultless c.args.s.now c.args.v _ c.requires.good in first-below c.args.s.now c.args.v f.0 f.1
+pub half_word-layout-requires : goal.half_word-layout-requires
+half_word-layout-requires c =
+    let f = faultless c.args.s.now c.args.v _ c.requires.good in
+    search (rules, first-below c.args.s.now c.args.v f.0 f.1)

@@ -1,4 +1,4 @@
-use Rattle.st_plain.proofs.Common.{ap, ◌∙◌, Needs, side_at, Known}
+use Rattle.st_plain.proofs.Common.{ap, Needs, side_at, Known}
 use Rattle.st_plain.proofs.known.known_if.Goals as goal
 
 pub returns-then-wanted-clause-side : goal.returns-then-wanted-clause-side

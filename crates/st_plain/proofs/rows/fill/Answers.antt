@@ -1,4 +1,3 @@
-use Rattle.st_plain.proofs.Common.{◌∙◌, sym, ap, arith, WordRuns}
 use Rattle.st_plain.proofs.RowLemmas.{noted-asked}
 use Rattle.st_plain.proofs.UseLemmas.{put-prepared}
 use Rattle.st_plain.proofs.rows.fill.Goals as goal

@@ -1,4 +1,4 @@
-use Rattle.st_plain.proofs.Common.{◌∙◌, ap, arith, row_of_entry, issue_after_entry, Entry, delays-are, tight-after}
+use Rattle.st_plain.proofs.Common.{ap, arith, issue_after_entry, delays-are, tight-after}
 use Rattle.st_rows.proofs.Stages.{c-within}
 use Rattle.st_next.specs.declared.fetch_unit.FetchUnit.{FetchUnit}
 use Rattle.st_plain.proofs.RowLemmas.{after-passed}

@@ -1,4 +1,4 @@
-use Rattle.st_rows.proofs.Common.{◌∙◌, sym, arith}
+use Rattle.st_rows.proofs.Common.{◌∙◌, arith}
 use Rattle.st_rows.proofs.Telling.{registers-turn, registers-end}
 use Rattle.st_rows.proofs.issue.notify.Goals as goal
 

@@ -40,7 +40,7 @@ overflow_sub-run-2 g c =
     let is = ahead-is run.left run.tick run.snaps.now run.queue run.driven c.requires.run c.requires.waits c.requires.snaps in
     let far = far-row c.count_of-count.result run.left run.tick run.driven c.run_many.new.driven is
     (omega (arith, c.count_of-count.ensures.left, c.requires.done))
-    c.count_of-count.ensures.signal c.in-Some.row c.in-Some.ensures.made in
+    c.count_of-count.ensures.signal c.in-Some.halt.row c.in-Some.ensures.made in
     omega (arith, far.more, c.requires.done)
 
 pub overflow_sub-run-3 : goal.overflow_sub-run-3
@@ -49,7 +49,7 @@ overflow_sub-run-3 g c =
     let is = ahead-is run.left run.tick run.snaps.now run.queue run.driven c.requires.run c.requires.waits c.requires.snaps in
     let far = far-row c.count_of-count.result run.left run.tick run.driven c.run_many.new.driven is
     (omega (arith, c.count_of-count.ensures.left, c.requires.done))
-    c.count_of-count.ensures.signal c.in-Some.row c.in-Some.ensures.made in
+    c.count_of-count.ensures.signal c.in-Some.halt.row c.in-Some.ensures.made in
     omega (arith, far.more, far.number, c.requires.done)
 
 pub leave_entry-requires : goal.leave_entry-requires
@@ -58,13 +58,13 @@ leave_entry-requires g c =
     let is = ahead-is run.left run.tick run.snaps.now run.queue run.driven c.requires.run c.requires.waits c.requires.snaps in
     let far = far-row c.count_of-count.result run.left run.tick run.driven c.run_many.new.driven is
     (omega (arith, c.count_of-count.ensures.left, c.requires.done))
-    c.count_of-count.ensures.signal c.in-Some.row c.in-Some.ensures.made in
-    let left : far.left_now ≡ run.left - (c.in-Some.row.number - 1 - c.args.done) =
+    c.count_of-count.ensures.signal c.in-Some.halt.row c.in-Some.ensures.made in
+    let left : far.left_now ≡ run.left - (c.in-Some.halt.row.number - 1 - c.args.done) =
     omega (arith, far.more, far.number, c.requires.done) in (
       omega arith,
       (
-        far-left c.count_of-count.result run.left run.tick run.snaps.now run.driven c.run_many.new.driven c.in-Some.row far _ left c.requires.snaps,
-        (c.requires.turn, c.requires.waits),
+        far-left c.count_of-count.result run.left run.tick run.snaps.now run.driven c.run_many.new.driven c.in-Some.halt.row far _ left c.requires.snaps,
+        (c.in-Some.ensures.quiet, (far.counted, (c.requires.turn, c.requires.waits))),
       ),
     )
 
@@ -74,10 +74,10 @@ returns-clause-told g c =
     let is = ahead-is run.left run.tick run.snaps.now run.queue run.driven c.requires.run c.requires.waits c.requires.snaps in
     let far = far-row c.count_of-count.result run.left run.tick run.driven c.run_many.new.driven is
     (omega (arith, c.count_of-count.ensures.left, c.requires.done))
-    c.count_of-count.ensures.signal c.in-Some.row c.in-Some.ensures.made in
-    let left : far.left_now ≡ run.left - (c.in-Some.row.number - 1 - c.args.done) =
+    c.count_of-count.ensures.signal c.in-Some.halt.row c.in-Some.ensures.made in
+    let left : far.left_now ≡ run.left - (c.in-Some.halt.row.number - 1 - c.args.done) =
     omega (arith, far.more, far.number, c.requires.done) in
     let after = c.leave_entry.new.run in
     let rest = rest_of after.turn after.left after.tick after.snaps.now after.queue after.driven in
-    far-told c.count_of-count.result run.left run.tick run.snaps.now run.driven c.run_many.new.driven c.in-Some.row far _ left c.requires.snaps
+    far-told c.count_of-count.result run.left run.tick run.snaps.now run.driven c.run_many.new.driven c.in-Some.halt.row far _ left c.requires.snaps
     c.args.done c.args.most rest c.args.rows.now c.run_many.new.rows c.requires.done c.count_of-count.ensures.most c.leave_entry.ensures.told c.in-Some.ensures.rows

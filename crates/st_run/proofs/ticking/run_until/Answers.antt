@@ -6,11 +6,11 @@ use Rattle.st_run.proofs.ticking.run_until.Goals as goal
 pub returns-clause-made : goal.returns-clause-made
 returns-clause-made g c =
     made-until c.args.driven.now c.driven.inside.machine c.run_to.new.self _ _ c.driven.view_is c.requires.before c.requires.in_time c.args.snap
-    c.requires.snap c.last_of.result c.last_of.ensures c.run_to.result c.run_to.ensures.runs
+    c.requires.snap c.last_of.result c.last_of.ensures _ c.run_to.ensures.runs
 
 pub returns-clause-led : goal.returns-clause-led
 returns-clause-led g c = subst {A = Together} (λ t. IsLedOn t.machine c.run_to.new.self) c.driven.view_is (λ start led.
-    run-led 0 c.last_of.result c.run_to.result c.driven.inside.machine c.run_to.new.self
+    run-led 0 c.last_of.result _ c.driven.inside.machine c.run_to.new.self
     (subst (λ (t : Together). t.machine.phase ≡ Ready) (sym c.driven.view_is) (ap {A = Overlap} (λ o. o.phase) c.requires.before.ready.between))
     (subst (λ (t : Together). t.machine.state.done < 2 ^ 63) (sym c.driven.view_is) c.requires.few) (omega arith)
     (last-soon c.args.snap c.last_of.result c.last_of.ensures) c.run_to.ensures.runs led)

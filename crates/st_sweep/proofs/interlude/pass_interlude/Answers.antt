@@ -1,4 +1,4 @@
-use Rattle.st_sweep.proofs.Common.{ℕ, List, sym, ◌∙◌, ap, ◌||◌, not, PendingEvents}
+use Rattle.st_sweep.proofs.Common.{ℕ, List, ◌∙◌, ap, PendingEvents, rules}
 use Rattle.st_sweep.proofs.Stages.{settled-scene, settled-quiet}
 use Rattle.st_sweep.proofs.interlude.pass_interlude.Goals as goal
 
@@ -11,6 +11,7 @@ returns-clause-came c =
 pub returns-clause-quiet : goal.returns-clause-quiet
 returns-clause-quiet c =
     let pending : List (List ℕ) → PendingEvents = λ cards. record { signals = c.args.signals.now; cards = cards } in
-    c.is_kept.ensures ∙ ap (λ b. b || not c.between-came.result.waited) c.is_at_rest.ensures
-    ∙ sym (settled-quiet _ _ _ _ _ _ (c.new-pending.ensures ∙ ap pending c.empty.ensures) c.between-came.ensures.scene
-    c.between-came.ensures.fewer c.parts.ensures.signals _ c.between-came.ensures.wait)
+    let wanted =
+    settled-quiet _ _ _ _ _ _ (c.new-pending.ensures ∙ ap pending c.empty.ensures) c.between-came.ensures.scene
+    c.between-came.ensures.fewer c.parts.ensures.signals _ c.between-came.ensures.wait in
+    search (rules, wanted)

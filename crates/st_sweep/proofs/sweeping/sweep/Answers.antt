@@ -1,5 +1,9 @@
+use Rattle.st_sweep.proofs.Common.{rules}
 use Rattle.st_sweep.proofs.Falling.{levels-of}
 use Rattle.st_sweep.proofs.sweeping.sweep.Goals as goal
 
+pub returns-clause-value : goal.returns-clause-value
+returns-clause-value c = search rules
+
 pub returns-clause-levels : goal.returns-clause-levels
-returns-clause-levels c = levels-of _ _ _ c.run_all.result c.requires.some_delays c.run_all.ensures
+returns-clause-levels c = levels-of _ _ _ _ c.requires.some_delays (returns-clause-value c)

@@ -1,4 +1,4 @@
-use Rattle.st_telling.proofs.Common.{refl, sym, subst, Ok, Err, WritesLines, reported_answer, lines_at, Moment}
+use Rattle.st_telling.proofs.Common.{refl}
 use Rattle.st_telling.proofs.Runs.{told_begins, told_skips, none_skips, told_more, told_stops, told_all, row_more, row_stops}
 use Rattle.st_telling.proofs.telling.write_rest.Goals as goal
 
@@ -22,22 +22,16 @@ telling-preserved g c =
     let run = c.next_told.new.run in
     let begun = told_skips _ _ c.args.controls.now _ _ _ _ _ _ (none_skips c.args.controls.now _ _ _ c.in_default.ensures) c.telling.invariant in
     let told = c.in-Some-next_told.told in
-    let lines = subst {A = Moment} (λ m. WritesLines (g.K.Sink.output c.telling.out) (g.K.Sink.output c.write_told.new.out)
-    (lines_at c.args.controls.now m.done m.tick (reported_answer told.tick run.seen run.ahead run.text told.event))
-    (Ok c.in_ok-write_told.field-0)) (sym c.moment_of.ensures) c.in_ok-write_told.ensures in
-    told_more _ _ _ c.args.controls.now _ _ _ _ _ _ _ _ refl c.moment_of.ensures
-    (told_skips _ _ c.args.controls.now _ _ _ _ _ _ c.in-Some-next_told.ensures begun) lines
+    told_more _ _ _ c.args.controls.now _ _ _ _ _ _ _ _ refl refl
+    (told_skips _ _ c.args.controls.now _ _ _ _ _ _ c.in-Some-next_told.ensures begun) c.in_ok-write_told.ensures
 
 pub returns-in_err-write_told : goal.returns-in_err-write_told
 returns-in_err-write_told g c =
     let run = c.next_told.new.run in
     let begun = told_skips _ _ c.args.controls.now _ _ _ _ _ _ (none_skips c.args.controls.now _ _ _ c.in_default.ensures) c.telling.invariant in
     let told = c.in-Some-next_told.told in
-    let lines = subst {A = Moment} (λ m. WritesLines (g.K.Sink.output c.telling.out) (g.K.Sink.output c.write_told.new.out)
-    (lines_at c.args.controls.now m.done m.tick (reported_answer told.tick run.seen run.ahead run.text told.event))
-    (Err c.in_err-write_told.field-0.0)) (sym c.moment_of.ensures) c.in_err-write_told.ensures in
-    told_stops _ _ _ c.args.controls.now _ _ _ _ _ _ _ _ _ c.from_residual-in_err-write_told.ensures.0 refl c.moment_of.ensures
-    (told_skips _ _ c.args.controls.now _ _ _ _ _ _ c.in-Some-next_told.ensures begun) lines
+    told_stops _ _ _ c.args.controls.now _ _ _ _ _ _ _ _ _ c.from_residual-in_err-write_told.ensures.0 refl refl
+    (told_skips _ _ c.args.controls.now _ _ _ _ _ _ c.in-Some-next_told.ensures begun) c.in_err-write_told.ensures
 
 pub returns-in_default-next_told : goal.returns-in_default-next_told
 returns-in_default-next_told g c =

@@ -1,4 +1,4 @@
-use Rattle.st_top.proofs.Common.{sym, ◌∙◌, arith}
+use Rattle.st_top.proofs.Common.{ap, sym, ◌∙◌, arith, rests}
 use Rattle.st_top.proofs.Rewinds.{states_begin, states_rest, states_used, states_next, states_few, states_count}
 use Rattle.st_top.proofs.beside.run_to_end.Goals as goal
 
@@ -14,10 +14,10 @@ step-requires-clause-few c =
     let few = states_few c.running.left c.args.budget c.running.second c.pass_interlude.new.second c.pass_interlude.ensures c.running.invariant.counted in
     omega (arith, few, c.requires.limit)
 
-pub returns-then-is_resting-clause-end : goal.returns-then-is_resting-clause-end
-returns-then-is_resting-clause-end c = λ depth h.
+pub returns-then-is_at_rest-clause-end : goal.returns-then-is_at_rest-clause-end
+returns-then-is_at_rest-clause-end c = λ depth h.
     states_rest depth c.args.budget c.args.second.now.0 c.running.left c.running.second c.pass_interlude.new.second
-    c.pass_interlude.ensures (sym c.is_resting.ensures ∙ c.if-is_resting.true) (c.running.invariant.states depth h)
+    c.pass_interlude.ensures (ap rests (sym c.state.ensures) ∙ sym c.is_at_rest.ensures ∙ c.if-is_at_rest.true) (c.running.invariant.states depth h)
 
 pub returns-then-left-eq0-clause-end : goal.returns-then-left-eq0-clause-end
 returns-then-left-eq0-clause-end c = λ depth h.
@@ -26,7 +26,7 @@ returns-then-left-eq0-clause-end c = λ depth h.
 
 pub running-preserved : goal.running-preserved
 running-preserved c =
-    let going = sym c.is_resting.ensures ∙ c.if-is_resting.false in
+    let going = ap rests (sym c.state.ensures) ∙ sym c.is_at_rest.ensures ∙ c.if-is_at_rest.false in
     let made = c.step.ensures going in
     record {
       counted = states_count c.running.left c.args.budget c.running.second c.pass_interlude.new.second

@@ -1,4 +1,4 @@
-use Rattle.st_top.proofs.Common.{refl, scene_at_start}
+use Rattle.st_top.proofs.Common.{Budget, ◌≤◌, rules, arith, refl, scene_at_start}
 use Rattle.st_top.proofs.Starts.{scene_is, rest_is, is_scene}
 use Rattle.st_top.proofs.execution.prepare.Goals as goal
 
@@ -12,3 +12,8 @@ pub returns-clause-scene : goal.returns-clause-scene
 returns-clause-scene c =
     is_scene c.args.image.now c.args.start c.args.controls.now c.args.job.now.text.now _ _ c.in_ok-state.ensures.value c.in_ok-state.ensures.machine
     c.in_ok-hopper.ensures.value c.in_ok-hopper.ensures.shape
+
+pub new-run-requires : goal.new-run-requires
+new-run-requires c =
+    let few : c.args.controls.now.budget ≤ 10000000 = c.requires.limits.once Budget in
+    search (rules, arith, few)

@@ -1,4 +1,4 @@
-use Rattle.st_top.proofs.Common.{arith}
+use Rattle.st_top.proofs.Common.{Budget, arith}
 use Rattle.st_top.proofs.Sweeps.{delays_last, swept_is, sweeps_scene}
 use Rattle.st_top.proofs.sweeping.sweep_image.Goals as goal
 
@@ -13,3 +13,6 @@ pub returns-clause-scene : goal.returns-clause-scene
 returns-clause-scene c =
     sweeps_scene c.args.image.now c.args.start c.args.controls.now c.requires.image.size c.requires.image.registers
     (λ w. omega (arith, c.type_inv.image w)) c.requires.counter
+
+pub sweep-requires-clause-few_done : goal.sweep-requires-clause-few_done
+sweep-requires-clause-few_done c = rw c.budget.ensures (c.requires.limits.once Budget)

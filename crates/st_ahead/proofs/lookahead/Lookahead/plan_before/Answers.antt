@@ -46,7 +46,7 @@ plan_before-requires-clause-issue g c =
     let view : LookaheadView = record { levels = c.self.inside.levels; issue = c.self.inside.issue; log = c.self.inside.log; next = c.self.inside.next } in
     let is = subst (λ (w : LookaheadView). IsGoing ds n tick tick t s f w) (sym c.self.view_is) c.requires.going.goes.going in
     going-issue ds n tick tick t s f view is c.requires.few c.index.ensures.few
-    (omega (arith, c.requires.going.soon, c.requires.early))
+    (omega (arith, c.requires.going.soon))
 
 pub returns-clause-going : goal.returns-clause-going
 returns-clause-going g c = λ t f tick given.

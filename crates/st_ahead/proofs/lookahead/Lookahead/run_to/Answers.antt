@@ -1,12 +1,13 @@
-use Rattle.st_ahead.proofs.Common.{◌≡◌, ◌+◌, ◌-◌, ◌<◌, ◌≤◌, List, None, refl, sym, subst, ◌∙◌, ap, arith, nat_le, or_parts, Machine, word, LastAnswers, plan, prediction, interrupt, rests, row_of_entry, issue_after_entry, delays-are, entry, prediction-machine, FetchUnit, may_come_from_outside, answers_before, queue_with, Row, steps_are_predictions, entries_count_as_one, after-c}
+use Rattle.st_ahead.proofs.Common.{inl, inr, ◌≡◌, ◌+◌, ◌-◌, ◌<◌, ◌≤◌, List, None, refl, sym, subst, ◌∙◌, ap, arith, nat_le, or_parts, Machine, word, LastAnswers, plan, prediction, row_of_entry, issue_after_entry, delays-are, entry, prediction-machine, FetchUnit, answers_before, queue_with, Row, steps_are_predictions, entries_count_as_one, after-c}
 use Rattle.std.proofs.Common.{All}
 use Rattle.st_ahead.proofs.Gone.{oldest-late}
 use Rattle.st_ahead.proofs.Idling.{less-than}
 use Rattle.st_ahead.proofs.LevelTicks.{done-after, done-later}
-use Rattle.st_ahead.proofs.Runs.{noting-starts, noting-on, running-idle, rows-idle, running-ends, banks-between, stopped-comes}
+use Rattle.st_ahead.proofs.Runs.{noting-starts, noting-on, running-idle, rows-idle, running-ends, banks-between, quiet-parts, quiet-after, stopped-comes}
 use Rattle.st_ahead.proofs.Standing.{answers-same}
 use Rattle.st_ahead.proofs.TickCases.{prediction-words}
 use Rattle.st_ahead.proofs.Laws.{lookaheads_are_levels, the_banks_are_left}
+use Rattle.st_ahead.proofs.lookahead.Lookahead.run_to.Goals.{then-not-quiet-via-then-not-quiet, then-not-quiet-via-else-not-quiet+then-count-done_in}
 use Rattle.st_ahead.proofs.lookahead.Lookahead.run_to.Goals as goal
 
 pub entries-init : goal.entries-init
@@ -73,7 +74,8 @@ entries-preserved g c =
     let are = delays-are c.args.delays.now in
     let starts = c.requires.starts in
     let run = (c.entries.invariant.each starts.0 starts.1 starts.2).run in
-    let goes = c.is_stopped.ensures.goes c.if-is_stopped.false in
+    let goes = quiet-parts c.complete-done.new.state c.args.limits.count c.complete-done.result.mispredicted
+    (sym c.is_quiet-quiet.ensures ∙ c.if-not-quiet.false) (omega (arith, c.if-count-done_in.false, c.done_in.ensures)) in
     record {
       each = λ f now start.
           let noting = c.entries.invariant.each f now start in
@@ -105,7 +107,8 @@ entries-smaller g c =
     let at = c.in-Some.ensures.goes k run.issue run.tick (record { tick = run.tick; going = run.going; behind = omega arith; soon = run.soon }) in
     let due = c.in-Some.tick in
     let all = c.complete-done.ensures ds (due - 1) due k run.issue are at.lookahead at.row_is in
-    let goes = c.is_stopped.ensures.goes c.if-is_stopped.false in
+    let goes = quiet-parts c.complete-done.new.state c.args.limits.count c.complete-done.result.mispredicted
+    (sym c.is_quiet-quiet.ensures ∙ c.if-not-quiet.false) (omega (arith, c.if-count-done_in.false, c.done_in.ensures)) in
     let counted : c.complete-done.new.state.done ≡ u.done + 1 = ap (λ (m : Machine). m.done) all.0 ∙ entries_count_as_one (plan u k) u in
     omega (
       arith,
@@ -113,8 +116,8 @@ entries-smaller g c =
       less-than c.args.limits.count c.complete-done.new.state.done (or_parts (nat_le c.args.limits.count c.complete-done.new.state.done) _ goes.0).0,
     )
 
-pub returns-then-is_stopped : goal.returns-then-is_stopped
-returns-then-is_stopped g c = λ f now start.
+pub returns-then-not-quiet : goal.returns-then-not-quiet
+returns-then-not-quiet g c = λ f now start.
     let ds = c.args.delays.now.list in
     let n = g.row.N in
     let k = c.entries.committed.taken in
@@ -132,11 +135,13 @@ returns-then-is_stopped g c = λ f now start.
     let machine = prediction-machine k u at.lookahead.machine at.lookahead.indicator in
     let late : due < (row_of_entry ds n issue (entry None (prediction k u))).c = omega (arith, after-c ds n run.issue e, at.row_is, done-later ds n None (prediction k u) issue machine tt) in
     let waits = done-after ds n (due - 1) due None (prediction k u) issue comp.issue comp.levels.ring comp.levels.plans machine tt all.2.ahead.levels late in
-    let filled = c.fill-then-is_stopped.ensures.filled ds (due - 1) due None (prediction k u) issue are all.2 (omega arith) (omega arith) waits
+    let filled = c.fill-then-not-quiet.ensures.filled ds (due - 1) due None (prediction k u) issue are all.2 (omega arith) (omega arith) waits
     (λ x. ap (λ (m : Machine). word m x) all.0 ∙ prediction-words k u x) in
-    let final = c.fill-then-is_stopped.new.self in
+    let final = c.fill-then-not-quiet.new.self in
     let same : answers_before due final ≡ answers_before due w =
     answers-same due w final (filled.1 ∙ all.3) (ap (λ (x : FetchUnit). x.words) filled.2 ∙ all.4) in
+    let is_quiet =
+    c.is_quiet-quiet.ensures ∙ quiet-after ds n due k u c.complete-done.new.state run.issue c.complete-done.result.mispredicted at.row_is all.0 all.1.mispredicted in
     let left = the_banks_are_left ds n (due - 1) due k u run.issue w c.requires.some c.requires.few are
     (omega (arith, at.later)) c.in-Some.ensures.few at.some at.lookahead at.row_is in (
       record {
@@ -159,9 +164,13 @@ returns-then-is_stopped g c = λ f now start.
         };
         banks = banks-between ds n due k u run.issue w left.0 ∙ sym same;
         near = subst (λ (x : LastAnswers). All (λ b. b ≤ due + 255) x.ticks) (sym same) left.1;
-        stops = stopped-comes ds n c.args.limits.count due k u run.issue at.row_is (λ nothing mispredicted none awake.
-            c.is_stopped.ensures.stops c.if-is_stopped.true (ap (may_come_from_outside c.args.limits.count) all.0 ∙ nothing) (all.1.mispredicted ∙ mispredicted)
-            (ap {A = Machine} interrupt all.0 ∙ none) (ap {A = Machine} rests all.0 ∙ awake));
+        quiet_is = is_quiet;
+        stops =
+            stopped-comes ds n c.args.limits.count due k u c.complete-done.new.state run.issue c.is_quiet-quiet.result at.row_is all.0 is_quiet
+            (elim c.then-not-quiet.branch [
+              | then-not-quiet-via-then-not-quiet w ↦ inl w.if-not-quiet.true
+              | then-not-quiet-via-else-not-quiet+then-count-done_in w ↦ inr (omega (arith, w.if-count-done_in.true, w.done_in.ensures))
+            ]);
       },
       noting.noted ∙ ap {A = List Row} (λ xs. queue_with xs c.args.rows.now)
           (rows-idle ds n c.args.limits.count c.args.limits.last now due c.args.committed.now.taken k c.args.committed.now.state u f c.entries.self run at.later (omega (arith, at.row_is))),

@@ -4,6 +4,8 @@ use Rattle.st_rows.proofs.Noted.{noted-two}
 use Rattle.st_rows.proofs.Telling.{told-two}
 use Rattle.st_rows.proofs.Served.{served-runs}
 use Rattle.st_rows.proofs.Stages.{bus_a-within, p-within, operands_of-within}
+use Rattle.st_rows.proofs.issue.IssueState.fill.Given.{Over}
+use Rattle.st_rows.proofs.issue.IssueState.fill.Goals.{After-read_operands-fills}
 use Rattle.st_rows.proofs.issue.IssueState.fill.Goals as goal
 
 -- the reads from preparation on are those of the operands
@@ -23,6 +25,10 @@ all-noted ds n f e b d p log one two bus then_bus tick one_is two_is =
     ∙ rw (then_bus, tick) (noted-two ds (runs_asked f.past e.reads (tick_p ds n f e)) (following_asked ds (operands ds n f e).bus e (tick_p ds n f e)) (bus_a ds f e)
     (operands ds n f e).bus log one (sym (served-runs ds n f e)) noted_one))
 
+all : (g : Over) (c : After-read_operands-fills g)
+    → c.read_operands-fills.new.operands ≡ operands c.args.next.now.timing.now.delays.now.list c.args.next.now.timing.now.levels c.args.self.now c.args.next.now.entry.now
+all g c = all-read _ _ _ _ _ _ _ c.read_operands-fills.ensures.value c.requires.bus c.requires.tick
+
 pub read_operands-fills-requires-clause-room : goal.read_operands-fills-requires-clause-room
 read_operands-fills-requires-clause-room g c =
     let f = c.args.self.now in
@@ -39,8 +45,7 @@ read_operands-fills-requires-clause-early g c =
 
 pub overflow_add-c : goal.overflow_add-c
 overflow_add-c g c =
-    let reads = all-read c.args.next.now.timing.now.delays.now.list c.args.next.now.timing.now.levels c.args.self.now c.args.next.now.entry.now c.read_operands-fills.new.operands
-    c.args.words.now.bus c.args.next.now.formed.p c.read_operands-fills.ensures.value c.requires.bus c.requires.tick in
+    let reads = all g (goal.at.overflow_add-c g c).After-read_operands-fills in
     let are = delays-are c.args.next.now.timing.now.delays.now in
     let read : IsReadingWithin (c.args.self.now.c + 40 * 255 + 41) c.read_operands-fills.new.operands =
     subst (λ (s : Fetching). IsReadingWithin (c.args.self.now.c + 40 * 255 + 41) s) (sym reads)
@@ -49,8 +54,7 @@ overflow_add-c g c =
 
 pub follow-requires-clause-room : goal.follow-requires-clause-room
 follow-requires-clause-room g c =
-    let reads = all-read c.args.next.now.timing.now.delays.now.list c.args.next.now.timing.now.levels c.args.self.now c.args.next.now.entry.now c.read_operands-fills.new.operands
-    c.args.words.now.bus c.args.next.now.formed.p c.read_operands-fills.ensures.value c.requires.bus c.requires.tick in
+    let reads = all g (goal.at.follow-requires-clause-room g c).After-read_operands-fills in
     let f = c.args.self.now in
     let are = delays-are c.args.next.now.timing.now.delays.now in
     rw (ap (λ (s : Fetching). s.bus) reads)
@@ -66,21 +70,18 @@ follow-requires-clause-early g c =
 pub returns-clause-value : goal.returns-clause-value
 unfolding row_of_entry operands tick_c operands_read read_words
 returns-clause-value g c =
-    let reads = all-read c.args.next.now.timing.now.delays.now.list c.args.next.now.timing.now.levels c.args.self.now c.args.next.now.entry.now c.read_operands-fills.new.operands
-    c.args.words.now.bus c.args.next.now.formed.p c.read_operands-fills.ensures.value c.requires.bus c.requires.tick in
+    let reads = all g (goal.at.returns-clause-value g c).After-read_operands-fills in
     rw (c.max.ensures, c.from.ensures, ap (λ (s : Fetching). s.answered) reads, c.requires.tick, c.requires.address) refl
 
 pub returns-clause-bus : goal.returns-clause-bus
 unfolding issue_after_entry bus_after_prefetch
 returns-clause-bus g c =
-    let reads = all-read c.args.next.now.timing.now.delays.now.list c.args.next.now.timing.now.levels c.args.self.now c.args.next.now.entry.now c.read_operands-fills.new.operands
-    c.args.words.now.bus c.args.next.now.formed.p c.read_operands-fills.ensures.value c.requires.bus c.requires.tick in
+    let reads = all g (goal.at.returns-clause-bus g c).After-read_operands-fills in
     rw (c.follow.ensures.after, ap (λ (s : Fetching). s.bus) reads, c.requires.tick) refl
 
 pub returns-clause-log : goal.returns-clause-log
 returns-clause-log g c =
-    let reads = all-read c.args.next.now.timing.now.delays.now.list c.args.next.now.timing.now.levels c.args.self.now c.args.next.now.entry.now c.read_operands-fills.new.operands
-    c.args.words.now.bus c.args.next.now.formed.p c.read_operands-fills.ensures.value c.requires.bus c.requires.tick in
+    let reads = all g (goal.at.returns-clause-log g c).After-read_operands-fills in
     all-noted c.args.next.now.timing.now.delays.now.list c.args.next.now.timing.now.levels c.args.self.now c.args.next.now.entry.now c.args.words.now.bus c.read_operands-fills.new.operands.bus c.args.next.now.formed.p
     c.args.log.now c.read_operands-fills.new.log c.follow.new.log c.requires.bus (ap (λ (s : Fetching). s.bus) reads) c.requires.tick c.read_operands-fills.ensures.log
     c.follow.ensures.log
@@ -88,8 +89,7 @@ returns-clause-log g c =
 pub returns-clause-told : goal.returns-clause-told
 unfolding read_words
 returns-clause-told g c =
-    let reads = all-read c.args.next.now.timing.now.delays.now.list c.args.next.now.timing.now.levels c.args.self.now c.args.next.now.entry.now c.read_operands-fills.new.operands
-    c.args.words.now.bus c.args.next.now.formed.p c.read_operands-fills.ensures.value c.requires.bus c.requires.tick in
+    let reads = all g (goal.at.returns-clause-told g c).After-read_operands-fills in
     let ds = c.args.next.now.timing.now.delays.now.list in
     let n = c.args.next.now.timing.now.levels in
     let f = c.args.self.now in

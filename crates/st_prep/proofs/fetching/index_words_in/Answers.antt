@@ -1,6 +1,7 @@
-use Rattle.st_plain.proofs.Common.{MatchResult, ◌≢◌, List, ℕ, length, take, drop, Bor, subst, ap, ◌∙◌, index_words}
+use Rattle.st_prep.proofs.Common.{◌≢◌, List, ℕ, length, take, drop, subst, ap, ◌∙◌, index_words, MatchResult}
+use Rattle.std.specs.Borrow.{Bor}
 use Rattle.std.specs.Array.{IsWholeChunk}
-use Rattle.st_plain.proofs.rows.index_words_in.Goals as goal
+use Rattle.st_prep.proofs.fetching.index_words_in.Goals as goal
 
 pub returns : goal.returns
 unfolding index_words
