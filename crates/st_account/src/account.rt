@@ -290,7 +290,6 @@ impl Account {
 
     /// Passes from the last entry to the next one as `write_to_next` does, and writes nothing.
     /// Returns the border between the two.
-    #[inline(never)]
     pub fn skip_to_next(&mut self) -> Border
         requires behind { (p : Position) × CanPass p self.old }
         requires size { length self.old.words.items ≡ words_of_storage }

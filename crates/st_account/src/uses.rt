@@ -49,7 +49,6 @@ impl UsesInTurn {
     }
 
     /// The words of the last entry.
-    #[inline(always)]
     pub fn as_slice(&self) -> &[Use]
         ensures value { result.now ≡ self.now.items }
         ensures fits { length result.now ≤ 48 }
@@ -62,7 +61,6 @@ impl UsesInTurn {
     }
 
     /// The words of the entry before it.
-    #[inline(always)]
     pub fn before(&self) -> &[Use]
         ensures value { result.now ≡ self.now.before }
         ensures fits { length result.now ≤ 48 }

@@ -55,7 +55,6 @@ impl<const N: usize> Lookahead<N> {
     }
 
     // The tick at which the oldest level completes, 2^64 - 1 if there is none.
-    #[inline(always)]
     fn due(&self) -> u64
         ensures tick { result ≡ due_of self.now.levels.plans }
         ensures few { count self.now ≤ N }
@@ -65,7 +64,6 @@ impl<const N: usize> Lookahead<N> {
 
     // Whether the next entry is planned, with P before the tick `due` and not after the tick
     // `last`.
-    #[inline(always)]
     fn is_next_before(&self, due: u64, last: u64) -> bool
         ensures yes { result ≡ true → (self.now.next.planned ≡ true)
             × (self.now.next.formed.p < due) × (self.now.next.formed.p ≤ last) }
@@ -78,7 +76,6 @@ impl<const N: usize> Lookahead<N> {
     }
 
     // P of the next entry, if it is planned.
-    #[inline(always)]
     fn next_prepared(&self) -> u64
         ensures { result ≡ self.now.next.formed.p }
     {
@@ -150,7 +147,6 @@ impl<const N: usize> Lookahead<N> {
 }
 
 // The tick `due`, if it is not after `last`.
-#[inline(always)]
 fn stop_at(due: u64, last: u64) -> Option<u64>
     ensures { result ≡ (if nat_le due last then Some due else None) }
 {

@@ -61,7 +61,6 @@ impl<const N: usize> Lookahead<N> {
     /// an order is due, or the decision is not to continue. Returns this completion. The rows of
     /// earlier completions are queued, if there is room. Fewer than 2^63 instructions are completed
     /// before.
-    #[inline(never)]
     pub fn run_to(
         &mut self,
         limits: Limits,
@@ -102,7 +101,6 @@ impl<const N: usize> Lookahead<N> {
 }
 
 // The row of an entry that completed at the tick.
-#[inline(always)]
 fn row_of(done: &Completed, tick: u64, state: &State) -> Row
     ensures { result ≡ record {
       number = state.now.done;
@@ -122,7 +120,6 @@ fn row_of(done: &Completed, tick: u64, state: &State) -> Row
 }
 
 // Whether, after a completion, no order is due and the decision is to continue.
-#[inline(always)]
 fn is_quiet(done: &Completed, state: &State) -> bool
     ensures { result ≡ not (order_is_due state.now || is_some done.now.mispredicted
         || is_some (interrupt_of state.now) || rests state.now) }

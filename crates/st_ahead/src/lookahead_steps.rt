@@ -44,7 +44,6 @@ impl<const N: usize> Lookahead<N> {
     }
 
     // The general case of `go_on`.
-    #[inline(never)]
     fn go_further(&mut self, now: u64, state: &State, delays: &Delays)
         requires some { 1 ≤ N }
         requires few { N ≤ 8 }

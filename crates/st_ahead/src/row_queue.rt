@@ -76,7 +76,6 @@ impl RowQueue {
     }
 
     /// Whether the queue is empty.
-    #[inline(always)]
     pub fn is_empty(&self) -> bool
         ensures { result ≡ (length self.now.rows == 0) }
     {
@@ -84,7 +83,6 @@ impl RowQueue {
     }
 
     /// Appends a row, if there is room; otherwise the row is dropped.
-    #[inline(always)]
     pub fn put(&mut self, row: Row)
         ensures { self.new ≡ queue_with (row ∷ []) self.old }
     {
@@ -96,7 +94,6 @@ impl RowQueue {
     }
 
     /// Removes and returns the first row, if there is one.
-    #[inline(always)]
     pub fn next(&mut self) -> Option<Row>
         ensures rows { MatchOption result (self.old.rows ≡ [])
             (λ row. self.old.rows ≡ row ∷ self.new.rows) }

@@ -108,7 +108,7 @@ impl Back {
         ensures { IsPut self.old self.new state.old state.new w word }
     {
         let Some(kept) = self.ring.pop_back() else {
-            return;
+            unreachable!()
         };
         self.ring.push_back(noted(kept, w, state.word(w)));
         state.store(w, word);

@@ -70,7 +70,6 @@ impl LastAnswers {
 }
 
 /// The bank of the word `w`.
-#[inline(always)]
 #[tactic(auto, unfolding(crate::specs::Bank::bank_of))]
 pub fn bank_of(w: u32) -> usize
     ensures value { result ≡ bank_by w }

@@ -101,7 +101,6 @@ fn finish(p: &Prepared, operands: &[u64; 2], state: &mut State)
 
 /// Completes a prepared entry, given its first two operands: applies its speculative change, then
 /// its effect, then updates the program counter.
-#[inline(never)]
 pub fn complete_with(p: &Prepared, operands: &[u64; 2], state: &mut State)
     requires prepared { IsPrepared p.now }
     requires operands { AreFirstOperands p.now.reads operands.now state.old }
@@ -133,7 +132,6 @@ pub fn complete(p: &Prepared, operands: &[u64; 32], state: &mut State) -> Words
 }
 
 /// Completes a prepared entry with its operands from the state.
-#[inline(always)]
 pub fn complete_in(p: &Prepared, state: &mut State)
     requires prepared { IsPrepared p.now }
     requires few { state.old.done < 2 ^ 63 }

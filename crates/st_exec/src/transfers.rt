@@ -49,7 +49,9 @@ pub fn read_in(state: &mut State, card: Option<[u64; 8]>)
         (λ order. state.new ≡ read_in_of state.old order.word card) }
     ensures after { IsMachine state.new }
 {
-    let Some(order) = state.reader else { return };
+    let Some(order) = state.reader else {
+        unreachable!()
+    };
     state.reader = None;
     let Some(card) = card else {
         state.signal(END_EXCEPTION);
@@ -70,7 +72,7 @@ pub fn print_out(state: &mut State) -> [u64; 8]
     ensures after { IsMachine state.new }
 {
     let Some(order) = state.printer else {
-        return [0; 8]
+        unreachable!()
     };
     let words = words_at(order.word, state);
     state.printer = None;

@@ -75,7 +75,6 @@ pub fn format_of(first: u32, second: u32) -> Format
 }
 
 // The format of a half-word instruction.
-#[inline(always)]
 fn half_format(first: u32) -> Format
     ensures { (second : ℕ) → spelled_as result first second ≡ half_word first }
 {

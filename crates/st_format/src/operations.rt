@@ -44,7 +44,6 @@ pub enum FullOp {
 }
 
 /// The half-word operation with this number, outside the floating group and the branch group.
-#[inline(always)]
 pub fn half_op(number: u8) -> Option<HalfOp>
     requires { number < 32 }
     ensures { result ≡ half_op_of number }

@@ -80,7 +80,6 @@ fn has_misfit(op: FullOp, second: u32) -> bool
 /// Whether a field has a wrong size: a decimal field needs bytes of at least four bits and a whole
 /// number of bytes; a signed field needs room for its sign byte. The length is 1 to 64 bits, the
 /// byte 1 to 8.
-#[inline(always)]
 pub fn misfits_field(decimal: bool, unsigned: bool, length: u8, byte: u8) -> bool
     ensures { result ≡ misfits decimal unsigned length byte }
 {

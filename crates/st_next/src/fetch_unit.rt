@@ -189,7 +189,6 @@ impl FetchUnit {
     }
 
     // Like `given`, for any number of words.
-    #[inline(never)]
     fn given_more(&self, x: &[u64; 16], state: &State) -> Given
         requires place { IsPlace self.now.place }
         requires words { IsEntryInTime (words_alone self.now.entry.own self.now.entry.target) }
@@ -240,7 +239,6 @@ impl FetchUnit {
     }
 
     // Requests a word of the target of EX, which awaits the completion of the previous entry.
-    #[inline(never)]
     fn ask_target<W: Watch>(
         &mut self,
         w: u32,
@@ -279,7 +277,6 @@ impl FetchUnit {
 
     // Whether the entry awaits a completion at the tick `due` or later, to the extent that the words
     // so far show it: that of a writer of one of them, or of a serializing previous entry.
-    #[inline(always)]
     fn is_waiting(&self, issue: &IssueState, due: u64) -> bool
         ensures yes { result ≡ true →
             due ≤ max self.now.words.awaited (if issue.now.serial then issue.now.c else 0) }
@@ -448,9 +445,8 @@ impl FetchUnit {
         }
     }
 
-    // Prepares the entry without its index-side word, from any number of words requested so far. It
-    // is not inlined, and functions with no other caller are inlined in it.
-    #[inline(never)]
+    // Prepares the entry without its index-side word, from any number of words requested so far.
+    // Functions with no other caller are inlined in it.
     fn prepare_before<W: Watch>(
         &mut self,
         due: u64,
@@ -560,7 +556,6 @@ impl FetchUnit {
     }
 
     // Like `prepare`, for an entry with an index-side word.
-    #[inline(never)]
     fn prepare_with_side(&mut self, x: &[u64; 16], state: &State)
         requires asked { is_some self.old.needs.index_read ≡ true }
         requires planned { self.old.planned ≡ true }
@@ -656,7 +651,6 @@ impl FetchUnit {
     }
 
     // Like `prepare_own`, for an instruction that is not frequent.
-    #[inline(never)]
     fn prepare_cold(&mut self, own: Decoded, x: &[u64; 16], state: &State)
         requires place { IsPlace self.old.place }
         requires fields { HasFields own.instr }
@@ -685,7 +679,6 @@ impl FetchUnit {
 
     // Sets the entry of the timetable to the prepared one; `allowed` says whether its words may be
     // fetched.
-    #[inline(always)]
     fn show(&mut self, allowed: bool)
         requires { allowed ≡ is_none self.old.fetched.value.fault }
         ensures { self.new ≡ record self.old { entry = as_entry self.old } }

@@ -198,7 +198,6 @@ pub fn begin(
 
 // The registers among the operand words of an entry, which come first in each run; `read` has the
 // words of storage among them.
-#[inline(always)]
 fn registers_among(all: &Words, read: &WordRuns) -> WordRuns
     ensures { result ≡ registers_among_of all.now read.now }
 {
@@ -272,7 +271,6 @@ pub fn pass(issue: &mut IssueState, unit: &FetchUnit, row: &EntryTicks)
 }
 
 /// Completes the row of an entry as `fill` does, and advances the issue state as `pass` does.
-#[inline(always)]
 pub fn finish(
     issue: &mut IssueState,
     unit: &mut FetchUnit,

@@ -1,5 +1,5 @@
 -- The progress of a reading given the contents so far, one instruction at a time.
-use Rattle.st_prep.proofs.Common.{◌≡◌, ◌≢◌, ℕ, zero, suc, ◌/◌, ◌≤◌, Bool, true, false, ◌==◌, if◌then◌else◌, List, [], ◌∷◌, length, get_or, drop, Option, None, Some, refl, sym, ◌∙◌, ap, arith, eqb-true, nat_tests, Decoded, decoded_entry, instruction_of, Place, Fetched, Next, Found, FoundInstruction, Has, Reading, Finds, Reads, left_after, fetching_of, given_by, half_of, Continuation, with_second, with_first, read_after, with_target, instruction_at, is_execute, own_use, reading_at_place, fetched_plain, allowed_found}
+use Rattle.st_prep.proofs.Common.{◌≡◌, ◌≢◌, ℕ, zero, suc, ◌+◌, ◌/◌, ◌≤◌, Bool, true, false, ◌==◌, if◌then◌else◌, List, [], ◌∷◌, length, get_or, drop, Option, None, Some, refl, sym, ◌∙◌, ap, arith, eqb-true, nat_tests, Decoded, decoded_entry, instruction_of, Place, Fetched, Next, Found, FoundInstruction, Has, Reading, Finds, Reads, left_after, fetching_of, given_by, forbidden_by, Fetch, half_of, Continuation, with_second, with_first, read_after, with_target, instruction_at, is_execute, own_use, reading_at_place, fetched_plain, allowed_found}
 use Rattle.st_prep.specs.declared.entries.Fetching.{Fetching}
 
 abbrev pub of : Reading → List ℕ → Fetching
@@ -107,6 +107,20 @@ found-short b en h content first k f cs same short found =
     found-first ((decoded_entry (half_of content h) 0).halves == 2) _ _ f cs
     (ap (λ x. (decoded_entry x 0).halves == 2) (sym same) ∙ short)
     (ap (λ x. k (record { decoded = decoded_entry x 0; fault = None })) (sym same) ∙ found)
+
+taken : (two : Bool) (r q : Reading) (cs : List ℕ) → two ≡ true → of (if two then r else q) cs ≡ of r cs
+taken true r q cs h = refl
+taken false r q cs h = cc
+
+-- an instruction of two half-words
+pub found-long : (b : ℕ) (en : Bool) (h content first : ℕ) (k : Continuation) (cs : List ℕ) → first ≡ half_of content h
+    → ((decoded_entry first 0).halves == 2) ≡ true
+    → of (with_first false b en h content k) cs
+    ≡ of (with_second (forbidden_by b en Fetch ((h + 1) / 2)) false first (h + 1) (h / 2) content k) cs
+unfolding with_first
+found-long b en h content first k cs same long =
+    taken _ _ _ cs (ap (λ x. (decoded_entry x 0).halves == 2) (sym same) ∙ long)
+    ∙ ap (λ x. of (with_second (forbidden_by b en Fetch ((h + 1) / 2)) false x (h + 1) (h / 2) content k) cs) (sym same)
 
 -- ---- the target of EX
 

@@ -57,9 +57,9 @@ valid instr h = of_test (is_valid instr) _ h
 
 -- ---- entries that are not serializing
 
-no_table : (t : Option ℕ) → is_some t ≡ false → t ≡ None
-no_table None h = refl
-no_table (Some i) h = cc
+pub none-there : (t : Option ℕ) → is_some t ≡ false → t ≡ None
+none-there None h = refl
+none-there (Some i) h = cc
 
 above_side : (w : Option ℕ) → is_register w ≡ false → IfSome w (λ n. 32 ≤ n)
 above_side None h = tt
@@ -87,7 +87,7 @@ runs a h =
     }
 
 not_table : (place : Place) (f : Fetched) → is_alone place f ≡ false → place.table ≡ None
-not_table place f h = no_table place.table (or-left (is_some place.table) (is_execute f.instr.instr) h)
+not_table place f h = none-there place.table (or-left (is_some place.table) (is_execute f.instr.instr) h)
 
 -- ---- all entries
 

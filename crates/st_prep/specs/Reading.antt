@@ -2,7 +2,7 @@
 -- determine the next word.
 --
 -- Proved: by their `ensures` clauses these calls do what definitions here say: `halves_known`
--- (fetching.rt), `halves_of` (fetching.rt), `part_at` (fetching.rt), `second_known` (fetching.rt),
+-- (fetching.rt), `part_at` (fetching.rt), `second_known` (fetching.rt), `with_first` (fetching.rt),
 -- and others.
 -- Read by: definitions in Fetch, Alike, Checks, Plan, and others.
 -- Laws: InstructionWordsComeOneByOne (specs/Laws.antt), EntriesRead36WordsAtMost (specs/Laws.antt).

@@ -68,7 +68,6 @@ fn forbidden_run(state: &State, access: Access, first: u32, len: u8) -> Option<u
 }
 
 // The indicator that forbids the first word of two runs that may not be accessed.
-#[inline(always)]
 fn forbidden_words(state: &State, access: Access, words: Words) -> Option<u8>
     requires { IsRuns words }
     ensures value { result

@@ -55,7 +55,6 @@ pub enum Part {
 }
 
 /// The sixteen index words of a state, where they stand in storage.
-#[inline(always)]
 pub fn index_words_in(state: &State) -> &[u64; 16]
     ensures { result.now ≡ index_words_of state.now }
 {
@@ -216,7 +215,6 @@ fn with_target(ex: Decoded, target: FoundInstruction) -> Fetched
 }
 
 // The progress of fetching the target of EX, given the contents after those of EX itself.
-#[inline(never)]
 fn fetch_target(own: FoundInstruction, x: &[u64; 16], contents: &[u64], state: &State) -> Fetching
     requires own { IsFoundInRange own }
     requires execute { is_execute_of own.decoded.instr ≡ true }
@@ -233,7 +231,6 @@ fn fetch_target(own: FoundInstruction, x: &[u64; 16], contents: &[u64], state: &
 }
 
 // The progress of fetching an entry, given its own instruction and the contents after it.
-#[inline(always)]
 fn own_or_target(own: FoundInstruction, x: &[u64; 16], contents: &[u64], state: &State) -> Fetching
     requires { IsFoundInRange own }
     ensures value { result ≡ fetching_of (left_after (own_use x.now
@@ -253,7 +250,6 @@ fn own_or_target(own: FoundInstruction, x: &[u64; 16], contents: &[u64], state: 
 
 // The second half-word of the instruction at the half-word address `h`, if it may be fetched and
 // the contents have it.
-#[inline(always)]
 fn second_known(h: u32, contents: &[u64], state: &State) -> Option<u32>
     requires address { h < 2 ^ 19 }
     requires some { 1 ≤ length contents.now }
@@ -276,34 +272,9 @@ fn second_known(h: u32, contents: &[u64], state: &State) -> Option<u32>
     }
 }
 
-// The half-words of the instruction at the half-word address `h`, whose first word may be fetched,
-// as in `halves_known`.
-#[inline(always)]
-fn halves_of(h: u32, contents: &[u64], state: &State) -> Option<(u32, u32)>
-    requires address { h < 2 ^ 19 }
-    requires some { 1 ≤ length contents.now }
-    requires allowed { indicator_of_access state.now Access.Fetch (h / 2)
-        ≡ None }
-    ensures { IfSome result (λ r. (k : Continuation) (f : FetchedOf) →
-        k (allowed_found r.0 r.1) ≡ Finds f → fetching_of
-        (left_after (with_first_of false (word state.now BOUNDS)
-        state.now.enabled h (slice_index contents.now 0) k) (drop 1 contents.now)) ≡ Found f) }
-{
-    let first = half_of(contents[0], h);
-    if length_in_halves(first) == 2 {
-        match second_known(h, contents, state) {
-            Some(second) => Some((first, second)),
-            None => None,
-        }
-    } else {
-        Some((first, 0))
-    }
-}
-
 /// The half-words of the instruction at the half-word address `h`, below 2^19, if its words may be
 /// fetched and the contents, at least one, have all of it. The second half-word is 0 if there is
 /// only one.
-#[inline(always)]
 pub fn halves_known(h: u32, contents: &[u64], state: &State) -> Option<(u32, u32)>
     requires address { h < 2 ^ 19 }
     requires some { 1 ≤ length contents.now }
@@ -312,13 +283,15 @@ pub fn halves_known(h: u32, contents: &[u64], state: &State) -> Option<(u32, u32
         (left_after (instruction_at false (word state.now BOUNDS)
         state.now.enabled h k) contents.now) ≡ Found f) }
 {
-    match state.may(Access::Fetch, h / 2) {
-        Some(_) => None,
-        None => match halves_of(h, contents, state) {
-            Some((first, second)) => Some((first, second)),
-            None => None,
-        },
+    if state.may(Access::Fetch, h / 2).is_some() {
+        return None;
     }
+    let first = half_of(contents[0], h);
+    if length_in_halves(first) != 2 {
+        return Some((first, 0));
+    }
+    let second = second_known(h, contents, state)?;
+    Some((first, second))
 }
 
 /// The progress of fetching an entry at a place, after words with these contents were read for it

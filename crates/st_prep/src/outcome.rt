@@ -68,7 +68,6 @@ fn after_branch(op: BranchOp, counter: u32, e: u32, following: u32) -> u32
 }
 
 /// The counter after an instruction, given the counter before it and the following instruction.
-#[inline(always)]
 pub fn after(instr: &Instr, x: &[u64; 16], e: u32, counter: u32, following: u32) -> u32
     requires shape { HasFields instr.now }
     requires counter { counter < 2 ^ 19 }
@@ -98,7 +97,6 @@ fn stored_part(op: HalfOp, x: u64) -> u64
 }
 
 /// The value that an instruction stores of an index word or of the counter, 0 if it stores none.
-#[inline(always)]
 pub fn value(instr: &Instr, x: &[u64; 16], following: u32) -> u64
     requires { HasFields instr.now }
     ensures { result ≡ value_of instr.now x.now following }
@@ -132,7 +130,6 @@ fn decimal_cost(op: VflOp) -> u8
 }
 
 /// The number of ticks that an instruction takes once its operands have arrived, 1 to 24.
-#[inline(always)]
 pub fn cost(instr: &Instr) -> u8
     ensures { result ≡ cost_of instr.now }
 {

@@ -70,7 +70,6 @@ fn resolved(place: &Place, fetched: &Fetched, x: &[u64; 16], state: &State) -> R
 }
 
 // Whether an entry that is not suppressed is serializing.
-#[inline(always)]
 fn is_serial(resolved: &ResolvedEntry) -> bool
     ensures { result ≡ is_serial_of resolved.now }
 {
@@ -82,7 +81,6 @@ fn is_serial(resolved: &ResolvedEntry) -> bool
 }
 
 // The needs of a resolved entry.
-#[inline(always)]
 fn needs(resolved: &ResolvedEntry) -> Needs
     ensures { result ≡ needs_by resolved.now.fault resolved.now }
 {
@@ -113,7 +111,6 @@ pub fn look(place: &Place, fetched: &Fetched, x: &[u64; 16], state: &State) -> N
 }
 
 // Fills in an entry that is suppressed by the indicator `i`.
-#[inline(never)]
 fn suppress(resolved: &ResolvedEntry, i: u8, p: &mut Prepared)
     requires place { p.old.place.counter < 2 ^ 19 }
     requires indicator { i < 64 }

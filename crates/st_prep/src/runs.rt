@@ -119,7 +119,6 @@ pub fn reads_field(op: VflOp) -> bool
 }
 
 /// The words that an instruction with the effective address `e` reads, in order.
-#[inline(always)]
 pub fn reads(instr: &Instr, e: u32) -> Words
     requires shape { HasFields instr.now }
     requires address { e < 2 ^ 24 }
@@ -141,7 +140,6 @@ pub fn reads(instr: &Instr, e: u32) -> Words
 }
 
 /// The words that an instruction with the effective address `e` writes, in order.
-#[inline(always)]
 pub fn writes(instr: &Instr, e: u32) -> Words
     requires shape { HasFields instr.now }
     requires address { e < 2 ^ 24 }
@@ -168,7 +166,6 @@ pub fn writes(instr: &Instr, e: u32) -> Words
 }
 
 /// Whether a register, a word below 32, is among the words.
-#[inline(always)]
 pub fn has_register(words: Words) -> bool
     ensures { result ≡ has_register_of words }
 {

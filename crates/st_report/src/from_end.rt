@@ -68,7 +68,6 @@ impl LineFromEnd {
     }
 
     /// Puts a piece before the line.
-    #[inline(always)]
     pub fn put(&mut self, piece: &[u8])
         requires { length piece.now + length self.old ≤ 192 }
         ensures { self.new ≡ piece.now ++ self.old }
@@ -89,7 +88,6 @@ impl LineFromEnd {
 
     /// Puts a word before the line. The word is a copy, so no test for aliasing with the line is
     /// needed.
-    #[inline(always)]
     pub fn put_word<const K: usize>(&mut self, word: [u8; K])
         requires { K + length self.old ≤ 192 }
         ensures { self.new ≡ word.entry ++ self.old }
@@ -98,7 +96,6 @@ impl LineFromEnd {
     }
 
     // Puts a piece without its first `before` bytes before the line.
-    #[inline(always)]
     fn put_end(&mut self, piece: [u8; 16], before: usize)
         requires few { before ≤ 16 }
         requires room { length self.old + 16 ≤ 192 }
@@ -127,7 +124,6 @@ impl LineFromEnd {
 
     /// Puts a number in decimal before the line, whose digits except the last two are those of
     /// `kept`; `past` is the number that its last two digits form.
-    #[inline(always)]
     pub fn put_kept(&mut self, n: u64, past: u64, kept: &KeptDigits)
         requires few { past < 100 }
         requires near { (1 ≤ kept.now) × (n ≡ 100 * kept.now + past) }
@@ -141,7 +137,6 @@ impl LineFromEnd {
     }
 
     // Puts a number below 100 before the line, without a leading zero.
-    #[inline(always)]
     fn put_few(&mut self, n: u64)
         requires few { n < 100 }
         requires room { length self.old + 2 ≤ 192 }
@@ -168,7 +163,6 @@ impl LineFromEnd {
     }
 
     // Puts the first bit of a half of a word before the line.
-    #[inline(always)]
     fn put_half(&mut self, half: u32)
         requires few { half < 2 }
         requires room { length self.old + 3 ≤ 192 }
@@ -183,7 +177,6 @@ impl LineFromEnd {
     }
 
     /// Puts a half-word address before the line, as word.bit.
-    #[inline(always)]
     pub fn put_half_address(&mut self, address: u32)
         requires { length self.old + 23 ≤ 192 }
         ensures bytes { self.new ≡ half_address address ++ self.old }

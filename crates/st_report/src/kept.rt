@@ -85,7 +85,6 @@ impl KeptDigits {
     }
 
     /// Replaces the digits by those of `n` if it has 3 to 18 digits; otherwise they do not change.
-    #[inline(never)]
     pub fn keep(&mut self, n: u64)
         ensures few { n < 100 → self.new ≡ self.old }
         ensures kept { 100 ≤ n → n < 10 ^ 18 → self.new ≡ n / 100 }
@@ -103,7 +102,6 @@ impl KeptDigits {
 }
 
 /// A number below 100 as two decimal digits.
-#[inline(always)]
 pub fn two_digits(n: u64) -> [u8; 2]
     requires { n < 100 }
     ensures { result ≡ two_digits_of n }

@@ -62,7 +62,6 @@ fn slot(p: &Prepared, fills: &[u64; 2], k: u8, state: &State, now: u64) -> Optio
 // The word that has arrived by the tick `now` for slot `k` of a level, if the slot is empty. Most
 // levels await no word; this is tested first.
 #[tactic(auto, unfolding(crate::specs::Slots::slot_of))]
-#[inline(always)]
 fn coming(level: &Level, fills: &[u64; 2], k: u8, state: &State, now: u64) -> Option<u64>
     requires prepared { IsPrepared level.now.prepared }
     requires slot { k < 2 }

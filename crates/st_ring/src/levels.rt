@@ -156,7 +156,6 @@ impl<const N: usize> Levels<N> {
     }
 
     /// The tick at which the oldest level completes, 2^64 - 1 if there is none.
-    #[inline(always)]
     pub fn due(&self) -> u64
         ensures tick { result ≡ due_of self.now.plans }
         ensures few { length self.now.ring ≤ N }

@@ -320,7 +320,6 @@ fn prepared_at(levels: usize, past: &LastEntries, a: u64, y: u64) -> u64
 }
 
 // Notifies the observer of the registers of a run. The label of the loop serves only its proof.
-#[inline(always)]
 fn notify<W: Watch>(watch: &mut W, registers: WordRun)
     requires { registers.first < 2 ^ 18 }
     ensures { watch.new ≡ W.noted (register_uses registers.first registers.len) watch.old }
@@ -380,7 +379,6 @@ fn read_operands<W: Watch>(
 
 // Reads the operand words of a run. Returns the arrival ticks of the first two, 0 for a missing
 // word.
-#[inline(always)]
 fn read_run<W: Watch>(
     operands: &mut Fetching,
     log: &mut Log,
@@ -422,7 +420,6 @@ fn read_run<W: Watch>(
 }
 
 // Prefetches the two words after those of an entry, if it prefetches any.
-#[inline(always)]
 fn follow<W: Watch>(bus: &mut Bus, log: &mut Log, watch: &mut W, wanted: &Wanted<'_>, entry: &Entry)
     requires entry { IsEntryInTime entry.now }
     requires room { IsBusWithin (2 ^ 64 - 1024) bus.old }

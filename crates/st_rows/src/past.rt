@@ -133,7 +133,6 @@ impl LastEntries {
 
     /// The completion tick of the latest of these entries that writes the word `w`, from 32 up; 0
     /// if none does.
-    #[inline(always)]
     pub fn latest_done(&self, w: u32) -> u64
         requires storage { 32 ≤ w }
         ensures { result ≡ latest_done_of self.now w }
@@ -145,7 +144,6 @@ impl LastEntries {
     }
 
     // The completion tick of the latest writer of the word `w`, without a test of the bounds.
-    #[inline(always)]
     fn latest_writer(&self, w: u32) -> u64
         ensures { result ≡ latest_done_of self.now w }
     {
@@ -222,7 +220,6 @@ fn keep_words(place: &mut WordRuns, writers: &mut u64, bounds: &mut Bounds, word
 }
 
 // Whether a word lies outside the bounds.
-#[inline(always)]
 fn lies_outside(bounds: Bounds, w: u32) -> bool
     ensures { result ≡ is_outside bounds.low bounds.high w }
 {
@@ -231,7 +228,6 @@ fn lies_outside(bounds: Bounds, w: u32) -> bool
 }
 
 // The bounds extended by the words of a run, except registers, which are not read.
-#[inline(always)]
 fn widened_by(bounds: Bounds, run: WordRun) -> Bounds
     ensures { (w : ℕ) → 32 ≤ w → is_outside result.low result.high w ≡ true →
         (is_in w run ≡ false) × (is_outside bounds.low bounds.high w ≡ true) }

@@ -68,7 +68,6 @@ impl Fetching {
     }
 
     // Reads the operand words of a run.
-    #[inline(always)]
     pub(crate) fn read_on<W: Watch>(
         &mut self,
         log: &mut Log,

@@ -172,7 +172,6 @@ impl Uses {
     }
 
     /// Appends a word. Changes nothing if there are 48 words already.
-    #[inline(always)]
     pub fn push(&mut self, word: Use)
         ensures { self.new ≡ uses_with (word ∷ []) self.old }
     {

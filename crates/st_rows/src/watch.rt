@@ -74,14 +74,12 @@ impl Watch for Nobody {
         let _ = read;
     }
 
-    #[inline(always)]
     fn held(&mut self, role: Role, w: u32, answer: u64) {
         let _ = role;
         let _ = w;
         let _ = answer;
     }
 
-    #[inline(always)]
     fn forwarded(&mut self, role: Role, w: u32, past: &LastEntries, done: u64) {
         let _ = role;
         let _ = w;
@@ -89,7 +87,6 @@ impl Watch for Nobody {
         let _ = done;
     }
 
-    #[inline(always)]
     fn register(&mut self, role: Role, w: u32) {
         let _ = role;
         let _ = w;
@@ -112,7 +109,6 @@ impl Watch for Uses {
         });
     }
 
-    #[inline(always)]
     fn held(&mut self, role: Role, word: u32, answer: u64) {
         self.push(Use {
             role,
@@ -121,7 +117,6 @@ impl Watch for Uses {
         });
     }
 
-    #[inline(always)]
     fn forwarded(&mut self, role: Role, word: u32, past: &LastEntries, done: u64) {
         let back = past.latest_back(word);
         self.push(Use {
@@ -131,7 +126,6 @@ impl Watch for Uses {
         });
     }
 
-    #[inline(always)]
     fn register(&mut self, role: Role, word: u32) {
         self.push(Use {
             role,

@@ -182,16 +182,6 @@ fn take_signals_at_rest<M: ExternalEvents>(machine: &mut M, pending: &mut Pendin
     }
 }
 
-// The first of two optional printed areas.
-fn first_words(first: Option<[u64; 8]>, later: Option<[u64; 8]>) -> Option<[u64; 8]>
-    ensures { result ≡ option_or first later }
-{
-    match first {
-        Some(words) => Some(words),
-        None => later,
-    }
-}
-
 // The summary of two successive interludes.
 fn joined(first: Interlude, later: Interlude) -> Interlude
     ensures { result ≡ joined_of first later }
@@ -199,7 +189,7 @@ fn joined(first: Interlude, later: Interlude) -> Interlude
     Interlude {
         card: first.card || later.card,
         waited: first.waited || later.waited,
-        words: first_words(first.words, later.words),
+        words: first.words.or(later.words),
     }
 }
 

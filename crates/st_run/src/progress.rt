@@ -92,7 +92,6 @@ pub(crate) fn tell_next<const N: usize>(
 
 // Skips completions up to the next event of another kind. Returns the last of the completions.
 // Returns None if another kind of event is next, or may be.
-#[inline(never)]
 pub(crate) fn pass_entries<const N: usize>(
     run: &mut Progress<N>,
     rows: &mut RowQueue,
@@ -263,7 +262,7 @@ fn show<const N: usize>(run: &mut Progress<N>) -> TimedRunEvent
     ensures told { told_ahead run.old ≡ told_by result run.new ∷ rest_behind run.new }
 {
     let Some((at, after)) = split_first(run.snaps) else {
-        return at_once(&run.driven, run.tick, RunEvent::Shown(0));
+        unreachable!()
     };
     run.snaps = after;
     at_once(&run.driven, run.tick, RunEvent::Shown(at))
@@ -290,7 +289,6 @@ fn leave_entry<const N: usize>(run: &mut Progress<N>, halt: &Halt)
 }
 
 // Queues the events that follow the completion of an entry at a tick, in the general case.
-#[inline(never)]
 fn leave_fully<const N: usize>(run: &mut Progress<N>, tick: u64)
     requires left { IsLeft run.old.left run.old.snaps.now tick run.old.driven }
     ensures kept { IsUnderWay run.new }

@@ -190,7 +190,6 @@ impl State {
     /// An address past storage, or a register that is fetched as an instruction, is invalid;
     /// protection by the boundary is checked after that.
     #[tactic(auto, unfolding(crate::specs::Boundary::forbidden_by), using(st_bits::specs::Storage::words_of_storage_is))]
-    #[inline(always)]
     pub fn may(&self, access: Access, w: u32) -> Option<u8>
         ensures value { result ≡ indicator_of_access self.now access w }
         ensures bound { IsIndicatorIfAny result }

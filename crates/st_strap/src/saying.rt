@@ -3,8 +3,8 @@
 //! module does.
 //!
 //! Proved: each function returns exactly the case of `with_fields` in specs/Saying.antt for its
-//! operation: its statement or its first fault. Not proved: that `inline(never)` saves time; the
-//! attribute is there so that the values of the other operations need not be cleared.
+//! operation: its statement or its first fault. Not proved: that `inline(never)` at `parse_sum`
+//! saves time, which docs/COSTS.md counts.
 //!
 //! Pinned, by `with_fields`, docs/strap.md and vectors/mnemonics.txt: which fields an operation
 //! has, that is which function of shapes.rt is called. A new operation needs a function here and a
@@ -26,7 +26,6 @@ use st_card::Fault;
 use st_mnemonic::{FieldText, Form, Operation};
 
 // Parses the statement of an operation on an index word.
-#[inline(never)]
 pub(crate) fn parse_half(op: HalfOp, fields: &[FieldText]) -> Result<CompactStatement, Fault>
     ensures { (form : FormOf) → result ≡ spec.with_fields (Operation.Half op) form
         (texts fields.now) }
@@ -45,7 +44,6 @@ pub(crate) fn parse_sum(fields: &[FieldText]) -> Result<CompactStatement, Fault>
 }
 
 // Parses the statement of R.
-#[inline(never)]
 pub(crate) fn parse_refill(fields: &[FieldText]) -> Result<CompactStatement, Fault>
     ensures { (form : FormOf) → result ≡ spec.with_fields Operation.Refill form (texts fields.now) }
 {
@@ -55,7 +53,6 @@ pub(crate) fn parse_refill(fields: &[FieldText]) -> Result<CompactStatement, Fau
 }
 
 // Parses the statement of EX.
-#[inline(never)]
 pub(crate) fn parse_execute(fields: &[FieldText]) -> Result<CompactStatement, Fault>
     ensures { (form : FormOf) → result ≡ spec.with_fields Operation.Execute form
         (texts fields.now) }
@@ -68,7 +65,6 @@ pub(crate) fn parse_execute(fields: &[FieldText]) -> Result<CompactStatement, Fa
 }
 
 // Parses the statement of a branch.
-#[inline(never)]
 pub(crate) fn parse_branch(op: BranchOp, fields: &[FieldText]) -> Result<CompactStatement, Fault>
     ensures { (form : FormOf) → result ≡ spec.with_fields (Operation.Branch op) form
         (texts fields.now) }
@@ -80,7 +76,6 @@ pub(crate) fn parse_branch(op: BranchOp, fields: &[FieldText]) -> Result<Compact
 }
 
 // Parses the statement of an operation of the branch group without an address.
-#[inline(never)]
 pub(crate) fn parse_bare(op: BranchOp, fields: &[FieldText]) -> Result<CompactStatement, Fault>
     ensures { (form : FormOf) → result ≡ spec.with_fields (Operation.Bare op) form
         (texts fields.now) }
@@ -89,7 +84,6 @@ pub(crate) fn parse_bare(op: BranchOp, fields: &[FieldText]) -> Result<CompactSt
 }
 
 // Parses the statement of an operation of the floating group.
-#[inline(never)]
 pub(crate) fn parse_floating(number: u8, fields: &[FieldText]) -> Result<CompactStatement, Fault>
     ensures { (form : FormOf) → result ≡ spec.with_fields (Operation.Floating number) form
         (texts fields.now) }
@@ -101,7 +95,6 @@ pub(crate) fn parse_floating(number: u8, fields: &[FieldText]) -> Result<Compact
 }
 
 // Parses the statement of an operation on a field.
-#[inline(never)]
 pub(crate) fn parse_vfl(
     op: VflOp,
     negated: bool,
@@ -121,7 +114,6 @@ pub(crate) fn parse_vfl(
 }
 
 // Parses the statement of a connective.
-#[inline(never)]
 pub(crate) fn parse_connect(
     kind: ConnKind,
     table: u8,
@@ -141,7 +133,6 @@ pub(crate) fn parse_connect(
 }
 
 // Parses the statement of T or SWAP.
-#[inline(never)]
 pub(crate) fn parse_move(swap: bool, fields: &[FieldText]) -> Result<CompactStatement, Fault>
     ensures { (form : FormOf) → result ≡ spec.with_fields (Operation.Move swap) form
         (texts fields.now) }
@@ -156,7 +147,6 @@ pub(crate) fn parse_move(swap: bool, fields: &[FieldText]) -> Result<CompactStat
 }
 
 // Parses the statement of a branch on a bit.
-#[inline(never)]
 pub(crate) fn parse_bit_branch(
     sense: bool,
     change: u8,
@@ -175,7 +165,6 @@ pub(crate) fn parse_bit_branch(
 }
 
 // Parses the statement of a branch on an indicator.
-#[inline(never)]
 pub(crate) fn parse_ind_branch(
     sense: bool,
     off: bool,
@@ -194,7 +183,6 @@ pub(crate) fn parse_ind_branch(
 }
 
 // Parses the statement of SIC.
-#[inline(never)]
 pub(crate) fn parse_store_counter(fields: &[FieldText]) -> Result<CompactStatement, Fault>
     ensures { (form : FormOf) → result ≡ spec.with_fields Operation.StoreCounter form
         (texts fields.now) }
@@ -204,7 +192,6 @@ pub(crate) fn parse_store_counter(fields: &[FieldText]) -> Result<CompactStateme
 }
 
 // Parses the statement of RD or WR.
-#[inline(never)]
 pub(crate) fn parse_transfer(write: bool, fields: &[FieldText]) -> Result<CompactStatement, Fault>
     ensures { (form : FormOf) → result ≡ spec.with_fields (Operation.Transfer write) form
         (texts fields.now) }
@@ -214,7 +201,6 @@ pub(crate) fn parse_transfer(write: bool, fields: &[FieldText]) -> Result<Compac
 }
 
 // Parses the statement of DD.
-#[inline(never)]
 pub(crate) fn parse_data(form: Form, fields: &[FieldText]) -> Result<CompactStatement, Fault>
     ensures { result ≡ spec.with_fields Operation.Data form (texts fields.now) }
 {
@@ -227,7 +213,6 @@ pub(crate) fn parse_data(form: Form, fields: &[FieldText]) -> Result<CompactStat
 }
 
 // Parses the statement of XW.
-#[inline(never)]
 pub(crate) fn parse_index_word(fields: &[FieldText]) -> Result<CompactStatement, Fault>
     ensures { (form : FormOf) → result ≡ spec.with_fields Operation.IndexWord form
         (texts fields.now) }
@@ -242,7 +227,6 @@ pub(crate) fn parse_index_word(fields: &[FieldText]) -> Result<CompactStatement,
 }
 
 // Parses the statement of SYN.
-#[inline(never)]
 pub(crate) fn parse_synonym(fields: &[FieldText]) -> Result<CompactStatement, Fault>
     ensures { (form : FormOf) → result ≡ spec.with_fields Operation.Synonym form
         (texts fields.now) }
@@ -253,7 +237,6 @@ pub(crate) fn parse_synonym(fields: &[FieldText]) -> Result<CompactStatement, Fa
 }
 
 // Parses the statement of SLC.
-#[inline(never)]
 pub(crate) fn parse_set_location(fields: &[FieldText]) -> Result<CompactStatement, Fault>
     ensures { (form : FormOf) → result ≡ spec.with_fields Operation.SetLocation form
         (texts fields.now) }
@@ -264,7 +247,6 @@ pub(crate) fn parse_set_location(fields: &[FieldText]) -> Result<CompactStatemen
 }
 
 // Parses the statement of DR.
-#[inline(never)]
 pub(crate) fn parse_reserve(fields: &[FieldText]) -> Result<CompactStatement, Fault>
     ensures { (form : FormOf) → result ≡ spec.with_fields Operation.Reserve form
         (texts fields.now) }
@@ -275,7 +257,6 @@ pub(crate) fn parse_reserve(fields: &[FieldText]) -> Result<CompactStatement, Fa
 }
 
 // Parses the statement of END.
-#[inline(never)]
 pub(crate) fn parse_end(fields: &[FieldText]) -> Result<CompactStatement, Fault>
     ensures { (form : FormOf) → result ≡ spec.with_fields Operation.End form (texts fields.now) }
 {

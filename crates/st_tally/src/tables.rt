@@ -107,7 +107,6 @@ fn add_to_card(
 }
 
 // The same for an entry whose card has no place.
-#[inline(never)]
 fn add_to_others(
     executes: bool,
     sum: &mut CardSum,

@@ -143,7 +143,9 @@ fn read_noted(steps: &mut Back, machine: &mut State, card: Option<[u64; 8]>)
     ensures states { states_before steps.new.kept machine.new
         ≡ states_before steps.old.kept machine.old }
 {
-    let Some(order) = machine.reader else { return };
+    let Some(order) = machine.reader else {
+        unreachable!()
+    };
     machine.reader = None;
     let Some(card) = card else {
         machine.signal(END_EXCEPTION);

@@ -14,4 +14,4 @@ returns-clause-told g c =
     show-tells run.left run.tick c.in-Some.at c.in-Some.after.now run.snaps.now run.queue run.driven run.turn c.in-Some.ensures
     c.requires.shown c.requires.turn c.requires.waits
     ∙ ap {A = TimedRunEvent} (λ t. told_as t (state_told run.driven.machine) (ahead_of run.driven.machine) run.printed.bytes ∷ rest_of run.turn run.left run.tick c.in-Some.after.now run.queue run.driven)
-    (sym c.at_once-2.ensures)
+    (sym c.at_once.ensures)

@@ -2,8 +2,8 @@ use Rattle.st_back.proofs.Common.{◌≤◌, sym, ◌∙◌, ap, subst, step_wit
 use Rattle.st_back.proofs.RingLemmas.{put-made, put-sound, room-of}
 use Rattle.st_back.proofs.back.Back.put.Goals as goal
 
-pub invariant_of-self-2 : goal.invariant_of-self-2
-invariant_of-self-2 c =
+pub invariant_of-self : goal.invariant_of-self
+invariant_of-self c =
     let k = c.in-Some.kept in
     let e = sym c.in-Some.ensures.value in
     let few : k.puts ≤ 7 =
