@@ -31,7 +31,7 @@ pub use Rattle.st_lines.specs.Origins.{card_by, is_kept, origin_by}
 unfoldable pub use Rattle.st_lines.specs.Origins.{origin_at}
 pub use Rattle.st_lines.specs.declared.lines.Why.TheVariants.{Run}
 pub use Rattle.st_lines.specs.Lines.{start_line}
-pub use Rattle.st_account.specs.Rounds.{Crosses, IsNext, IsBorderOf, HasTakenEvents, IsStepped, Completes, IsAtStart}
+pub use Rattle.st_account.specs.Rounds.{Crosses, IsNext, IsBorderOf, IsStepped, Completes, IsAtStart, HasTakenEvents}
 pub use Rattle.st_account.specs.Standing.{Position, IsBehindMoment, predicting, IsLast, IsStanding, HasReads, IsOpen, CanPass, still_by, IsWaiting, IsWithinRun, IsAt, position, next_position, charges_kept, AddsKeptWaits}
 unfoldable pub use Rattle.st_account.specs.Standing.{kept_lines, kept_stalled}
 pub use Rattle.st_lines.proofs.LineLemmas.{end-same, same_lines, first_cut, second_cut, no_lines}
@@ -55,12 +55,9 @@ unfoldable pub use Rattle.st_ledger.specs.Charges.{charges_behind, ticks_for, al
 pub use Rattle.st_ledger.specs.Ledger.{entries_of, entries_from}
 unfoldable pub use Rattle.st_ledger.specs.Ledger.{charges_at, all_charges}
 pub use Rattle.st_plain.specs.Uses.{formed_uses, uses_of_entry}
-pub use Rattle.st_lines.specs.EntryLines.{charges_of_entry}
-unfoldable pub use Rattle.st_lines.specs.EntryLines.{done_entry_lines}
+pub use Rattle.st_lines.specs.EntryLines.{done_entry_lines, charges_of_entry}
 pub use Rattle.st_lines.specs.declared.facts.EntryDone.{EntryDone}
-pub use Rattle.st_rows.specs.declared.entry.Entry.{Entry}
 pub use Rattle.st_ledger.specs.Reasons.{because}
-pub use Rattle.st_ledger.specs.declared.because.StallCause.{StallCause}
 pub use Rattle.st_asm.specs.Assembly.{Assembly, assembly_parts}
 pub use Rattle.st_account.specs.FirstCards.{beginning}
 unfoldable pub use Rattle.st_account.specs.FirstCards.{first_card, origin_of}
@@ -72,11 +69,13 @@ pub use Rattle.st_rows.proofs.Parts.{two-parts, free-formed, issue-done, at-prep
 pub use Rattle.st_rows.proofs.Served.{served-asked, served-formed, made-bounds, served-append, few-words, few-side, few-operands, few-following}
 pub use Rattle.st_rows.proofs.Tight.{later-r, later-c, tight-after}
 pub use Rattle.st_rows.specs.declared.bus.Bus.{Bus}
+pub use Rattle.st_rows.specs.declared.entry.Entry.{Entry}
 pub use Rattle.st_rows.specs.declared.past.Past.{Past}
 pub use Rattle.st_segment.specs.Ahead.{Ahead}
 unfoldable pub use Rattle.st_segment.specs.Ahead.{ahead, prepared_before, reads_before}
 pub use Rattle.st_run.specs.Run.{Scene, with_due_signals, if_due, with_device, uneventful, with_order, with_signals_while, PlainEvent, Transition, scene_after_step}
 unfoldable pub use Rattle.st_run.specs.Run.{with_due_orders, with_order_at_rest, with_wait, interlude}
+pub use Rattle.st_ledger.specs.declared.because.StallCause.{StallCause}
 pub use Rattle.st_io.specs.Output.{OutputState}
 pub use Rattle.st_io.specs.declared.Failed.{Failed}
 pub use Rattle.st_io.specs.Lines.{WritesLines}

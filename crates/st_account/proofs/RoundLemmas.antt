@@ -1,5 +1,5 @@
 -- Lemmas on a run that is written from one of its rows on: the lines that are left, and the effect of one round of its loop.
-use Rattle.st_account.proofs.Common.{Bool, Result, Ok, Err, IsErr, if◌then◌else◌, nat_eq, ◌||◌, ◌≡◌, ◌≢◌, ℕ, zero, suc, ◌+◌, ◌-◌, ◌⊎◌, inl, inr, true, false, List, [], ◌∷◌, ◌++◌, Option, refl, sym, ◌∙◌, ap, subst, append_assoc, arith, length, words_of_storage, Machine, Signal, rests, interrupt, OutputState, Failed, WritesLines, LinesSoFar, lines_none, lines_more, lines_failed, lines_last, lines_then, lines_cut, done_line, ticks_line, Stage, Stall, PendingEvents, Scene, Moment, Standing, moment_at_start, next_state, next_issue, has_waited, standing_at, next_moment, Use, IssueState, start_line, Run, whole_state_lines, machine_lines, origin_at, Origin, Origins, Border, Account, Made, end_lines, lines_until, lines_to_next, lines_to_end, passed_lines, ended_lines, line_of_start, IsBorderOf, HasTakenEvents, IsNext, IsStepped, Completes, Position, position, next_position, kept_lines, IsStanding, IsBehindMoment, run_ends, begins_segment, why_by, why, segment_end_at, segment_lines, segment_after, uses_at, words_before, lines_of_entry, lines_from}
+use Rattle.st_account.proofs.Common.{Bool, Result, Ok, Err, IsErr, if◌then◌else◌, nat_eq, ◌||◌, ◌≡◌, ◌≢◌, ℕ, zero, suc, ◌+◌, ◌-◌, ◌⊎◌, inl, inr, true, false, List, [], ◌∷◌, ◌++◌, Option, refl, sym, ◌∙◌, ap, subst, append_assoc, arith, length, words_of_storage, Machine, Signal, rests, interrupt, OutputState, Failed, WritesLines, LinesSoFar, lines_none, lines_more, lines_failed, lines_last, lines_then, lines_cut, done_line, ticks_line, Stage, Stall, PendingEvents, Scene, Moment, Standing, moment_at_start, next_state, next_issue, has_waited, standing_at, next_moment, Use, IssueState, start_line, Run, whole_state_lines, machine_lines, origin_at, Origin, Origins, Border, Account, Made, end_lines, lines_until, lines_to_next, lines_to_end, passed_lines, ended_lines, line_of_start, IsBorderOf, IsNext, IsStepped, Completes, Position, position, next_position, kept_lines, IsStanding, IsBehindMoment, run_ends, begins_segment, why_by, why, segment_end_at, segment_lines, segment_after, uses_at, words_before, lines_of_entry, lines_from}
 use Rattle.st_report.specs.Line.{end_line as run_end_line}
 use Rattle.st_account.specs.declared.behind.Behind.{Behind}
 use Rattle.st_account.specs.LedgerRows.{start_after, rows_from, ledger_rows}
@@ -7,7 +7,7 @@ use Rattle.st_account.proofs.BorderLemmas.{border-of, ends-is}
 use Rattle.st_account.proofs.EntryLemmas.{kept-none}
 use Rattle.st_account.proofs.LoopLemmas.{left-some, rests-not, ends-one, number-some}
 use Rattle.st_account.proofs.RunLemmas.{lines-end, lines-on}
-use Rattle.st_account.proofs.TurnLemmas.{IsCounting, IsAdding, taken, stands, after, old-words}
+use Rattle.st_account.proofs.TurnLemmas.{IsCounting, IsTurning, IsAdding, taken, stands, after, old-words}
 
 -- ---- the lines of a round, by the number of rows up to the first one that is written
 
@@ -280,8 +280,7 @@ run-taken s t all ds n total waited a until start x xs ys cards left came is =
 
 -- ---- one round
 
-module _ (p : Position) (a : Account) (x : PendingEvents) (h : IsCounting p a x)
-    (a' : Account) (y : PendingEvents) (same : a' ≡ record a { state = a'.state; log = a'.log; behind = a'.behind }) (came : HasTakenEvents p a' y)
+module _ {p : Position} {a : Account} {x : PendingEvents} {a' : Account} {y : PendingEvents} (turn : IsTurning p a x a' y)
     (s t : OutputState) (all : List (List ℕ)) (until : ℕ) (start : Border) (so_far : LinesSoFar s t all (left_lines p a (line_of_start a.k start) until)) where
   -- the run ends
   pub finishes : (u : OutputState) (r : Result (Unit {0}) Failed) → run_ends p.left p.moment ≡ true
@@ -289,7 +288,7 @@ module _ (p : Position) (a : Account) (x : PendingEvents) (h : IsCounting p a x)
   finishes u r end writes =
       lines_last s t u all (ended_lines until p a) r
       (subst (LinesSoFar s t all) (left-end p a (line_of_start a.k start) until (ends-one p.left (rests (next_state p.moment)) end)) so_far)
-      (subst (λ ls. WritesLines t u ls r) (ap (ended_lines until p) same ∙ ended-same p a a'.state a'.log a'.behind until) writes)
+      (subst (λ ls. WritesLines t u ls r) (ap (ended_lines until p) turn.same ∙ ended-same p a a'.state a'.log a'.behind until) writes)
 
   -- the run continues
   module _ (going : run_ends p.left p.moment ≡ false) where
@@ -307,7 +306,7 @@ module _ (p : Position) (a : Account) (x : PendingEvents) (h : IsCounting p a x)
     crossed : (u : OutputState) (r : Result (Unit {0}) Failed)
         → WritesLines t u (passed_lines until p a' (line_of_start a'.k start)) r → WritesLines t u passed r
     crossed u r writes =
-        subst (λ ls. WritesLines t u ls r) (ap (λ (v : Account). passed_lines until p v (line_of_start v.k start)) same
+        subst (λ ls. WritesLines t u ls r) (ap (λ (v : Account). passed_lines until p v (line_of_start v.k start)) turn.same
         ∙ passed-same p a a'.state a'.log a'.behind (line_of_start a.k start) until) writes
 
     pub crossing-fails : (u : OutputState) (e : Failed) (r : Result (Unit {0}) Failed) → IsErr r
@@ -327,10 +326,10 @@ module _ (p : Position) (a : Account) (x : PendingEvents) (h : IsCounting p a x)
     goes c moved u z d new rest is writes begun entry stepped completes size total waited counted adding =
         let q = standing_at p.moment in
         let end = segment_end_at (p.left - 1) (next_moment p.delays p.levels q) in
-        let is_after = after p a x h a' y same came going c moved in
-        let standing = stands p a x h a' y same came going c moved in
-        let old = old-words p a x h a' y same came going c moved in
-        let table : c.origins ≡ a.origins = moved.origins ∙ ap (λ (v : Account). v.origins) same in
+        let is_after = after turn going c moved in
+        let standing = stands turn going c moved in
+        let old = old-words turn going c moved in
+        let table : c.origins ≡ a.origins = moved.origins ∙ ap (λ (v : Account). v.origins) turn.same in
         let segment : d.k ≡ c.k = ap (λ (v : Account). v.k) stepped.rest in
         let line : kept_lines d.k d.last end ≡ lines_of_entry (origin_at a.origins) p.delays p.levels end (words_before p.moment a.last.uses.items) q =
         entry q end (number-some a.k c.k p.moment is_after) standing
@@ -338,7 +337,7 @@ module _ (p : Position) (a : Account) (x : PendingEvents) (h : IsCounting p a x)
         ∙ ap (λ us. lines_of_entry (origin_at a.origins) p.delays p.levels end us q) old in
         let first : until ≢ 0 → line_of_start d.k new ≡ start_after a.k (line_of_start a.k start) p.moment =
         λ some. ap (λ k. line_of_start k new) segment ∙ begun some
-        ∙ ap (λ (v : Account). start_after v.k (line_of_start v.k start) p.moment) same in
+        ∙ ap (λ (v : Account). start_after v.k (line_of_start v.k start) p.moment) turn.same in
         record {
           m = next_moment p.delays p.levels q;
           b = next_state p.moment;

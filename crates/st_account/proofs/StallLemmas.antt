@@ -1,11 +1,11 @@
 -- Lemmas on the waits of the last entry and their totals.
-use Rattle.st_account.proofs.Common.{if◌then◌else◌, nat_eq, All, ◌≡◌, ◌≢◌, ℕ, zero, suc, ◌+◌, ◌≤◌, false, List, [], Option, refl, sym, ◌∙◌, ap, subst, arith, cond_both, nat_tests, All-nil, Machine, interrupt, row_of_entry, EntryTicks, entry, Standing, next_row, parts_of_row, charges_behind, all_ticks, charges_at, Stage, Restart, Instruction, Address, Index, Preparing, Operand, Executing, Use, AreSharesWithin, AreWaitsWithin, share_at, waited_at, row_stalled, IsReadInTime, WaitTotals, Stall, Turn, Bank, Storage, Last, charges_kept, kept_stalled, IsWaiting, AddsKeptWaits, IsStanding, uses_at}
+use Rattle.st_account.proofs.Common.{if◌then◌else◌, nat_eq, All, ◌≡◌, ◌≢◌, ℕ, zero, suc, ◌+◌, ◌≤◌, false, List, [], Option, refl, sym, ◌∙◌, ap, subst, arith, cond_both, nat_tests, All-nil, Machine, row_of_entry, EntryTicks, entry, parts_of_row, charges_behind, all_ticks, Stage, Restart, Instruction, Address, Index, Preparing, Operand, Executing, Use, AreSharesWithin, AreWaitsWithin, share_at, waited_at, row_stalled, IsReadInTime, WaitTotals, Stall, Turn, Bank, Storage, Last, charges_kept, kept_stalled, IsWaiting, AddsKeptWaits}
 use Rattle.std.proofs.Common.{Bool}
 use Rattle.st_ledger.proofs.Rows.{row-sum}
 use Rattle.st_ledger.specs.declared.sums.Shares.{Shares}
+use Rattle.st_ledger.specs.declared.charges.Charge.{Charge}
 use Rattle.st_ledger.proofs.AddedWaits.{shares-later}
 use Rattle.st_lines.specs.Waited.{AddsWaits}
-use Rattle.st_account.proofs.EntryLemmas.{row-is}
 
 -- ---- totals
 
@@ -113,17 +113,10 @@ row-reach ds n s l tick before start taken r early since opened is at =
     ∙ ap (λ (x : EntryTicks). x.c) (sym is)
     ∙ sym at
 
-pub row-stalled : (ds : List ℕ) (n : ℕ) (p : Standing) (s : Machine) (l : Last) (taken : Option ℕ) (r : EntryTicks) (before start : ℕ) (us bs old : List Use) (stage : Stage)
-    (why : Stall) → IsStanding p s l → taken ≡ interrupt s → r ≡ row_of_entry ds n l.issue (entry taken s) → before ≡ l.tick → start ≡ l.issue.c
-    → us ≡ uses_at ds n p → bs ≡ old
-    → row_stalled stage why us bs (charges_behind before (parts_of_row start r)) ≡ row_stalled stage why (uses_at ds n p) old (charges_at ds n p)
-unfolding charges_at
-row-stalled ds n p s l taken r before start us bs old stage why is is_taken is_row since opened used earlier =
-    ap (λ xs. row_stalled stage why xs bs (charges_behind before (parts_of_row start r))) used
-    ∙ ap (λ xs. row_stalled stage why (uses_at ds n p) xs (charges_behind before (parts_of_row start r))) earlier
-    ∙ ap (λ x. row_stalled stage why (uses_at ds n p) old (charges_behind before (parts_of_row start x))) (row-is ds n p s l taken r is is_taken is_row)
-    ∙ ap (λ t. row_stalled stage why (uses_at ds n p) old (charges_behind t (parts_of_row start (next_row ds n p)))) (since ∙ sym is.tick)
-    ∙ ap (λ t. row_stalled stage why (uses_at ds n p) old (charges_behind p.tick (parts_of_row t (next_row ds n p)))) (opened ∙ ap (λ f. f.c) (sym is.issue))
+-- the waits of an entry, by its words, those of the previous one and its charges
+pub row-stalled : (stage : Stage) (why : Stall) (us vs bs old : List Use) (xs ys : List Charge) → us ≡ vs → bs ≡ old → xs ≡ ys
+    → row_stalled stage why us bs xs ≡ row_stalled stage why vs old ys
+row-stalled stage why us vs bs old xs ys used earlier charged = rw (used, earlier, charged) refl
 
 -- the words of the last entry, none if a segment ends, are in time
 pub words-read : (ends : Bool) (old us new : List Use) → us ≡ old → new ≡ (if ends then [] else us) → All IsReadInTime old → All IsReadInTime new

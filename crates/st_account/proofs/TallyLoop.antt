@@ -1,12 +1,12 @@
 -- Lemmas on the tables of a run in its loop.
-use Rattle.st_account.proofs.Common.{append-nil, ◌≡◌, ◌≢◌, ℕ, zero, suc, ◌+◌, ◌-◌, ◌*◌, ◌^◌, ◌≤◌, ◌⊎◌, inl, inr, true, false, List, [], ◌∷◌, ◌++◌, refl, sym, ◌∙◌, ap, subst, append_assoc, arith, Signal, Machine, rests, OutputState, PendingEvents, Moment, Standing, next_state, standing_at, next_moment, Use, origin_at, Origin, Why, Run, AreTablesWithin, TalliedRow, IsTally, Tables, Account, why_after, row_at, tallied_from, dropped_at_end, dropped_from, end_from, IsAtStart, HasTakenEvents, IsNext, IsStepped, Completes, Position, position, next_position, IsStanding, CountAs, kept_rows, IsOrdered, IsTallyReady, AddsKeptRow, IsEmptyTally, TalliesRow, run_ends, segment_end_at, segment_after, uses_at, words_before}
+use Rattle.st_account.proofs.Common.{append-nil, ◌≡◌, ◌≢◌, ℕ, zero, suc, ◌+◌, ◌-◌, ◌*◌, ◌^◌, ◌≤◌, ◌⊎◌, inl, inr, true, false, List, [], ◌∷◌, ◌++◌, refl, sym, ◌∙◌, ap, subst, append_assoc, arith, Signal, Machine, rests, OutputState, PendingEvents, Moment, Standing, next_state, standing_at, next_moment, Use, origin_at, Origin, Why, Run, AreTablesWithin, TalliedRow, IsTally, Tables, Account, why_after, row_at, tallied_from, dropped_at_end, dropped_from, end_from, IsAtStart, IsNext, IsStepped, Completes, Position, position, next_position, IsStanding, CountAs, kept_rows, IsOrdered, IsTallyReady, AddsKeptRow, IsEmptyTally, TalliesRow, run_ends, segment_end_at, segment_after, uses_at, words_before}
 use Rattle.std.specs.Prelude.{length, Option}
 use Rattle.st_tally.proofs.TableLemmas.{tables-later}
 use Rattle.st_account.specs.declared.tallying.Tally.{Tally}
 use Rattle.st_account.proofs.LoopLemmas.{number-some, ends-one}
 use Rattle.st_account.proofs.RunLemmas.{end-on}
 use Rattle.st_account.proofs.TallyLemmas.{kept-rows-none}
-use Rattle.st_account.proofs.TurnLemmas.{IsCounting, IsSumming, taken, next-done, done-is, some, on, stands, after, old-words}
+use Rattle.st_account.proofs.TurnLemmas.{IsCounting, IsTurning, IsSumming, taken, next-done, done-is, some, on, stands, after, old-words}
 
 -- ---- the rows and the dropped entries from a moment on
 
@@ -120,21 +120,20 @@ tally-starts o ds n budget s a y m empty table start = record {
   few = omega (arith, empty.dropped);
 }
 
-module _ (p : Position) (a : Account) (x : PendingEvents) (h : IsCounting p a x)
-    (a' : Account) (z : PendingEvents) (same : a' ≡ record a { state = a'.state; log = a'.log; behind = a'.behind }) (came : HasTakenEvents p a' z)
-    (o : Machine → ℕ → Option Origin) (rows : List TalliedRow) (dropped places : ℕ) (y : Tally) (tallied : AreTallied p o rows dropped places a y) where
+module _ {p : Position} {a : Account} {x : PendingEvents} {a' : Account} {z : PendingEvents} (turn : IsTurning p a x a' z)
+    {o : Machine → ℕ → Option Origin} {rows : List TalliedRow} {dropped places : ℕ} {y : Tally} (tallied : AreTallied p o rows dropped places a y) where
   count-is : p.moment.scene.machine.done ≡ a'.state.done
-  count-is = done-is p a x h a' z same came
+  count-is = done-is turn
 
   most : p.moment.scene.machine.done ≤ 10000000
-  most = omega (arith, count-is, came.behind.run.few)
+  most = omega (arith, count-is, turn.came.behind.run.few)
 
   pub ready-then : IsTallyReady a'.k a'.last y.tables
-  ready-then = subst (λ (v : Account). IsTallyReady v.k v.last y.tables) (sym same) (record {
+  ready-then = subst (λ (v : Account). IsTallyReady v.k v.last y.tables) (sym turn.same) (record {
     ordered = tallied.ordered;
     first = tallied.first;
     within = tallied.within;
-    ticks = omega (arith, tallied.ticks, most, h.time, h.at.hand.tick);
+    ticks = omega (arith, tallied.ticks, most, turn.counted.time, turn.counted.at.hand.tick);
   })
 
   pub few-dropped : y.dropped ≤ 2 ^ 62
@@ -145,14 +144,14 @@ module _ (p : Position) (a : Account) (x : PendingEvents) (h : IsCounting p a x)
     now : IsTally (tallied.front ++ tallied.own) new
     now =
         tallied.counts tallied.front new
-        (subst (λ (v : Account). IsTally (tallied.front ++ kept_rows v.k v.last (segment_end_at p.left p.moment) y.why) new) same (added.tally tallied.front tallied.tally))
+        (subst (λ (v : Account). IsTally (tallied.front ++ kept_rows v.k v.last (segment_end_at p.left p.moment) y.why) new) turn.same (added.tally tallied.front tallied.tally))
 
     pub places-kept : length new.cards.items ≡ places
     places-kept = added.size ∙ tallied.places
 
     pub tables-small : AreTablesWithin (2 ^ 63) new
     tables-small =
-        tables-later a'.last.tick (2 ^ 63) new (omega (arith, ap (λ (v : Account). v.last.tick) same, h.at.hand.tick, h.time, most)) added.within
+        tables-later a'.last.tick (2 ^ 63) new (omega (arith, ap (λ (v : Account). v.last.tick) turn.same, turn.counted.at.hand.tick, turn.counted.time, most)) added.within
 
     -- the run ends
     pub tally-ends : run_ends p.left p.moment ≡ true → IsTally rows new
@@ -176,15 +175,15 @@ module _ (p : Position) (a : Account) (x : PendingEvents) (h : IsCounting p a x)
         let end = segment_end_at (p.left - 1) next in
         let why_next = why_after a.k y.why m in
         let us = words_before m a.last.uses.items in
-        let is_after = after p a x h a' z same came going c moved in
-        let standing = stands p a x h a' z same came going c moved in
+        let is_after = after turn going c moved in
+        let standing = stands turn going c moved in
         let done = completes q standing in
         let later = number-some a.k c.k m is_after in
-        let is_some = some p a x h a' z same came going in
-        let is_on = on p a x h a' z same came going in
-        let origin : origin_at c.origins ≡ o = ap origin_at (moved.origins ∙ ap (λ (v : Account). v.origins) same) ∙ tallied.table in
-        let why_is : w.why ≡ why_next = added.why ∙ ap (λ (v : Account). why_after v.k y.why m) same in
-        let old : a'.last.tick ≡ a.last.tick = ap (λ (v : Account). v.last.tick) same in
+        let is_some = some turn going in
+        let is_on = on turn going in
+        let origin : origin_at c.origins ≡ o = ap origin_at (moved.origins ∙ ap (λ (v : Account). v.origins) turn.same) ∙ tallied.table in
+        let why_is : w.why ≡ why_next = added.why ∙ ap (λ (v : Account). why_after v.k y.why m) turn.same in
+        let old : a'.last.tick ≡ a.last.tick = ap (λ (v : Account). v.last.tick) turn.same in
         let segment : d.k ≡ c.k = ap (λ (v : Account). v.k) stepped.rest in
         let more_done = next-done p.delays p.levels m in
         let some_more = dropped-on p.delays p.levels p.left m is_some is_on in
@@ -196,7 +195,7 @@ module _ (p : Position) (a : Account) (x : PendingEvents) (h : IsCounting p a x)
               subst (CountAs (kept_rows d.k d.last end w.why))
               (ap (λ g. row_at g p.delays p.levels end w.why c.last.uses.items q ∷ []) origin
               ∙ ap (λ v. row_at o p.delays p.levels end v c.last.uses.items q ∷ []) why_is
-              ∙ ap (λ v. row_at o p.delays p.levels end why_next v q ∷ []) (old-words p a x h a' z same came going c moved))
+              ∙ ap (λ v. row_at o p.delays p.levels end why_next v q ∷ []) (old-words turn going c moved))
               (done.row end w.why later);
           all =
               append_assoc tallied.front tallied.own (row_at o p.delays p.levels end why_next us q
@@ -212,7 +211,7 @@ module _ (p : Position) (a : Account) (x : PendingEvents) (h : IsCounting p a x)
           ordered = λ some. stepped.ordered;
           first = λ none. absurd (later (sym segment ∙ none));
           within = subst (λ t. AreTablesWithin t w.tables) (sym (stepped.before ∙ moved.tick)) added.row.within;
-          ticks = omega (arith, added.row.ticks, old, tallied.ticks, h.time, most, h.at.hand.tick, more_done);
+          ticks = omega (arith, added.row.ticks, old, tallied.ticks, turn.counted.time, most, turn.counted.at.hand.tick, more_done);
           sum = omega (arith, added.dropped, some_more, tallied.sum);
           few = omega (arith, added.few, tallied.few, more_done);
         }

@@ -85,17 +85,25 @@ taken Q x xs ys cards left budget came is same h =
 
 -- ---- the state at the head of the loop
 
-module _ (p : Position) (a : Account) (x : PendingEvents) (h : IsCounting p a x)
-    (a' : Account) (y : PendingEvents) (same : a' ≡ record a { state = a'.state; log = a'.log; behind = a'.behind })
-    (came : HasTakenEvents p a' y) where
+-- The run at the head of its loop, and after it has taken its events there.
+pub record IsTurning (p : Position) (a : Account) (x : PendingEvents) (a' : Account) (y : PendingEvents) : Type 0 where
+  pub counted : IsCounting p a x
+  pub same : a' ≡ record a { state = a'.state; log = a'.log; behind = a'.behind }
+  pub came : HasTakenEvents p a' y
+
+pub turning : {p : Position} {a : Account} {x : PendingEvents} {a' : Account} {y : PendingEvents} → IsCounting p a x
+    → a' ≡ record a { state = a'.state; log = a'.log; behind = a'.behind } → HasTakenEvents p a' y → IsTurning p a x a' y
+turning counted same came = record { counted = counted; same = same; came = came }
+
+module _ {p : Position} {a : Account} {x : PendingEvents} {a' : Account} {y : PendingEvents} (turn : IsTurning p a x a' y) where
   last : a'.last ≡ a.last
-  last = ap (λ (u : Account). u.last) same
+  last = ap (λ (u : Account). u.last) turn.same
 
   segment : a'.k ≡ a.k
-  segment = ap (λ (u : Account). u.k) same
+  segment = ap (λ (u : Account). u.k) turn.same
 
   next : next_state p.moment ≡ a'.state
-  next = came.behind.is.state
+  next = turn.came.behind.is.state
 
   pub done-is : p.moment.scene.machine.done ≡ a'.state.done
   done-is = sym (settled-done p.moment.scene) ∙ ap (λ (u : Machine). u.done) next
@@ -112,18 +120,18 @@ module _ (p : Position) (a : Account) (x : PendingEvents) (h : IsCounting p a x)
     ends-with all ends =
         sym ends ∙ end-last p.delays p.levels p.left p.moment (ends-one p.left (rests (next_state p.moment)) end)
         ∙ ap (λ (u : Machine). run_end_line (rests u) ∷ done_line u.done ∷ ticks_line p.moment.tick ∷ []) next
-        ∙ ap (λ t. run_end_line (rests a'.state) ∷ done_line a'.state.done ∷ ticks_line t ∷ []) came.behind.is.tick
+        ∙ ap (λ t. run_end_line (rests a'.state) ∷ done_line a'.state.done ∷ ticks_line t ∷ []) turn.came.behind.is.tick
 
     pub sums-are : (total : Stage → ℕ) (waited : Stage → Stall → ℕ) → IsAdding p total waited a → (s : Stage) → sum_at s a'.sums ≡ total s
     sums-are total waited adding s =
-        ap (λ (u : Account). sum_at s u.sums) same
+        ap (λ (u : Account). sum_at s u.sums) turn.same
         ∙ sums-end p.delays p.levels p.left p.moment s (sum_at s a.sums) (total s) (ends-one p.left (rests (next_state p.moment)) end) (adding.sum s)
 
     pub waits-are : (total : Stage → ℕ) (waited : Stage → Stall → ℕ) → IsAdding p total waited a → (new : WaitTotals) → AddsKeptWaits a'.k a'.last a'.waiting.totals new → (r : Stage) (z : Stall) → is_parted r ≡ true → waited_at r z new ≡ waited r z
     waits-are total waited adding new told r z parted =
         waits-last p.delays p.levels p.left a.last.uses.items p.moment r z _ _ _ (waited r z) (ends-one p.left (rests (next_state p.moment)) end)
         (subst (λ (u : Account). waited_at r z u.waiting.totals + (kept_stalled r z u.k u.last + stalled_from r z p.delays p.levels p.left a.last.uses.items p.moment) ≡ waited r z)
-        (sym same) (adding.waits r z parted)) (told.sums r z parted)
+        (sym turn.same) (adding.waits r z parted)) (told.sums r z parted)
 
   -- the run continues
   module _ (going : run_ends p.left p.moment ≡ false) where
@@ -135,7 +143,7 @@ module _ (p : Position) (a : Account) (x : PendingEvents) (h : IsCounting p a x)
 
     module _ (c : Account) (moved : IsNext p a' c) where
       pub stands : IsStanding (standing_at p.moment) c.state c.last
-      stands = record { machine = next ∙ sym moved.state; tick = came.behind.is.tick ∙ sym moved.tick; issue = sym moved.issue }
+      stands = record { machine = next ∙ sym moved.state; tick = turn.came.behind.is.tick ∙ sym moved.tick; issue = sym moved.issue }
 
       pub after : c.k ≡ segment_after a.k p.moment
       after = moved.number ∙ ap (λ k. segment_after k p.moment) segment
@@ -149,18 +157,18 @@ module _ (p : Position) (a : Account) (x : PendingEvents) (h : IsCounting p a x)
           → IsCounting (next_position p) d y
       counts d words are few stepped completes =
           let done = completes (standing_at p.moment) stands in
-          let bounds = next-is 255 p.levels p.delays are few p.moment h.bounds in
-          let time = next-time 255 p.levels p.delays are few p.moment h.bounds h.time in
+          let bounds = next-is 255 p.levels p.delays are few p.moment turn.counted.bounds in
+          let time = next-time 255 p.levels p.delays are few p.moment turn.counted.bounds turn.counted.time in
           let more = next-done p.delays p.levels p.moment in
           let made : d.state ≡ step a'.state = stepped.state ∙ ap step moved.state in
-          let scene = next-stepped p.delays p.levels p.moment a'.state d.state y.signals y.cards came.scene made in
+          let scene = next-stepped p.delays p.levels p.moment a'.state d.state y.signals y.cards turn.came.scene made in
           let here : next_state p.moment ≡ c.state = next ∙ sym moved.state in
           let kept = ap (λ (u : Account). u.words.items) stepped.rest in
           let stored : length d.words.items ≡ words_of_storage → d.words.items ≡ (next_state p.moment).words =
           λ long. kept ∙ words (ap length (sym kept) ∙ long) ∙ ap (λ (u : Machine). u.words) (sym next) in
           let count : d.state.done ≡ p.moment.scene.machine.done + 1 = ap (λ (s : Scene). s.machine.done) (sym scene) ∙ more in
-          let least = came.behind.run.few in
-          let least_number = came.behind.run.number in
+          let least = turn.came.behind.run.few in
+          let least_number = turn.came.behind.run.number in
           let issue = done.last.issue in
           record {
             at = record {
@@ -196,7 +204,7 @@ module _ (p : Position) (a : Account) (x : PendingEvents) (h : IsCounting p a x)
           (completes : (q : Standing) → IsStanding q c.state c.last → Completes p.delays p.levels q c d) where
         pub within-next : AreWithin d.last.done.before d.sums
         within-next =
-            subst (AreWithin d.last.done.before) (sym (kept ∙ moved.sums ∙ ap (λ (u : Account). u.sums) same))
+            subst (AreWithin d.last.done.before) (sym (kept ∙ moved.sums ∙ ap (λ (u : Account). u.sums) turn.same))
             (subst (λ t. AreWithin t a.sums) (sym (stepped.before ∙ moved.tick ∙ ap (λ (l : Last). l.tick) last)) adding.within)
 
         pub adds : AddsKeptWaits a'.k a'.last a'.waiting.totals c.waiting.totals → (sums : Totals)
@@ -209,13 +217,13 @@ module _ (p : Position) (a : Account) (x : PendingEvents) (h : IsCounting p a x)
               within = subst (λ t. AreWithin t sums) stepped.waiting.reach within;
               sum = λ s. sums-next p.delays p.levels p.left p.moment s (sum_at s a.sums) (sum_at s sums) (total s) some on (adding.sum s)
                   (added s
-                  ∙ ap (λ (t : Totals). sum_at s t + ticks_for s (charges_kept d.last)) (kept ∙ moved.sums ∙ ap (λ (u : Account). u.sums) same)
+                  ∙ ap (λ (t : Totals). sum_at s t + ticks_for s (charges_kept d.last)) (kept ∙ moved.sums ∙ ap (λ (u : Account). u.sums) turn.same)
                   ∙ ap (λ xs. sum_at s a.sums + ticks_for s xs) done.charges);
               waits = λ r z parted.
                   waits-next p.delays p.levels p.left a.last.uses.items d.last.uses.items p.moment r z _ _ _ _ (waited r z) some on
                   (subst (λ (u : Account). waited_at r z u.waiting.totals
                   + (kept_stalled r z u.k u.last + stalled_from r z p.delays p.levels p.left a.last.uses.items p.moment) ≡ waited r z)
-                  (sym same) (adding.waits r z parted))
+                  (sym turn.same) (adding.waits r z parted))
                   (ap (λ (u : Account). waited_at r z u.waiting.totals) stepped.rest ∙ told.sums r z parted)
                   (done.stalled r z later
                   ∙ ap (λ us. row_stalled r z (uses_at p.delays p.levels (standing_at p.moment)) us (charges_at p.delays p.levels (standing_at p.moment))) old-words)

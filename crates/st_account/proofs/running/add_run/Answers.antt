@@ -1,7 +1,7 @@
 use Rattle.st_account.proofs.Common.{◌≡◌, length, refl, sym, ◌∙◌, ap, subst, arith, WritesLines, same_lines, origin_at, words_of_storage_is, delays-are, at_hand, end_from, position, Account}
 use Rattle.st_run.specs.Moments.{moment_at_start as start_of}
 use Rattle.st_account.proofs.TallyLoop.{tally-taken, tally-starts, tallies, ready-then, few-dropped, places-kept, tally-ends, tables-small, tally-on, dropped-ends}
-use Rattle.st_account.proofs.TurnLemmas.{counts-at-start, over-is, ends-with, some, on, counts}
+use Rattle.st_account.proofs.TurnLemmas.{turning, counts-at-start, over-is, ends-with, some, on, counts}
 use Rattle.st_account.proofs.running.add_run.Goals as goal
 
 pub entries-init : goal.entries-init
@@ -41,14 +41,12 @@ finish_tally-requires-clause-behind g c =
 pub finish_tally-requires-clause-ready : goal.finish_tally-requires-clause-ready
 finish_tally-requires-clause-ready g c =
     let h = c.entries.invariant.summing in
-    ready-then _ _ _ h.counted c.take_events.new.self _ c.take_events.ensures.rest (c.take_events.ensures.came h.b h.m h.counted.at) _ _ _ _ c.entries.tally
-    c.entries.invariant.tallied
+    ready-then (turning h.counted c.take_events.ensures.rest (c.take_events.ensures.came h.b h.m h.counted.at)) c.entries.invariant.tallied
 
 pub finish_tally-requires-clause-few : goal.finish_tally-requires-clause-few
 finish_tally-requires-clause-few g c =
     let h = c.entries.invariant.summing in
-    few-dropped _ _ _ h.counted c.take_events.new.self _ c.take_events.ensures.rest (c.take_events.ensures.came h.b h.m h.counted.at) _ _ _ _ c.entries.tally
-    c.entries.invariant.tallied
+    few-dropped (turning h.counted c.take_events.ensures.rest (c.take_events.ensures.came h.b h.m h.counted.at)) c.entries.invariant.tallied
 
 pub tally_to_next-requires-clause-behind : goal.tally_to_next-requires-clause-behind
 tally_to_next-requires-clause-behind g c =
@@ -60,83 +58,76 @@ tally_to_next-requires-clause-behind g c =
 pub tally_to_next-requires-clause-ready : goal.tally_to_next-requires-clause-ready
 tally_to_next-requires-clause-ready g c =
     let h = c.entries.invariant.summing in
-    ready-then _ _ _ h.counted c.take_events.new.self _ c.take_events.ensures.rest (c.take_events.ensures.came h.b h.m h.counted.at) _ _ _ _ c.entries.tally
-    c.entries.invariant.tallied
+    ready-then (turning h.counted c.take_events.ensures.rest (c.take_events.ensures.came h.b h.m h.counted.at)) c.entries.invariant.tallied
 
 pub tally_to_next-requires-clause-few : goal.tally_to_next-requires-clause-few
 tally_to_next-requires-clause-few g c =
     let h = c.entries.invariant.summing in
-    few-dropped _ _ _ h.counted c.take_events.new.self _ c.take_events.ensures.rest (c.take_events.ensures.came h.b h.m h.counted.at) _ _ _ _ c.entries.tally
-    c.entries.invariant.tallied
+    few-dropped (turning h.counted c.take_events.ensures.rest (c.take_events.ensures.came h.b h.m h.counted.at)) c.entries.invariant.tallied
 
 pub step-requires : goal.step-requires
 step-requires g c =
     let h = c.entries.invariant.summing in
-    let came = c.take_events.ensures.came h.b h.m h.counted.at in
-    let going = over-is _ _ _ h.counted c.take_events.new.self _ c.take_events.ensures.rest came _ c.is_over.ensures ∙ c.if-is_over.false in
-    (c.tally_to_next.ensures.next _ came.behind going).ready
+    let turn = turning h.counted c.take_events.ensures.rest (c.take_events.ensures.came h.b h.m h.counted.at) in
+    let going = over-is turn _ c.is_over.ensures ∙ c.if-is_over.false in
+    (c.tally_to_next.ensures.next _ turn.came.behind going).ready
 
 -- ---- the end
 
 pub returns-then-is_over-clause-lines : goal.returns-then-is_over-clause-lines
 returns-then-is_over-clause-lines g c =
     let h = c.entries.invariant.summing in
-    let came = c.take_events.ensures.came h.b h.m h.counted.at in
-    let end = over-is _ _ _ h.counted c.take_events.new.self _ c.take_events.ensures.rest came _ c.is_over.ensures ∙ c.if-is_over.true in
+    let turn = turning h.counted c.take_events.ensures.rest (c.take_events.ensures.came h.b h.m h.counted.at) in
+    let end = over-is turn _ c.is_over.ensures ∙ c.if-is_over.true in
     subst (λ t. WritesLines t (g.K.Sink.output c.finish_tally.new.out)
     (end_from c.args.ready.delays.list c.args.ready.levels c.args.controls.now.budget (start_of (at_hand c.args.ready.state c.args.controls.now.signals c.args.ready.cards)))
     c.finish_tally.result) h.unwritten
-    (same_lines _ _ _ _ _ (sym (ends-with _ _ _ h.counted c.take_events.new.self _ c.take_events.ensures.rest came end _ h.ends)) c.finish_tally.ensures.lines)
+    (same_lines _ _ _ _ _ (sym (ends-with turn end _ h.ends)) c.finish_tally.ensures.lines)
 
 pub returns-then-is_over-clause-tables : goal.returns-then-is_over-clause-tables
 returns-then-is_over-clause-tables g c =
     let h = c.entries.invariant.summing in
-    let came = c.take_events.ensures.came h.b h.m h.counted.at in
-    let end = over-is _ _ _ h.counted c.take_events.new.self _ c.take_events.ensures.rest came _ c.is_over.ensures ∙ c.if-is_over.true in
-    tally-ends _ _ _ h.counted c.take_events.new.self _ c.take_events.ensures.rest came _ _ _ _ c.entries.tally c.entries.invariant.tallied
-    _ (c.finish_tally.ensures.tallies _ came.behind end).row end
+    let turn = turning h.counted c.take_events.ensures.rest (c.take_events.ensures.came h.b h.m h.counted.at) in
+    let end = over-is turn _ c.is_over.ensures ∙ c.if-is_over.true in
+    tally-ends turn c.entries.invariant.tallied _ (c.finish_tally.ensures.tallies _ turn.came.behind end).row end
 
 pub returns-then-is_over-clause-within : goal.returns-then-is_over-clause-within
 returns-then-is_over-clause-within g c =
     let h = c.entries.invariant.summing in
-    let came = c.take_events.ensures.came h.b h.m h.counted.at in
-    let end = over-is _ _ _ h.counted c.take_events.new.self _ c.take_events.ensures.rest came _ c.is_over.ensures ∙ c.if-is_over.true in
-    tables-small _ _ _ h.counted c.take_events.new.self _ c.take_events.ensures.rest came _ _ _ _ c.entries.tally c.entries.invariant.tallied
-    _ (c.finish_tally.ensures.tallies _ came.behind end).row
+    let turn = turning h.counted c.take_events.ensures.rest (c.take_events.ensures.came h.b h.m h.counted.at) in
+    let end = over-is turn _ c.is_over.ensures ∙ c.if-is_over.true in
+    tables-small turn c.entries.invariant.tallied _ (c.finish_tally.ensures.tallies _ turn.came.behind end).row
 
 pub returns-then-is_over-clause-places : goal.returns-then-is_over-clause-places
 returns-then-is_over-clause-places g c =
     let h = c.entries.invariant.summing in
-    let came = c.take_events.ensures.came h.b h.m h.counted.at in
-    let end = over-is _ _ _ h.counted c.take_events.new.self _ c.take_events.ensures.rest came _ c.is_over.ensures ∙ c.if-is_over.true in
-    places-kept _ _ _ h.counted c.take_events.new.self _ c.take_events.ensures.rest came _ _ _ _ c.entries.tally c.entries.invariant.tallied
-    _ (c.finish_tally.ensures.tallies _ came.behind end).row
+    let turn = turning h.counted c.take_events.ensures.rest (c.take_events.ensures.came h.b h.m h.counted.at) in
+    let end = over-is turn _ c.is_over.ensures ∙ c.if-is_over.true in
+    places-kept turn c.entries.invariant.tallied _ (c.finish_tally.ensures.tallies _ turn.came.behind end).row
 
 pub returns-then-is_over-clause-dropped : goal.returns-then-is_over-clause-dropped
 returns-then-is_over-clause-dropped g c =
     let h = c.entries.invariant.summing in
-    let came = c.take_events.ensures.came h.b h.m h.counted.at in
-    let end = over-is _ _ _ h.counted c.take_events.new.self _ c.take_events.ensures.rest came _ c.is_over.ensures ∙ c.if-is_over.true in
-    dropped-ends _ _ _ h.counted c.take_events.new.self _ c.take_events.ensures.rest came _ _ _ _ c.entries.tally c.entries.invariant.tallied
-    _ end (c.finish_tally.ensures.tallies _ came.behind end).dropped
+    let turn = turning h.counted c.take_events.ensures.rest (c.take_events.ensures.came h.b h.m h.counted.at) in
+    let end = over-is turn _ c.is_over.ensures ∙ c.if-is_over.true in
+    dropped-ends turn c.entries.invariant.tallied _ end (c.finish_tally.ensures.tallies _ turn.came.behind end).dropped
 
 -- ---- the run continues
 
 pub entries-preserved : goal.entries-preserved
 entries-preserved g c =
     let h = c.entries.invariant.summing in
-    let came = c.take_events.ensures.came h.b h.m h.counted.at in
-    let going = over-is _ _ _ h.counted c.take_events.new.self _ c.take_events.ensures.rest came _ c.is_over.ensures ∙ c.if-is_over.false in
-    let moved = c.tally_to_next.ensures.next _ came.behind going in
+    let turn = turning h.counted c.take_events.ensures.rest (c.take_events.ensures.came h.b h.m h.counted.at) in
+    let going = over-is turn _ c.is_over.ensures ∙ c.if-is_over.false in
+    let moved = c.tally_to_next.ensures.next _ turn.came.behind going in
     let none-left : length c.tally_to_next.new.account.words.items ≡ 0 =
     ap length c.tally_to_next.ensures.words ∙ ap (λ (x : Account). length x.words.items) c.take_events.ensures.rest ∙ h.bare in
     tallies (position c.args.ready.delays.list c.args.ready.levels c.entries.left h.b h.m) _ _ _ _ _ _ _ c.step.new.self c.tally_to_next.new.tally _
-    (some _ _ _ h.counted c.take_events.new.self _ c.take_events.ensures.rest came going)
-    (on _ _ _ h.counted c.take_events.new.self _ c.take_events.ensures.rest came going) h.ends h.unwritten
+    (some turn going)
+    (on turn going) h.ends h.unwritten
     (ap (λ (x : Account). length x.words.items) c.step.ensures.stepped.rest ∙ none-left)
-    (counts _ _ _ h.counted c.take_events.new.self _ c.take_events.ensures.rest came going c.tally_to_next.new.account moved c.step.new.self
+    (counts turn going c.tally_to_next.new.account moved c.step.new.self
     (λ long. absurd (omega (arith, long, none-left, words_of_storage_is))) (delays-are c.args.ready.delays) c.requires.ready.levels.1 c.step.ensures.stepped
     c.step.ensures.completes)
-    (tally-on _ _ _ h.counted c.take_events.new.self _ c.take_events.ensures.rest came _ _ _ _ c.entries.tally c.entries.invariant.tallied
-    going c.tally_to_next.new.account moved c.step.new.self c.tally_to_next.new.tally (c.tally_to_next.ensures.tallies _ came.behind going) c.step.ensures.stepped
+    (tally-on turn c.entries.invariant.tallied going c.tally_to_next.new.account moved c.step.new.self c.tally_to_next.new.tally (c.tally_to_next.ensures.tallies _ turn.came.behind going) c.step.ensures.stepped
     c.step.ensures.completes)

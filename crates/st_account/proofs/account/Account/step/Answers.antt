@@ -10,9 +10,8 @@ pub returns-clause-lines : goal.returns-clause-lines
 returns-clause-lines c facts p end some is =
     let rest = c.execute.ensures.rest in
     kept-some _ _ end some
-    ∙ entry-lines (origin_at c.args.self.now.origins) c.args.timing.now.delays.now.list c.args.timing.now.levels p end c.args.self.now.state c.args.self.now.last
-    c.interrupt-taken.result _ _ _ _ _ _ _ _ _ _ _ _ _ is
-    c.interrupt-taken.ensures.value
+    ∙ entry-lines c.args.timing.now.delays.now.list c.args.timing.now.levels p c.args.self.now.state c.args.self.now.last c.interrupt-taken.result is
+    c.interrupt-taken.ensures.value (origin_at c.args.self.now.origins) end c.execute.new.last.done _ _
     (ap (λ (l : Last). l.done.address) rest ∙ ap (λ (d : EntryDone). d.address) c.count_on.ensures.row.rest ∙ c.next_address-address.ensures.value)
     (ap (λ (l : Last). l.done.origin) rest
     ∙ ap (λ (d : EntryDone). d.origin) c.count_on.ensures.row.rest
@@ -22,12 +21,9 @@ returns-clause-lines c facts p end some is =
     (ap (λ (l : Last). l.done.row.level_wait) rest ∙ c.count_on.ensures.row.wait)
     (ap (λ (l : Last). l.done.n) rest ∙ ap (λ (d : EntryDone). d.n) c.count_on.ensures.row.rest ∙ c.row_number-self.ensures.number)
     (ap (λ (l : Last). l.done.mispredicted) rest)
-    (ap (λ (l : Last). l.unit.prepared) rest ∙ c.count_on.ensures.row.plan)
-    (ap (λ (l : Last). l.known) rest ∙ c.count_on.ensures.known facts)
     (ap (λ (l : Last). l.done.before) rest ∙ ap (λ (d : EntryDone). d.before) c.count_on.ensures.row.rest)
     (ap (λ (l : Last). l.done.start) rest ∙ ap (λ (d : EntryDone). d.start) c.count_on.ensures.row.rest)
     (ap (λ (l : Last). l.uses.items) rest ∙ c.count_on.ensures.row.uses)
-    refl
     (ap (λ (l : Last). l.done.because) rest
     ∙ c.count_on.ensures.because facts
     ∙ ap (λ us. because c.args.self.now.last.issue (entry c.interrupt-taken.result c.args.self.now.state) c.count_on.new.last.done.row.ticks.a
@@ -39,6 +35,9 @@ returns-clause-lines c facts p end some is =
     l.done.row.level_wait
     (formed_uses c.args.timing.now.delays.now.list c.args.self.now.last.issue (entry c.interrupt-taken.result c.args.self.now.state)
     (side_at c.interrupt-taken.result c.args.self.now.state)) l.uses.before) (sym rest))
+    _ _
+    (ap (λ (l : Last). l.unit.prepared) rest ∙ c.count_on.ensures.row.plan)
+    (ap (λ (l : Last). l.known) rest ∙ c.count_on.ensures.known facts)
     ∙ ap (λ us. lines_of_entry (origin_at c.args.self.now.origins) c.args.timing.now.delays.now.list c.args.timing.now.levels end us p) (ap (λ (l : Last). l.uses.before) rest ∙ c.count_on.ensures.row.earlier)
 
 pub returns-clause-stepped : goal.returns-clause-stepped
@@ -81,32 +80,27 @@ returns-clause-stepped c =
 pub returns-clause-completes : goal.returns-clause-completes
 returns-clause-completes c p is =
     let rest = c.execute.ensures.rest in
-    let used = uses-is c.args.timing.now.delays.now.list c.args.timing.now.levels p c.args.self.now.state c.args.self.now.last c.interrupt-taken.result _ is
-    c.interrupt-taken.ensures.value (ap (λ (l : Last). l.uses.items) c.execute.ensures.rest ∙ c.count_on.ensures.row.uses) in
+    let used = uses-is c.args.timing.now.delays.now.list c.args.timing.now.levels p c.args.self.now.state c.args.self.now.last c.interrupt-taken.result is
+    c.interrupt-taken.ensures.value _ (ap (λ (l : Last). l.uses.items) c.execute.ensures.rest ∙ c.count_on.ensures.row.uses) in
+    let charged =
+    entry-charges c.args.timing.now.delays.now.list c.args.timing.now.levels p c.args.self.now.state c.args.self.now.last c.interrupt-taken.result is
+    c.interrupt-taken.ensures.value _ _ _
+    (ap (λ (l : Last). l.done.row.ticks) rest ∙ c.count_on.ensures.row.ticks)
+    (ap (λ (l : Last). l.done.before) rest ∙ ap (λ (d : EntryDone). d.before) c.count_on.ensures.row.rest)
+    (ap (λ (l : Last). l.done.start) rest ∙ ap (λ (d : EntryDone). d.start) c.count_on.ensures.row.rest) in
     record {
       last =
-          entry-last c.args.timing.now.delays.now.list (delays-are c.args.timing.now.delays.now) c.args.timing.now.levels p c.args.self.now.state
-          c.execute.new.state c.args.self.now.last
-          c.count_on.new.last c.execute.new.last c.count_on.new.log c.interrupt-taken.result c.count_on.new.last.done.row.ticks is c.requires.opened.tight c.interrupt-taken.ensures.value
+          entry-last c.args.timing.now.delays.now.list c.args.timing.now.levels p c.args.self.now.state c.args.self.now.last c.interrupt-taken.result is
+          c.interrupt-taken.ensures.value (delays-are c.args.timing.now.delays.now) c.execute.new.state
+          c.count_on.new.last c.execute.new.last c.count_on.new.log c.count_on.new.last.done.row.ticks c.requires.opened.tight
           (entry-ranges c.interrupt-taken.result c.args.self.now.state c.row_number-self.ensures.machine c.interrupt-taken.ensures.bound) c.execute.ensures.state c.execute.ensures.prediction
           c.count_on.ensures.row.ticks c.count_on.ensures.row.tick c.count_on.ensures.row.issue c.count_on.ensures.log
           c.execute.ensures.rest;
       uses = used;
-      charges =
-          entry-charges c.args.timing.now.delays.now.list c.args.timing.now.levels p c.args.self.now.state c.args.self.now.last c.interrupt-taken.result _ _ _ is
-          c.interrupt-taken.ensures.value
-          (ap (λ (l : Last). l.done.row.ticks) rest ∙ c.count_on.ensures.row.ticks)
-          (ap (λ (l : Last). l.done.before) rest ∙ ap (λ (d : EntryDone). d.before) c.count_on.ensures.row.rest)
-          (ap (λ (l : Last). l.done.start) rest ∙ ap (λ (d : EntryDone). d.start) c.count_on.ensures.row.rest);
+      charges = charged;
       stalled = λ r s some.
           kept-stalled-some r s _ _ some
-          ∙ row-stalled c.args.timing.now.delays.now.list c.args.timing.now.levels p c.args.self.now.state c.args.self.now.last c.interrupt-taken.result _ _ _ _ _ _ r s is
-          c.interrupt-taken.ensures.value
-          (ap (λ (l : Last). l.done.row.ticks) rest ∙ c.count_on.ensures.row.ticks)
-          (ap (λ (l : Last). l.done.before) rest ∙ ap (λ (d : EntryDone). d.before) c.count_on.ensures.row.rest)
-          (ap (λ (l : Last). l.done.start) rest ∙ ap (λ (d : EntryDone). d.start) c.count_on.ensures.row.rest)
-          used
-          (ap (λ (l : Last). l.uses.before) rest ∙ c.count_on.ensures.row.earlier);
+          ∙ row-stalled r s _ _ _ _ _ _ used (ap (λ (l : Last). l.uses.before) rest ∙ c.count_on.ensures.row.earlier) charged;
       row = λ end v some.
           let o = origin_at c.args.self.now.origins in
           let s = c.args.self.now.state in
@@ -124,9 +118,9 @@ returns-clause-completes c p is =
           ∙ c.count_on.ensures.lost (subst (λ (l : Last). l.done.before < l.done.row.ticks.r) rest lost)
           ∙ ap (why c.count_on.new.last) (sym c.count_on.ensures.row.earlier)
           ∙ ap (λ (l : Last). why l l.uses.before) (sym rest))
-          (entry-row o c.args.timing.now.delays.now.list c.args.timing.now.levels p end v s c.args.self.now.last
-          c.interrupt-taken.result _ _ _ _ _ _ _ _ _ _ _ _ is
-          c.interrupt-taken.ensures.value
+          (entry-row c.args.timing.now.delays.now.list c.args.timing.now.levels p s c.args.self.now.last c.interrupt-taken.result is
+          c.interrupt-taken.ensures.value o end
+          (record c.execute.new.last.done { origin = o s (address s); because = why c.execute.new.last c.execute.new.last.uses.before }) _ _
           (ap (λ (l : Last). l.done.address) rest ∙ ap (λ (d : EntryDone). d.address) c.count_on.ensures.row.rest ∙ c.next_address-address.ensures.value)
           refl
           (ap (λ (l : Last). l.done.row.ticks) rest ∙ c.count_on.ensures.row.ticks)
@@ -137,6 +131,6 @@ returns-clause-completes c p is =
           (ap (λ (l : Last). l.done.start) rest ∙ ap (λ (d : EntryDone). d.start) c.count_on.ensures.row.rest)
           (ap (λ (l : Last). l.uses.items) rest ∙ c.count_on.ensures.row.uses)
           refl
-          refl
+          v _
           (ap (λ (l : Last). l.uses.before) rest ∙ c.count_on.ensures.row.earlier));
     }
