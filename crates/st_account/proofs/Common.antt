@@ -57,12 +57,13 @@ unfoldable pub use Rattle.st_ledger.specs.Ledger.{charges_at, all_charges}
 pub use Rattle.st_plain.specs.Uses.{formed_uses, uses_of_entry}
 pub use Rattle.st_lines.specs.EntryLines.{done_entry_lines, charges_of_entry}
 pub use Rattle.st_lines.specs.declared.facts.EntryDone.{EntryDone}
+pub use Rattle.st_ledger.specs.declared.because.StallCause.{StallCause}
 pub use Rattle.st_ledger.specs.Reasons.{because}
 pub use Rattle.st_asm.specs.Assembly.{Assembly, assembly_parts}
 pub use Rattle.st_account.specs.FirstCards.{beginning}
 unfoldable pub use Rattle.st_account.specs.FirstCards.{first_card, origin_of}
 pub use Rattle.st_rows.specs.BusTimes.{accept_at, Read}
-pub use Rattle.st_rows.specs.Asked.{formed_asked, prepared_asked, following_asked, side_count}
+pub use Rattle.st_rows.specs.Asked.{formed_asked, prepared_asked, side_count}
 unfoldable pub use Rattle.st_rows.specs.Asked.{bus_after_reads, made_before, fetches_asked, words_asked}
 pub use Rattle.st_rows.proofs.LogLaws.{logged-noted, undone_is_made_before, few_are_undone}
 pub use Rattle.st_rows.proofs.Parts.{two-parts, free-formed, issue-done, at-prepared}
@@ -75,7 +76,6 @@ pub use Rattle.st_segment.specs.Ahead.{Ahead}
 unfoldable pub use Rattle.st_segment.specs.Ahead.{ahead, prepared_before, reads_before}
 pub use Rattle.st_run.specs.Run.{Scene, with_due_signals, if_due, with_device, uneventful, with_order, with_signals_while, PlainEvent, Transition, scene_after_step}
 unfoldable pub use Rattle.st_run.specs.Run.{with_due_orders, with_order_at_rest, with_wait, interlude}
-pub use Rattle.st_ledger.specs.declared.because.StallCause.{StallCause}
 pub use Rattle.st_io.specs.Output.{OutputState}
 pub use Rattle.st_io.specs.declared.Failed.{Failed}
 pub use Rattle.st_io.specs.Lines.{WritesLines}

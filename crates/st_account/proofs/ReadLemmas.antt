@@ -1,6 +1,6 @@
 -- Lemmas on the reads of the last completed entry and of the entries that run ahead, and on those
 -- of the reads that are made.
-use Rattle.st_account.proofs.Common.{Bool, if◌then◌else◌, nat_lt, All, ◌≡◌, ℕ, zero, suc, ◌+◌, ◌≤◌, ◌<◌, max, true, false, List, [], ◌++◌, drop, length, length-append, Option, None, Some, refl, sym, ◌∙◌, ap, subst, append_assoc, arith, nat_tests, append-nil, All-weaker, LastAnswers, Machine, IsMachine, prediction, formed_asked, prepared_asked, fetches_asked, following_asked, bus_after_reads, made_before, side_count, words_asked, Read, log_after_reads, notes_of_reads, answers_left, AreEarly, IsLogged, AreDelaysUpTo, IsEntryInTime, IsTight, row_of_entry, issue_after_entry, wanted_from, tick_a, tick_p, bus_a, operands, reads_of_entry, Bus, Entry, IssueState, Made, undone_is_made_before, few_are_undone, logged-noted, two-parts, at-prepared, free-formed, made-bounds, served-append, served-asked, few-words, few-side, few-operands, few-following, served-formed, tight-after, entry, ahead, reads_before, entry-ranges, reads_up_to, HasReads}
+use Rattle.st_account.proofs.Common.{Bool, if◌then◌else◌, nat_lt, All, ◌≡◌, ℕ, zero, suc, ◌+◌, ◌≤◌, ◌<◌, max, true, false, List, [], ◌++◌, drop, length, length-append, Option, None, Some, refl, sym, ◌∙◌, ap, subst, append_assoc, arith, nat_tests, append-nil, All-weaker, LastAnswers, Machine, IsMachine, prediction, formed_asked, prepared_asked, fetches_asked, bus_after_reads, made_before, side_count, words_asked, Read, log_after_reads, notes_of_reads, answers_left, AreEarly, IsLogged, AreDelaysUpTo, IsEntryInTime, IsTight, row_of_entry, issue_after_entry, wanted_from, tick_a, tick_p, bus_a, operands, reads_of_entry, Bus, Entry, IssueState, Made, undone_is_made_before, few_are_undone, logged-noted, two-parts, at-prepared, free-formed, made-bounds, served-append, served-asked, few-words, few-side, few-operands, few-following, served-formed, tight-after, entry, ahead, reads_before, entry-ranges, reads_up_to, HasReads}
 use Rattle.st_rows.specs.Words.{fetch_words}
 use Rattle.st_rows.specs.declared.fetching.Fetching.{Fetching}
 use Rattle.st_rows.proofs.MadeLemmas.{made-more}

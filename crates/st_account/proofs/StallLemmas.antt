@@ -114,9 +114,9 @@ row-reach ds n s l tick before start taken r early since opened is at =
     ∙ sym at
 
 -- the waits of an entry, by its words, those of the previous one and its charges
-pub row-stalled : (stage : Stage) (why : Stall) (us vs bs old : List Use) (xs ys : List Charge) → us ≡ vs → bs ≡ old → xs ≡ ys
+pub row-stalled : (stage : Stage) (why : Stall) {us vs bs old : List Use} {xs ys : List Charge} → us ≡ vs → bs ≡ old → xs ≡ ys
     → row_stalled stage why us bs xs ≡ row_stalled stage why vs old ys
-row-stalled stage why us vs bs old xs ys used earlier charged = rw (used, earlier, charged) refl
+row-stalled stage why used earlier charged = rw (used, earlier, charged) refl
 
 -- the words of the last entry, none if a segment ends, are in time
 pub words-read : (ends : Bool) (old us new : List Use) → us ≡ old → new ≡ (if ends then [] else us) → All IsReadInTime old → All IsReadInTime new

@@ -1,5 +1,5 @@
 -- Lemmas on the run at the head of its loop, and on the effect of one round.
-use Rattle.st_account.proofs.Common.{Bool, nat_eq, ◌||◌, All, ◌≡◌, ◌≢◌, ℕ, ◌+◌, ◌-◌, ◌*◌, ◌≤◌, true, false, List, [], ◌∷◌, length, sym, ◌∙◌, ap, subst, arith, MOST_INSTRUCTIONS, Signal, OutputState, words_of_storage, Machine, word, prediction, rests, step, interrupt, AreDelaysUpTo, IsTight, IssueState, Scene, IsCard, PendingEvents, scene_at, Moment, Standing, moment_at_start, next_state, standing_at, next_moment, settled-done, IsMoment, HasTime, start-is, next-is, next-time, Stage, Totals, ticks_for, all_ticks, charges_at, entries_from, all_charges, sum_at, AreWithin, Account, Last, IsAtStart, HasTakenEvents, IsNext, IsStepped, Completes, is_parted, waited_at, row_stalled, WaitTotals, Stall, Position, position, next_position, predicting, charges_kept, kept_stalled, AddsKeptWaits, IsStanding, IsAt, run_ends, segment_after, uses_at, words_before, stalled_from, end_from, done_line, ticks_line}
+use Rattle.st_account.proofs.Common.{Bool, nat_eq, ◌||◌, All, ◌≡◌, ◌≢◌, ℕ, ◌+◌, ◌*◌, ◌≤◌, true, false, List, [], ◌∷◌, length, sym, ◌∙◌, ap, subst, arith, MOST_INSTRUCTIONS, Signal, OutputState, words_of_storage, Machine, word, prediction, rests, step, interrupt, AreDelaysUpTo, IsTight, IssueState, Scene, IsCard, PendingEvents, scene_at, Moment, Standing, moment_at_start, next_state, standing_at, next_moment, settled-done, IsMoment, HasTime, start-is, next-is, next-time, Stage, Totals, ticks_for, all_ticks, charges_at, entries_from, all_charges, sum_at, AreWithin, Account, Last, IsAtStart, HasTakenEvents, IsNext, IsStepped, Completes, is_parted, waited_at, row_stalled, WaitTotals, Stall, Position, position, next_position, predicting, charges_kept, kept_stalled, AddsKeptWaits, IsStanding, IsAt, run_ends, segment_after, uses_at, words_before, stalled_from, end_from, done_line, ticks_line}
 use Rattle.st_exec.proofs.StepLemmas.{step-done}
 use Rattle.st_report.specs.Line.{end_line as run_end_line}
 use Rattle.st_account.proofs.LastLemmas.{start-last}

@@ -1,29 +1,37 @@
 use Rattle.st_account.proofs.Common.{All, option_map, List, ◌<◌, refl, sym, ◌∙◌, ap, subst, arith, IsNotAmong, prediction, address, Use, EntryDone, Origin, StallCause, delays-are, entry-ranges, side_at, formed_uses, Last, entry, because, AreWaitsWithin, IsReadInTime, origin_at, lines_of_entry}
-use Rattle.st_account.proofs.EntryLemmas.{uses-is, entry-lines, entry-row, entry-last, entry-charges, entry-step, kept-some}
+use Rattle.st_account.proofs.EntryLemmas.{IsCompleted, uses-is, entry-lines, entry-row, entry-last, entry-charges, entry-step, kept-some}
 use Rattle.st_ledger.proofs.Laws.{reads_of_an_entry_are_in_time}
 use Rattle.st_account.proofs.LeftLemmas.{entry-left}
 use Rattle.st_account.proofs.TallyLemmas.{row-counts, entry-ordered}
 use Rattle.st_account.proofs.StallLemmas.{kept-stalled-some, row-reach, row-stalled}
+use Rattle.st_account.proofs.account.Account.step.Goals.{After-execute}
 use Rattle.st_account.proofs.account.Account.step.Goals as goal
+
+completed : (c : After-execute)
+    → IsCompleted c.args.timing.now.delays.now.list c.args.timing.now.levels c.args.self.now.state c.args.self.now.last c.interrupt-taken.result c.execute.new.last.done
+    c.execute.new.last.uses.items
+completed c =
+    let rest = c.execute.ensures.rest in
+    record {
+      place = ap (λ (l : Last). l.done.address) rest ∙ ap (λ (d : EntryDone). d.address) c.count_on.ensures.row.rest ∙ c.next_address-address.ensures.value;
+      number = ap (λ (l : Last). l.done.n) rest ∙ ap (λ (d : EntryDone). d.n) c.count_on.ensures.row.rest ∙ c.row_number-self.ensures.number;
+      ticks = ap (λ (l : Last). l.done.row.ticks) rest ∙ c.count_on.ensures.row.ticks;
+      wait = ap (λ (l : Last). l.done.row.level_wait) rest ∙ c.count_on.ensures.row.wait;
+      predicted = ap (λ (l : Last). l.done.mispredicted) rest;
+      since = ap (λ (l : Last). l.done.before) rest ∙ ap (λ (d : EntryDone). d.before) c.count_on.ensures.row.rest;
+      opened = ap (λ (l : Last). l.done.start) rest ∙ ap (λ (d : EntryDone). d.start) c.count_on.ensures.row.rest;
+      used = ap (λ (l : Last). l.uses.items) rest ∙ c.count_on.ensures.row.uses;
+    }
 
 pub returns-clause-lines : goal.returns-clause-lines
 returns-clause-lines c facts p end some is =
     let rest = c.execute.ensures.rest in
     kept-some _ _ end some
-    ∙ entry-lines c.args.timing.now.delays.now.list c.args.timing.now.levels p c.args.self.now.state c.args.self.now.last c.interrupt-taken.result is
-    c.interrupt-taken.ensures.value (origin_at c.args.self.now.origins) end c.execute.new.last.done _ _
-    (ap (λ (l : Last). l.done.address) rest ∙ ap (λ (d : EntryDone). d.address) c.count_on.ensures.row.rest ∙ c.next_address-address.ensures.value)
+    ∙ entry-lines is c.interrupt-taken.ensures.value (completed (goal.at.returns-clause-lines c).After-execute) (origin_at c.args.self.now.origins) end _ _ _
     (ap (λ (l : Last). l.done.origin) rest
     ∙ ap (λ (d : EntryDone). d.origin) c.count_on.ensures.row.rest
     ∙ c.at_if-self.ensures.facts facts
     ∙ ap (origin_at c.args.self.now.origins c.args.self.now.state) c.next_address-address.ensures.value)
-    (ap (λ (l : Last). l.done.row.ticks) rest ∙ c.count_on.ensures.row.ticks)
-    (ap (λ (l : Last). l.done.row.level_wait) rest ∙ c.count_on.ensures.row.wait)
-    (ap (λ (l : Last). l.done.n) rest ∙ ap (λ (d : EntryDone). d.n) c.count_on.ensures.row.rest ∙ c.row_number-self.ensures.number)
-    (ap (λ (l : Last). l.done.mispredicted) rest)
-    (ap (λ (l : Last). l.done.before) rest ∙ ap (λ (d : EntryDone). d.before) c.count_on.ensures.row.rest)
-    (ap (λ (l : Last). l.done.start) rest ∙ ap (λ (d : EntryDone). d.start) c.count_on.ensures.row.rest)
-    (ap (λ (l : Last). l.uses.items) rest ∙ c.count_on.ensures.row.uses)
     (ap (λ (l : Last). l.done.because) rest
     ∙ c.count_on.ensures.because facts
     ∙ ap (λ us. because c.args.self.now.last.issue (entry c.interrupt-taken.result c.args.self.now.state) c.count_on.new.last.done.row.ticks.a
@@ -43,6 +51,7 @@ returns-clause-lines c facts p end some is =
 pub returns-clause-stepped : goal.returns-clause-stepped
 returns-clause-stepped c =
     let rest = c.execute.ensures.rest in
+    let done = completed (goal.at.returns-clause-stepped c).After-execute in
     record {
       state = entry-step c.args.self.now.state _ c.interrupt-taken.result c.interrupt-taken.ensures.value c.execute.ensures.state;
       enabled = ap (λ (l : Last). l.enabled) c.execute.ensures.rest;
@@ -56,23 +65,17 @@ returns-clause-stepped c =
           entry-ordered c.args.timing.now.delays.now.list (delays-are c.args.timing.now.delays.now) c.args.timing.now.levels c.args.self.now.state c.args.self.now.last _
           c.interrupt-taken.result c.requires.opened.order (omega (arith, c.requires.early, c.requires.opened.soon)) c.requires.opened.tight
           (entry-ranges c.interrupt-taken.result c.args.self.now.state c.row_number-self.ensures.machine c.interrupt-taken.ensures.bound)
-          (ap (λ (l : Last). l.done.before) rest ∙ ap (λ (d : EntryDone). d.before) c.count_on.ensures.row.rest)
-          (ap (λ (l : Last). l.done.start) rest ∙ ap (λ (d : EntryDone). d.start) c.count_on.ensures.row.rest)
-          (ap (λ (l : Last). l.done.row.ticks) rest ∙ c.count_on.ensures.row.ticks)
-          (ap (λ (l : Last). l.done.row.level_wait) rest ∙ c.count_on.ensures.row.wait)
+          done.since done.opened done.ticks done.wait
           (ap (λ (l : Last). l.tick) rest ∙ c.count_on.ensures.row.tick ∙ ap (λ (l : Last). l.done.row.ticks.c) (sym rest));
-      before = ap (λ (l : Last). l.done.before) c.execute.ensures.rest ∙ ap (λ (d : EntryDone). d.before) c.count_on.ensures.row.rest;
+      before = done.since;
       waiting =
           record {
-            uses = subst (All IsReadInTime) (sym (ap (λ (l : Last). l.uses.items) rest ∙ c.count_on.ensures.row.uses)) (reads_of_an_entry_are_in_time _ _ _ _ _ _);
+            uses = subst (All IsReadInTime) (sym done.used) (reads_of_an_entry_are_in_time _ _ _ _ _ _);
             before = subst (All IsReadInTime) (sym (ap (λ (l : Last). l.uses.before) rest ∙ c.count_on.ensures.row.earlier)) c.requires.read;
             reach = row-reach c.args.timing.now.delays.now.list c.args.timing.now.levels c.args.self.now.state c.args.self.now.last _ _ _ c.interrupt-taken.result _
-                c.requires.opened.order
-                (ap (λ (l : Last). l.done.before) rest ∙ ap (λ (d : EntryDone). d.before) c.count_on.ensures.row.rest)
-                (ap (λ (l : Last). l.done.start) rest ∙ ap (λ (d : EntryDone). d.start) c.count_on.ensures.row.rest)
-                (ap (λ (l : Last). l.done.row.ticks) rest ∙ c.count_on.ensures.row.ticks)
+                c.requires.opened.order done.since done.opened done.ticks
                 (ap (λ (l : Last). l.tick) rest ∙ c.count_on.ensures.row.tick ∙ ap (λ (l : Last). l.done.row.ticks.c) (sym rest));
-            within = subst (λ t. AreWaitsWithin t c.args.self.now.waiting.totals) (sym (ap (λ (l : Last). l.done.before) rest ∙ ap (λ (d : EntryDone). d.before) c.count_on.ensures.row.rest)) c.requires.waits;
+            within = subst (λ t. AreWaitsWithin t c.args.self.now.waiting.totals) (sym done.since) c.requires.waits;
           };
       rest = refl;
     }
@@ -80,18 +83,12 @@ returns-clause-stepped c =
 pub returns-clause-completes : goal.returns-clause-completes
 returns-clause-completes c p is =
     let rest = c.execute.ensures.rest in
-    let used = uses-is c.args.timing.now.delays.now.list c.args.timing.now.levels p c.args.self.now.state c.args.self.now.last c.interrupt-taken.result is
-    c.interrupt-taken.ensures.value _ (ap (λ (l : Last). l.uses.items) c.execute.ensures.rest ∙ c.count_on.ensures.row.uses) in
-    let charged =
-    entry-charges c.args.timing.now.delays.now.list c.args.timing.now.levels p c.args.self.now.state c.args.self.now.last c.interrupt-taken.result is
-    c.interrupt-taken.ensures.value _ _ _
-    (ap (λ (l : Last). l.done.row.ticks) rest ∙ c.count_on.ensures.row.ticks)
-    (ap (λ (l : Last). l.done.before) rest ∙ ap (λ (d : EntryDone). d.before) c.count_on.ensures.row.rest)
-    (ap (λ (l : Last). l.done.start) rest ∙ ap (λ (d : EntryDone). d.start) c.count_on.ensures.row.rest) in
+    let done = completed (goal.at.returns-clause-completes c).After-execute in
+    let used = uses-is is c.interrupt-taken.ensures.value done in
+    let charged = entry-charges is c.interrupt-taken.ensures.value done in
     record {
       last =
-          entry-last c.args.timing.now.delays.now.list c.args.timing.now.levels p c.args.self.now.state c.args.self.now.last c.interrupt-taken.result is
-          c.interrupt-taken.ensures.value (delays-are c.args.timing.now.delays.now) c.execute.new.state
+          entry-last is c.interrupt-taken.ensures.value c.args.timing.now.delays.now.list (delays-are c.args.timing.now.delays.now) c.args.timing.now.levels c.execute.new.state
           c.count_on.new.last c.execute.new.last c.count_on.new.log c.count_on.new.last.done.row.ticks c.requires.opened.tight
           (entry-ranges c.interrupt-taken.result c.args.self.now.state c.row_number-self.ensures.machine c.interrupt-taken.ensures.bound) c.execute.ensures.state c.execute.ensures.prediction
           c.count_on.ensures.row.ticks c.count_on.ensures.row.tick c.count_on.ensures.row.issue c.count_on.ensures.log
@@ -100,7 +97,7 @@ returns-clause-completes c p is =
       charges = charged;
       stalled = λ r s some.
           kept-stalled-some r s _ _ some
-          ∙ row-stalled r s _ _ _ _ _ _ used (ap (λ (l : Last). l.uses.before) rest ∙ c.count_on.ensures.row.earlier) charged;
+          ∙ row-stalled r s used (ap (λ (l : Last). l.uses.before) rest ∙ c.count_on.ensures.row.earlier) charged;
       row = λ end v some.
           let o = origin_at c.args.self.now.origins in
           let s = c.args.self.now.state in
@@ -118,19 +115,7 @@ returns-clause-completes c p is =
           ∙ c.count_on.ensures.lost (subst (λ (l : Last). l.done.before < l.done.row.ticks.r) rest lost)
           ∙ ap (why c.count_on.new.last) (sym c.count_on.ensures.row.earlier)
           ∙ ap (λ (l : Last). why l l.uses.before) (sym rest))
-          (entry-row c.args.timing.now.delays.now.list c.args.timing.now.levels p s c.args.self.now.last c.interrupt-taken.result is
-          c.interrupt-taken.ensures.value o end
-          (record c.execute.new.last.done { origin = o s (address s); because = why c.execute.new.last c.execute.new.last.uses.before }) _ _
-          (ap (λ (l : Last). l.done.address) rest ∙ ap (λ (d : EntryDone). d.address) c.count_on.ensures.row.rest ∙ c.next_address-address.ensures.value)
-          refl
-          (ap (λ (l : Last). l.done.row.ticks) rest ∙ c.count_on.ensures.row.ticks)
-          (ap (λ (l : Last). l.done.row.level_wait) rest ∙ c.count_on.ensures.row.wait)
-          (ap (λ (l : Last). l.done.n) rest ∙ ap (λ (d : EntryDone). d.n) c.count_on.ensures.row.rest ∙ c.row_number-self.ensures.number)
-          (ap (λ (l : Last). l.done.mispredicted) rest)
-          (ap (λ (l : Last). l.done.before) rest ∙ ap (λ (d : EntryDone). d.before) c.count_on.ensures.row.rest)
-          (ap (λ (l : Last). l.done.start) rest ∙ ap (λ (d : EntryDone). d.start) c.count_on.ensures.row.rest)
-          (ap (λ (l : Last). l.uses.items) rest ∙ c.count_on.ensures.row.uses)
-          refl
+          (entry-row is c.interrupt-taken.ensures.value done o end _ _ _ refl refl
           v _
           (ap (λ (l : Last). l.uses.before) rest ∙ c.count_on.ensures.row.earlier));
     }
