@@ -1,11 +1,12 @@
 -- Lemmas on the waits of the last entry and their totals.
-use Rattle.st_account.proofs.Common.{if◌then◌else◌, nat_eq, All, ◌≡◌, ◌≢◌, ℕ, zero, suc, ◌+◌, ◌≤◌, false, List, [], Option, refl, sym, ◌∙◌, ap, subst, arith, cond_both, nat_tests, All-nil, Machine, row_of_entry, EntryTicks, entry, parts_of_row, charges_behind, all_ticks, Stage, Restart, Instruction, Address, Index, Preparing, Operand, Executing, Use, AreSharesWithin, AreWaitsWithin, share_at, waited_at, row_stalled, IsReadInTime, WaitTotals, Stall, Turn, Bank, Storage, Last, charges_kept, kept_stalled, IsWaiting, AddsKeptWaits}
+use Rattle.st_account.proofs.Common.{if◌then◌else◌, nat_eq, All, ◌≡◌, ◌≢◌, ℕ, zero, suc, ◌+◌, ◌≤◌, false, List, [], Option, refl, sym, ◌∙◌, ap, subst, arith, cond_both, nat_tests, All-nil, EntryDone, Machine, EntryTicks, entry, parts_of_row, charges_behind, all_ticks, Stage, Restart, Instruction, Address, Index, Preparing, Operand, Executing, Use, AreSharesWithin, AreWaitsWithin, share_at, waited_at, row_stalled, IsReadInTime, WaitTotals, Stall, Turn, Bank, Storage, Last, charges_kept, kept_stalled, IsWaiting, AddsKeptWaits}
 use Rattle.std.proofs.Common.{Bool}
 use Rattle.st_ledger.proofs.Rows.{row-sum}
 use Rattle.st_ledger.specs.declared.sums.Shares.{Shares}
 use Rattle.st_ledger.specs.declared.charges.Charge.{Charge}
 use Rattle.st_ledger.proofs.AddedWaits.{shares-later}
 use Rattle.st_lines.specs.Waited.{AddsWaits}
+use Rattle.st_account.proofs.EntryLemmas.{IsCompleted}
 
 -- ---- totals
 
@@ -103,15 +104,12 @@ adds-same k l o t u new same is h = record {
 
 -- ---- the next entry
 
-pub row-reach : (ds : List ℕ) (n : ℕ) (s : Machine) (l : Last) (tick before start : ℕ) (taken : Option ℕ) (r : EntryTicks) → l.tick ≤ l.issue.c → before ≡ l.tick
-    → start ≡ l.issue.c → r ≡ row_of_entry ds n l.issue (entry taken s) → tick ≡ r.c → before + all_ticks (charges_behind before (parts_of_row start r)) ≡ tick
-row-reach ds n s l tick before start taken r early since opened is at =
-    ap (λ t. t + all_ticks (charges_behind t (parts_of_row start r))) since
-    ∙ ap (λ t. l.tick + all_ticks (charges_behind l.tick (parts_of_row t r))) opened
-    ∙ ap (λ x. l.tick + all_ticks (charges_behind l.tick (parts_of_row l.issue.c x))) is
-    ∙ row-sum ds n l.tick l.issue (entry taken s) early
-    ∙ ap (λ (x : EntryTicks). x.c) (sym is)
-    ∙ sym at
+module _ {ds : List ℕ} {n : ℕ} {s : Machine} {l : Last} {taken : Option ℕ} {j : EntryDone} {us : List Use} (h : IsCompleted ds n s l taken j us) where
+  pub row-reach : {tick : ℕ} → l.tick ≤ l.issue.c → tick ≡ j.row.ticks.c → j.before + all_ticks (charges_behind j.before (parts_of_row j.start j.row.ticks)) ≡ tick
+  row-reach early at =
+      rw (h.since, h.opened, h.ticks) (row-sum ds n l.tick l.issue (entry taken s) early)
+      ∙ ap (λ (x : EntryTicks). x.c) (sym h.ticks)
+      ∙ sym at
 
 -- the waits of an entry, by its words, those of the previous one and its charges
 pub row-stalled : (stage : Stage) (why : Stall) {us vs bs old : List Use} {xs ys : List Charge} → us ≡ vs → bs ≡ old → xs ≡ ys

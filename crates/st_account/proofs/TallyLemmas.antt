@@ -3,6 +3,7 @@ use Rattle.st_account.proofs.Common.{Bool, if◌then◌else◌, nat_eq, option_m
 use Rattle.std.specs.Prelude.{length, Option}
 use Rattle.st_rows.proofs.Laws.{rows_are_in_order, completions_are_bounded}
 use Rattle.st_tally.proofs.Alike.{tally-alike, entries-alike}
+use Rattle.st_account.proofs.EntryLemmas.{IsCompleted}
 use Rattle.st_account.proofs.StallLemmas.{row-reach}
 
 pub kept-rows-none : (k : ℕ) (l : Last) (end : Option ℕ) (w : Why) → k ≡ 0 → kept_rows k l end w ≡ []
@@ -133,24 +134,22 @@ unfolding row_of_entry issue_after_entry
 bounded ds are n f e fits tight early = omega (arith, completions_are_bounded.bound 255 n ds f e are fits tight, early)
 
 pub entry-ordered : (ds : List ℕ) → AreDelaysUpTo 255 ds → (n : ℕ) (s : Machine) (l j : Last) (taken : Option ℕ) → l.tick ≤ l.issue.c → l.issue.c ≤ 2 ^ 63 → IsTight 255 l.issue
-    → IsEntryInTime (entry taken s) → j.done.before ≡ l.tick
-    → j.done.start ≡ l.issue.c → j.done.row.ticks ≡ row_of_entry ds n l.issue (entry taken s) → j.done.row.level_wait ≡ level_wait ds n l.issue (entry taken s)
-    → j.tick ≡ j.done.row.ticks.c → IsOrdered j
+    → IsEntryInTime (entry taken s) → IsCompleted ds n s l taken j.done j.uses.items → j.tick ≡ j.done.row.ticks.c → IsOrdered j
 unfolding level_wait
-entry-ordered ds are n s l j taken early soon tight fits since opened is_row is_wait at =
+entry-ordered ds are n s l j taken early soon tight fits h at =
     let e = entry taken s in
-    let r : j.done.row.ticks.r ≡ (row_of_entry ds n l.issue e).r = ap (λ (x : EntryTicks). x.r) is_row in
-    let c : j.done.row.ticks.c ≡ (row_of_entry ds n l.issue e).c = ap (λ (x : EntryTicks). x.c) is_row in
+    let r : j.done.row.ticks.r ≡ (row_of_entry ds n l.issue e).r = ap (λ (x : EntryTicks). x.r) h.ticks in
+    let c : j.done.row.ticks.c ≡ (row_of_entry ds n l.issue e).c = ap (λ (x : EntryTicks). x.c) h.ticks in
     let done = rows_are_in_order.done ds n l.issue e fits in
     let ready = rows_are_in_order.ready ds n l.issue e in
     let level = rows_are_in_order.levels ds n l.issue e in
     record {
       order = record {
-        later = omega (arith, since, early, c, done.1);
+        later = omega (arith, h.since, early, c, done.1);
         ready = omega (arith, r, c, done.0);
         early = omega (arith, c, bounded ds are n l.issue e fits tight soon);
-        reach = row-reach ds n s l j.tick j.done.before j.done.start taken j.done.row.ticks early since opened is_row at ∙ at;
+        reach = row-reach h early at ∙ at;
       };
       at = sym at;
-      wait = omega (arith, is_wait, at, c, done.0, ready, level);
+      wait = omega (arith, h.wait, at, c, done.0, ready, level);
     }

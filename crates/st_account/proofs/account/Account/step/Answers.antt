@@ -65,15 +65,13 @@ returns-clause-stepped c =
           entry-ordered c.args.timing.now.delays.now.list (delays-are c.args.timing.now.delays.now) c.args.timing.now.levels c.args.self.now.state c.args.self.now.last _
           c.interrupt-taken.result c.requires.opened.order (omega (arith, c.requires.early, c.requires.opened.soon)) c.requires.opened.tight
           (entry-ranges c.interrupt-taken.result c.args.self.now.state c.row_number-self.ensures.machine c.interrupt-taken.ensures.bound)
-          done.since done.opened done.ticks done.wait
-          (ap (λ (l : Last). l.tick) rest ∙ c.count_on.ensures.row.tick ∙ ap (λ (l : Last). l.done.row.ticks.c) (sym rest));
+          done (ap (λ (l : Last). l.tick) rest ∙ c.count_on.ensures.row.tick ∙ ap (λ (l : Last). l.done.row.ticks.c) (sym rest));
       before = done.since;
       waiting =
           record {
             uses = subst (All IsReadInTime) (sym done.used) (reads_of_an_entry_are_in_time _ _ _ _ _ _);
             before = subst (All IsReadInTime) (sym (ap (λ (l : Last). l.uses.before) rest ∙ c.count_on.ensures.row.earlier)) c.requires.read;
-            reach = row-reach c.args.timing.now.delays.now.list c.args.timing.now.levels c.args.self.now.state c.args.self.now.last _ _ _ c.interrupt-taken.result _
-                c.requires.opened.order done.since done.opened done.ticks
+            reach = row-reach done c.requires.opened.order
                 (ap (λ (l : Last). l.tick) rest ∙ c.count_on.ensures.row.tick ∙ ap (λ (l : Last). l.done.row.ticks.c) (sym rest));
             within = subst (λ t. AreWaitsWithin t c.args.self.now.waiting.totals) (sym done.since) c.requires.waits;
           };
