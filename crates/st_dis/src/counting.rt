@@ -91,15 +91,15 @@ fn count_controls(controls: &Controls) -> u32
     count
 }
 
-// The number of cards in the deck of a program with these words of storage. The symbol table is
-// empty. The 1 is the END card, which has the start, a half-word address, so `start` is needed only
-// to state the clause: the number is equal for each.
+// The number of cards in the deck of a program with these words of storage, whatever its start. The
+// symbol table is empty. The 1 is the END card, which has the start.
 #[tactic(auto, unfolding(crate::specs::Deck::card_count))]
-pub(crate) fn card_count(symbols: &Symbols, words: &[u64], start: u32, controls: &Controls) -> u32
+pub(crate) fn card_count(symbols: &Symbols, words: &[u64], controls: &Controls) -> u32
     requires symbols { symbols.now ≡ [] }
     requires few { length words.now ≤ WORDS }
     requires limits { IsWithinLimits controls.now }
-    ensures count { result ≡ spec.card_count (spec.program words.now start controls.now) }
+    ensures count { (start : ℕ) →
+        result ≡ spec.card_count (spec.program words.now start controls.now) }
 
     // Each word has 64 bits; the proof of `disassemble` bounds the length of the deck by it.
     ensures words { AreWords words.now }

@@ -55,7 +55,7 @@ pub fn disassemble(
     ensures short { IfOk result (λ deck. length deck.items ≤ LONGEST_JOB) }
 {
     let symbols = Symbols::new(alloc);
-    let cards = card_count(&symbols, words, start, controls);
+    let cards = card_count(&symbols, words, controls);
     if cards > MOST_CARDS {
         return Err(DisError::TooManyCards { cards });
     }

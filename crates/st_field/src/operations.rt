@@ -10,7 +10,6 @@
 //! results. Free: the split into private functions. A new operation needs a case of `result_of`,
 //! one here, and its variant in `st_bits`; docs/changing.md lists the other places.
 ghost use Rattle.std.specs.Prelude.{◌≡◌, ◌<◌, ◌%◌, ◌^◌, ℕ, true};
-ghost use Rattle.st_field.specs.Fields.{IsBinaryShape, magnitude_bits};
 ghost use Rattle.st_field.specs.Numbers.{exceeds};
 ghost use Rattle.st_field.specs.Results.{number_in};
 ghost use Rattle.st_field.specs.Bases.{IsTaken, operand_in_base as operand_of, aligned_in_base as aligned_of};
@@ -124,9 +123,8 @@ fn put_in_accumulator<B: Base>(taken: &Taken, sum: Sum, on: u64) -> Done
 }
 
 // A stored number as the magnitude of a field.
-fn magnitude(kept: Kept, shape: &Shape) -> u64
-    requires shape { IsBinaryShape shape.now }
-    requires room { kept.bits < 2 ^ magnitude_bits shape.now }
+fn magnitude(kept: Kept) -> u64
+    requires { kept.bits < 2 ^ 64 }
     ensures { result ≡ kept.bits }
 {
     kept.bits as u64
@@ -143,7 +141,7 @@ fn put_in_field<B: Base>(taken: &Taken, sum: Sum) -> Done
 {
     let kept = B::replaced(taken, sum);
     let field = Field {
-        mag: magnitude(kept, &taken.shape),
+        mag: magnitude(kept),
         negative: sum.number.negative,
         ..taken.field
     };
@@ -157,7 +155,7 @@ fn store<B: Base>(taken: &Taken) -> Done
     ensures { result ≡ store_result (B.base taken.now) taken.now }
 {
     let kept = B::stored(taken);
-    let field = stored_field(&taken.acc, &taken.shape, magnitude(kept, &taken.shape));
+    let field = stored_field(&taken.acc, &taken.shape, magnitude(kept));
     in_field(
         &taken.acc,
         &field,

@@ -11,7 +11,7 @@
 //! order, and that a row with no charge but executing has no cause. Free: the recursions and
 //! buffers, if proofs/waits follows. A new `Stall` or `Reason` of `st_ledger` needs its text here
 //! and in specs/WaitLines.antt.
-ghost use Rattle.std.specs.Prelude.{◌≡◌, ◌+◌, ◌≤◌, ◌++◌, length, IsOk};
+ghost use Rattle.std.specs.Prelude.{ℕ, ◌≡◌, ◌+◌, ◌≤◌, ◌++◌, length, IsOk};
 ghost use Rattle.st_io.specs.Lines.{WritesLines};
 ghost use Rattle.st_ledger.specs.Charges.{charges_behind, part_charges, parts_of_row};
 ghost use Rattle.st_ledger.specs.declared.because.StallCause.TheVariants.{Start as StartOf, Prefetch as PrefetchOf, Earlier as EarlierOf};
@@ -275,8 +275,8 @@ fn put_reason(line: &mut LineFromEnd, reason: Reason)
 }
 
 // Fills a line with `BECAUSE START ROW - TICK t LATE -`. The previous contents are overwritten.
-fn fill_start(line: &mut LineFromEnd, n: u32, tick: u64)
-    ensures { line.new ≡ because_line n (StartOf tick) }
+fn fill_start(line: &mut LineFromEnd, tick: u64)
+    ensures { (n : ℕ) → line.new ≡ because_line n (StartOf tick) }
 {
     line.clear();
     line.put_word(*b"\n");
@@ -286,8 +286,8 @@ fn fill_start(line: &mut LineFromEnd, n: u32, tick: u64)
 }
 
 // Fills a line with `BECAUSE PREFETCH WORD w LATE l`. The previous contents are overwritten.
-fn fill_prefetch(line: &mut LineFromEnd, n: u32, asked: &Prefetched)
-    ensures { line.new ≡ because_line n (PrefetchOf asked.now) }
+fn fill_prefetch(line: &mut LineFromEnd, asked: &Prefetched)
+    ensures { (n : ℕ) → line.new ≡ because_line n (PrefetchOf asked.now) }
 {
     line.clear();
     line.put_word(*b"\n");
@@ -318,8 +318,8 @@ fn fill_because(line: &mut LineFromEnd, n: u32, because: &StallCause)
     ensures { line.new ≡ because_line n because.now }
 {
     match because {
-        StallCause::Start(tick) => fill_start(line, n, *tick),
-        StallCause::Prefetch(asked) => fill_prefetch(line, n, asked),
+        StallCause::Start(tick) => fill_start(line, *tick),
+        StallCause::Prefetch(asked) => fill_prefetch(line, asked),
         StallCause::Earlier(cause) => fill_earlier(line, n, cause),
     }
 }

@@ -1,7 +1,7 @@
 -- The places of the last eight entries.
-use Rattle.st_rows.proofs.Common.{map, ◌≡◌, ◌+◌, ◌-◌, ◌%◌, ◌<◌, true, false, length, inl, inr, ap, sym, ◌∙◌, subst, arith, cases_eq, length-map, map-set, get_or-map, get_or-replicate, get_or-set_same, get_or-set_other, window, get_or-window, length-window, no_runs, has_words, entries_in, ticks_in, entry_in, IsEntryRing, WordRuns, Past, Done}
+use Rattle.st_rows.proofs.Common.{map, ◌≡◌, ◌+◌, ◌-◌, ◌%◌, ◌<◌, ◌^◌, true, false, length, inl, inr, ap, sym, ◌∙◌, subst, arith, cases_eq, length-map, map-set, get_or-map, get_or-replicate, get_or-set_same, get_or-set_other, window, get_or-window, length-window, trailing_zeros, w64, no_runs, has_words, entries_in, ticks_in, entry_in, IsEntryRing, WordRuns, Past, Done}
 use Rattle.std.specs.Prelude.{ℕ, List, get_or, set, replicate}
-use Rattle.st_rows.proofs.Writers.{nth}
+use Rattle.st_rows.proofs.Writers.{nth, IsLeft, newest-inside, newest-some}
 
 -- the entry without words
 abbrev no_words : Past
@@ -39,6 +39,14 @@ module _ (head : ℕ) (places : List Done) (writes : List WordRuns) (bits low hi
   words-at i below some =
       is.words ((head + i) % 8) (omega arith) (ap (λ (e : Past). has_words e.writes) (sym (entry-at i below)) ∙ some)
       ∙ ap (λ (e : Past). e.writes) (sym (entry-at i below))
+
+  -- the newest of the writers that are left is one of eight, and its words are in its place
+  pub newest-at : (w left : ℕ) → 0 < left → left < 2 ^ 64 → IsLeft past w left → let at = trailing_zeros w64 left in
+      (at < 8) × (get_or writes ((head + at) % 8) no_runs ≡ (nth past at).writes)
+  newest-at w left some fits is_left =
+      let at = trailing_zeros w64 left in
+      let below : at < 8 = omega (arith, count, newest-inside past w left some fits is_left) in
+      (below, words-at at below (newest-some past w left some fits is_left))
 
 -- the places after one more entry is put before the head
 module _ (head : ℕ) (places : List Done) (writes : List WordRuns) (bits low high : ℕ)

@@ -305,11 +305,10 @@ module _ (count left tick : ℕ) (snaps : List ℕ) (t new : Together) (row : Ro
   }
 
 -- the skipped rows if the queue has no room
-pub far-passed : (o : Option Row) (done most : ℕ) (all old new : List TimedReportedEvent) (before next : Queue) → all ≡ old → before.room ≡ 0
-    → MatchOption o ⊥ (λ row. HasGoneFar done most row old new before next)
-    → (next ≡ before) × MatchOption o (new ≡ all) (λ row. AreLeftOut row all new)
-far-passed None done most all old new before next same shut far = absurd far
-far-passed (Some row) done most all old new before next same shut far =
+pub far-passed : (row : Row) (done most : ℕ) (all old new : List TimedReportedEvent) (before next : Queue) → all ≡ old → before.room ≡ 0
+    → HasGoneFar done most row old new before next
+    → (next ≡ before) × AreLeftOut row all new
+far-passed row done most all old new before next same shut far =
     (far.waits ∙ queue-shut _ before shut, record { passed = far.out.passed; rest = same ∙ far.out.rest })
 
 -- the queued rows if the queue has room

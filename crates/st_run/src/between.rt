@@ -17,7 +17,7 @@ ghost use Rattle.std.specs.Option.{option_or};
 ghost use Rattle.st_state.specs.declared.devices.Device.TheVariants.{Reader, Printer};
 ghost use Rattle.st_exec.specs.Step.{rests};
 ghost use Rattle.st_run.specs.Run as run;
-ghost use Rattle.st_run.specs.ExternalEvents.{HasHappened, scene_at, joined_of};
+ghost use Rattle.st_run.specs.ExternalEvents.{HasHappened, PendingEvents as PendingEventsOf, scene_at, joined_of};
 
 use crate::external_events::ExternalEvents;
 use crate::pending::PendingEvents;
@@ -70,13 +70,13 @@ fn read_card<M: ExternalEvents>(machine: &mut M, pending: &mut PendingEvents) ->
 }
 
 // The printer's order takes effect.
-fn print_line<M: ExternalEvents>(machine: &mut M, pending: &PendingEvents) -> Interlude
+fn print_line<M: ExternalEvents>(machine: &mut M) -> Interlude
     requires order { IsSome (M.state machine.old).printer }
     requires turn { M.is_open machine.old }
-    ensures { HasHappened M.state M.leaves
+    ensures { (pending : PendingEventsOf) → HasHappened M.state M.leaves
         (run.with_order Printer (M.state machine.old).printer (scene_at
-        (M.state machine.old) pending.now))
-        false result machine.old pending.now machine.new pending.now }
+        (M.state machine.old) pending))
+        false result machine.old pending machine.new pending }
 {
     Interlude {
         card: false,
@@ -100,7 +100,7 @@ fn serve<M: ExternalEvents>(
 {
     match device {
         Device::Reader => read_card(machine, pending),
-        Device::Printer => print_line(machine, pending),
+        Device::Printer => print_line(machine),
     }
 }
 
@@ -160,7 +160,7 @@ fn take_due_signals<M: ExternalEvents>(machine: &mut M, pending: &mut PendingEve
 {
     'signals: while pending.is_due(done_in(machine.state())) {
         let Some(indicator) = pending.next_signal() else {
-            return
+            unreachable!()
         };
         machine.signal(indicator);
     }

@@ -108,7 +108,7 @@ pub(crate) fn pass_entries<const N: usize>(
         return None;
     }
     let done = done_of(&run.driven);
-    go_far(run, done, MOST, rows)
+    Some(go_far(run, done, MOST, rows))
 }
 
 // If no other kind of event is next, completes entries until one is and queues their rows, for all
@@ -130,9 +130,7 @@ pub(crate) fn make_rows<const N: usize>(run: &mut Progress<N>, rows: &mut RowQue
     }
     rows.open();
     let done = done_of(&run.driven);
-    let Some(row) = go_far(run, done, done + ROWS, rows) else {
-        return;
-    };
+    let row = go_far(run, done, done + ROWS, rows);
     rows.put(row);
     rows.shut();
 }
@@ -160,7 +158,7 @@ fn go_far<const N: usize>(
     done: u64,
     most: u64,
     rows: &mut RowQueue,
-) -> Option<Row>
+) -> Row
     requires run { IsBeforeNext run.old }
     requires turn { run.old.turn ≡ turns.Before }
     requires waits { IsTold run.old }
@@ -169,16 +167,16 @@ fn go_far<const N: usize>(
 
     ensures kept { IsUnderWay run.new }
     ensures led { IsLedOn run.old.driven.machine run.new.driven.machine }
-    ensures told { MatchOption result ⊥ (λ row. HasGoneFar done most row
-        (told_ahead run.old) (rest_behind run.new) rows.old rows.new) }
+    ensures told { HasGoneFar done most result (told_ahead run.old) (rest_behind run.new) rows.old
+        rows.new }
 {
     let count = count_of(&run.driven, done, run.left, most);
     let Some(halt) = run_many(&mut run.driven, count, rows) else {
-        return None;
+        unreachable!()
     };
     run.left -= halt.row.number - 1 - done;
     leave_entry(run, &halt);
-    Some(halt.row)
+    halt.row
 }
 
 // The count of completed instructions up to which only completions can occur, at most `most`:

@@ -13,7 +13,7 @@ push_deck-requires-clause-few c =
 pub returns-in-Ok-clause-short : goal.returns-in-Ok-clause-short
 returns-in-Ok-clause-short c =
     let p : Program = record { words = c.args.words.now; start = c.args.start; controls = c.args.controls.now } in
-    let counted = c.card_count-cards.ensures.count in
+    let counted = c.card_count-cards.ensures.count c.args.start in
     let under = c.if-cards-gt-MOST_CARDS.false in
     let few : card_count p ≤ 20000 = omega (arith, counted, under) in
     let text = c.in-Ok.ensures ∙ ap (λ (s : List ℕ). s ++ deck_text p) c.new-deck.ensures.items in

@@ -16,23 +16,13 @@ run_many-requires g c =
     let is = ahead-is run.left run.tick run.snaps.now run.queue run.driven c.requires.run c.requires.waits c.requires.snaps in
     (omega arith, (is.before, (done-in_time run.left run.tick [] run.driven is.before is.in_time, c.count_of-count.ensures.few)))
 
-pub returns-in_default-clause-kept : goal.returns-in_default-clause-kept
-returns-in_default-clause-kept g c =
+pub unreachable-requires : goal.unreachable-requires
+unreachable-requires g c =
     let run = c.args.run.now in
     let is = ahead-is run.left run.tick run.snaps.now run.queue run.driven c.requires.run c.requires.waits c.requires.snaps in
-    let no : ⊥ = far-none c.count_of-count.result run.left run.tick run.driven c.run_many.new.driven is
+    far-none c.count_of-count.result run.left run.tick run.driven c.run_many.new.driven is
     (omega (arith, c.count_of-count.ensures.left, c.requires.done))
-    c.count_of-count.ensures.signal c.in_default.ensures.made in
-    absurd no
-
-pub returns-in_default-clause-told : goal.returns-in_default-clause-told
-returns-in_default-clause-told g c =
-    let run = c.args.run.now in
-    let is = ahead-is run.left run.tick run.snaps.now run.queue run.driven c.requires.run c.requires.waits c.requires.snaps in
-    let no : ⊥ = far-none c.count_of-count.result run.left run.tick run.driven c.run_many.new.driven is
-    (omega (arith, c.count_of-count.ensures.left, c.requires.done))
-    c.count_of-count.ensures.signal c.in_default.ensures.made in
-    absurd no
+    c.count_of-count.ensures.signal c.in_default.ensures.made
 
 pub overflow_sub-run-2 : goal.overflow_sub-run-2
 overflow_sub-run-2 g c =

@@ -16,12 +16,12 @@ overflow_add-done g c =
 pub returns-clause-told : goal.returns-clause-told
 returns-clause-told g c =
     let run = c.args.run.now in
-    let after = c.go_far.new.run in
+    let after = c.go_far-row.new.run in
     let rest = rest_of after.turn after.left after.tick after.snaps.now after.queue after.driven in
     let may = c.may_go_far.ensures c.if-not-may_go_far.false in
-    let waits : queue_with (c.in-Some.row ∷ []) c.go_far.new.rows ≡ c.put.new.self = sym c.put.ensures in
+    let waits : queue_with (c.go_far-row.result ∷ []) c.go_far-row.new.rows ≡ c.put.new.self = sym c.put.ensures in
     let shut_rows : c.put.new.self.rows ≡ c.shut.new.self.rows = sym (ap {A = Queue} (λ q. q.rows) c.shut.ensures) in
     turn-rest run.turn run.left run.tick run.snaps.now run.queue run.queue run.driven may.2 refl c.requires.run turns.Before may.0
-    ∙ far-waits c.done_of-done.result c.in-Some.row _ rest _ _ c.in-Some.ensures.told c.open.ensures
+    ∙ far-waits c.done_of-done.result c.go_far-row.result _ rest _ _ c.go_far-row.ensures.told c.open.ensures
     ∙ ap {A = Queue} (λ q. rows_then q.rows rest) waits
     ∙ ap {A = List Row} (λ xs. rows_then xs rest) shut_rows
