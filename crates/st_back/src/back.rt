@@ -88,19 +88,8 @@ impl Back {
         });
     }
 
-    /// Whether a word can be put: there is a step, and at most seven words were put since it was
-    /// made.
-    pub fn can_put(&self) -> bool
-        ensures { result ≡ has_room (newest_step self.now.kept) }
-    {
-        match self.ring.back() {
-            Some(kept) => kept.puts <= 7,
-            None => false,
-        }
-    }
-
     /// Stores a word of a transfer at the word address `w`, and records its previous contents with
-    /// the newest step. `can_put` must hold.
+    /// the newest step. There is a step, and at most seven words were put since it was made.
     pub fn put(&mut self, state: &mut State, w: u32, word: u64)
         requires above { 32 ≤ w }
         requires inside { w < words_of_storage }

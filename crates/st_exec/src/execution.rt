@@ -1,8 +1,7 @@
 //! The execution of one entry (instruction), from its preparation to its completion, and the
 //! reading of its operand words. `execute` is a step without the choice whether an interrupt comes,
 //! which step.rt makes. `read_operands` gives up to 32 words, those of a transmission; kept.rt
-//! reads the old contents of written words by this function, too. Only step.rt calls `execute`,
-//! only kept.rt calls `read_operands`; both are exported. docs/machine.md has the rules.
+//! reads the old contents of written words by this function, too. docs/machine.md has the rules.
 //!
 //! Proved: the new state is `state_after_execution` of specs/Completion.antt; the operands are the
 //! words of the two runs in order (`AreOperands` of specs/Operand.antt), and 0 after them (clause
@@ -41,7 +40,7 @@ fn operand_at(words: Words, k: u8, state: &State) -> u64
 }
 
 /// The operand words, in order, read from the state. The remaining places are 0.
-pub fn read_operands(words: Words, state: &State) -> [u64; 32]
+pub(crate) fn read_operands(words: Words, state: &State) -> [u64; 32]
     requires runs { IsRuns words }
     requires inside { AreInside words }
     ensures words { AreOperands words result state.now }

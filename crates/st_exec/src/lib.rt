@@ -25,7 +25,7 @@ mod transfers;
 mod transmission;
 
 pub use completing::{complete, complete_in};
-pub use execution::{execute, read_operands};
+pub use execution::execute;
 pub use kept::{Trail, one_kept, trail_of};
 pub use mispredicted::is_mispredicted;
 pub use step::{Step, interrupt, is_at_rest, next_address, one};

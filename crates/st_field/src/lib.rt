@@ -26,7 +26,7 @@ pub use accumulator::Acc;
 pub use base::{Base, Taken, take};
 pub use digits::{digits_value, power_of_ten, to_digits};
 pub use fields::{Field, Shape, read_field, write_field};
-pub use loads::{load, load_factor, load_transit, load_with_flags};
+pub use loads::{load, load_transit};
 pub use operand::{Aligned, Kept, align, cut, shift};
 pub use operations::operate;
 pub use outcome::{Done, done_with, in_accumulator, in_field};

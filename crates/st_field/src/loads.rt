@@ -28,7 +28,7 @@ pub fn load(operand: Aligned) -> Done
 }
 
 /// Load with flags: the aligned operand with the zone and flags of its field.
-pub fn load_with_flags(f: &Field, operand: Aligned) -> Done
+pub(crate) fn load_with_flags(f: &Field, operand: Aligned) -> Done
     requires zone { f.now.zone < 16 }
     requires flags { f.now.flags < 8 }
     requires few { operand.on < 2 ^ 63 }
@@ -55,7 +55,7 @@ pub fn load_transit(acc: &Acc, operand: Signed, bits: u64, on: u64) -> Done
 
 /// Load factor: `bits`, the contents of the field, are loaded into the factor register. The operand
 /// is the result number; the indicators `on` are also turned on.
-pub fn load_factor(acc: &Acc, operand: Signed, bits: u64, on: u64) -> Done
+pub(crate) fn load_factor(acc: &Acc, operand: Signed, bits: u64, on: u64) -> Done
     requires { on < 2 ^ 63 }
     ensures { result ≡ factor_loaded acc.now operand bits on }
 {

@@ -29,7 +29,7 @@ mod waits;
 
 pub use because::{Cause, Prefetched, Reason, StallCause, find_reason};
 pub use charges::{Charge, Stage, StagePart};
-pub use lines::{RowLine, fill_charge, fill_row, put_stage};
+pub use lines::{RowLine, fill_charge, put_stage};
 pub use sums::{Shares, WaitSum, WaitTotals, wait_sums};
 pub use telling::{later, parts, write_row};
 pub use totals::{Totals, write_sums};

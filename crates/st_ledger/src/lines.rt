@@ -70,7 +70,7 @@ impl RowLine {
 
 /// Fills a buffer with `ROW n a A x P p R r C c`: the n-th completed entry, its half-word address,
 /// and its ticks. The previous contents are overwritten.
-pub fn fill_row(line: &mut RowLine, n: u32, address: u32, row: &EntryTicks)
+pub(crate) fn fill_row(line: &mut RowLine, n: u32, address: u32, row: &EntryTicks)
     ensures { line.new.bytes ≡ row_stage_line n address row.now }
 {
     line.bytes.clear();

@@ -27,7 +27,7 @@ pub use facts::{EntryDone, EntryRecord, write_done};
 pub use lines::{Alone, Why};
 pub use origins::{Origin, Origins};
 pub use uses::FactLine;
-pub use waits::{RowTelling, add_waits, write_because, write_charged, write_wait_sums};
+pub use waits::{RowTelling, add_waits, write_wait_sums};
 pub use writing::{
     Between, Border, Dropped, Printed, copy_changed, write_border, write_end, write_machine,
     write_marks, write_start, write_totals, write_whole_state,

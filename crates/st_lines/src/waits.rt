@@ -143,7 +143,7 @@ fn write_parts<K: Sink>(
 
 /// Writes the charges of a completed entry, each followed by its waits, and adds the waits to the
 /// totals.
-pub fn write_charged<K: Sink>(
+pub(crate) fn write_charged<K: Sink>(
     out: &mut K,
     entry: &EntryRecord<'_>,
     waiting: &mut RowTelling,
@@ -328,7 +328,7 @@ fn fill_because(line: &mut LineFromEnd, n: u32, because: &StallCause)
 /// executing. The previous entry completed at tick `done`, and the entry's operands were available
 /// at tick `r`.
 #[tactic(auto, unfolding(crate::specs::WaitLines::because_lines), using(st_io::proofs::Progress::wrote_nothing))]
-pub fn write_because<K: Sink>(
+pub(crate) fn write_because<K: Sink>(
     out: &mut K,
     n: u32,
     done: u64,

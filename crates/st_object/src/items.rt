@@ -7,8 +7,8 @@
 //!
 //! Pinned, by these two definitions: the variants. Free: the order of the variants. A line that is
 //! no request is a variant of both enums; the compiler then names the functions that need a case,
-//! and the tables in meaning.rt and order.rt need a row. A new request is a row of ORDER in
-//! order.rt and of the table of `st_card`, and nothing else here.
+//! and the tables in meaning.rt and order.rt need a row. A new request is a row of the table of
+//! `st_card`, and nothing here.
 
 use st_card::{Control, Keyword};
 

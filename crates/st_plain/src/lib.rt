@@ -17,5 +17,5 @@ mod looking;
 mod rows;
 
 pub use known::{Code, Known};
-pub use looking::{Ahead, Aheads, FoundAhead, Reach, look};
+pub use looking::{Ahead, FoundAhead, Reach, look};
 pub use rows::{Before, Begun, WaitedRow, begin, fill, pass};

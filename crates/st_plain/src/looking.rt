@@ -47,9 +47,6 @@ pub struct Ahead {
     pub uses: Uses,
 }
 
-/// Predicted entries, oldest first, at most as many as there are levels.
-pub type Aheads = ArrayVec<Ahead, 8>;
-
 /// Makes the predicted step of a prepared entry: a branch on an indicator is not taken. Fewer than
 /// 2^63 instructions are completed before.
 pub fn prediction(p: &Prepared, state: &mut State)
@@ -78,8 +75,8 @@ pub struct Reach<'a> {
 /// The predicted entries that are found.
 #[derive(Debug, Default, Drop)]
 pub struct FoundAhead {
-    /// The entries that are prepared in time, oldest first.
-    pub found: Aheads,
+    /// The entries that are prepared in time, oldest first; at most as many as there are levels.
+    pub found: ArrayVec<Ahead, 8>,
     /// The entry after them, with the ticks that it would have.
     pub late: Ahead,
 }

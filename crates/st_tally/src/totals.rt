@@ -7,7 +7,7 @@
 //! within the ticks so far (`AreTablesWithin` in specs/Slots.antt).
 //!
 //! Pinned, by docs/ledger.md ("Totals and tables"): the lines SUM are over all rows. Free: the
-//! bodies, if proofs/totals follows.
+//! bodies.
 ghost use Rattle.std.specs.Prelude.{◌≡◌, ◌^◌, true, List};
 ghost use Rattle.st_ledger.specs.Totals.{sum_at as ticks_at};
 ghost use Rattle.st_ledger.specs.Sums.{waited_at, is_parted};
