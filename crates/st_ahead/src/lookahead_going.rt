@@ -49,7 +49,7 @@ impl<const N: usize> Lookahead<N> {
             if !self.is_next_before(due, last) {
                 return stop_at(due, last);
             }
-            let p = self.next_prepared();
+            let p = self.next.formed.p;
             self.push(p, state, delays);
         }
     }
@@ -73,13 +73,6 @@ impl<const N: usize> Lookahead<N> {
             return false;
         }
         self.next.formed.p < due && self.next.formed.p <= last
-    }
-
-    // P of the next entry, if it is planned.
-    fn next_prepared(&self) -> u64
-        ensures { result ≡ self.now.next.formed.p }
-    {
-        self.next.formed.p
     }
 
     // Advances the fetch unit by the facts known before the tick `due`, at which the oldest level

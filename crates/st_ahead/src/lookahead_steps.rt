@@ -33,7 +33,8 @@ impl<const N: usize> Lookahead<N> {
         if self.is_prepared_behind(now) {
             return;
         }
-        self.go_further(now, state, delays);
+        self.go_to(now, state, delays);
+        self.fill(state, now);
     }
 
     // Whether the next entry is planned, with P after the tick `now`.
@@ -41,19 +42,5 @@ impl<const N: usize> Lookahead<N> {
         ensures { result ≡ true → (self.now.next.planned ≡ true) × (now < self.now.next.formed.p) }
     {
         self.next.planned && now < self.next.formed.p
-    }
-
-    // The general case of `go_on`.
-    fn go_further(&mut self, now: u64, state: &State, delays: &Delays)
-        requires some { 1 ≤ N }
-        requires few { N ≤ 8 }
-        requires early { now < 2 ^ 63 }
-        requires going { Reaches delays.now.list N now state.now self.old }
-        ensures { (t : Option ℕ) (f : IssueStateOf) →
-            IsLookahead delays.now.list N now now t state.now f self.old →
-            IsLookahead delays.now.list N now (now + 1) t state.now f self.new }
-    {
-        self.go_to(now, state, delays);
-        self.fill(state, now);
     }
 }

@@ -60,7 +60,9 @@ impl Source for SureSource {
         ensures bound { IfOk result (λ n. n ≤ length buf.new) }
         ensures outcome { IfOk result (Gave (sure_input self.old) (sure_input self.new) buf.new) }
     {
-        let n = copy_front(&self.bytes[self.taken..], buf);
+        let left = &self.bytes[self.taken..];
+        let n = buf.len().min(left.len());
+        buf[..n].copy_from_slice(&left[..n]);
         self.taken += n;
         Ok(n)
     }
@@ -148,14 +150,4 @@ fn appended(mut buffer: Buffer, piece: &[u8]) -> Option<Buffer>
     }
     buffer.append(piece);
     Some(buffer)
-}
-
-// Copies as many bytes as both slices have and returns their number.
-fn copy_front(from: &[u8], to: &mut [u8]) -> usize
-    ensures count { result ≡ min (length to.old) (length from.now) }
-    ensures copied { to.new ≡ take result from.now ++ drop result to.old }
-{
-    let n = to.len().min(from.len());
-    to[..n].copy_from_slice(&from[..n]);
-    n
 }

@@ -185,18 +185,8 @@ impl FetchUnit {
         if so_far == 1 {
             return fetch_on(&self.place, x, &[state.word(self.word_at(0))], state);
         }
-        self.given_more(x, state)
-    }
-
-    // Like `given`, for any number of words.
-    fn given_more(&self, x: &[u64; 16], state: &State) -> Given
-        requires place { IsPlace self.now.place }
-        requires words { IsEntryInTime (words_alone self.now.entry.own self.now.entry.target) }
-        ensures value { result ≡ given_so_far x.now state.now self.now }
-        ensures shape { IsFetching result }
-    {
         let contents = self.contents(state);
-        let so_far = usize::from(self.entry.own.len + self.entry.target.len);
+        let so_far = usize::from(so_far);
         fetch_on(&self.place, x, &contents[..so_far], state)
     }
 
@@ -552,18 +542,6 @@ impl FetchUnit {
         if self.needs.index_read.is_none() {
             return;
         }
-        self.prepare_with_side(x, state);
-    }
-
-    // Like `prepare`, for an entry with an index-side word.
-    fn prepare_with_side(&mut self, x: &[u64; 16], state: &State)
-        requires asked { is_some self.old.needs.index_read ≡ true }
-        requires planned { self.old.planned ≡ true }
-        requires ready { IsNextReady x.now state.now self.old }
-        ensures value { IsPlanAtItsTick x.now state.now self.old self.new.prepared }
-        ensures ranges { IsPrepared self.new.prepared }
-        ensures rest { self.new ≡ record self.old { prepared = self.new.prepared } }
-    {
         let read = side_word(state, self.place.table, self.needs.index_read);
         change_by_side(&mut self.prepared, x, read);
     }
@@ -646,17 +624,8 @@ impl FetchUnit {
                 let format = Format::Whole(FullOp::Variable(op));
                 self.prepare_own(decode_as(format, first, second), x, state)
             }
-            _ => self.prepare_cold(decode_as(format, first, second), x, state),
+            _ => self.prepare_own(decode_as(format, first, second), x, state),
         }
-    }
-
-    // Like `prepare_own`, for an instruction that is not frequent.
-    fn prepare_cold(&mut self, own: Decoded, x: &[u64; 16], state: &State)
-        requires place { IsPlace self.old.place }
-        requires fields { HasFields own.instr }
-        ensures value { self.new ≡ prepared_as (fetched_plain own) x.now state.now self.old }
-    {
-        self.prepare_own(own, x, state);
     }
 
     // Prepares the entry with this instruction and no target, without its index-side word.

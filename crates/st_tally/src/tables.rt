@@ -106,25 +106,6 @@ fn add_to_card(
     );
 }
 
-// The same for an entry whose card has no place.
-fn add_to_others(
-    executes: bool,
-    sum: &mut CardSum,
-    done: &EntryDone,
-    uses: &[Use],
-    before: &[Use],
-    waits: &mut Waits,
-)
-    requires executes { executes ≡ true → OnlyExecutes done.now }
-    requires order { IsInOrder done.now }
-    requires within { IsCardSumWithin done.now.before sum.old }
-    requires used { AreWordsInTime uses.now }
-    requires earlier { AreWordsInTime before.now }
-    ensures { AddsCard done.now uses.now before.now sum.old sum.new }
-{
-    add_to_card(executes, sum, done, uses, before, waits);
-}
-
 // The number of the card that an entry comes from; 0 without one.
 fn card_of(origin: Option<Origin>) -> u32
     ensures { result ≡ card_by_origin origin }
@@ -169,7 +150,7 @@ fn add_card(
         add_to_card(executes, &mut cards[k], done, uses, before, waits);
         return;
     }
-    add_to_others(executes, others, done, uses, before, waits);
+    add_to_card(executes, others, done, uses, before, waits);
 }
 
 // The ticks by which an entry that lost some ticks was later for its cause, at most these.

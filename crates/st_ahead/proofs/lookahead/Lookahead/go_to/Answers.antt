@@ -1,4 +1,4 @@
-use Rattle.st_ahead.proofs.Common.{◌≡◌, ◌+◌, ◌≤◌, length, refl, sym, ◌∙◌, ap, arith, nat_le, LevelsView, due_of}
+use Rattle.st_ahead.proofs.Common.{◌≡◌, ◌+◌, ◌≤◌, length, refl, sym, ◌∙◌, ap, arith, nat_le, LevelsView, LookaheadView, due_of}
 use Rattle.st_ahead.proofs.Gone.{going-at, gone-by}
 use Rattle.st_ahead.proofs.lookahead.Lookahead.go_to.Goals as goal
 
@@ -14,7 +14,7 @@ push-requires g c =
     let is = c.plan_before.ensures.going goes.goes.table goes.goes.issue goes.tick goes.goes.going in
     let yes = c.is_next_before.ensures.yes c.if-not-is_next_before.false in
     let at : c.due-due.result ≡ due_of c.plan_before.new.self.levels.plans = c.due-due.ensures.tick ∙ ap (λ (v : LevelsView). due_of v.plans) (sym c.plan_before.ensures.levels) in
-    let p = c.next_prepared-p.ensures in (
+    let p : c.self.inside.next.formed.p ≡ c.plan_before.new.self.next.formed.p = ap (λ (v : LookaheadView). v.next.formed.p) c.self.view_is in (
       omega arith,
       (
         c.requires.some,
@@ -26,7 +26,7 @@ push-requires g c =
               record {
                 table = goes.goes.table;
                 issue = goes.goes.issue;
-                going = going-at ds n goes.tick c.due-due.result c.next_prepared-p.result (c.next_prepared-p.result + 1) goes.goes.table s goes.goes.issue c.plan_before.new.self
+                going = going-at ds n goes.tick c.due-due.result c.self.inside.next.formed.p (c.self.inside.next.formed.p + 1) goes.goes.table s goes.goes.issue c.plan_before.new.self
                     (omega (arith, p, is.late yes.0)) (omega (arith, p, yes.1, at)) yes.0 (sym p) is;
               },
               (yes.0, sym p),
@@ -44,17 +44,17 @@ entries-preserved g c =
     let goes = c.entries.invariant.going in
     let yes = c.is_next_before.ensures.yes c.if-not-is_next_before.false in
     let at : c.due-due.result ≡ due_of c.plan_before.new.self.levels.plans = c.due-due.ensures.tick ∙ ap (λ (v : LevelsView). due_of v.plans) (sym c.plan_before.ensures.levels) in
-    let p = c.next_prepared-p.ensures in
-    let soon : c.next_prepared-p.result ≤ c.args.last = omega (arith, p, yes.2) in
+    let p : c.self.inside.next.formed.p ≡ c.plan_before.new.self.next.formed.p = ap (λ (v : LookaheadView). v.next.formed.p) c.self.view_is in
+    let soon : c.self.inside.next.formed.p ≤ c.args.last = omega (arith, p, yes.2) in
     let is = c.plan_before.ensures.going goes.goes.table goes.goes.issue goes.tick goes.goes.going in
     record {
       going = record {
-        tick = c.next_prepared-p.result;
+        tick = c.self.inside.next.formed.p;
         goes = record {
           table = goes.goes.table;
           issue = goes.goes.issue;
           going = c.push.ensures.going goes.goes.table goes.goes.issue
-              (going-at ds n goes.tick c.due-due.result c.next_prepared-p.result (c.next_prepared-p.result + 1) goes.goes.table s goes.goes.issue c.plan_before.new.self
+              (going-at ds n goes.tick c.due-due.result c.self.inside.next.formed.p (c.self.inside.next.formed.p + 1) goes.goes.table s goes.goes.issue c.plan_before.new.self
               (omega (arith, p, is.late yes.0)) (omega (arith, p, yes.1, at)) yes.0 (sym p) is);
         };
         soon = soon;
@@ -63,9 +63,9 @@ entries-preserved g c =
           let old = c.entries.invariant.each t f since given in
           let it = c.plan_before.ensures.going t f old.tick old.going in
           record {
-            tick = c.next_prepared-p.result;
+            tick = c.self.inside.next.formed.p;
             going = c.push.ensures.going t f
-                (going-at ds n old.tick c.due-due.result c.next_prepared-p.result (c.next_prepared-p.result + 1) t s f c.plan_before.new.self
+                (going-at ds n old.tick c.due-due.result c.self.inside.next.formed.p (c.self.inside.next.formed.p + 1) t s f c.plan_before.new.self
                 (omega (arith, p, it.late yes.0)) (omega (arith, p, yes.1, at)) yes.0 (sym p) it);
             behind = omega (arith, old.behind, p, it.late yes.0);
             soon = soon;
