@@ -418,6 +418,6 @@ impl Account {
             &mut self.last,
             &mut self.log,
         );
-        execute(&mut self.state, taken, &mut self.last);
+        execute(&mut self.state, &mut self.last);
     }
 }

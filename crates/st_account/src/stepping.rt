@@ -11,7 +11,7 @@
 //! Pinned: that the row is computed before the entry is executed, by the clauses of `execute`,
 //! since a row is about the state before; the rows, by docs/timetable.md and vectors/ledger. Free:
 //! the bodies, if proofs/stepping follows.
-ghost use Rattle.std.specs.Prelude.{◌≡◌, ◌+◌, ◌<◌, ◌≤◌, ◌^◌, ◌||◌, [], length, take, not, nat_eq, if◌then◌else◌, is_some, option_map, Some, None, true};
+ghost use Rattle.std.specs.Prelude.{Option, ℕ, ◌≡◌, ◌+◌, ◌<◌, ◌≤◌, ◌^◌, ◌||◌, [], length, take, not, nat_eq, if◌then◌else◌, is_some, option_map, Some, None, true};
 ghost use Rattle.st_bits.specs.Indicators.{IsIndicatorIfAny};
 ghost use Rattle.st_bits.specs.declared.limits.TheConstants.{MOST_INSTRUCTIONS};
 ghost use Rattle.st_prep.specs.Plan.{plan as plan_of};
@@ -202,17 +202,18 @@ fn predicted_counter(p: &Prepared, state: &State) -> u32
 }
 
 /// Executes the next entry, whose preparation is in `last`.
-pub(crate) fn execute(state: &mut State, taken: Option<u8>, last: &mut Last)
+pub(crate) fn execute(state: &mut State, last: &mut Last)
     requires prepared { IsPrepared last.old.unit.prepared }
-    requires plan { last.old.unit.prepared ≡ plan_of state.old taken }
     requires few { state.old.done < 2 ^ 63 }
 
-    ensures state { state.new ≡ state_after_execution taken state.old }
-    ensures prediction { predicting last.new.ic state.new ≡ prediction_of taken state.old }
+    ensures state { (taken : Option ℕ) → last.old.unit.prepared ≡ plan_of state.old taken →
+        state.new ≡ state_after_execution taken state.old }
+    ensures prediction { (taken : Option ℕ) → last.old.unit.prepared ≡ plan_of state.old taken →
+        predicting last.new.ic state.new ≡ prediction_of taken state.old }
     ensures counter { last.new.ic < 2 ^ 19 }
     ensures rest { last.new ≡ record last.old {
       done = record last.old.done {
-        mispredicted = is_mispredicted_of (plan_of state.old taken) state.old;
+        mispredicted = is_mispredicted_of last.old.unit.prepared state.old;
       };
       ic = last.new.ic;
       enabled = state.old.enabled;

@@ -49,6 +49,7 @@ impl UsesInTurn {
     }
 
     /// The words of the last entry.
+    #[inline(always)]
     pub fn as_slice(&self) -> &[Use]
         ensures value { result.now ≡ self.now.items }
         ensures fits { length result.now ≤ 48 }

@@ -1,7 +1,7 @@
 -- The recorded steps that can be undone, and how calls change them.
 --
--- Proved: by their `ensures` clauses these calls do what definitions here say: `can_put` (back.rt),
--- `back` (back.rt), `forth` (back.rt), `keep` (back.rt), and others.
+-- Proved: by their `ensures` clauses these calls do what definitions here say: `back` (back.rt),
+-- `forth` (back.rt), `keep` (back.rt), `new` (back.rt), and others.
 -- Read by: definitions in Beside of st_top.
 -- Laws: BacksGiveTheStatesBefore (specs/Laws.antt), BackUndoesForth (specs/Laws.antt).
 -- Change: no page fixes these definitions, since no contract of a program unfolds to them; they

@@ -41,7 +41,7 @@ pub use Rattle.st_ledger.specs.declared.waits.Stall.{Stall}
 pub use Rattle.st_lines.specs.Waited.{AddsWaits}
 pub use Rattle.st_banks.specs.Bank.{bank_of}
 pub use Rattle.st_ledger.specs.Lines.{charge_line, stage_name}
-pub use Rattle.st_lines.specs.WaitLines.{wait_line, wait_sum_line, stall_name}
+pub use Rattle.st_lines.specs.WaitLines.{wait_line, wait_sum_line, because_line, stall_name}
 unfoldable pub use Rattle.st_lines.specs.WaitLines.{wait_lines, charged_lines, wait_sum_lines}
 pub use Rattle.st_text.specs.Bytes.{lf}
 pub use Rattle.st_ledger.proofs.FromEnd.{seven_pieces, thirteen_pieces}

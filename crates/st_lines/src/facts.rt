@@ -122,6 +122,7 @@ fn write_run<K: Sink>(out: &mut K, line: &mut LineFromEnd, w: u32, n: u8) -> Res
 
 // Writes the index word that an entry changes speculatively, if it does.
 #[tactic(auto, unfolding(crate::specs::EntryLines::index_lines), using(st_io::proofs::Progress::wrote_nothing))]
+#[inline(always)]
 fn write_index<K: Sink>(
     out: &mut K,
     line: &mut LineFromEnd,

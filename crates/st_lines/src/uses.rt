@@ -201,6 +201,7 @@ fn write_use<K: Sink>(
 
 /// Writes the words that the n-th entry uses. Its segment ends at the tick `end`, or continues if
 /// that is `None`.
+#[inline(always)]
 pub(crate) fn write_uses<K: Sink>(
     out: &mut K,
     line: &mut FactLine,

@@ -57,6 +57,7 @@ fn refill_word(y: u64) -> Option<u32>
 
 // The index-side word of a half-word instruction with the effective address `e`; `x` is index word
 // J.
+#[inline(always)]
 fn half_side(op: HalfOp, x: u64, e: u32) -> Option<u32>
     requires { e < 2 ^ 24 }
     ensures { result ≡ half_side_of op x e }

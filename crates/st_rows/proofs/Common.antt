@@ -1,12 +1,12 @@
 -- The names that proofs of this crate use, passed on from one place. Declares nothing.
-pub use Rattle.std.proofs.Common.{◌≡◌, ℕ, zero, suc, ◌+◌, ◌<◌, ◌≤◌, max, List, refl, arith, Option, None, Some, true, false, [], ◌++◌, All, get_or, ap, ◌∙◌, ◌∷◌, inl, inr, ◌⊎◌, ◌-◌, length, take, drop, set, ◌%◌, ◌≢◌, length-set, sym, append_assoc, length-append, subst, ◌*◌, replicate, ◌/◌, ◌^◌, bit_and, ap₂, slice_index_or}
+pub use Rattle.std.proofs.Common.{◌≡◌, ℕ, zero, suc, ◌+◌, ◌<◌, ◌≤◌, max, List, refl, arith, Option, None, Some, true, false, [], ◌++◌, All, get_or, ap, ◌∙◌, ◌∷◌, inl, inr, ◌⊎◌, ◌-◌, length, take, drop, set, ◌%◌, ◌≢◌, length-set, sym, append_assoc, length-append, ◌^◌, subst, ◌*◌, replicate, ◌/◌, bit_and, ap₂, slice_index_or}
 pub use Rattle.std.specs.Prelude.{if◌then◌else◌, nat_lt, Bool, IfSome, map, slice_set, ◌==◌, ◌||◌, ◌&&◌, nat_le}
 pub use Rattle.std.proofs.lemmas.Bool.{ltb-true, lt-ltb, cases_Bool, ltb-false, le-ltb, cases_lt, cases_eq}
 pub use Rattle.std.proofs.lemmas.List.Elements.{All-nil, All-cons, All-append, All-head, All-tail, All-drop, All-weaker, All-from_get_or, All-get_or, All-take, All-replicate, All-set}
 pub use Rattle.std.proofs.lemmas.List.{append-nil, same_lists, take_all, get_or-set_same, get_or-set_other, get_or-take, length-map, map-set, get_or-map, get_or-replicate, get_or_default, length-take-le, take-append-le, take_more_set}
+pub use Rattle.std.specs.Int.{trailing_zeros, w64, bit_at, bit_not}
 pub use Rattle.std.proofs.Math.Nat.{mod-lt, max-le, mul-le-mul_right, suc-mul}
 pub use Rattle.std.proofs.lemmas.Bool.Decides.{nat_tests}
-pub use Rattle.std.specs.Int.{bit_at, bit_not, trailing_zeros, w64}
 pub use Rattle.st_rows.specs.BusTimes.{Read, accept_at, answer_if, after_one, answer_at, requested_if, bus_if}
 unfoldable pub use Rattle.st_rows.specs.BusTimes.{answer_tick_on, bus_after_request, bus_after_read}
 pub use Rattle.st_rows.specs.Entries.{no_runs, has_words, entries_in, ticks_in, entry_in, IsEntryRing, no_entry}

@@ -53,6 +53,7 @@ impl Bus {
 
     /// Reads a word, records the read in the log, and reports it to the observer. Returns the tick
     /// of the answer.
+    #[inline(always)]
     pub fn read<W: Watch>(
         &mut self,
         log: &mut Log,

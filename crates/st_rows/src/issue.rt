@@ -440,6 +440,7 @@ fn follow<W: Watch>(bus: &mut Bus, log: &mut Log, watch: &mut W, wanted: &Wanted
 }
 
 // Requests the word `w` if it lies in storage.
+#[inline(always)]
 fn request_inside<W: Watch>(
     bus: &mut Bus,
     log: &mut Log,

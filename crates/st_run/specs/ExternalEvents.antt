@@ -1,7 +1,7 @@
 -- External events of a machine between two steps, for any machine that has a plain state.
 --
--- Proved: by their `ensures` clauses these calls do what definitions here say: `between`
--- (between.rt), `end_wait` (between.rt), `print_line` (between.rt), `read_card` (between.rt), and
+-- Proved: by their `ensures` clauses these calls do what definitions here say: `print_line`
+-- (between.rt), `between` (between.rt), `end_wait` (between.rt), `read_card` (between.rt), and
 -- others.
 -- Read by: definitions in Standing of st_account, Rounds of st_account.
 -- Laws: none names a definition of this file itself.

@@ -153,12 +153,7 @@ fn may_go_far<const N: usize>(run: &Progress<N>) -> bool
 // long as no external event is possible between them and the count is below `most`. Returns the row
 // of the last one; the rows of the others are queued as far as there is room. `done` instructions
 // have completed before.
-fn go_far<const N: usize>(
-    run: &mut Progress<N>,
-    done: u64,
-    most: u64,
-    rows: &mut RowQueue,
-) -> Row
+fn go_far<const N: usize>(run: &mut Progress<N>, done: u64, most: u64, rows: &mut RowQueue) -> Row
     requires run { IsBeforeNext run.old }
     requires turn { run.old.turn ≡ turns.Before }
     requires waits { IsTold run.old }

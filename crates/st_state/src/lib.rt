@@ -165,6 +165,7 @@ impl State {
 
     /// Writes the number `bits`, below 2^n, to the `n` bits, 1 to 64, of storage from the bit
     /// address `a`. Fixed bits of a register keep their value, and no other bit changes.
+    #[inline(always)]
     pub fn put_field(&mut self, a: u32, n: u8, bits: u64)
         requires some { 1 ≤ n }
         requires few { n ≤ 64 }

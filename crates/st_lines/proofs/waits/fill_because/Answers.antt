@@ -1,5 +1,4 @@
-use Rattle.st_lines.proofs.Common.{sym, ◌∙◌, ap}
-use Rattle.st_lines.specs.WaitLines.{because_line}
+use Rattle.st_lines.proofs.Common.{sym, ◌∙◌, ap, because_line}
 use Rattle.st_lines.proofs.waits.fill_because.Goals as goal
 
 pub returns-in-Start : goal.returns-in-Start

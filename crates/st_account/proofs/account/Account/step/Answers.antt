@@ -1,4 +1,4 @@
-use Rattle.st_account.proofs.Common.{All, option_map, List, ◌<◌, refl, sym, ◌∙◌, ap, subst, arith, IsNotAmong, prediction, address, Use, EntryDone, Origin, StallCause, delays-are, entry-ranges, side_at, formed_uses, Last, entry, because, AreWaitsWithin, IsReadInTime, origin_at, lines_of_entry}
+use Rattle.st_account.proofs.Common.{Prepared, is_mispredicted, All, option_map, List, ◌<◌, refl, sym, ◌∙◌, ap, subst, arith, IsNotAmong, prediction, address, Use, EntryDone, Origin, StallCause, delays-are, entry-ranges, side_at, formed_uses, Last, entry, because, AreWaitsWithin, IsReadInTime, origin_at, lines_of_entry}
 use Rattle.st_account.proofs.EntryLemmas.{IsCompleted, uses-is, entry-lines, entry-row, entry-last, entry-charges, entry-step, kept-some}
 use Rattle.st_ledger.proofs.Laws.{reads_of_an_entry_are_in_time}
 use Rattle.st_account.proofs.LeftLemmas.{entry-left}
@@ -17,7 +17,7 @@ completed c =
       number = ap (λ (l : Last). l.done.n) rest ∙ ap (λ (d : EntryDone). d.n) c.count_on.ensures.row.rest ∙ c.row_number-self.ensures.number;
       ticks = ap (λ (l : Last). l.done.row.ticks) rest ∙ c.count_on.ensures.row.ticks;
       wait = ap (λ (l : Last). l.done.row.level_wait) rest ∙ c.count_on.ensures.row.wait;
-      predicted = ap (λ (l : Last). l.done.mispredicted) rest;
+      predicted = ap (λ (l : Last). l.done.mispredicted) rest ∙ ap (λ (p : Prepared). is_mispredicted p c.args.self.now.state) c.count_on.ensures.row.plan;
       since = ap (λ (l : Last). l.done.before) rest ∙ ap (λ (d : EntryDone). d.before) c.count_on.ensures.row.rest;
       opened = ap (λ (l : Last). l.done.start) rest ∙ ap (λ (d : EntryDone). d.start) c.count_on.ensures.row.rest;
       used = ap (λ (l : Last). l.uses.items) rest ∙ c.count_on.ensures.row.uses;
@@ -53,12 +53,12 @@ returns-clause-stepped c =
     let rest = c.execute.ensures.rest in
     let done = completed (goal.at.returns-clause-stepped c).After-execute in
     record {
-      state = entry-step c.args.self.now.state _ c.interrupt-taken.result c.interrupt-taken.ensures.value c.execute.ensures.state;
+      state = entry-step c.args.self.now.state _ c.interrupt-taken.result c.interrupt-taken.ensures.value (c.execute.ensures.state _ c.count_on.ensures.row.plan);
       enabled = ap (λ (l : Last). l.enabled) c.execute.ensures.rest;
-      prediction = c.execute.ensures.prediction ∙ ap (λ t. prediction t c.args.self.now.state) c.interrupt-taken.ensures.value;
+      prediction = c.execute.ensures.prediction _ c.count_on.ensures.row.plan ∙ ap (λ t. prediction t c.args.self.now.state) c.interrupt-taken.ensures.value;
       left = λ w above among.
           entry-left c.args.self.now.state _ c.interrupt-taken.result c.count_on.new.last.unit.prepared c.row_number-self.ensures.machine c.count_on.ensures.row.prepared
-          c.count_on.ensures.row.plan c.execute.ensures.state w above (subst (λ (l : Last). IsNotAmong w l.unit.prepared.writes) c.execute.ensures.rest among);
+          c.count_on.ensures.row.plan (c.execute.ensures.state _ c.count_on.ensures.row.plan) w above (subst (λ (l : Last). IsNotAmong w l.unit.prepared.writes) c.execute.ensures.rest among);
       past = ap (λ (l : Last). l.past) rest ∙ c.count_on.ensures.row.past ∙ ap (λ (l : Last). l.issue.past) (sym rest);
       counter = c.execute.ensures.counter;
       ordered =
@@ -88,9 +88,13 @@ returns-clause-completes c p is =
       last =
           entry-last is c.interrupt-taken.ensures.value c.args.timing.now.delays.now.list (delays-are c.args.timing.now.delays.now) c.args.timing.now.levels c.execute.new.state
           c.count_on.new.last c.execute.new.last c.count_on.new.log c.count_on.new.last.done.row.ticks c.requires.opened.tight
-          (entry-ranges c.interrupt-taken.result c.args.self.now.state c.row_number-self.ensures.machine c.interrupt-taken.ensures.bound) c.execute.ensures.state c.execute.ensures.prediction
+          (entry-ranges c.interrupt-taken.result c.args.self.now.state c.row_number-self.ensures.machine c.interrupt-taken.ensures.bound) (c.execute.ensures.state _ c.count_on.ensures.row.plan) (c.execute.ensures.prediction _ c.count_on.ensures.row.plan)
           c.count_on.ensures.row.ticks c.count_on.ensures.row.tick c.count_on.ensures.row.issue c.count_on.ensures.log
-          c.execute.ensures.rest;
+          (c.execute.ensures.rest ∙ ap (λ (p : Prepared). record c.count_on.new.last {
+            done = record c.count_on.new.last.done { mispredicted = is_mispredicted p c.args.self.now.state };
+            ic = c.execute.new.last.ic;
+            enabled = c.args.self.now.state.enabled;
+          }) c.count_on.ensures.row.plan);
       uses = used;
       charges = charged;
       stalled = λ r s some.
