@@ -560,11 +560,12 @@ class App {
     for (const row of run.rows) if (row.card) heat.set(row.card, (heat.get(row.card) ?? 0)
       + row.c - (row.charges[0]?.from ?? row.c));
     const beside = [...heat.values()].reduce((all, ticks) => all + ticks, 0);
-    const facts = [plural(report.done, 'instruction'), isCut ? null : plural(totals.ticks, 'tick'), this.levels === 4
-      ? null : `on ${plural(this.levels, 'level')}`,
-      data.interrupts.length ? plural(data.interrupts.length, 'interrupt') : null, totals.dropped
-        ? `${grouped(totals.dropped)} dropped` : null, isCut || beside >= totals.ticks ? null
-        : `${plural(totals.ticks - beside, 'tick')} of instructions that begin at no card`].filter(Boolean);
+    // Of a long run the ledger of its first rows has no sums of the whole run.
+    const sums = isCut ? [] : [data.interrupts.length && plural(data.interrupts.length, 'interrupt'),
+      totals.dropped && `${grouped(totals.dropped)} dropped`, beside < totals.ticks
+        && `${plural(totals.ticks - beside, 'tick')} of instructions that begin at no card`];
+    const facts = [plural(report.done, 'instruction'), !isCut && plural(totals.ticks, 'tick'), this.levels !== 4
+      && `on ${plural(this.levels, 'level')}`, ...sums].filter(Boolean);
     this.state(isWait ? 'good' : 'warn', h('b', {}, isWait ? 'Ended in a wait:' : 'Ended by its budget:'),
       ` ${facts.join(', ')}`);
     if (isCut) this.say(LONGER);
