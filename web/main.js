@@ -10,7 +10,7 @@ import { Stepper } from './step.js';
 import { Views } from './views.js';
 import { faultBox, repairs } from './faults.js';
 import { fillPaper } from './paper.js';
-import { MOST_BYTES, bytesOf, linesOf } from './decks.js';
+import { MOST_BYTES, bytesOf, linesOf, operationOf } from './decks.js';
 import { grouped, plural } from './words.js';
 import { addressWith, packed, unpacked, wordsOf } from './links.js';
 import { registerOf } from './contents.js';
@@ -64,9 +64,11 @@ function titleOf(lines) {
   return (lines[0]?.[0] === '*' && lines[0].slice(1).trim()) || 'stretch';
 }
 
-// Whether a row is of a card that lays data, or of none.
-function isNoInstruction({ card, text }) {
-  return !card || /^\s*(DD|XW|DR)\b/i.test(text);
+// Whether a row is of a card that lays data, or of none. Where the run has changed what the card laid, the row's text is
+// that of an instruction.
+function isNoInstruction({ card, text }, { cards, lines }) {
+  const operation = card && operationOf(cards[lines.indexOf(card)]);
+  return !card || (/^(DD|XW|DR)$/.test(operation) && text.replace(/\s/g, '').toUpperCase().includes(operation));
 }
 
 // The bytes of a block of the page.
@@ -549,7 +551,7 @@ class App {
     this.editor.fault(null);
   }
 
-  done({ runs, report, isCut }) {
+  done({ runs, report, isCut, plain }) {
     document.body.classList.remove('empty', 'stale');
     byId('nothing').replaceChildren();
     this.noFault();
@@ -570,17 +572,17 @@ class App {
       ` ${facts.join(', ')}`);
     if (isCut) this.say(LONGER);
     else if (byId('said').textContent.startsWith(LONGER)) this.say();
-    this.left(run, report.kind === 'BUDGET');
+    this.left(run, report.kind === 'BUDGET', plain);
     this.editor.setHeat(heat);
     this.views.fresh();
     this.views.show(this.view);
   }
 
   // Where the counter came to what is no instruction of the deck, a deck most often lacks its BEW.
-  left(run, isBudget) {
+  left(run, isBudget, plain) {
     if (this.isStray) this.say();
-    const strange = isBudget && run.rows.length && !isNoInstruction(run.rows[0]) ? run.rows.find(isNoInstruction)
-      : null;
+    const isStrange = (row) => isNoInstruction(row, plain);
+    const strange = isBudget && run.rows.length && !isStrange(run.rows[0]) ? run.rows.find(isStrange) : null;
     this.isStray = Boolean(strange);
     if (!strange) return;
     const from = run.rows[run.rows.indexOf(strange) - 1];
