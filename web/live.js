@@ -6,8 +6,7 @@ import { Run } from './read.js';
 import { faultOf } from './faults.js';
 import { plural } from './words.js';
 
-const ROWS = 20000;             // so many rows are stepped through,
-const BEHIND = 9;               // and so many more are read, since what runs ahead of the last one shown is among them
+export const ROWS = 20000;      // so many rows of a run are read
 const LATIN = new TextDecoder('latin1');
 const STATUS = {
   2: 'The words mean nothing.',
@@ -108,7 +107,7 @@ export class Live {
     const entries = [];
     const take = (part) => { for (const entry of JSON.parse(part)) entries.push(entry); };
     const request = { ask: 'ledger', levels, job: bytesOf(shortened(deck)), cards: plain.cards, names: this.names,
-      first: 1, last: ROWS + BEHIND };
+      first: 1, last: ROWS };
     const answer = await this.second.ask({ ...request, isParted: true }, tell, take);
     if (answer.status !== 0) return answer;
     const object = { ...JSON.parse(answer.object), entries };
@@ -141,7 +140,6 @@ export class Live {
 
 // The deck with a budget for as many rows as are read; its cards stay where they are.
 function shortened(deck) {
-  const most = ROWS + BEHIND;
-  if (budgetOf(linesOf(deck)) <= most) return deck;
-  return deck.split('\n').map((line) => (controlOf(line) === 'BUDGET' ? `/BUDGET ${most}` : line)).join('\n');
+  if (budgetOf(linesOf(deck)) <= ROWS) return deck;
+  return deck.split('\n').map((line) => (controlOf(line) === 'BUDGET' ? `/BUDGET ${ROWS}` : line)).join('\n');
 }
