@@ -4,7 +4,7 @@ import { Editor } from './editor.js';
 import { Experiment } from './experiment.js';
 import { Kept } from './kept.js';
 import { Lessons } from './lessons.js';
-import { Live } from './live.js';
+import { Live, ROWS } from './live.js';
 import { Programs, Runner, Stopped } from './programs.js';
 import { Stepper } from './step.js';
 import { Views } from './views.js';
@@ -23,7 +23,8 @@ const MOST_KEPT = 400000;       // a longer deck is not kept for the next time
 const MOST_LINK = 30000;
 const KEYS = { deck: 'stretch.deck', theme: 'stretch.theme', lesson: 'stretch.lesson', now: 'stretch.now' };
 const VIEWS = ['step', 'report', 'where', 'experiment', 'picture', 'listing', 'object'];
-const LONGER = 'The run is longer: the timetable is of its first rows, the report and the sums are of all of it.';
+const LONGER = 'This is a long run: the timetable and the ticks beside the cards show its first '
+  + `${plural(ROWS, 'instruction')}; the report and the sums are of the whole run.`;
 const LATIN = new TextDecoder('latin1');
 // A deck to begin with.
 const NEW_DECK = '* A NEW DECK\n START   BEW\n         END,START\n';
