@@ -106,7 +106,16 @@ export class Views {
     const [run] = made.runs;
     const cards = new Map();
     for (const row of run.rows) if (row.card && !cards.has(row.address)) cards.set(row.address, row.card);
-    if (made.isCut) made.whole ??= await this.wholeTotals(made);
+    if (made.isCut && !made.whole) {
+      const say = (text) => box.replaceChildren(h('p', { class: 'note', role: 'status' }, text));
+      say('The sums of the whole run are being made …');
+      try {
+        made.whole = await this.wholeTotals(made);
+      } catch (error) {
+        say('The sums of the whole run were not made.');
+        throw error;
+      }
+    }
     whereView(box, run, cards, { cause: (cause) => this.app.stepper.chooseCause(cause),
       card: (card) => this.toCard(card) }, made.whole);
   }
