@@ -78,14 +78,20 @@ export class Live {
     }
     const deck = plain.text();
     const running = this.runner.run('stretch', ['run'], bytesOf(deck), tell);
-    const [answer, lines] = await Promise.all([running, this.runner.there()
-      .then(() => this.ledger(plain, deck, levels, tell))]);
+    const written = this.runner.there().then(() => this.ledger(plain, deck, levels, tell));
+    // A deck that gives no report is told of at once: its ledger, which has a budget of its own, is not waited for.
+    const answer = await Promise.race([running, written.then(() => running)]);
+    if (answer.status !== 0) {
+      written.catch(() => {});
+      this.second.stop();
+    }
     if (answer.status === 1) {
       const fault = faultOf(LATIN.decode(answer.bytes));
       return fault ? { fault: fault.fault, line: plain.lines[fault.card - 1] ?? plain.lines.length + 1 }
         : wrongOf(answer);
     }
     if (answer.status !== 0) return wrongOf(answer);
+    const lines = await written;
     const report = new Report(LATIN.decode(answer.bytes));
     if (!lines.object) return wrongOf(lines);
     const isCut = report.done > ROWS;
