@@ -81,10 +81,7 @@ export class Live {
     const written = this.runner.there().then(() => this.ledger(plain, deck, levels, tell));
     // A deck that gives no report is told of at once: its ledger, which has a budget of its own, is not waited for.
     const answer = await Promise.race([running, written.then(() => running)]);
-    if (answer.status !== 0) {
-      written.catch(() => {});
-      this.second.stop();
-    }
+    if (answer.status !== 0) this.second.stop();
     if (answer.status === 1) {
       const fault = faultOf(LATIN.decode(answer.bytes));
       return fault ? { fault: fault.fault, line: plain.lines[fault.card - 1] ?? plain.lines.length + 1 }

@@ -311,6 +311,7 @@ class App {
 
   // Says something above the rooms, until it is closed or something else is said.
   say(...what) {
+    this.isStray = false;
     const close = () => h('button', { class: 'quiet close', 'aria-label': 'close', title: 'close',
       onclick: () => this.say() }, '✕');
     byId('said').replaceChildren(...what, ...(what.length ? [close()] : []));
@@ -517,7 +518,7 @@ class App {
     this.editor.setLevels([], null);
     document.body.classList.toggle('empty', !isThere);
     document.body.classList.toggle('stale', isThere);
-    if (byId('said').textContent.startsWith(LONGER)) this.say();
+    if (this.isStray || byId('said').textContent.startsWith(LONGER)) this.say();
     byId('nothing').replaceChildren(`${why} ${isThere ? 'Below is the last deck that ran.' : ''}`);
   }
 
@@ -584,7 +585,6 @@ class App {
     if (this.isStray) this.say();
     const isStrange = (row) => isNoInstruction(row, plain);
     const strange = isBudget && run.rows.length && !isStrange(run.rows[0]) ? run.rows.find(isStrange) : null;
-    this.isStray = Boolean(strange);
     if (!strange) return;
     const from = run.rows[run.rows.indexOf(strange) - 1];
     const what = strange.card
@@ -596,6 +596,7 @@ class App {
           + `Is there a BEW where the program ends? `),
       h('button', { onclick: () => { this.choose('step'); this.stepper.go(strange.c); } }, `Tick ${strange.c}`), ' ',
       h('button', { onclick: () => this.lesson('first-faults') }, 'My first deck failed'));
+    this.isStray = true;
   }
 
   // ---- files, links, paper
