@@ -4,13 +4,13 @@ import { Plain, Refused, retold } from './plain.js';
 import { Report } from './report.js';
 import { Run } from './read.js';
 import { faultOf } from './faults.js';
-import { plural } from './words.js';
+import { grouped, plural } from './words.js';
 
 export const ROWS = 20000;      // so many rows of a run are read
 const LATIN = new TextDecoder('latin1');
 const STATUS = {
   2: 'The words mean nothing.',
-  3: `The job is too long: it has more than ${MOST_BYTES.toLocaleString('en')} bytes.`,
+  3: `The job is too long: it has more than ${grouped(MOST_BYTES)} bytes.`,
   4: 'Reading the job failed.',
   5: 'Writing failed.',
   6: 'There is no memory for this run.',
