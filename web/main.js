@@ -592,7 +592,7 @@ class App {
       : 'no instruction card of the deck';
     this.say(
       h('span', {},
-        `Behind ${from.card ? `card ${from.card}` : from.address} the counter came to ${strange.address}, ${what}. `
+        `After ${from.card ? `card ${from.card}` : from.address} the counter came to ${strange.address}, ${what}. `
           + `Is there a BEW where the program ends? `),
       h('button', { onclick: () => { this.choose('step'); this.stepper.go(strange.c); } }, `Tick ${strange.c}`), ' ',
       h('button', { onclick: () => this.lesson('first-faults') }, 'My first deck failed'));
