@@ -65,10 +65,10 @@ function titleOf(lines) {
   return (lines[0]?.[0] === '*' && lines[0].slice(1).trim()) || 'stretch';
 }
 
-// Whether a row is of a card that lays data, or of none. Where the run has changed what the card laid, the row's text is
-// that of an instruction.
-function isNoInstruction({ card, text }, { cards, lines }) {
-  const operation = card && operationOf(cards[lines.indexOf(card)]);
+// Whether a row is of a card that lays data, or of none; `operations` are those of the cards. Where the run has changed
+// what a card laid, the text of its row has another.
+function isNoInstruction({ card, text }, operations) {
+  const operation = operations.get(card);
   return !card || (/^(DD|XW|DR)$/.test(operation) && text.replace(/\s/g, '').toUpperCase().includes(operation));
 }
 
@@ -583,9 +583,10 @@ class App {
   // Where the counter came to what is no instruction of the deck, a deck most often lacks its BEW.
   left(run, isBudget, plain) {
     if (this.isStray) this.say();
-    const isStrange = (row) => isNoInstruction(row, plain);
-    const strange = isBudget && run.rows.length && !isStrange(run.rows[0]) ? run.rows.find(isStrange) : null;
-    if (!strange) return;
+    if (!isBudget || !run.rows.length) return;
+    const operations = new Map(plain.cards.map((card, k) => [plain.lines[k], operationOf(card)]));
+    const strange = run.rows.find((row) => isNoInstruction(row, operations));
+    if (!strange || strange === run.rows[0]) return;
     const from = run.rows[run.rows.indexOf(strange) - 1];
     const what = strange.card
       ? `card ${strange.card} (${strange.text.replace(/\s+/g, ' ').trim()}), which is no instruction`

@@ -96,8 +96,9 @@ function namedStorage(fields, words, before) {
 
 // Of a long run the rows at the end are not here, so neither is what they have stored.
 function fieldsUnknown(fields) {
-  return fields.length ? [h('p', { class: 'note' }, 'This is a long run, so what the fields of the deck are at the end is '
-    + 'not known here. A card ', h('code', {}, '/DUMP'), ' shows words of storage at the end.')] : [];
+  return fields.length ? [h('p', { class: 'note' },
+    'This is a long run, so what the fields of the deck are at the end is not known here. A card ',
+    h('code', {}, '/DUMP'), ' shows words of storage at the end.')] : [];
 }
 
 function dumped(storage, nameOf) {

@@ -361,8 +361,8 @@ export class Stepper {
       this.go(t);
       return;
     }
-    const wanted = { card: `no instruction of ${/^\d+$/.test(what) ? 'card ' : ''}${what}`, word: `no change of ${what}`,
-      interrupt: 'no interrupt' }[this.untilKind.value];
+    const wanted = { card: `no instruction of ${/^\d+$/.test(what) ? 'card ' : ''}${what}`,
+      word: `no change of ${what}`, interrupt: 'no interrupt' }[this.untilKind.value];
     const text = ticks.length ? `${wanted} ${forth ? 'after' : 'before'} tick ${this.t}` : none;
     if (this.untilWhat.hidden) {
       this.sentence.replaceChildren(h('b', { class: 'now' }, `Tick ${this.t}`), ` ${text}.`);
