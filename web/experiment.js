@@ -1,7 +1,7 @@
 // The experiment: the same deck on machines of one to eight levels and under other delays, as plots; and that nothing
 // but ticks changes.
 import { h } from './dom.js';
-import { plural } from './words.js';
+import { listed, plural } from './words.js';
 import { budgetOf, bytesOf, delayCards, delaysOf, hasReaderCards, linesOf, withCards } from './decks.js';
 import { plot } from './plot.js';
 import { Stopped } from './programs.js';
@@ -62,8 +62,8 @@ export class Experiment {
       this.shown = null;
       const sure = h('button', { onclick: () => this.show(text, true) }, 'Run the experiment');
       this.box.replaceChildren(h('p', {},
-        `This deck may do more than ${LONG.toLocaleString('en')} instructions, and an experiment runs it some fifty `
-          + `times. `, sure));
+        `This deck may do more than ${plural(LONG, 'instruction')}, and an experiment runs it some fifty times. `,
+        sure));
       return;
     }
     try {
@@ -100,7 +100,9 @@ export class Experiment {
     const lists = [...found.keys()];
     const uniform = lists.filter((list) => !list.includes(' ')).sort((a, b) => a - b);
     const isCalm = [...found.values()].every((one) => one.calm);
+    const rises = (list) => found.get(list).ticks.some((ticks, k, all) => k > 0 && ticks > all[k - 1]);
     const name = (list) => `delay ${list.length > 9 ? `${list.slice(0, 8)}…` : list}`;
+    const slower = lists.filter(rises).map(name);
     this.box.replaceChildren(
       h('p', { class: isSame ? 'claim' : 'claim bad', role: 'status' }, isSame
         ? `✓ All other lines of the reports are the same, byte for byte, under ${lists.length} lists of delays: `
@@ -111,7 +113,8 @@ export class Experiment {
         plot({
           title: 'Ticks of the run with more levels', name: 'levels', xs: LEVELS,
           series: lists.map((list) => ({ name: name(list), ys: found.get(list).ticks })),
-          note: isCalm ? CALM : NOT_CALM,
+          note: isCalm ? CALM : NOT_CALM + (slower.length
+            ? ` Here more levels are slower with ${listed(slower)}, as the table shows.` : ''),
         }),
         uniform.length > 1 ? plot({
           title: 'Ticks of the run with slower storage', name: 'delay', xs: uniform.map(Number),

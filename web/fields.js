@@ -19,10 +19,10 @@ export function fieldsOf(listing) {
       length: Number(found?.[3] ?? WORD) };
     form.byte = Number(found?.[4] ?? (form.decimal ? 4 : 8));
     const kind = operationOf(card);
-    const count = kind === 'DR' ? Math.min(Number(/,(\d+)$/.exec(statement)?.[1] ?? 1), MOST) : 1;
+    const count = kind === 'DR' ? Math.min(Number(/,(\d+)(\.0)?$/.exec(statement)?.[1] ?? 1), MOST) : 1;
     return { number, name: card.slice(1, STATEMENT).trim().toUpperCase(), place, first: WORD * word + bit, statement,
       kind, form, count };
-  });
+  }).filter(({ count }) => count);
 }
 
 // What a field says in these words; `words` gives a word by its number.

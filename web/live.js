@@ -4,14 +4,13 @@ import { Plain, Refused, retold } from './plain.js';
 import { Report } from './report.js';
 import { Run } from './read.js';
 import { faultOf } from './faults.js';
-import { plural } from './words.js';
+import { grouped, plural } from './words.js';
 
-const ROWS = 20000;             // so many rows are stepped through,
-const BEHIND = 9;               // and so many more are read, since what runs ahead of the last one shown is among them
+export const ROWS = 20000;      // so many rows of a run are read
 const LATIN = new TextDecoder('latin1');
 const STATUS = {
   2: 'The words mean nothing.',
-  3: `The job is too long: it has more than ${MOST_BYTES.toLocaleString('en')} bytes.`,
+  3: `The job is too long: it has more than ${grouped(MOST_BYTES)} bytes.`,
   4: 'Reading the job failed.',
   5: 'Writing failed.',
   6: 'There is no memory for this run.',
@@ -79,14 +78,17 @@ export class Live {
     }
     const deck = plain.text();
     const running = this.runner.run('stretch', ['run'], bytesOf(deck), tell);
-    const [answer, lines] = await Promise.all([running, this.runner.there()
-      .then(() => this.ledger(plain, deck, levels, tell))]);
+    const written = this.runner.there().then(() => this.ledger(plain, deck, levels, tell));
+    // A deck that gives no report is told of at once: its ledger, which has a budget of its own, is not waited for.
+    const answer = await Promise.race([running, written.then(() => running)]);
+    if (answer.status !== 0) this.second.stop();
     if (answer.status === 1) {
       const fault = faultOf(LATIN.decode(answer.bytes));
       return fault ? { fault: fault.fault, line: plain.lines[fault.card - 1] ?? plain.lines.length + 1 }
         : wrongOf(answer);
     }
     if (answer.status !== 0) return wrongOf(answer);
+    const lines = await written;
     const report = new Report(LATIN.decode(answer.bytes));
     if (!lines.object) return wrongOf(lines);
     const isCut = report.done > ROWS;
@@ -108,7 +110,7 @@ export class Live {
     const entries = [];
     const take = (part) => { for (const entry of JSON.parse(part)) entries.push(entry); };
     const request = { ask: 'ledger', levels, job: bytesOf(shortened(deck)), cards: plain.cards, names: this.names,
-      first: 1, last: ROWS + BEHIND };
+      first: 1, last: ROWS };
     const answer = await this.second.ask({ ...request, isParted: true }, tell, take);
     if (answer.status !== 0) return answer;
     const object = { ...JSON.parse(answer.object), entries };
@@ -141,7 +143,6 @@ export class Live {
 
 // The deck with a budget for as many rows as are read; its cards stay where they are.
 function shortened(deck) {
-  const most = ROWS + BEHIND;
-  if (budgetOf(linesOf(deck)) <= most) return deck;
-  return deck.split('\n').map((line) => (controlOf(line) === 'BUDGET' ? `/BUDGET ${most}` : line)).join('\n');
+  if (budgetOf(linesOf(deck)) <= ROWS) return deck;
+  return deck.split('\n').map((line) => (controlOf(line) === 'BUDGET' ? `/BUDGET ${ROWS}` : line)).join('\n');
 }

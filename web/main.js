@@ -4,13 +4,13 @@ import { Editor } from './editor.js';
 import { Experiment } from './experiment.js';
 import { Kept } from './kept.js';
 import { Lessons } from './lessons.js';
-import { Live } from './live.js';
+import { Live, ROWS } from './live.js';
 import { Programs, Runner, Stopped } from './programs.js';
 import { Stepper } from './step.js';
 import { Views } from './views.js';
 import { faultBox, repairs } from './faults.js';
 import { fillPaper } from './paper.js';
-import { MOST_BYTES, bytesOf, linesOf } from './decks.js';
+import { MOST_BYTES, bytesOf, linesOf, operationOf } from './decks.js';
 import { grouped, plural } from './words.js';
 import { addressWith, packed, unpacked, wordsOf } from './links.js';
 import { registerOf } from './contents.js';
@@ -23,7 +23,8 @@ const MOST_KEPT = 400000;       // a longer deck is not kept for the next time
 const MOST_LINK = 30000;
 const KEYS = { deck: 'stretch.deck', theme: 'stretch.theme', lesson: 'stretch.lesson', now: 'stretch.now' };
 const VIEWS = ['step', 'report', 'where', 'experiment', 'picture', 'listing', 'object'];
-const LONGER = 'The run is longer: the timetable is of its first rows, the report and the sums are of all of it.';
+const LONGER = 'This is a long run: the timetable and the ticks beside the cards show its first '
+  + `${plural(ROWS, 'instruction')}; the report and the sums are of the whole run.`;
 const LATIN = new TextDecoder('latin1');
 // A deck to begin with.
 const NEW_DECK = '* A NEW DECK\n START   BEW\n         END,START\n';
@@ -64,9 +65,11 @@ function titleOf(lines) {
   return (lines[0]?.[0] === '*' && lines[0].slice(1).trim()) || 'stretch';
 }
 
-// Whether a row is of a card that lays data, or of none.
-function isNoInstruction({ card, text }) {
-  return !card || /^\s*(DD|XW|DR)\b/i.test(text);
+// Whether a row is of a card that lays data, or of none; `operations` are those of the cards. Where the run has changed
+// what a card laid, the text of its row has another.
+function isNoInstruction({ card, text }, operations) {
+  const operation = operations.get(card);
+  return !card || (/^(DD|XW|DR)$/.test(operation) && text.replace(/\s/g, '').toUpperCase().includes(operation));
 }
 
 // The bytes of a block of the page.
@@ -308,6 +311,7 @@ class App {
 
   // Says something above the rooms, until it is closed or something else is said.
   say(...what) {
+    this.isStray = false;
     const close = () => h('button', { class: 'quiet close', 'aria-label': 'close', title: 'close',
       onclick: () => this.say() }, '✕');
     byId('said').replaceChildren(...what, ...(what.length ? [close()] : []));
@@ -514,7 +518,7 @@ class App {
     this.editor.setLevels([], null);
     document.body.classList.toggle('empty', !isThere);
     document.body.classList.toggle('stale', isThere);
-    if (byId('said').textContent.startsWith(LONGER)) this.say();
+    if (this.isStray || byId('said').textContent.startsWith(LONGER)) this.say();
     byId('nothing').replaceChildren(`${why} ${isThere ? 'Below is the last deck that ran.' : ''}`);
   }
 
@@ -549,7 +553,7 @@ class App {
     this.editor.fault(null);
   }
 
-  done({ runs, report, isCut }) {
+  done({ runs, report, isCut, plain }) {
     document.body.classList.remove('empty', 'stale');
     byId('nothing').replaceChildren();
     this.noFault();
@@ -560,38 +564,40 @@ class App {
     for (const row of run.rows) if (row.card) heat.set(row.card, (heat.get(row.card) ?? 0)
       + row.c - (row.charges[0]?.from ?? row.c));
     const beside = [...heat.values()].reduce((all, ticks) => all + ticks, 0);
-    const facts = [plural(report.done, 'instruction'), isCut ? null : plural(totals.ticks, 'tick'), this.levels === 4
-      ? null : `on ${plural(this.levels, 'level')}`,
-      data.interrupts.length ? plural(data.interrupts.length, 'interrupt') : null, totals.dropped
-        ? `${grouped(totals.dropped)} dropped` : null, isCut || beside >= totals.ticks ? null
-        : `${plural(totals.ticks - beside, 'tick')} of instructions that begin at no card`].filter(Boolean);
+    // Of a long run the ledger of its first rows has no sums of the whole run.
+    const sums = isCut ? [] : [data.interrupts.length && plural(data.interrupts.length, 'interrupt'),
+      totals.dropped && `${grouped(totals.dropped)} dropped`, beside < totals.ticks
+        && `${plural(totals.ticks - beside, 'tick')} of instructions that begin at no card`];
+    const facts = [plural(report.done, 'instruction'), !isCut && plural(totals.ticks, 'tick'), this.levels !== 4
+      && `on ${plural(this.levels, 'level')}`, ...sums].filter(Boolean);
     this.state(isWait ? 'good' : 'warn', h('b', {}, isWait ? 'Ended in a wait:' : 'Ended by its budget:'),
       ` ${facts.join(', ')}`);
     if (isCut) this.say(LONGER);
     else if (byId('said').textContent.startsWith(LONGER)) this.say();
-    this.left(run, report.kind === 'BUDGET');
+    this.left(run, report.kind === 'BUDGET', plain);
     this.editor.setHeat(heat);
     this.views.fresh();
     this.views.show(this.view);
   }
 
   // Where the counter came to what is no instruction of the deck, a deck most often lacks its BEW.
-  left(run, isBudget) {
+  left(run, isBudget, plain) {
     if (this.isStray) this.say();
-    const strange = isBudget && run.rows.length && !isNoInstruction(run.rows[0]) ? run.rows.find(isNoInstruction)
-      : null;
-    this.isStray = Boolean(strange);
-    if (!strange) return;
+    if (!isBudget || !run.rows.length) return;
+    const operations = new Map(plain.cards.map((card, k) => [plain.lines[k], operationOf(card)]));
+    const strange = run.rows.find((row) => isNoInstruction(row, operations));
+    if (!strange || strange === run.rows[0]) return;
     const from = run.rows[run.rows.indexOf(strange) - 1];
     const what = strange.card
       ? `card ${strange.card} (${strange.text.replace(/\s+/g, ' ').trim()}), which is no instruction`
       : 'no instruction card of the deck';
     this.say(
       h('span', {},
-        `Behind ${from.card ? `card ${from.card}` : from.address} the counter came to ${strange.address}, ${what}. `
+        `After ${from.card ? `card ${from.card}` : from.address} the counter came to ${strange.address}, ${what}. `
           + `Is there a BEW where the program ends? `),
       h('button', { onclick: () => { this.choose('step'); this.stepper.go(strange.c); } }, `Tick ${strange.c}`), ' ',
       h('button', { onclick: () => this.lesson('first-faults') }, 'My first deck failed'));
+    this.isStray = true;
   }
 
   // ---- files, links, paper

@@ -94,6 +94,13 @@ function namedStorage(fields, words, before) {
     ['name', 'address', 'card', 'is now', 'its bits', 'as text'], rows)];
 }
 
+// Of a long run the rows at the end are not here, so neither is what they have stored.
+function fieldsUnknown(fields) {
+  return fields.length ? [h('p', { class: 'note' },
+    'This is a long run, so what the fields of the deck are at the end is not known here. A card ',
+    h('code', {}, '/DUMP'), ' shows words of storage at the end.')] : [];
+}
+
 function dumped(storage, nameOf) {
   if (!storage.size) return [];
   const rows = [...storage].map(([word, hex]) => h('tr', {}, h('th', { scope: 'row', class: 'code' }, word),
@@ -166,6 +173,6 @@ export function reportView(box, { report, left, indicators, listing, end }) {
   const nameOf = (address) => (names.has(address) ? ` (${names.get(address)})` : '');
   const known = new Map(end ? end.words : report.storage);
   box.replaceChildren(...paper(report.prints), ...registersView(report, indicators, nameOf),
-    ...(end ? namedStorage(fieldsOf(listing), known, end.before) : []),
+    ...(end ? namedStorage(fieldsOf(listing), known, end.before) : fieldsUnknown(fieldsOf(listing))),
     ...dumped(report.storage, nameOf), ...linesView(report, left, indicators));
 }

@@ -16,6 +16,7 @@ const LEAST_SCALE = 5;          // a run whose ticks would be narrower is scroll
 const OWN_SCALE = 9;            // and its ticks are so wide
 const SCALES = { least: 0.02, most: 60, first: 40 };
 const RATES = [1, 2, 5, 10, 25];
+const NAME = /^[A-Z][A-Z0-9]{0,7}$/;            // of a card
 
 // What the bars of a row are called, as the timetable and the picture have them.
 export function phases() {
@@ -333,6 +334,8 @@ export class Stepper {
       const address = /^\d{1,6}\.(0|32)$/.test(what) ? what : this.on.addressOf?.(what) ?? addressOf(what, rows);
       if (address) return { ticks: rows.filter((row) => row.address === address).map((row) => row.c),
         none: `no instruction at ${address} is done` };
+      if (NAME.test(what)) return { none: (this.on.wordOf?.(what) ?? null) === null ? `no card has the name ${what}`
+        : `no instruction of ${what} is done` };
       if (!/^\d{1,7}$/.test(what)) return { none: 'the number of a card, its name or its address: 5, LOOP, 34.32' };
       return { ticks: rows.filter((row) => row.card === Number(what)).map((row) => row.c),
         none: `no instruction of card ${what} is done` };
@@ -341,7 +344,8 @@ export class Stepper {
     if (ticks) return { ticks, none: `the field ${what} does not change` };
     const word = /^\d{1,7}(\.0)?$/.test(what) ? Number(what) : this.on.wordOf?.(what) ?? this.on.wordOf?.(`$${what}`)
       ?? null;
-    if (word === null) return { none: 'a word by number or name, or a register: 50, TOTAL, $X1' };
+    if (word === null) return { none: NAME.test(what) ? `no card and no register has the name ${what}`
+      : 'a word by number or name, or a register: 50, TOTAL, $X1' };
     return { ticks: rows.filter((row) => row.state.words.some(([one]) => one === word)).map((row) => row.c),
       none: `word ${word} does not change` };
   }
@@ -349,14 +353,17 @@ export class Stepper {
   // Goes to where the break point holds next, and says where it does nowhere.
   goUntil(forth) {
     if (!this.chosen) return;
-    const { ticks = [], none } = this.ticksUntil(this.untilKind.value, this.untilWhat.value.trim().toUpperCase());
+    const what = this.untilWhat.value.trim().toUpperCase();
+    const { ticks = [], none } = this.ticksUntil(this.untilKind.value, what);
     const t = forth ? ticks[countWhile(ticks, (one) => one <= this.t)]
       : ticks[countWhile(ticks, (one) => one < this.t) - 1];
     if (t !== undefined) {
       this.go(t);
       return;
     }
-    const text = ticks.length ? `${forth ? 'none behind' : 'none before'} tick ${this.t}` : none;
+    const wanted = { card: `no instruction of ${/^\d+$/.test(what) ? 'card ' : ''}${what}`,
+      word: `no change of ${what}`, interrupt: 'no interrupt' }[this.untilKind.value];
+    const text = ticks.length ? `${wanted} ${forth ? 'after' : 'before'} tick ${this.t}` : none;
     if (this.untilWhat.hidden) {
       this.sentence.replaceChildren(h('b', { class: 'now' }, `Tick ${this.t}`), ` ${text}.`);
       return;

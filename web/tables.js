@@ -2,7 +2,7 @@
 import { h } from './dom.js';
 import { formsOf, registerName, registerText } from './contents.js';
 import { fieldText } from './fields.js';
-import { ZERO, aloneText, causeName, indexText, levelDoes, nextWaits, pending } from './words.js';
+import { ZERO, aloneText, causeName, grouped, indexText, levelDoes, nextWaits, pending } from './words.js';
 
 const PURPOSE = new Map([
   ['instruction', 'instruction'],
@@ -32,7 +32,7 @@ export function committed(run, t, state) {
   const whole = run.totals.instructions;
   return [
     h('b', {}, 'Committed: '), 'counter ', h('span', { class: 'code' }, state.counter ?? '-'),
-    `, ${run.numberDone(t)} of ${whole} done`,
+    `, ${grouped(run.numberDone(t))} of ${run.isCut ? 'the first ' : ''}${grouped(whole)} done`,
     charge ? h('span', { class: 'gap' }, h('i', { class: `mark b-${charge.cause}`, 'aria-hidden': 'true' }),
       `this tick is charged to row ${charge.row.row}: ${causeName.get(charge.cause)}`) : null,
   ];

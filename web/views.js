@@ -11,7 +11,8 @@ import { plural } from './words.js';
 import { whereView } from './where.js';
 
 const PICTURE_ROWS = 200;
-const LONG = 20000;
+const MOST_BUDGET = 20000;      // a deck that may do more is drawn with a budget of its own
+const PICTURE_BUDGET = 1000;
 const LATIN = new TextDecoder('latin1');
 // A picture has its mark for text that is cut in UTF-8; its other characters are of one byte.
 const PICTURE = new TextDecoder();
@@ -36,6 +37,11 @@ function painted(svg) {
   });
   probe.remove();
   return svg.replace('</style>', `${rules.join('')}</style>`);
+}
+
+// Whether the picture is of the first instructions of a deck alone.
+function isDrawnShort(deck) {
+  return budgetOf(linesOf(deck)) > MOST_BUDGET;
 }
 
 export class Views {
@@ -100,7 +106,16 @@ export class Views {
     const [run] = made.runs;
     const cards = new Map();
     for (const row of run.rows) if (row.card && !cards.has(row.address)) cards.set(row.address, row.card);
-    if (made.isCut) made.whole ??= await this.wholeTotals(made);
+    if (made.isCut && !made.whole) {
+      const say = (text) => box.replaceChildren(h('p', { class: 'note', role: 'status' }, text));
+      say('The sums of the whole run are being made …');
+      try {
+        made.whole = await this.wholeTotals(made);
+      } catch (error) {
+        say('The sums of the whole run were not made.');
+        throw error;
+      }
+    }
     whereView(box, run, cards, { cause: (cause) => this.app.stepper.chooseCause(cause),
       card: (card) => this.toCard(card) }, made.whole);
   }
@@ -125,7 +140,10 @@ export class Views {
     this.svg = await this.pictureText();
     this.image = h('img', { alt: 'the timetable of the run, as the program chart draws it' });
     this.paint();
-    box.replaceChildren(...this.ofFour('picture', this.made), h('p', { class: 'soft' },
+    const { deck, report } = this.made;
+    const isCut = isDrawnShort(deck) && report.done > PICTURE_BUDGET;
+    box.replaceChildren(...this.ofFour('picture', this.made), ...(isCut ? [h('p', { class: 'note' },
+      `Of the first ${plural(PICTURE_BUDGET, 'instruction')}:`)] : []), h('p', { class: 'soft' },
       `The picture that ./chart draws of the report: at most ${PICTURE_ROWS} rows. `
       + 'Here it has the colours of the timetable. Save it as a file for a text or a slide.'),
     h('div', { class: 'picture-room', tabindex: '0' }, this.image));
@@ -166,7 +184,7 @@ export class Views {
 
   async pictureText() {
     const { deck } = this.made;
-    const short = budgetOf(linesOf(deck)) > LONG ? withCards(deck, ['BUDGET'], ['/BUDGET 1000']) : deck;
+    const short = isDrawnShort(deck) ? withCards(deck, ['BUDGET'], [`/BUDGET ${PICTURE_BUDGET}`]) : deck;
     const { bytes } = await this.app.side.run('stretch', ['run'], bytesOf(asking(short, ['CHART', 'LIST'])));
     return PICTURE.decode((await this.app.side.run('chart', [], bytes)).bytes);
   }

@@ -14,8 +14,8 @@ def of_control(cards, k, fault, known):
         yield "a comment without its *", put(cards, k, "*" + text.lstrip("/* "))
     if words[0].upper() not in known.controls:
         for name in difflib.get_close_matches(words[0], known.controls, 1, 0.5):
-            yield "a control card that is none", put(cards, k, " ".join([name] + words[1:]))
-        yield "a control card that is none", None
+            yield "an unknown control card", put(cards, k, " ".join([name] + words[1:]))
+        yield "an unknown control card", None
         return
     if end is None or k < end:
         yield "a control card before the end", None if end is None else cards[:k] + cards[k + 1:end + 1] + [cards[k]] + cards[end + 1:]
@@ -26,7 +26,7 @@ def of_control(cards, k, fault, known):
         if any(card[:72].split()[:1] == words[:1] for card in cards[:k]):
             yield "the same control card a second time", put(cards, k)
         elif not kind["numbers"] and len(words) > 1:
-            yield "a control card that is none", put(cards, k, words[0])
+            yield "an unknown control card", put(cards, k, words[0])
     if words[0] in ("/SNAP", "/SIGNAL"):
         yield "numbers that do not rise", rising(cards, words[0])
 

@@ -27,7 +27,7 @@ def of_description(cards, k, fault, known):
 def descriptions(parts):
     """Of the parts of a description: what is likely wrong, and the parts that may be meant."""
     if parts[0] not in ("B", "BU", "D", "DU", "N", "U"):
-        yield "a mode that is none", [next((mode for mode in ("BU", "DU", "B", "D") if parts[0].startswith(mode)), "BU"), *parts[1:]]
+        yield "an unknown mode", [next((mode for mode in ("BU", "DU", "B", "D") if parts[0].startswith(mode)), "BU"), *parts[1:]]
     if len(parts) > 1 and is_number(parts[1]):
         length = int(parts[1])
         if length > 64:
@@ -64,7 +64,7 @@ def of_progressive(cards, k, fault, known):
         yield "a store writes its field", put(cards, k, card.written(groups=card.groups[:-1]))
     elif card.groups and card.groups[-1].endswith(")") and card.groups[-1] not in FORMS:
         for form in difflib.get_close_matches(card.groups[-1], FORMS, 1, 0.5):
-            yield "a form that is none", put(cards, k, card.written(groups=card.groups[:-1] + [form]))
+            yield "an unknown form", put(cards, k, card.written(groups=card.groups[:-1] + [form]))
 
 
 def of_immediate(cards, k, card):
