@@ -172,22 +172,26 @@ second_cut s v u xs ys zs o e r f h k = lines_cut s u (xs ++ ys) zs e r f (lines
 
 -- ---- whether interrupts are enabled
 
-pub en-start : (k : ℕ) (was now shown : Bool) → k ≡ 0 → shown ≡ nat_eq k 0 → (if shown then en_line now ∷ [] else []) ≡ en_lines k was now
-unfolding en_lines
-en-start k was now shown none on = rw (on, none) refl
+later : (k : ℕ) → k ≢ 0 → nat_eq k 0 ≡ false
+later k some = grind (arith, nat_tests)
 
-pub flags-differ : (was now : Bool) → not (beq was now) ≡ differs was now
-flags-differ true true = refl
-flags-differ true false = refl
-flags-differ false true = refl
-flags-differ false false = refl
-
-pub en-later : (k : ℕ) (was now shown : Bool) → k ≢ 0 → shown ≡ differs was now → (if shown then en_line now ∷ [] else []) ≡ en_lines k was now
+pub en-none : (k : ℕ) (was now : Bool) → k ≢ 0 → beq was now ≡ true → [] ≡ en_lines k was now
 unfolding en_lines
-en-later k was now shown some is = rw (is, later k some) refl
-  where
-    later : (k : ℕ) → k ≢ 0 → nat_eq k 0 ≡ false
-    later k some = grind (arith, nat_tests)
+en-none k true true some same = rw (later k some) refl
+en-none k false false some same = rw (later k some) refl
+en-none k true false some same = absurd (cc)
+en-none k false true some same = absurd (cc)
+
+pub en-first : (k : ℕ) (was now : Bool) → k ≡ 0 → en_line now ∷ [] ≡ en_lines k was now
+unfolding en_lines
+en-first k was now none = rw none refl
+
+pub en-changed : (k : ℕ) (was now : Bool) → k ≢ 0 → beq was now ≡ false → en_line now ∷ [] ≡ en_lines k was now
+unfolding en_lines
+en-changed k true true some differ = absurd (cc)
+en-changed k false false some differ = absurd (cc)
+en-changed k true false some differ = rw (later k some) refl
+en-changed k false true some differ = rw (later k some) refl
 
 -- ---- what is printed
 

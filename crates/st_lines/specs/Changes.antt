@@ -1,7 +1,7 @@
 -- The words that may change after an entry.
 --
--- Proved: by their `ensures` clauses these calls do what definitions here say: `are_left`
--- (changes.rt), `next_of_card` (changes.rt), `next_word` (changes.rt).
+-- Proved: by their `ensures` clauses these calls do what definitions here say: `next_word`
+-- (changes.rt).
 -- Read by: definitions in Standing of st_account.
 -- Laws: none names a definition of this file itself.
 -- Change: no page fixes these definitions, since no contract of a program unfolds to them; they

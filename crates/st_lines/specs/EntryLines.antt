@@ -1,7 +1,7 @@
 -- The lines of a ledger about an entry: its properties and effects, and its row with its charges.
 --
 -- Proved: by their `ensures` clauses these calls do what definitions here say: `alone_by`
--- (facts.rt), `alone_for` (facts.rt), `suppressed_by` (facts.rt), `write_alone` (facts.rt), and
+-- (facts.rt), `suppressed_by` (facts.rt), `write_alone` (facts.rt), `write_code` (facts.rt), and
 -- others.
 -- Read by: definitions in BorderLines, TellingWaits, Slots of st_tally, Tally of st_tally, and
 -- others.

@@ -1,7 +1,7 @@
 -- The lines of the waits of a row, and of the cause that delayed it.
 --
 -- Proved: by their `ensures` clauses these calls do what definitions here say: `fill_because`
--- (waits.rt), `fill_earlier` (waits.rt), `fill_prefetch` (waits.rt), `fill_start` (waits.rt), and
+-- (waits.rt), `fill_wait` (waits.rt), `fill_wait_sum` (waits.rt), `put_reason` (waits.rt), and
 -- others.
 -- Read by: definitions in EntryLines, Runs of st_causes, TallyLines of st_tally, Text of
 -- st_account.

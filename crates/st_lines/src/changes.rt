@@ -54,29 +54,6 @@ fn next_in(first: u32, len: u8, w: u32) -> u32
     w.max(first.min(WORDS))
 }
 
-// The first address from `w` on in the area of a card; at most `WORDS`.
-fn next_of_card(card: Option<u32>, w: u32) -> u32
-    requires { w ≤ WORDS }
-    ensures least { w ≤ result }
-    ensures most { result ≤ WORDS }
-    ensures between { (v : ℕ) → w ≤ v → v < result → IsOutsideArea v card }
-{
-    match card {
-        Some(area) => next_in(area, 8, w),
-        None => WORDS,
-    }
-}
-
-// Whether no word other than registers may have changed.
-fn are_left(may: &Changeable) -> bool
-    ensures { result ≡ true → (v : ℕ) → 32 ≤ v → IsUntouched v may.now }
-{
-    if may.writes.len != 0 || may.writes.len2 != 0 {
-        return false;
-    }
-    may.card.is_none()
-}
-
 // The first address from `w` on of a word, not a register, that may have changed; at most `WORDS`.
 fn next_word(may: &Changeable, w: u32) -> u32
     requires above { 32 ≤ w }
@@ -85,14 +62,17 @@ fn next_word(may: &Changeable, w: u32) -> u32
     ensures most { result ≤ WORDS }
     ensures between { (v : ℕ) → w ≤ v → v < result → IsUntouched v may.now }
 {
-    if are_left(may) {
+    let writes = may.writes;
+    if writes.len == 0 && writes.len2 == 0 && may.card.is_none() {
         return WORDS;
     }
-    let writes = may.writes;
     let one = next_in(writes.first, writes.len, w);
     let two = next_in(writes.first2, writes.len2, w);
-    let card = next_of_card(may.card, w);
-    one.min(two).min(card)
+    let least = one.min(two);
+    match may.card {
+        Some(area) => least.min(next_in(area, 8, w)),
+        None => least,
+    }
 }
 
 // Whether the two registers from `w` on are unchanged.
@@ -109,19 +89,6 @@ fn are_two(old: &Vec<u64>, state: &State, w: u32) -> bool
     old[w as usize + 1] == state.word(w + 1)
 }
 
-// Whether the four registers from `w` on are unchanged.
-fn are_four(old: &Vec<u64>, state: &State, w: u32) -> bool
-    requires size { length old.now.items ≡ words_of_storage }
-    requires inside { w + 4 ≤ 32 }
-    ensures { result ≡ true → (v : ℕ) → w ≤ v → v < w + 4 →
-        slice_index old.now.items v ≡ word_of state.now v }
-{
-    if !are_two(old, state, w) {
-        return false;
-    }
-    are_two(old, state, w + 2)
-}
-
 // The first register from `w` on that changed, or else the first word after the registers.
 // Unchanged registers are skipped four at a time.
 #[tactic(auto, using(st_bits::specs::Storage::words_of_storage_is))]
@@ -135,7 +102,7 @@ fn next_register(old: &Vec<u64>, state: &State, w: u32) -> u32
 {
     let mut r = w;
     'registers: while r < FIRST_STORAGE_WORD {
-        if r <= 28 && are_four(old, state, r) {
+        if r <= 28 && are_two(old, state, r) && are_two(old, state, r + 2) {
             r += 4;
         } else if old[r as usize] == state.word(r) {
             r += 1;
@@ -228,15 +195,6 @@ fn copy_front(n: usize, from: &[u64], to: &mut [u64])
     to[..n].copy_from_slice(&from[..n]);
 }
 
-// Copies the registers of a state.
-#[tactic(auto, using(st_bits::specs::Storage::words_of_storage_is))]
-fn keep_registers(old: &mut Vec<u64>, state: &State)
-    requires { length old.old.items ≡ words_of_storage }
-    ensures { old.new.items ≡ take 32 state.now.words ++ drop 32 old.old.items }
-{
-    copy_front(REGISTERS, state.words(), old.as_mut_slice());
-}
-
 /// Copies the words of a state that changed. `old` has the words as they were before. To copy all
 /// registers takes less time than to compare them.
 #[tactic(auto, using(st_bits::specs::Storage::words_of_storage_is))]
@@ -246,7 +204,7 @@ pub(crate) fn keep_changed(old: &mut Vec<u64>, state: &State, may: &Changeable)
     ensures { old.new.items ≡ state.now.words }
 {
     state.shape();
-    keep_registers(old, state);
+    copy_front(REGISTERS, state.words(), old.as_mut_slice());
     let first = next_word(may, FIRST_STORAGE_WORD);
     let mut w = first;
     'words: while w < WORDS {

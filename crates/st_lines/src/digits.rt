@@ -88,21 +88,6 @@ pub fn fill_index(line: &mut LineFromEnd, change: &IndexChange)
     line.put_word(*b"INDEX ");
 }
 
-// Puts the second half-word of a full word, if there is one, in front of a line.
-fn put_second(line: &mut LineFromEnd, half: Option<u32>)
-    requires { length line.old + 9 ≤ 128 }
-    ensures bytes { line.new ≡ second_half_text half ++ line.old }
-    ensures room { length line.new ≤ length line.old + 9 }
-{
-    match half {
-        Some(half) => {
-            put_digits(line, u64::from(half));
-            line.put_word(*b" ");
-        }
-        None => {}
-    }
-}
-
 /// Fills a line with `CODE h` or `CODE h g`: the half-words that an entry executes. The previous
 /// contents are overwritten.
 pub fn fill_code(line: &mut LineFromEnd, code: Code)
@@ -110,7 +95,10 @@ pub fn fill_code(line: &mut LineFromEnd, code: Code)
 {
     line.clear();
     line.put_word(*b"\n");
-    put_second(line, code.second);
+    if let Some(half) = code.second {
+        put_digits(line, u64::from(half));
+        line.put_word(*b" ");
+    }
     put_digits(line, u64::from(code.first));
     line.put_word(*b"CODE ");
 }

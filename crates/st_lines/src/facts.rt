@@ -14,7 +14,7 @@ ghost use Rattle.std.specs.Prelude.{◌≡◌, ◌-◌, ◌≤◌, ◌==◌, IsO
 ghost use Rattle.st_bits.specs.Indicators.{indicator as indicator_of};
 ghost use Rattle.st_state.specs.Interrupts.{first_from};
 ghost use Rattle.st_io.specs.Lines.{WritesLines};
-ghost use Rattle.st_lines.specs.EntryLines.{alone_for as alone_of, alone_by as alone_why, alone_lines, suppressed_by as suppressed_of, suppressed_lines, emitted_lines, code_lines, run_lines, index_lines, facts_lines, missed_lines, level_lines, known_lines, done_entry_lines};
+ghost use Rattle.st_lines.specs.EntryLines.{alone_by as alone_why, alone_lines, suppressed_by as suppressed_of, suppressed_lines, emitted_lines, code_lines, run_lines, index_lines, facts_lines, missed_lines, level_lines, done_entry_lines};
 ghost use Rattle.st_lines.specs.TellingWaits.{CanTellWaits, HasToldWaits};
 
 use crate::digits::{fill_code, fill_index, fill_writes};
@@ -30,33 +30,24 @@ use st_prep::{IndexChange, Prepared, has_register, is_register};
 use st_report::{LineFromEnd, put};
 use st_rows::Use;
 
-// Why a serialized entry is serialized.
-fn alone_for(table: Option<u8>, execute: bool, register: bool) -> Alone
-    ensures { result ≡ alone_of table execute register }
-{
-    match table {
-        Some(i) => Alone::Table(i),
-        None => {
-            if execute {
-                Alone::Execute
-            } else if register {
-                Alone::Register
-            } else {
-                Alone::Operation
-            }
-        }
-    }
-}
-
 // Why an entry is serialized; `None` if it is not.
 fn alone_by(p: &Prepared, side: Option<u32>, execute: bool) -> Option<Alone>
     ensures { result ≡ alone_why p.now side execute }
 {
-    if p.serial {
-        let register = is_register(side) || has_register(p.reads) || has_register(p.writes);
-        Some(alone_for(p.place.table, execute, register))
-    } else {
-        None
+    if !p.serial {
+        return None;
+    }
+    match p.place.table {
+        Some(i) => Some(Alone::Table(i)),
+        None => {
+            if execute {
+                Some(Alone::Execute)
+            } else if is_register(side) || has_register(p.reads) || has_register(p.writes) {
+                Some(Alone::Register)
+            } else {
+                Some(Alone::Operation)
+            }
+        }
     }
 }
 
@@ -265,29 +256,6 @@ fn write_missed<K: Sink>(out: &mut K, mispredicted: bool) -> Result<(), Failed>
     put(out, &line_missed())
 }
 
-// Writes the facts about a completed entry that do not concern its ticks.
-fn write_known<K: Sink>(
-    out: &mut K,
-    line: &mut FactLine,
-    entry: &EntryRecord<'_>,
-) -> Result<(), Failed>
-    ensures { WritesLines (K.output out.old) (K.output out.new)
-        (known_lines entry.now.done.now entry.now.plan.now entry.now.known.now entry.now.uses.now)
-        result }
-{
-    let done = entry.done;
-    write_missed(out, done.mispredicted)?;
-    let facts = Facts {
-        n: done.n,
-        end: done.end,
-        plan: entry.plan,
-        known: entry.known,
-        origin: done.origin,
-        uses: entry.uses,
-    };
-    write_facts(out, line, &facts)
-}
-
 // Writes for how many ticks an entry waited for a level, if it did.
 #[tactic(auto, unfolding(crate::specs::EntryLines::level_lines), using(st_io::proofs::Progress::wrote_nothing))]
 fn write_level<K: Sink>(out: &mut K, d: u64) -> Result<(), Failed>
@@ -319,7 +287,16 @@ pub fn write_done<K: Sink>(
         done.address,
         &done.row.ticks,
     )?;
-    write_known(out, &mut waiting.facts, entry)?;
+    write_missed(out, done.mispredicted)?;
+    let facts = Facts {
+        n: done.n,
+        end: done.end,
+        plan: entry.plan,
+        known: entry.known,
+        origin: done.origin,
+        uses: entry.uses,
+    };
+    write_facts(out, &mut waiting.facts, &facts)?;
     write_charged(out, entry, waiting)?;
     write_level(out, done.row.level_wait)?;
     write_because(out, done.n, done.before, done.row.ticks.r, &done.because)

@@ -110,19 +110,6 @@ impl Origins {
     }
 }
 
-// Puts whether half-words are unchanged in front of a line.
-fn put_kept(line: &mut LineFromEnd, kept: bool)
-    requires { length line.old + 7 ≤ 192 }
-    ensures bytes { line.new ≡ (codes " KEPT " ++ flag kept) ++ line.old }
-    ensures room { length line.new ≡ length line.old + 7 }
-{
-    if kept {
-        line.put_word(*b" KEPT 1");
-    } else {
-        line.put_word(*b" KEPT 0");
-    }
-}
-
 /// Fills a line with `LAID k KEPT f`: card k is the first whose bits begin in the half-word at the
 /// address of an entry. The previous contents are overwritten.
 pub(crate) fn fill_emitted(line: &mut LineFromEnd, origin: Origin)
@@ -130,7 +117,11 @@ pub(crate) fn fill_emitted(line: &mut LineFromEnd, origin: Origin)
 {
     line.clear();
     line.put_word(*b"\n");
-    put_kept(line, origin.kept);
+    line.put_word(if origin.kept {
+        *b" KEPT 1"
+    } else {
+        *b" KEPT 0"
+    });
     line.put_decimal(u64::from(origin.card));
     line.put_word(*b"LAID ");
 }

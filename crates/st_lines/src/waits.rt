@@ -11,10 +11,9 @@
 //! order, and that a row with no charge but executing has no cause. Free: the recursions and
 //! buffers, if proofs/waits follows. A new `Stall` or `Reason` of `st_ledger` needs its text here
 //! and in specs/WaitLines.antt.
-ghost use Rattle.std.specs.Prelude.{ℕ, ◌≡◌, ◌+◌, ◌≤◌, ◌++◌, length, IsOk};
+ghost use Rattle.std.specs.Prelude.{◌≡◌, ◌+◌, ◌≤◌, ◌++◌, length, IsOk};
 ghost use Rattle.st_io.specs.Lines.{WritesLines};
 ghost use Rattle.st_ledger.specs.Charges.{charges_behind, part_charges, parts_of_row};
-ghost use Rattle.st_ledger.specs.declared.because.StallCause.TheVariants.{Start as StartOf, Prefetch as PrefetchOf, Earlier as EarlierOf};
 ghost use Rattle.st_ledger.specs.Sums.{waited_at, wait_sums_by};
 ghost use Rattle.st_lines.specs.EntryLines.{charges_of_entry};
 ghost use Rattle.st_lines.specs.Waited.{AreWaitsReady, AddsWaits};
@@ -25,8 +24,8 @@ use crate::facts::EntryRecord;
 use crate::uses::{FactLine, put_bank};
 use st_io::{Failed, Sink, write_line};
 use st_ledger::{
-    Cause, Charge, Prefetched, Reason, RowLine, Stage, StagePart, Stall, StallCause, Wait, WaitSum,
-    WaitTotals, Waits, fill_charge, fill_waits, later, parts, put_stage, wait_sums,
+    Charge, Reason, RowLine, Stage, StagePart, Stall, StallCause, Wait, WaitSum, WaitTotals, Waits,
+    fill_charge, fill_waits, later, parts, put_stage, wait_sums,
 };
 use st_report::LineFromEnd;
 use st_rows::{EntryTicks, Use};
@@ -274,53 +273,36 @@ fn put_reason(line: &mut LineFromEnd, reason: Reason)
     }
 }
 
-// Fills a line with `BECAUSE START ROW - TICK t LATE -`. The previous contents are overwritten.
-fn fill_start(line: &mut LineFromEnd, tick: u64)
-    ensures { (n : ℕ) → line.new ≡ because_line n (StartOf tick) }
-{
-    line.clear();
-    line.put_word(*b"\n");
-    line.put_word(*b" LATE -");
-    line.put_decimal(tick);
-    line.put_word(*b"BECAUSE START ROW - TICK ");
-}
-
-// Fills a line with `BECAUSE PREFETCH WORD w LATE l`. The previous contents are overwritten.
-fn fill_prefetch(line: &mut LineFromEnd, asked: &Prefetched)
-    ensures { (n : ℕ) → line.new ≡ because_line n (PrefetchOf asked.now) }
-{
-    line.clear();
-    line.put_word(*b"\n");
-    line.put_decimal(asked.late);
-    line.put_word(*b" LATE ");
-    line.put_decimal(u64::from(asked.word));
-    line.put_word(*b"BECAUSE PREFETCH WORD ");
-}
-
-// Fills a line with `BECAUSE why ROW j TICK t LATE l`. The previous contents are overwritten.
-fn fill_earlier(line: &mut LineFromEnd, n: u32, cause: &Cause)
-    ensures { line.new ≡ because_line n (EarlierOf cause.now) }
-{
-    line.clear();
-    line.put_word(*b"\n");
-    line.put_decimal(cause.late);
-    line.put_word(*b" LATE ");
-    line.put_decimal(cause.tick);
-    line.put_word(*b" TICK ");
-    line.put_decimal(u64::from(n.saturating_sub(u32::from(cause.back))));
-    line.put_word(*b" ROW ");
-    put_reason(line, cause.reason);
-    line.put_word(*b"BECAUSE ");
-}
-
-// Fills a line with the cause that delayed the n-th entry. The previous contents are overwritten.
+// Fills a line with the cause that delayed the n-th entry: `BECAUSE START ROW - TICK t LATE -`,
+// `BECAUSE PREFETCH WORD w LATE l` or `BECAUSE why ROW j TICK t LATE l`. The previous contents are
+// overwritten.
 fn fill_because(line: &mut LineFromEnd, n: u32, because: &StallCause)
     ensures { line.new ≡ because_line n because.now }
 {
+    line.clear();
+    line.put_word(*b"\n");
     match because {
-        StallCause::Start(tick) => fill_start(line, *tick),
-        StallCause::Prefetch(asked) => fill_prefetch(line, asked),
-        StallCause::Earlier(cause) => fill_earlier(line, n, cause),
+        StallCause::Start(tick) => {
+            line.put_word(*b" LATE -");
+            line.put_decimal(*tick);
+            line.put_word(*b"BECAUSE START ROW - TICK ");
+        }
+        StallCause::Prefetch(asked) => {
+            line.put_decimal(asked.late);
+            line.put_word(*b" LATE ");
+            line.put_decimal(u64::from(asked.word));
+            line.put_word(*b"BECAUSE PREFETCH WORD ");
+        }
+        StallCause::Earlier(cause) => {
+            line.put_decimal(cause.late);
+            line.put_word(*b" LATE ");
+            line.put_decimal(cause.tick);
+            line.put_word(*b" TICK ");
+            line.put_decimal(u64::from(n.saturating_sub(u32::from(cause.back))));
+            line.put_word(*b" ROW ");
+            put_reason(line, cause.reason);
+            line.put_word(*b"BECAUSE ");
+        }
     }
 }
 

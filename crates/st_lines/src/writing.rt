@@ -67,13 +67,6 @@ fn write_ahead_facts<K: Sink>(
     write_facts(out, &mut FactLine::new(), &facts)
 }
 
-// The card that the half-words of an entry come from that ran ahead.
-fn origin_of(ahead: &Ahead, origins: &Origins, state: &State) -> Option<Origin>
-    ensures { result ≡ origin_at origins.now state.now ahead.now.plan.place.address }
-{
-    origins.at(state, ahead.plan.place.address)
-}
-
 /// The entries that ran ahead of the last entry of a segment and are dropped (flushed) at its end.
 #[derive(Clone, Copy)]
 pub struct Dropped<'a> {
@@ -108,7 +101,7 @@ fn write_drops<K: Sink>(out: &mut K, dropped: &Dropped<'_>, state: &State) -> Re
         n,
         tick,
         first,
-        origin_of(first, dropped.origins, state),
+        dropped.origins.at(state, first.plan.place.address),
     )?;
     let behind = Dropped {
         tick,
@@ -118,28 +111,6 @@ fn write_drops<K: Sink>(out: &mut K, dropped: &Dropped<'_>, state: &State) -> Re
         origins: dropped.origins,
     };
     write_drops(out, &behind, state)
-}
-
-// Writes the `BEGUN` line of the n-th entry and the facts about it.
-fn write_begun_entry<K: Sink>(
-    out: &mut K,
-    n: u32,
-    dropped: &Dropped<'_>,
-    state: &State,
-) -> Result<(), Failed>
-    ensures { WritesLines (K.output out.old) (K.output out.new)
-        (begun_entry_lines (origin_at dropped.now.origins.now state.now) n dropped.now.tick
-        (dropped.now.begun.now ∷ [])) result }
-{
-    let begun = dropped.begun;
-    put(out, &line_begun(n, begun.plan.place.address, &begun.row))?;
-    write_ahead_facts(
-        out,
-        n,
-        dropped.tick,
-        begun,
-        origin_of(begun, dropped.origins, state),
-    )
 }
 
 /// Writes the end of segment k, with the dropped entries and their half-words' origins in the state
@@ -160,20 +131,16 @@ pub fn write_end<K: Sink>(
     }
     put(out, &line_end(k, dropped.tick))?;
     write_drops(out, dropped, state)?;
-    let behind = dropped.n + dropped.found.len() as u32;
-    write_begun_entry(out, behind, dropped, state)
-}
-
-// Writes whether interrupts are enabled, if `shown` is set.
-#[tactic(auto, using(st_io::proofs::Progress::wrote_nothing))]
-fn write_en<K: Sink>(out: &mut K, shown: bool, enabled: bool) -> Result<(), Failed>
-    ensures { WritesLines (K.output out.old) (K.output out.new)
-        (if shown then en_line enabled ∷ [] else []) result }
-{
-    if !shown {
-        return Ok(());
-    }
-    put(out, &line_en(enabled))
+    let n = dropped.n + dropped.found.len() as u32;
+    let begun = dropped.begun;
+    put(out, &line_begun(n, begun.plan.place.address, &begun.row))?;
+    write_ahead_facts(
+        out,
+        n,
+        dropped.tick,
+        begun,
+        dropped.origins.at(state, begun.plan.place.address),
+    )
 }
 
 // Writes all printed lines.
@@ -203,7 +170,10 @@ fn write_counter<K: Sink>(
     let mut line = LineFromEnd::new();
     fill_counter(&mut line, ic);
     write_line(out, line.as_bytes())?;
-    write_en(out, k == 0 || was != enabled, enabled)
+    if k != 0 && was == enabled {
+        return Ok(());
+    }
+    put(out, &line_en(enabled))
 }
 
 // Writes a word of storage or a register, if it is not zero.

@@ -11,9 +11,9 @@
 //! the number of the bad line; the fault is always `BadObjectCard`. Free: the bodies, if
 //! proofs/reading follows `read` and `read_object`.
 
-ghost use Rattle.std.specs.Prelude.{◌≡◌, ◌+◌, ◌<◌, ◌^◌, IfOk, IfErr, Ok};
+ghost use Rattle.std.specs.Prelude.{◌≡◌, ◌+◌, ◌<◌, ◌^◌, true, IfOk, IfErr, Ok};
 ghost use Rattle.st_card.specs.declared.faults.Fault.TheVariants.{BadObjectCard};
-ghost use Rattle.st_object.specs.Draft.{IsDraft};
+ghost use Rattle.st_object.specs.Draft.{IsDraft, is_whole};
 ghost use Rattle.st_object.specs.Object as spec;
 ghost use Rattle.st_object.specs.Answers.{Settles, Explains, Gives, NamesBadLine};
 ghost use Rattle.st_object.specs.declared.reading.ObjectError.TheVariants as errors;
@@ -56,9 +56,10 @@ fn refused(card: u32) -> ObjectError
     }
 }
 
-// The program that a draft describes.
+// The program that a complete draft describes.
 fn image_of(draft: Draft) -> Result<Image, ObjectError>
-    requires { IsDraft draft }
+    requires draft { IsDraft draft }
+    requires whole { is_whole draft ≡ true }
     ensures { Gives (Ok (spec.program_of draft)) result }
 {
     let Draft {
@@ -67,12 +68,15 @@ fn image_of(draft: Draft) -> Result<Image, ObjectError>
         controls,
         ..
     } = draft;
+    let Some(start) = start else {
+        unreachable!();
+    };
     if fill_up(&mut words, WORDS as usize).is_err() {
         return Err(ObjectError::NoMemory);
     }
     Ok(Image {
         words,
-        start: start.unwrap_or(0),
+        start,
         controls,
     })
 }

@@ -1,14 +1,23 @@
-use Rattle.st_lines.proofs.Common.{slice_set, ap, ◌∙◌, arith}
-use Rattle.st_lines.proofs.ChangeLemmas.{IsCopying, copy-registers, copy-passes, copy-made, copy-left, copy-ends}
+use Rattle.st_lines.proofs.Common.{slice_set, length, ap, ◌∙◌, arith, words_of_storage_is}
+use Rattle.st_lines.proofs.ChangeLemmas.{IsCopying, front-kept, copy-registers, copy-passes, copy-made, copy-left, copy-ends}
 use Rattle.st_lines.proofs.changes.keep_changed.Goals as goal
+
+pub copy_front-requires-clause-from : goal.copy_front-requires-clause-from
+copy_front-requires-clause-from c = omega (arith, ap length c.words-2.ensures.words, c.words-2.ensures.machine.size, words_of_storage_is)
+
+pub copy_front-requires-clause-to : goal.copy_front-requires-clause-to
+copy_front-requires-clause-to c = omega (arith, ap length c.as_mut_slice.ensures.value, c.requires.size, words_of_storage_is)
 
 pub words-init : goal.words-init
 words-init c =
-    let copied : IsCopying c.args.old.now.items c.keep_registers.new.old.items c.args.state.now 32 =
-    copy-registers c.args.old.now.items c.keep_registers.new.old.items c.args.state.now c.requires.size c.shape.ensures.size c.keep_registers.ensures in
+    let front = front-kept _ _ _ c.args.state.now.words _ c.args.old.now.items c.copy_front.ensures c.words-2.ensures.words c.as_mut_slice.ensures.value
+    (omega (arith, c.words-2.ensures.machine.size, words_of_storage_is)) (omega (arith, c.requires.size, words_of_storage_is))
+    (omega (arith, ap length c.as_mut_slice.ensures.value, c.as_mut_slice.ensures.len)) in
+    let copied : IsCopying c.args.old.now.items _ c.args.state.now 32 =
+    copy-registers c.args.old.now.items _ c.args.state.now c.requires.size c.shape.ensures.size front in
     record {
       above = c.next_word-first.ensures.least;
-      copying = copy-passes c.args.old.now.items c.keep_registers.new.old.items c.args.state.now 32 c.next_word-first.result copied
+      copying = copy-passes c.args.old.now.items _ c.args.state.now 32 c.next_word-first.result copied
           c.next_word-first.ensures.least c.next_word-first.ensures.most
           (λ v low below. copied.left v low ∙ c.requires.left v (omega (arith, below, c.next_word-first.ensures.most)) (c.next_word-first.ensures.between v low below));
     }

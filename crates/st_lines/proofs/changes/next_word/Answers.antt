@@ -1,15 +1,22 @@
-use Rattle.st_lines.proofs.Common.{arith}
+use Rattle.st_lines.proofs.Common.{sym, subst, arith, IsOutsideArea}
 use Rattle.st_lines.proofs.changes.next_word.Goals as goal
 
-pub returns-clause-between : goal.returns-clause-between
-returns-clause-between c v low below = record {
+pub returns-in-Some-clause-between : goal.returns-in-Some-clause-between
+returns-in-Some-clause-between c v low below = record {
   above = omega (arith, low, c.requires.above);
   unwritten = record {
-    first = c.next_in-one.ensures.between v low (omega (arith, below, c.min.ensures, c.min-2.ensures));
-    second = c.next_in-two.ensures.between v low (omega (arith, below, c.min.ensures, c.min-2.ensures));
+    first = c.next_in-one.ensures.between v low (omega (arith, below, c.min-least.ensures, c.min.ensures));
+    second = c.next_in-two.ensures.between v low (omega (arith, below, c.min-least.ensures, c.min.ensures));
   };
-  beside = c.next_of_card-card.ensures.between v low (omega (arith, below, c.min-2.ensures));
+  beside = subst (IsOutsideArea v) (sym c.in-Some.is) (c.next_in.ensures.between v low (omega (arith, below, c.min.ensures)));
 }
 
-pub returns-then-are_left-clause-between : goal.returns-then-are_left-clause-between
-returns-then-are_left-clause-between c v low below = c.are_left.ensures c.if-are_left.true v (omega (arith, low, c.requires.above))
+pub returns-in-None-clause-between : goal.returns-in-None-clause-between
+returns-in-None-clause-between c v low below = record {
+  above = omega (arith, low, c.requires.above);
+  unwritten = record {
+    first = c.next_in-one.ensures.between v low (omega (arith, below, c.min-least.ensures));
+    second = c.next_in-two.ensures.between v low (omega (arith, below, c.min-least.ensures));
+  };
+  beside = subst (IsOutsideArea v) (sym c.in-None.is) tt;
+}
