@@ -23,7 +23,7 @@ unfoldable pub use Rattle.st_lines.specs.EntryLines.{alone_lines, emitted_lines,
 pub use Rattle.st_lines.specs.UseLines.{is_told, use_line, role_text, supply_text, is_before}
 unfoldable pub use Rattle.st_lines.specs.UseLines.{use_lines}
 pub use Rattle.st_lines.specs.declared.origins.Origin.{Origin}
-pub use Rattle.st_lines.specs.Lines.{delays_line, delays_lines, dropped_line, begun_line, segment_end_line, second_half_text, ledger_levels_line}
+pub use Rattle.st_lines.specs.Lines.{delays_line, delays_lines, dropped_line, begun_line, segment_end_line, ledger_levels_line}
 unfoldable pub use Rattle.st_lines.specs.Lines.{numbers_text, tens_of}
 pub use Rattle.st_report.specs.Line.{prt_line, en_line, ic_line, end_line, done_line, ticks_line}
 pub use Rattle.st_lines.specs.Origins.{card_by, is_kept, origin_by}
@@ -41,7 +41,7 @@ pub use Rattle.st_ledger.specs.declared.waits.Stall.{Stall}
 pub use Rattle.st_lines.specs.Waited.{AddsWaits}
 pub use Rattle.st_banks.specs.Bank.{bank_of}
 pub use Rattle.st_ledger.specs.Lines.{charge_line, stage_name}
-pub use Rattle.st_lines.specs.WaitLines.{wait_line, wait_sum_line, because_line, stall_name}
+pub use Rattle.st_lines.specs.WaitLines.{wait_line, wait_sum_line, stall_name}
 unfoldable pub use Rattle.st_lines.specs.WaitLines.{wait_lines, charged_lines, wait_sum_lines}
 pub use Rattle.st_text.specs.Bytes.{lf}
 pub use Rattle.st_ledger.proofs.FromEnd.{seven_pieces, thirteen_pieces}
