@@ -309,6 +309,7 @@ fn fill_because(line: &mut LineFromEnd, n: u32, because: &StallCause)
 /// Writes the cause that delayed the n-th entry, if the entry has a charge other than that of
 /// executing. The previous entry completed at tick `done`, and the entry's operands were available
 /// at tick `r`.
+#[inline(always)]
 #[tactic(auto, unfolding(crate::specs::WaitLines::because_lines), using(st_io::proofs::Progress::wrote_nothing))]
 pub(crate) fn write_because<K: Sink>(
     out: &mut K,
