@@ -10,7 +10,7 @@
 //! or `Pair`, by how many numbers its line has, and a row of ORDER, `place`, `word` and, if it is
 //! allowed once, `most`; `Controls` (control_cards.rt) has its field.
 
-ghost use Rattle.std.specs.Prelude.{◌≡◌, ◌≤◌, ◌<◌, ◌++◌, length};
+ghost use Rattle.std.specs.Prelude.{◌≡◌, ◌≤◌, ◌<◌, length};
 ghost use Rattle.std.specs.Option.{option_map};
 ghost use Rattle.arrayvec.specs.ArrayString.{array_string_len};
 ghost use Rattle.st_text.specs.Pieces.{words};

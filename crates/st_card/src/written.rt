@@ -9,7 +9,7 @@
 //! vectors/objects.txt and vectors/decks.txt. Free: the bodies, if proofs/written follows the
 //! loops. A new request needs no case here, since none is named.
 
-ghost use Rattle.std.specs.Prelude.{◌≡◌, ◌≤◌, ◌++◌, [], ◌∷◌, OnOk, map, codes, decimal};
+ghost use Rattle.std.specs.Prelude.{◌≡◌, ◌++◌, [], ◌∷◌, OnOk, map, codes, decimal};
 ghost use Rattle.st_card.specs.Keywords.{keyword_text};
 ghost use Rattle.st_card.specs.Written as spec;
 

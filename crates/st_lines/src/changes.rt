@@ -17,7 +17,7 @@ ghost use Rattle.st_bits.specs.declared.limits.TheConstants.{WORDS};
 ghost use Rattle.st_io.specs.Lines.{WritesLines, lines_for};
 ghost use Rattle.st_state.specs.Machine.{word as word_of};
 ghost use Rattle.st_lines.specs.BorderLines.{word_change_lines};
-ghost use Rattle.st_lines.specs.Changes.{IsOutsideArea, IsUntouched, AreOthersAlike};
+ghost use Rattle.st_lines.specs.Changes.{IsUntouched, AreOthersAlike};
 
 use crate::digits::fill_changed;
 use st_bits::WORDS;

@@ -12,7 +12,7 @@
 ghost use Rattle.std.specs.Prelude.{◌≡◌, ◌+◌, ◌≤◌, ◌++◌, length};
 ghost use Rattle.st_text.specs.Numerals.{hex_text, hex_word};
 ghost use Rattle.st_report.specs.Line.{ic_line};
-ghost use Rattle.st_lines.specs.Lines.{changed_line, index_line, second_half_text, code_line, writes_line};
+ghost use Rattle.st_lines.specs.Lines.{changed_line, index_line, code_line, writes_line};
 
 use st_plain::Code;
 use st_prep::IndexChange;

@@ -11,8 +11,7 @@
 //! Pinned, by these definitions, docs/ledger.md and vectors/ledger/lines.txt: the line, and that
 //! for a full word both half-words are compared with the image. Free: the bodies, if proofs/origins
 //! follows.
-ghost use Rattle.std.specs.Prelude.{◌≡◌, ◌+◌, ◌≤◌, ◌++◌, true, length, codes, slice_index, option_map};
-ghost use Rattle.st_text.specs.Numerals.{flag};
+ghost use Rattle.std.specs.Prelude.{◌≡◌, ◌+◌, true, slice_index, option_map};
 ghost use Rattle.st_lines.specs.Lines.{emitted_line};
 ghost use Rattle.st_lines.specs.Origins.{half_in, is_same_half as is_same_half_of, is_kept as is_kept_of, origin_at};
 

@@ -15,12 +15,12 @@ ghost use Rattle.std.specs.Prelude.{◌≡◌, ◌+◌, ◌<◌, ◌^◌, ◌∷
 ghost use Rattle.st_io.specs.Lines.{WritesLines, lines_for};
 ghost use Rattle.st_bits.specs.Storage.{words_of_storage};
 ghost use Rattle.st_bits.specs.declared.limits.TheConstants.{WORDS};
-ghost use Rattle.st_report.specs.Line.{ic_line, en_line, end_line as run_end_line, done_line, ticks_line};
+ghost use Rattle.st_report.specs.Line.{ic_line, end_line as run_end_line, done_line, ticks_line};
 ghost use Rattle.st_lines.specs.Lines.{delays_lines, start_line};
 ghost use Rattle.st_lines.specs.EntryLines.{facts_lines};
 ghost use Rattle.st_lines.specs.Changes.{AreOthersAlike, IsCopyBehind};
 ghost use Rattle.st_lines.specs.Origins.{origin_at};
-ghost use Rattle.st_lines.specs.BorderLines.{drop_lines, begun_entry_lines, segment_end_lines, en_lines, prints_lines, nonzero_word_lines, word_change_lines, marks_lines, taken_by, state_lines, whole_state_lines, machine_lines};
+ghost use Rattle.st_lines.specs.BorderLines.{drop_lines, segment_end_lines, en_lines, prints_lines, nonzero_word_lines, word_change_lines, marks_lines, taken_by, state_lines, whole_state_lines, machine_lines};
 
 use crate::changes::{Changeable, keep_changed, keep_words, write_changed};
 use crate::digits::fill_counter;

@@ -68,29 +68,13 @@ impl Watch for Nobody {
 
     ghost noted_more = { λ a b m. refl };
 
-    fn read(&mut self, role: Role, w: u32, read: &ReadTicks) {
-        let _ = role;
-        let _ = w;
-        let _ = read;
-    }
+    fn read(&mut self, _role: Role, _w: u32, _read: &ReadTicks) {}
 
-    fn held(&mut self, role: Role, w: u32, answer: u64) {
-        let _ = role;
-        let _ = w;
-        let _ = answer;
-    }
+    fn held(&mut self, _role: Role, _w: u32, _answer: u64) {}
 
-    fn forwarded(&mut self, role: Role, w: u32, past: &LastEntries, done: u64) {
-        let _ = role;
-        let _ = w;
-        let _ = past;
-        let _ = done;
-    }
+    fn forwarded(&mut self, _role: Role, _w: u32, _past: &LastEntries, _done: u64) {}
 
-    fn register(&mut self, role: Role, w: u32) {
-        let _ = role;
-        let _ = w;
-    }
+    fn register(&mut self, _role: Role, _w: u32) {}
 }
 
 /// Appends each word to the list.

@@ -13,7 +13,6 @@
 //! Pinned, by `interlude` and docs/machine.md: due signals first, then the reader, then the
 //! printer, and then, at rest, orders before signals. Free: the bodies of the private functions.
 ghost use Rattle.std.specs.Prelude.{◌≡◌, false, IsSome};
-ghost use Rattle.std.specs.Option.{option_or};
 ghost use Rattle.st_state.specs.declared.devices.Device.TheVariants.{Reader, Printer};
 ghost use Rattle.st_exec.specs.Step.{rests};
 ghost use Rattle.st_run.specs.Run as run;
