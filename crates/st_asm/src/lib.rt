@@ -9,7 +9,38 @@
 //!
 //! Pinned: the public calls and types with their clauses, by `st_top`, `st_account`, `st_dis` and
 //! docs/CLAIMS.md. Free: the modules, which are private, and their split.
-#![tactic(auto, using(st_bits::specs::Storage::words_of_storage_is), unfolding(crate::specs::Alone::emitted_alone, crate::specs::Alone::emitted_by, crate::specs::Assembly::assembly, crate::specs::Assembly::with_defaults, crate::specs::Checks::fits, crate::specs::Checks::in_range, crate::specs::Checks::in_storage, crate::specs::Checks::on_boundary, crate::specs::Checks::value_fault, crate::specs::Forming::form_card, crate::specs::Forming::form_control, crate::specs::Forming::form_pass, crate::specs::Forming::form_statement, crate::specs::Emitting::bits_of, crate::specs::Emitting::index_word_bits, crate::specs::Lines::name_field, crate::specs::Lines::name_in, crate::specs::Lines::statement_field, crate::specs::Naming::name_fault, crate::specs::Naming::name_pass, crate::specs::Naming::name_step, crate::specs::Numbers::field_bits_of, crate::specs::Numbers::holds, crate::specs::Symbols::accepts_all, crate::specs::Values::value_modulo, crate::specs::Values::values_of, crate::specs::Valuing::image_with, crate::specs::Valuing::value_card, crate::specs::Valuing::value_pass, crate::specs::Valuing::value_statement))]
+#![tactic(auto, using(st_bits::specs::Storage::words_of_storage_is), unfolding( //
+crate::specs::Alone::emitted_alone, //
+crate::specs::Alone::emitted_by, //
+crate::specs::Assembly::assembly, //
+crate::specs::Assembly::with_defaults, //
+crate::specs::Checks::fits, //
+crate::specs::Checks::in_range, //
+crate::specs::Checks::in_storage, //
+crate::specs::Checks::on_boundary, //
+crate::specs::Checks::value_fault, //
+crate::specs::Forming::form_card, //
+crate::specs::Forming::form_control, //
+crate::specs::Forming::form_pass, //
+crate::specs::Forming::form_statement, //
+crate::specs::Emitting::bits_of, //
+crate::specs::Emitting::index_word_bits, //
+crate::specs::Lines::name_field, //
+crate::specs::Lines::name_in, //
+crate::specs::Lines::statement_field, //
+crate::specs::Naming::name_fault, //
+crate::specs::Naming::name_pass, //
+crate::specs::Naming::name_step, //
+crate::specs::Numbers::field_bits_of, //
+crate::specs::Numbers::holds, //
+crate::specs::Symbols::accepts_all, //
+crate::specs::Values::value_modulo, //
+crate::specs::Values::values_of, //
+crate::specs::Valuing::image_with, //
+crate::specs::Valuing::value_card, //
+crate::specs::Valuing::value_pass, //
+crate::specs::Valuing::value_statement //
+))]
 
 mod alone;
 mod assembling;

@@ -6,7 +6,13 @@
 //! (clause `field`). Pinned: the result, by docs/operations.md, vectors/binary.txt and
 //! model/binary.py; `binary` and `Registers`, by `st_exec`. Free: the bodies, if their proofs
 //! follow.
-#![tactic(auto, unfolding(crate::specs::BinaryResult::conversion_result, crate::specs::BinaryResult::product, crate::specs::BinaryResult::product_added, crate::specs::BinaryResult::quotient_result, crate::specs::BinaryResult::result))]
+#![tactic(auto, unfolding( //
+crate::specs::BinaryResult::conversion_result, //
+crate::specs::BinaryResult::product, //
+crate::specs::BinaryResult::product_added, //
+crate::specs::BinaryResult::quotient_result, //
+crate::specs::BinaryResult::result //
+))]
 
 mod base;
 mod conversion;

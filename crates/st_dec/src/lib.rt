@@ -7,7 +7,10 @@
 //! of digits have the values that conversions of `st_field` give. Pinned, by that definition,
 //! docs/operations.md, vectors/decimal.txt and docs/CLAIMS.md: `decimal`, its clauses and its
 //! results. Free: the private modules, if their proofs in proofs/ follow.
-#![tactic(auto, unfolding(crate::specs::DecimalResult::binary_value, crate::specs::DecimalResult::result))]
+#![tactic(auto, unfolding( //
+crate::specs::DecimalResult::binary_value, //
+crate::specs::DecimalResult::result //
+))]
 
 mod accumulator;
 mod base;

@@ -7,7 +7,12 @@
 //!
 //! Pinned, by docs/CLAIMS.md, docs/disassembly.md and vectors/decks.txt: `disassemble` with its
 //! clauses, and `DisError`. Free: the private modules, as long as `deck_text` is the result.
-#![tactic(auto, unfolding(crate::specs::Deck::cards_of_word, crate::specs::Deck::deck_text, crate::specs::Spelling::statements_of, crate::specs::Texts::instruction_text))]
+#![tactic(auto, unfolding( //
+crate::specs::Deck::cards_of_word, //
+crate::specs::Deck::deck_text, //
+crate::specs::Spelling::statements_of, //
+crate::specs::Texts::instruction_text //
+))]
 
 mod counting;
 mod disassembling;

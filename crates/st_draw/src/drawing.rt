@@ -10,7 +10,22 @@
 //! classes and texts. A new element needs its place in `drawing` of specs/Drawing.antt and in
 //! `draw_svg`. Free: the split into functions, if proofs/drawing follows `push_rows`, `push_grid`
 //! and `push_waiting_keys`.
-#![tactic(auto, unfolding(crate::specs::Drawing::bars, crate::specs::Drawing::caption, crate::specs::Drawing::chart, crate::specs::Drawing::drawing, crate::specs::Drawing::ending_keys, crate::specs::Drawing::foot, crate::specs::Drawing::legend, crate::specs::Drawing::line_keys, crate::specs::Drawing::mark, crate::specs::Drawing::picture_front, crate::specs::Drawing::remark, crate::specs::Drawing::row_elements, crate::specs::Drawing::svg, crate::specs::Drawing::waiting_keys), using(crate::proofs::Elements::elements_joined, crate::proofs::Elements::elements_one))]
+#![tactic(auto, unfolding( //
+crate::specs::Drawing::bars, //
+crate::specs::Drawing::caption, //
+crate::specs::Drawing::chart, //
+crate::specs::Drawing::drawing, //
+crate::specs::Drawing::ending_keys, //
+crate::specs::Drawing::foot, //
+crate::specs::Drawing::legend, //
+crate::specs::Drawing::line_keys, //
+crate::specs::Drawing::mark, //
+crate::specs::Drawing::picture_front, //
+crate::specs::Drawing::remark, //
+crate::specs::Drawing::row_elements, //
+crate::specs::Drawing::svg, //
+crate::specs::Drawing::waiting_keys //
+), using(crate::proofs::Elements::elements_joined, crate::proofs::Elements::elements_one))]
 
 ghost use Rattle.std.specs.Prelude.{◌≡◌, ◌+◌, ◌^◌, ◌<◌, ◌++◌, IfOk, max, ◌-◌};
 ghost use Rattle.st_draw.specs.Element.{elements_text, element_text, Line};

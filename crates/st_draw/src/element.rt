@@ -9,7 +9,14 @@
 //! card of more than CARD_LIMIT characters is cut to 39 and an ellipsis. A new kind of element
 //! needs a case of `element_text`, one of `IsClosed` in specs/WellFormed.antt, and a function here.
 //! Free: the bodies.
-#![tactic(auto, unfolding(crate::specs::Element::box_title, crate::specs::Element::card_content, crate::specs::Element::content, crate::specs::Element::element_text, crate::specs::Element::shown_card, crate::specs::Element::title_end))]
+#![tactic(auto, unfolding( //
+crate::specs::Element::box_title, //
+crate::specs::Element::card_content, //
+crate::specs::Element::content, //
+crate::specs::Element::element_text, //
+crate::specs::Element::shown_card, //
+crate::specs::Element::title_end //
+))]
 
 ghost use Rattle.std.specs.Prelude.{◌≡◌, ◌++◌, IfOk};
 ghost use Rattle.st_draw.specs.Element.{content, title_end, box_title, shown_card, card_content, element_text, Box, Bar, Line, Text, Card};

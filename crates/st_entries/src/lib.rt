@@ -9,7 +9,34 @@
 //!
 //! Pinned, by `st_draw`, docs/chart.md and docs/CLAIMS.md: the public calls and types with their
 //! clauses. Free: all that is private.
-#![tactic(auto, unfolding(crate::specs::Caption::first_text, crate::specs::Caption::indicator_names, crate::specs::Caption::indicator_text, crate::specs::Caption::second_text, crate::specs::Caption::third_text, crate::specs::Caption::title, crate::specs::Caption::with_dots, crate::specs::Caption::words_with_number, crate::specs::Label::card_text, crate::specs::Label::is_listed, crate::specs::Label::label, crate::specs::Label::emits, crate::specs::Log::begin_lines, crate::specs::Log::change_lines, crate::specs::Log::log, crate::specs::Log::log_end_lines, crate::specs::Log::moment_lines, crate::specs::Moments::happenings, crate::specs::Moments::moments_of, crate::specs::Report::dropped_item, crate::specs::Report::item, crate::specs::Report::number_in_report, crate::specs::Report::place_in_report, crate::specs::Report::row_item, crate::specs::Report::word_in_line, crate::specs::Timetable::timetable))]
+#![tactic(auto, unfolding( //
+crate::specs::Caption::first_text, //
+crate::specs::Caption::indicator_names, //
+crate::specs::Caption::indicator_text, //
+crate::specs::Caption::second_text, //
+crate::specs::Caption::third_text, //
+crate::specs::Caption::title, //
+crate::specs::Caption::with_dots, //
+crate::specs::Caption::words_with_number, //
+crate::specs::Label::card_text, //
+crate::specs::Label::is_listed, //
+crate::specs::Label::label, //
+crate::specs::Label::emits, //
+crate::specs::Log::begin_lines, //
+crate::specs::Log::change_lines, //
+crate::specs::Log::log, //
+crate::specs::Log::log_end_lines, //
+crate::specs::Log::moment_lines, //
+crate::specs::Moments::happenings, //
+crate::specs::Moments::moments_of, //
+crate::specs::Report::dropped_item, //
+crate::specs::Report::item, //
+crate::specs::Report::number_in_report, //
+crate::specs::Report::place_in_report, //
+crate::specs::Report::row_item, //
+crate::specs::Report::word_in_line, //
+crate::specs::Timetable::timetable //
+))]
 
 mod caption;
 mod label;

@@ -8,7 +8,16 @@
 //! Pinned, by specs/Log.antt, docs/chart.md, the files .kanata of vectors/pictures and the viewers:
 //! the bytes. Ticks are what the format calls cycles; numbers of entries count from 0. Free: the
 //! bodies.
-#![tactic(auto, unfolding(crate::specs::Log::heading, crate::specs::Log::label_line, crate::specs::Log::log_end_line, crate::specs::Log::log_entry_line, crate::specs::Log::log_front, crate::specs::Log::log_label, crate::specs::Log::cycles_line, crate::specs::Log::stage_line))]
+#![tactic(auto, unfolding( //
+crate::specs::Log::heading, //
+crate::specs::Log::label_line, //
+crate::specs::Log::log_end_line, //
+crate::specs::Log::log_entry_line, //
+crate::specs::Log::log_front, //
+crate::specs::Log::log_label, //
+crate::specs::Log::cycles_line, //
+crate::specs::Log::stage_line //
+))]
 
 ghost use Rattle.std.specs.Prelude.{◌≡◌, ◌++◌, IfOk};
 ghost use Rattle.st_entries.specs.Log as spec;

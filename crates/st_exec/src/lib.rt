@@ -8,8 +8,24 @@
 //! specs/Completion.antt; laws are in specs/Laws.antt. That the overlapped machine makes these
 //! steps is `CompletionsAreSteps` (specs/Laws.antt of `st_refine`). Pinned, by docs/CLAIMS.md,
 //! docs/machine.md and the crates named above: the exported calls and `Trail`. Free: all that is
-//! not exported. The line `tactic` lists the definitions that the prover unfolds in this crate.
-#![tactic(auto, using(st_bits::specs::Storage::words_of_storage_is), unfolding(crate::specs::Completion::is_mispredicted, crate::specs::Completion::is_taken, crate::specs::Completion::state_after_completion, crate::specs::Completion::state_after_effect, crate::specs::Completion::state_with_speculative_changes, crate::specs::Completion::target, crate::specs::Effect::carried_out, crate::specs::Effect::effect_of, crate::specs::Outcome::connects, crate::specs::Outcome::operation_outcome, crate::specs::Outcome::with_registers, crate::specs::Outcome::with_result, crate::specs::Step::address, crate::specs::Step::step, st_prep::specs::Fetch::place_of))]
+//! not exported. The list `tactic` names the definitions that the prover unfolds in this crate.
+#![tactic(auto, using(st_bits::specs::Storage::words_of_storage_is), unfolding( //
+crate::specs::Completion::is_mispredicted, //
+crate::specs::Completion::is_taken, //
+crate::specs::Completion::state_after_completion, //
+crate::specs::Completion::state_after_effect, //
+crate::specs::Completion::state_with_speculative_changes, //
+crate::specs::Completion::target, //
+crate::specs::Effect::carried_out, //
+crate::specs::Effect::effect_of, //
+crate::specs::Outcome::connects, //
+crate::specs::Outcome::operation_outcome, //
+crate::specs::Outcome::with_registers, //
+crate::specs::Outcome::with_result, //
+crate::specs::Step::address, //
+crate::specs::Step::step, //
+st_prep::specs::Fetch::place_of //
+))]
 
 mod carrying;
 mod completing;

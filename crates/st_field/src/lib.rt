@@ -8,7 +8,11 @@
 //! definitions, docs/operations.md, docs/variable-fields.md, vectors/binary.txt and
 //! vectors/decimal.txt: the results of the public calls. Free: the bodies, if their proofs in
 //! proofs/ follow.
-#![tactic(auto, unfolding(crate::specs::Bases::fields, crate::specs::Bases::numbers_compared, crate::specs::Bases::store_result))]
+#![tactic(auto, unfolding( //
+crate::specs::Bases::fields, //
+crate::specs::Bases::numbers_compared, //
+crate::specs::Bases::store_result //
+))]
 
 pub mod accumulator;
 mod base;

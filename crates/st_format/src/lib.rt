@@ -53,7 +53,39 @@
 //!  | 1 |   table    | kind | 00  |   a connective
 //!  +---+------------+------+-----+
 //! ```
-#![tactic(auto, unfolding(crate::specs::Formats::full_word_instruction, crate::specs::Formats::half_word, crate::specs::Formats::instruction_of, crate::specs::Halves::address_of, crate::specs::Halves::bit_address_of, crate::specs::Halves::byte_of, crate::specs::Halves::first_bits, crate::specs::Halves::half_bits, crate::specs::Halves::i_of, crate::specs::Halves::is_full, crate::specs::Halves::j_of, crate::specs::Halves::k_of, crate::specs::Halves::length_of, crate::specs::Halves::offset_of, crate::specs::Halves::operation_of, crate::specs::Halves::p_of, crate::specs::Halves::second_address_of, crate::specs::Halves::second_bits, crate::specs::Halves::second_half_bits, crate::specs::Halves::words_moved, crate::specs::Operations::branch_op, crate::specs::Operations::branch_ops, crate::specs::Operations::full_op, crate::specs::Operations::full_ops, crate::specs::Operations::half_op, crate::specs::Operations::half_ops, crate::specs::Operations::kind, crate::specs::Operations::kinds, crate::specs::Operations::numbered_op, crate::specs::Validity::breaks_rules, crate::specs::Validity::is_invalid_half))]
+#![tactic(auto, unfolding( //
+crate::specs::Formats::full_word_instruction, //
+crate::specs::Formats::half_word, //
+crate::specs::Formats::instruction_of, //
+crate::specs::Halves::address_of, //
+crate::specs::Halves::bit_address_of, //
+crate::specs::Halves::byte_of, //
+crate::specs::Halves::first_bits, //
+crate::specs::Halves::half_bits, //
+crate::specs::Halves::i_of, //
+crate::specs::Halves::is_full, //
+crate::specs::Halves::j_of, //
+crate::specs::Halves::k_of, //
+crate::specs::Halves::length_of, //
+crate::specs::Halves::offset_of, //
+crate::specs::Halves::operation_of, //
+crate::specs::Halves::p_of, //
+crate::specs::Halves::second_address_of, //
+crate::specs::Halves::second_bits, //
+crate::specs::Halves::second_half_bits, //
+crate::specs::Halves::words_moved, //
+crate::specs::Operations::branch_op, //
+crate::specs::Operations::branch_ops, //
+crate::specs::Operations::full_op, //
+crate::specs::Operations::full_ops, //
+crate::specs::Operations::half_op, //
+crate::specs::Operations::half_ops, //
+crate::specs::Operations::kind, //
+crate::specs::Operations::kinds, //
+crate::specs::Operations::numbered_op, //
+crate::specs::Validity::breaks_rules, //
+crate::specs::Validity::is_invalid_half //
+))]
 
 mod decoding;
 mod encoding;

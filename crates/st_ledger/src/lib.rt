@@ -14,9 +14,33 @@
 //!
 //! Pinned, by docs/CLAIMS.md ("Where the ticks went"), docs/promises.txt, docs/ledger.md,
 //! vectors/ledger/lines.txt, `st_lines`, `st_account`, `st_tally` and `st_causes`: the laws, and
-//! what is exported below with its clauses. Free: all that is not exported. The line `tactic` lists
+//! what is exported below with its clauses. Free: all that is not exported. The list `tactic` names
 //! the definitions that the prover unfolds.
-#![tactic(auto, using(st_bits::specs::Storage::words_of_storage_is), unfolding(crate::specs::Reasons::because, crate::specs::Reasons::is_stored, crate::specs::Reasons::reason_done, crate::specs::Reasons::reason_in_order, crate::specs::Reasons::reason_of_bus, crate::specs::Reasons::reason_of_words, crate::specs::Reasons::side_writer, crate::specs::Reasons::writer_of_supply, crate::specs::Sums::all_stalled, crate::specs::Sums::stalled_for, crate::specs::Waits::acceptance_of, crate::specs::Waits::bus_waits, crate::specs::Waits::data_waits, crate::specs::Waits::fetch_waits, crate::specs::Waits::held_waits, crate::specs::Waits::is_accepted_between, crate::specs::Waits::wait_piece, crate::specs::Waits::read_waits, crate::specs::Waits::stage_waits, crate::specs::Words::is_answered, crate::specs::Words::is_answered_at, crate::specs::Words::is_read, crate::specs::Words::read_of))]
+#![tactic(auto, using(st_bits::specs::Storage::words_of_storage_is), unfolding( //
+crate::specs::Reasons::because, //
+crate::specs::Reasons::is_stored, //
+crate::specs::Reasons::reason_done, //
+crate::specs::Reasons::reason_in_order, //
+crate::specs::Reasons::reason_of_bus, //
+crate::specs::Reasons::reason_of_words, //
+crate::specs::Reasons::side_writer, //
+crate::specs::Reasons::writer_of_supply, //
+crate::specs::Sums::all_stalled, //
+crate::specs::Sums::stalled_for, //
+crate::specs::Waits::acceptance_of, //
+crate::specs::Waits::bus_waits, //
+crate::specs::Waits::data_waits, //
+crate::specs::Waits::fetch_waits, //
+crate::specs::Waits::held_waits, //
+crate::specs::Waits::is_accepted_between, //
+crate::specs::Waits::wait_piece, //
+crate::specs::Waits::read_waits, //
+crate::specs::Waits::stage_waits, //
+crate::specs::Words::is_answered, //
+crate::specs::Words::is_answered_at, //
+crate::specs::Words::is_read, //
+crate::specs::Words::read_of //
+))]
 
 mod because;
 mod charges;

@@ -8,7 +8,33 @@
 //! mnemonics, descriptions and forms; by `st_strap`: the exported calls. Free: the private
 //! functions and the bodies, with their proofs in proofs/. docs/changing.md says where a new
 //! operation goes.
-#![tactic(auto, unfolding(crate::specs::Describing::described_form, crate::specs::Describing::description_of, crate::specs::Describing::floating_number, crate::specs::Describing::in_mode, crate::specs::Describing::may_have, crate::specs::Describing::modes, crate::specs::Describing::number_to, crate::specs::Forming::behind_description, crate::specs::Forming::description_in, crate::specs::Forming::form_number, crate::specs::Forming::form_with_progress, crate::specs::Forming::may_have_form, crate::specs::Forming::open_group, crate::specs::Forming::progressive_forms, crate::specs::Table::connective, crate::specs::Table::connective_kinds, crate::specs::Table::field_operations, crate::specs::Table::index_operations, crate::specs::Table::negated_operation, crate::specs::Table::operation_of_word, crate::specs::Table::other_operations, crate::specs::Table::truth_tables, crate::specs::Text::fields_of, crate::specs::Text::group_length, crate::specs::Text::statement_text))]
+#![tactic(auto, unfolding( //
+crate::specs::Describing::described_form, //
+crate::specs::Describing::description_of, //
+crate::specs::Describing::floating_number, //
+crate::specs::Describing::in_mode, //
+crate::specs::Describing::may_have, //
+crate::specs::Describing::modes, //
+crate::specs::Describing::number_to, //
+crate::specs::Forming::behind_description, //
+crate::specs::Forming::description_in, //
+crate::specs::Forming::form_number, //
+crate::specs::Forming::form_with_progress, //
+crate::specs::Forming::may_have_form, //
+crate::specs::Forming::open_group, //
+crate::specs::Forming::progressive_forms, //
+crate::specs::Table::connective, //
+crate::specs::Table::connective_kinds, //
+crate::specs::Table::field_operations, //
+crate::specs::Table::index_operations, //
+crate::specs::Table::negated_operation, //
+crate::specs::Table::operation_of_word, //
+crate::specs::Table::other_operations, //
+crate::specs::Table::truth_tables, //
+crate::specs::Text::fields_of, //
+crate::specs::Text::group_length, //
+crate::specs::Text::statement_text //
+))]
 
 mod descriptions;
 mod field;

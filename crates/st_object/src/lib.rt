@@ -9,7 +9,13 @@
 //! Pinned, by docs/CLAIMS.md, docs/promises.txt, docs/object-text.md and vectors/objects.txt: the
 //! two calls with their clauses, and the texts; by `st_top`: `Image` and `ObjectError`. Free: the
 //! modules are private, and their split can change.
-#![tactic(auto, using(st_bits::specs::Storage::words_of_storage_is), unfolding(crate::specs::Draft::draft_with_value, crate::specs::Draft::has_place, crate::specs::Draft::is_whole, crate::specs::Lines::line_text, crate::specs::Object::read_text))]
+#![tactic(auto, using(st_bits::specs::Storage::words_of_storage_is), unfolding( //
+crate::specs::Draft::draft_with_value, //
+crate::specs::Draft::has_place, //
+crate::specs::Draft::is_whole, //
+crate::specs::Lines::line_text, //
+crate::specs::Object::read_text //
+))]
 
 mod drafts;
 mod images;

@@ -10,9 +10,50 @@
 //!
 //! Pinned, by docs/machine.md, docs/promises.txt and the crates that use them (`st_exec`,
 //! `st_next`, `st_ring`, `st_ahead`, `st_plain` and others): the structures of entries and the
-//! exported calls. Free: all that is not exported. The line `tactic` lists the definitions that the
+//! exported calls. Free: all that is not exported. The list `tactic` names the definitions that the
 //! prover unfolds in this crate.
-#![tactic(auto, using(st_bits::specs::Storage::words_of_storage_is), unfolding(crate::specs::Checks::effective_instr, crate::specs::Checks::fault, crate::specs::Checks::forbidden_area, crate::specs::Checks::forbidden_side, crate::specs::Checks::forbidden_words, crate::specs::SpeculativeChanges::change, crate::specs::SpeculativeChanges::change_of_comparison, crate::specs::SpeculativeChanges::change_of_index, crate::specs::SpeculativeChanges::effective, crate::specs::SpeculativeChanges::field_address, crate::specs::SpeculativeChanges::full_word_address, crate::specs::SpeculativeChanges::half_side, crate::specs::SpeculativeChanges::half_word_address, crate::specs::SpeculativeChanges::index_operand, crate::specs::SpeculativeChanges::progressive_change, crate::specs::SpeculativeChanges::progressive_side, crate::specs::SpeculativeChanges::refill_word, crate::specs::SpeculativeChanges::side, crate::specs::Entry::is_serial_operation, crate::specs::Entry::cost, crate::specs::Entry::counter_after, crate::specs::Entry::counter_behind, crate::specs::Entry::field_words, crate::specs::Entry::has_register, crate::specs::Entry::reads, crate::specs::Entry::value_stored, crate::specs::Entry::words_written, crate::specs::Fetch::place_of, crate::specs::Plan::resolved, crate::specs::Plan::resolved_at, crate::specs::Plan::entry_at, crate::specs::Plan::is_serial, crate::specs::Plan::needs, crate::specs::Plan::prepared_entry, crate::specs::Plan::suppressed_entry, crate::specs::Reading::instruction_at, crate::specs::Reading::is_execute, crate::specs::Reading::own_use, crate::specs::Reading::reading_at_place, crate::specs::Reading::with_first))]
+#![tactic(auto, using(st_bits::specs::Storage::words_of_storage_is), unfolding( //
+crate::specs::Checks::effective_instr, //
+crate::specs::Checks::fault, //
+crate::specs::Checks::forbidden_area, //
+crate::specs::Checks::forbidden_side, //
+crate::specs::Checks::forbidden_words, //
+crate::specs::SpeculativeChanges::change, //
+crate::specs::SpeculativeChanges::change_of_comparison, //
+crate::specs::SpeculativeChanges::change_of_index, //
+crate::specs::SpeculativeChanges::effective, //
+crate::specs::SpeculativeChanges::field_address, //
+crate::specs::SpeculativeChanges::full_word_address, //
+crate::specs::SpeculativeChanges::half_side, //
+crate::specs::SpeculativeChanges::half_word_address, //
+crate::specs::SpeculativeChanges::index_operand, //
+crate::specs::SpeculativeChanges::progressive_change, //
+crate::specs::SpeculativeChanges::progressive_side, //
+crate::specs::SpeculativeChanges::refill_word, //
+crate::specs::SpeculativeChanges::side, //
+crate::specs::Entry::is_serial_operation, //
+crate::specs::Entry::cost, //
+crate::specs::Entry::counter_after, //
+crate::specs::Entry::counter_behind, //
+crate::specs::Entry::field_words, //
+crate::specs::Entry::has_register, //
+crate::specs::Entry::reads, //
+crate::specs::Entry::value_stored, //
+crate::specs::Entry::words_written, //
+crate::specs::Fetch::place_of, //
+crate::specs::Plan::resolved, //
+crate::specs::Plan::resolved_at, //
+crate::specs::Plan::entry_at, //
+crate::specs::Plan::is_serial, //
+crate::specs::Plan::needs, //
+crate::specs::Plan::prepared_entry, //
+crate::specs::Plan::suppressed_entry, //
+crate::specs::Reading::instruction_at, //
+crate::specs::Reading::is_execute, //
+crate::specs::Reading::own_use, //
+crate::specs::Reading::reading_at_place, //
+crate::specs::Reading::with_first //
+))]
 
 mod addresses;
 mod entries;

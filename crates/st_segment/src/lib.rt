@@ -9,7 +9,11 @@
 //!
 //! Pinned, by proofs in `st_ring`, `st_ahead`, `st_run` and the ledger: the definitions in
 //! specs/Entries.antt, Predictions.antt, Ahead.antt and Alone.antt. Free: the bodies of the code.
-#![tactic(auto, using(st_bits::specs::Storage::words_of_storage_is), unfolding(crate::specs::Entries::above_registers, crate::specs::Entries::side_to_read, crate::specs::Entries::words_to_read))]
+#![tactic(auto, using(st_bits::specs::Storage::words_of_storage_is), unfolding( //
+crate::specs::Entries::above_registers, //
+crate::specs::Entries::side_to_read, //
+crate::specs::Entries::words_to_read //
+))]
 
 mod runs;
 
