@@ -12,10 +12,8 @@
 //! compiler names the function here that then needs one, and specs/Answers.antt says what the word
 //! means (`asked_by`, `lines_of_part`).
 ghost use Rattle.std.specs.Prelude.{◌≡◌, ◌↔◌, ◌+◌, ◌≤◌, ◌<◌, ◌^◌, ◌∷◌, [], List, ℕ, IfOk, IfSome, None, Ok, All, map, length};
-ghost use Rattle.std.specs.List.{AllPass};
 ghost use Rattle.std.specs.String.{string_bytes};
 ghost use Rattle.st_bits.specs.declared.limits.TheConstants.{MOST_INSTRUCTIONS};
-ghost use Rattle.st_card.specs.Limits.{is_signal};
 ghost use Rattle.st_bits.specs.Storage.{words_of_storage};
 ghost use Rattle.st_asm.specs.Assembly.{assembly_parts};
 ghost use Rattle.st_asm.specs.Sound.{IsAssemblySound};
@@ -31,6 +29,7 @@ ghost use Rattle.st_state.specs.Machine.{opening_state};
 ghost use Rattle.st_account.specs.FirstCards.{origin_of};
 ghost use Rattle.st_account.specs.Answers.{levels_by, levels_of_word as levels_of, is_sums as is_sums_of, is_rows as is_rows_of, row_of_word as row_of, rows_between, asked_of as asked_with, asked_by, lines_of_part, lines_by, ledger_lines_of, status_of, Writes, Did, IsAnswer};
 ghost use Rattle.st_account.specs.LedgerSums.{ledger_sums};
+ghost use Rattle.st_account.specs.Running.{CanRun};
 ghost use Rattle.st_account.specs.Settling.{at_hand};
 
 use crate::job::Job;
@@ -302,13 +301,8 @@ fn write_tallied<K: Sink>(
     ready: Ready,
     controls: &Controls,
 ) -> Status
-    requires fresh { ready.state.done ≡ 0 }
-    requires cards { All IsCard ready.cards }
-    requires levels { (1 ≤ ready.levels) × (ready.levels ≤ 8) }
+    requires ready { CanRun ready controls.now controls.now.budget }
     requires delays { ready.delays.list ≡ controls.now.delays }
-    requires signals { AllPass is_signal controls.now.signals }
-    requires limit { controls.now.budget ≤ MOST_INSTRUCTIONS }
-    requires size { length ready.words.items ≡ words_of_storage }
 
     ensures { Writes result (K.output out.old) (K.output out.new)
         (ledger_sums (origin_at ready.origins) ready.delays.list ready.levels
@@ -331,13 +325,8 @@ fn write_part<K: Sink>(
     ready: Ready,
     controls: &Controls,
 ) -> Status
-    requires fresh { ready.state.done ≡ 0 }
-    requires cards { All IsCard ready.cards }
-    requires levels { (1 ≤ ready.levels) × (ready.levels ≤ 8) }
+    requires ready { CanRun ready controls.now controls.now.budget }
     requires delays { ready.delays.list ≡ controls.now.delays }
-    requires signals { AllPass is_signal controls.now.signals }
-    requires limit { controls.now.budget ≤ MOST_INSTRUCTIONS }
-    requires size { length ready.words.items ≡ words_of_storage }
 
     ensures { Writes result (K.output out.old) (K.output out.new)
         (lines_of_part part (origin_at ready.origins) ready.delays.list ready.levels

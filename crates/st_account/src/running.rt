@@ -10,14 +10,9 @@
 //! before its budget is looked at, by `ledger`. Free: the bodies, if proofs/running follows. Laws
 //! that sums add up to the ticks of the run: `WaitSumsAddUp` and `StageSumsAddUp` (specs/Laws.antt
 //! of `st_causes`).
-ghost use Rattle.std.specs.Prelude.{◌≡◌, ◌≤◌, ◌^◌, [], IsOk, All, length, min};
-ghost use Rattle.std.specs.List.{AllPass};
-ghost use Rattle.st_bits.specs.declared.limits.TheConstants.{MOST_INSTRUCTIONS};
-ghost use Rattle.st_bits.specs.Storage.{words_of_storage};
-ghost use Rattle.st_card.specs.Limits.{is_signal};
+ghost use Rattle.std.specs.Prelude.{◌≡◌, ◌^◌, [], IsOk, length, min};
 ghost use Rattle.st_io.specs.Lines.{WritesLines};
 ghost use Rattle.st_lines.specs.Origins.{origin_at};
-ghost use Rattle.st_run.specs.Reached.{IsCard};
 ghost use Rattle.st_run.specs.Moments.{moment_at_start as start_of};
 ghost use Rattle.st_account.specs.Settling.{at_hand};
 ghost use Rattle.st_account.specs.LedgerSums.{end_from, ledger_totals, ledger_sums};
@@ -203,13 +198,8 @@ pub fn write_ledger_sums<K: Sink>(
     controls: &Controls,
     tables: Tables,
 ) -> Result<(), Failed>
-    requires fresh { ready.state.done ≡ 0 }
-    requires cards { All IsCard ready.cards }
-    requires levels { (1 ≤ ready.levels) × (ready.levels ≤ 8) }
+    requires ready { CanRun ready controls.now controls.now.budget }
     requires delays { ready.delays.list ≡ controls.now.delays }
-    requires signals { AllPass is_signal controls.now.signals }
-    requires limit { controls.now.budget ≤ MOST_INSTRUCTIONS }
-    requires size { length ready.words.items ≡ words_of_storage }
     requires empty { AreEmptyTables tables }
 
     ensures { WritesLines (K.output out.old) (K.output out.new)
@@ -229,13 +219,8 @@ pub fn write_ledger_sums<K: Sink>(
 /// instructions, is used up. The delays must be the requested ones. Each line is written with a
 /// call of its own. `docs/ledger.md` has the rules.
 pub fn write_ledger<K: Sink>(out: &mut K, ready: Ready, controls: &Controls) -> Result<(), Failed>
-    requires fresh { ready.state.done ≡ 0 }
-    requires cards { All IsCard ready.cards }
-    requires levels { (1 ≤ ready.levels) × (ready.levels ≤ 8) }
+    requires ready { CanRun ready controls.now controls.now.budget }
     requires delays { ready.delays.list ≡ controls.now.delays }
-    requires signals { AllPass is_signal controls.now.signals }
-    requires limit { controls.now.budget ≤ MOST_INSTRUCTIONS }
-    requires size { length ready.words.items ≡ words_of_storage }
 
     ensures { WritesLines (K.output out.old) (K.output out.new)
         (ledger (origin_at ready.origins) ready.delays.list ready.levels
@@ -269,13 +254,8 @@ pub fn write_ledger_rows<K: Sink>(
     most: u32,
     skipped: u32,
 ) -> Result<(), Failed>
-    requires fresh { ready.state.done ≡ 0 }
-    requires cards { All IsCard ready.cards }
-    requires levels { (1 ≤ ready.levels) × (ready.levels ≤ 8) }
+    requires ready { CanRun ready controls.now controls.now.budget }
     requires delays { ready.delays.list ≡ controls.now.delays }
-    requires signals { AllPass is_signal controls.now.signals }
-    requires limit { controls.now.budget ≤ MOST_INSTRUCTIONS }
-    requires size { length ready.words.items ≡ words_of_storage }
 
     ensures { WritesLines (K.output out.old) (K.output out.new)
         (ledger_rows (origin_at ready.origins) ready.delays.list ready.levels

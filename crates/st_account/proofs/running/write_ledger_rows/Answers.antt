@@ -2,6 +2,16 @@ use Rattle.st_account.proofs.Common.{min, ◌+◌, refl, arith, sym, ◌∙◌, 
 use Rattle.st_account.proofs.RoundLemmas.{rows-fail, rows-written}
 use Rattle.st_account.proofs.running.write_ledger_rows.Goals as goal
 
+pub write_run-requires : goal.write_run-requires
+write_run-requires g c = record {
+  fresh = c.requires.ready.fresh;
+  cards = c.requires.ready.cards;
+  levels = c.requires.ready.levels;
+  signals = c.requires.ready.signals;
+  limit = omega (arith, c.requires.ready.limit, c.min.ensures, c.from.ensures, c.budget.ensures);
+  size = c.requires.ready.size;
+}
+
 pub returns-in_err-write_machine : goal.returns-in_err-write_machine
 returns-in_err-write_machine g c =
     rows-fail (origin_at c.args.ready.origins) c.args.ready.delays.list c.args.ready.levels (min c.args.most c.args.controls.now.budget) c.args.skipped
